@@ -1,0 +1,10 @@
+pub mod Canonical
+pub mod Growth
+pub mod Layout
+pub mod LineLayout
+pub mod LinesLeft
+pub mod Operations
+pub mod Reading
+pub mod Recorded
+pub mod Recording
+pub mod Refusals

@@ -1,0 +1,226 @@
+-- What a trace text says: its events with names and locations, or its first refused line and cause.
+-- A line has the form that RAPID's README gives, `thread|operation(name)|location`; what is skipped,
+-- refused and left out is this project's own profile of it.
+use Rattle.std.specs.Prelude.{ℕ, ◌+◌, ◌-◌, ◌==◌, nat_eq, nat_lt, nat_le, Bool, true, false, not, ◌||◌, if◌then◌else◌, List, [], ◌∷◌, ◌++◌, map, length, take, drop, filter, filter_map, flat_map, find, position, slice_index_or, Option, Some, None, is_some, unwrap_or, Result, Ok, Err, codes, bytes_eq}
+use Rattle.std.specs.List.{ends_with, prefix_len, suffix_len, list_any, before_first, after_first, before_last, slice_split, range_with_len}
+use Rattle.rapid_text.specs.declared.event.Event.{Event}
+use Rattle.rapid_text.specs.declared.event.Kind.{Kind}
+use Rattle.rapid_text.specs.declared.event.Kind.TheVariants.{Reads, Writes, Acquires, Releases, Forks, Joins}
+use Rattle.rapid_text.specs.declared.event.Op.{Op}
+use Rattle.rapid_text.specs.declared.event.Op.TheVariants.{Read, Write, Acquire, Release, Fork, Join}
+use Rattle.rapid_text.specs.declared.refusal.TextCause.{TextCause}
+use Rattle.rapid_text.specs.declared.refusal.TextCause.TheVariants.{NoBar, BadParentheses, UnknownOperation, EmptyName, NameTooLong, LineTooLong, TooManyEvents, TooManyNames, OutOfMemory}
+use Rattle.rapid_text.specs.declared.refusal.TextRefusal.{TextRefusal}
+use Rattle.rapid_text.specs.declared.raw_trace.TheConstants.{MAX_EVENTS, MAX_THREADS, MAX_LINE, MAX_NAME}
+use Rattle.rapid_text.specs.Recording.{Recording}
+
+-- a space, a tab or a carriage return
+abbrev pub is_blank : ℕ → Bool
+is_blank c = c == 32 || c == 9 || c == 13
+
+-- the end of a line
+abbrev pub is_line_feed : ℕ → Bool
+is_line_feed c = c == 10
+
+-- `|`
+abbrev pub is_bar : ℕ → Bool
+is_bar c = c == 124
+
+-- `(`
+abbrev pub is_open : ℕ → Bool
+is_open c = c == 40
+
+-- `)`
+abbrev pub is_close : ℕ → Bool
+is_close c = c == 41
+
+-- the bytes without the blanks at both ends
+abbrev pub trimmed : List ℕ → List ℕ
+trimmed xs =
+    let rest = drop (prefix_len is_blank xs) xs in
+    take (length rest - suffix_len is_blank rest) rest
+
+-- the word of each kind of operation
+abbrev pub word_of : Kind → List ℕ
+word_of Reads = codes "r"
+word_of Writes = codes "w"
+word_of Acquires = codes "acq"
+word_of Releases = codes "rel"
+word_of Forks = codes "fork"
+word_of Joins = codes "join"
+
+abbrev pub kinds : List Kind
+kinds = Reads ∷ Writes ∷ Acquires ∷ Releases ∷ Forks ∷ Joins ∷ []
+
+-- the kind with this word
+abbrev pub kind_of : List ℕ → Option Kind
+kind_of word = find (λ kind. bytes_eq word (word_of kind)) kinds
+
+-- `begin` and `end` mark the bounds of an atomic block and are no events
+abbrev pub is_mark : List ℕ → Bool
+is_mark word = bytes_eq word (codes "begin") || bytes_eq word (codes "end")
+
+-- an event by its names, as one line has it
+pub record NamedEvent : Type 0 where
+  pub thread : List ℕ
+  pub kind : Kind
+  pub name : List ℕ
+  pub location : List ℕ
+
+-- what one line asks for, whatever stands before it
+pub data LineReading : Type 0 where
+  Skipped : LineReading
+  Refused : TextCause → LineReading
+  Says : NamedEvent → LineReading
+
+-- of the thread, the kind where there is one, the name and the location
+abbrev pub named_reading : List ℕ → Option Kind → List ℕ → List ℕ → LineReading
+named_reading thread None name location = Refused UnknownOperation
+named_reading thread (Some kind) name location =
+    if length thread == 0 || length name == 0
+    then Refused EmptyName
+    else (if nat_lt MAX_NAME (length thread) || nat_lt MAX_NAME (length name)
+    then Refused NameTooLong
+    else Says (record { thread = thread; kind = kind; name = name; location = location }))
+
+-- of the thread, the operation `word(name)` and the location
+abbrev pub operation_reading : List ℕ → List ℕ → List ℕ → LineReading
+operation_reading thread operation location =
+    if is_mark operation
+    then Skipped
+    else (if not (list_any is_open operation) || not (ends_with nat_eq operation (codes ")"))
+    then Refused BadParentheses
+    else (
+    let word = trimmed (before_first is_open operation) in
+    let name = trimmed (before_last is_close (after_first is_open operation)) in
+    if is_mark word then Skipped else named_reading thread (kind_of word) name location))
+
+-- of a line without the blanks at its ends
+abbrev pub fields_reading : List ℕ → LineReading
+fields_reading line =
+    let rest = after_first is_bar line in
+    operation_reading (trimmed (before_first is_bar line)) (trimmed (before_first is_bar rest)) (trimmed (after_first is_bar rest))
+
+-- what the line asks for
+abbrev pub line_reading : List ℕ → LineReading
+line_reading raw =
+    let line = trimmed raw in
+    if length line == 0
+    then Skipped
+    else (if nat_lt MAX_LINE (length line)
+    then Refused LineTooLong
+    else (if not (list_any is_bar line) then Refused NoBar else fields_reading line))
+
+-- the event that a line asks for, if it asks for one
+abbrev pub event_said : LineReading → Option NamedEvent
+event_said Skipped = None
+event_said (Refused why) = None
+event_said (Says event) = Some event
+
+-- the events that lines ask for, in order
+abbrev pub named_events : List (List ℕ) → List NamedEvent
+named_events lines = filter_map (λ line. event_said (line_reading line)) lines
+
+-- the name behind an operation, where the kind passes the test
+abbrev pub name_where : (Kind → Bool) → NamedEvent → List (List ℕ)
+name_where test event = if test event.kind then event.name ∷ [] else []
+
+abbrev pub is_of_variable : Kind → Bool
+is_of_variable Reads = true
+is_of_variable Writes = true
+is_of_variable Acquires = false
+is_of_variable Releases = false
+is_of_variable Forks = false
+is_of_variable Joins = false
+
+abbrev pub is_of_lock : Kind → Bool
+is_of_lock Reads = false
+is_of_lock Writes = false
+is_of_lock Acquires = true
+is_of_lock Releases = true
+is_of_lock Forks = false
+is_of_lock Joins = false
+
+abbrev pub is_of_thread : Kind → Bool
+is_of_thread Reads = false
+is_of_thread Writes = false
+is_of_thread Acquires = false
+is_of_thread Releases = false
+is_of_thread Forks = true
+is_of_thread Joins = true
+
+-- the uses of threads, variables and locks by name; in a line its thread comes before its operation
+abbrev pub thread_uses : List NamedEvent → List (List ℕ)
+thread_uses events = flat_map (λ event. event.thread ∷ name_where is_of_thread event) events
+
+abbrev pub variable_uses : List NamedEvent → List (List ℕ)
+variable_uses events = flat_map (name_where is_of_variable) events
+
+abbrev pub lock_uses : List NamedEvent → List (List ℕ)
+lock_uses events = flat_map (name_where is_of_lock) events
+
+-- each name once, in the order of first uses
+abbrev pub first_uses : List (List ℕ) → List (List ℕ)
+first_uses [] = []
+first_uses (name ∷ names) = name ∷ filter (λ other. not (bytes_eq name other)) (first_uses names)
+
+-- the number of a name: its place among the first uses
+abbrev pub number_of : List (List ℕ) → List ℕ → ℕ
+number_of names name = unwrap_or (position (λ other. bytes_eq name other) names) 0
+
+-- what an operation is by number
+abbrev pub numbered_op : List (List ℕ) → List (List ℕ) → List (List ℕ) → Kind → List ℕ → Op
+numbered_op threads variables locks Reads name = Read (number_of variables name)
+numbered_op threads variables locks Writes name = Write (number_of variables name)
+numbered_op threads variables locks Acquires name = Acquire (number_of locks name)
+numbered_op threads variables locks Releases name = Release (number_of locks name)
+numbered_op threads variables locks Forks name = Fork (number_of threads name)
+numbered_op threads variables locks Joins name = Join (number_of threads name)
+
+abbrev pub numbered : List (List ℕ) → List (List ℕ) → List (List ℕ) → NamedEvent → Event
+numbered threads variables locks event =
+    record {
+      thread = number_of threads event.thread;
+      op = numbered_op threads variables locks event.kind event.name;
+    }
+
+-- the recording of these events: threads, variables and locks are numbered apart, each by first use
+abbrev pub recording_of : List NamedEvent → Recording
+recording_of events =
+    let threads = first_uses (thread_uses events) in
+    let variables = first_uses (variable_uses events) in
+    let locks = first_uses (lock_uses events) in
+    record {
+      events = map (numbered threads variables locks) events;
+      threads = threads;
+      variables = variables;
+      locks = locks;
+      locations = map (λ event. event.location) events;
+    }
+
+-- why a line is refused that stands after these events, if it is
+abbrev pub fault_after : List NamedEvent → LineReading → Option TextCause
+fault_after earlier Skipped = None
+fault_after earlier (Refused why) = Some why
+fault_after earlier (Says event) =
+    if nat_le MAX_EVENTS (length earlier)
+    then Some TooManyEvents
+    else (if nat_lt MAX_THREADS (length (first_uses (thread_uses (earlier ++ event ∷ []))))
+    then Some TooManyNames
+    else None)
+
+-- why the line at place i is refused, if it is; the lines before it ask for the events before it
+abbrev pub fault_at : List (List ℕ) → ℕ → Option TextCause
+fault_at lines i = fault_after (named_events (take i lines)) (line_reading (slice_index_or lines i []))
+
+-- the place of the first line that is refused
+abbrev pub first_fault : List (List ℕ) → Option ℕ
+first_fault lines = position (λ i. is_some (fault_at lines i)) (range_with_len 0 (length lines))
+
+abbrev pub reading_by : List (List ℕ) → Option ℕ → Result Recording TextRefusal
+reading_by lines None = Ok (recording_of (named_events lines))
+reading_by lines (Some i) = Err (record { line = i + 1; why = unwrap_or (fault_at lines i) OutOfMemory })
+
+-- what the text says: its recording, or its first refused line, counted from 1, with its first cause
+unfoldable pub reading_of : List ℕ → Result Recording TextRefusal
+reading_of text = let lines = slice_split is_line_feed text in reading_by lines (first_fault lines)

@@ -1,0 +1,27 @@
+//! Reads a recorded execution from its text in RAPID's standard format, and prints it back.
+#![tactic(auto)]
+
+mod bytes;
+mod cutting;
+mod event;
+mod line;
+mod memory;
+mod names;
+mod printing;
+#[cfg(test)]
+mod printing_tests;
+mod raw_trace;
+mod reading;
+mod recorder;
+mod refusal;
+#[cfg(test)]
+mod tests;
+
+pub use bytes::Bytes;
+pub use event::{Event, Kind, Op};
+pub use memory::OutOfMemory;
+pub use names::TextKeyed;
+pub use printing::print;
+pub use raw_trace::{MAX_EVENTS, MAX_THREADS, RawTrace};
+pub use reading::parse;
+pub use refusal::{TextCause, TextRefusal};

@@ -1,0 +1,124 @@
+//! Reads one line of a trace text, whatever stands before it.
+ghost use Rattle.std.specs.Prelude.{◌≡◌, length};
+ghost use Rattle.std.specs.List.{before_first, after_first};
+ghost use Rattle.rapid_text.specs.Reading.{is_bar, is_mark, kind_of, line_reading, named_reading, operation_reading, trimmed};
+ghost use Rattle.rapid_text.specs.LineLayout.{reading_in};
+
+use crate::cutting::{cut_at, cut_or_all, trim};
+use crate::event::Kind;
+use crate::raw_trace::{MAX_LINE, MAX_NAME};
+use crate::refusal::TextCause;
+
+/// An event by its names, as one line has it.
+#[derive(Clone, Copy)]
+pub(crate) struct Fields<'a> {
+    pub(crate) thread: &'a [u8],
+    pub(crate) kind: Kind,
+    pub(crate) name: &'a [u8],
+    pub(crate) location: &'a [u8],
+}
+
+/// What one line asks for.
+#[derive(Clone, Copy)]
+pub(crate) enum Line<'a> {
+    Skipped,
+    Refused(TextCause),
+    Says(Fields<'a>),
+}
+
+/// The kind of operation that has this word.
+fn kind_with(word: &[u8]) -> Option<Kind>
+    ensures { result ≡ kind_of word.now }
+{
+    match word {
+        b"r" => Some(Kind::Reads),
+        b"w" => Some(Kind::Writes),
+        b"acq" => Some(Kind::Acquires),
+        b"rel" => Some(Kind::Releases),
+        b"fork" => Some(Kind::Forks),
+        b"join" => Some(Kind::Joins),
+        _ => None,
+    }
+}
+
+/// Whether the word marks a bound of an atomic block, which is no event.
+fn is_bound(word: &[u8]) -> bool
+    ensures { result ≡ is_mark word.now }
+{
+    matches!(word, b"begin" | b"end")
+}
+
+/// What a line with these names asks for; the word of its operation was `kind`'s, if it was one.
+fn read_names<'a>(
+    thread: &'a [u8],
+    kind: Option<Kind>,
+    name: &'a [u8],
+    location: &'a [u8],
+) -> Line<'a>
+    ensures { reading_in result ≡ named_reading thread.now kind name.now location.now }
+{
+    let Some(kind) = kind else {
+        return Line::Refused(TextCause::UnknownOperation);
+    };
+    if thread.is_empty() || name.is_empty() {
+        return Line::Refused(TextCause::EmptyName);
+    }
+    if thread.len() > MAX_NAME || name.len() > MAX_NAME {
+        return Line::Refused(TextCause::NameTooLong);
+    }
+    Line::Says(Fields {
+        thread,
+        kind,
+        name,
+        location,
+    })
+}
+
+/// What a line with this operation, `word(name)`, asks for.
+fn read_operation<'a>(thread: &'a [u8], operation: &'a [u8], location: &'a [u8]) -> Line<'a>
+    ensures { reading_in result ≡ operation_reading thread.now operation.now location.now }
+{
+    if is_bound(operation) {
+        return Line::Skipped;
+    }
+    let Some((word, rest)) = cut_at(b'(', operation) else {
+        return Line::Refused(TextCause::BadParentheses);
+    };
+    let Some(name) = rest.strip_suffix(b")") else {
+        return Line::Refused(TextCause::BadParentheses);
+    };
+    let word = trim(word);
+    if is_bound(word) {
+        return Line::Skipped;
+    }
+    read_names(thread, kind_with(word), trim(name), location)
+}
+
+/// What a line with the fields `thread` and, behind its first bar, `rest` asks for.
+fn read_fields<'a>(thread: &'a [u8], rest: &'a [u8]) -> Line<'a>
+    ensures { reading_in result
+        ≡ operation_reading
+        (trimmed thread.now)
+        (trimmed (before_first is_bar rest.now))
+        (trimmed (after_first is_bar rest.now)) }
+{
+    let (operation, location) = cut_or_all(b'|', rest);
+    read_operation(trim(thread), trim(operation), trim(location))
+}
+
+/// Reads a line, with the blanks at its ends.
+pub(crate) fn read_line(raw: &[u8]) -> Line<'_>
+    ensures { reading_in result ≡ line_reading raw.now }
+{
+    let line = trim(raw);
+    if line.is_empty() {
+        return Line::Skipped;
+    }
+    if line.len() > MAX_LINE {
+        return Line::Refused(TextCause::LineTooLong);
+    }
+    match cut_at(b'|', line) {
+        Some((thread, rest)) => read_fields(thread, rest),
+        None => Line::Refused(TextCause::NoBar),
+    }
+}

@@ -1,0 +1,78 @@
+//! Reads a trace text.
+ghost use Rattle.std.specs.Prelude.{◌≡◌, ◌⊎◌, ◌+◌, ◌<◌, ◌≤◌, ◌∷◌, length, IfOk, IfErr, OnOk, None, Ok, Err};
+ghost use Rattle.std.specs.List.{slice_split};
+ghost use Rattle.rapid_text.specs.Growth.{line_fault, with_line};
+ghost use Rattle.rapid_text.specs.LinesLeft.{bytes_left, lines_left, refusal_for};
+ghost use Rattle.rapid_text.specs.Reading.{is_line_feed, line_reading, reading_of};
+ghost use Rattle.rapid_text.specs.Recorded.{recorded, IsReady, StopsFor};
+ghost use Rattle.rapid_text.specs.Refusals.{no_memory};
+
+use crate::cutting::cut_at;
+use crate::line::{Line, read_line};
+use crate::names::TextKeyed;
+use crate::raw_trace::RawTrace;
+use crate::recorder::{Recorder, Stop};
+use crate::refusal::{TextCause, TextRefusal};
+use std::alloc::Global;
+
+/// Reads one line and records the event that it asks for.
+fn record_line(recorder: &mut Recorder, raw: &[u8]) -> Result<(), Stop>
+    requires { IsReady recorder.old }
+    ensures allowed { OnOk result (line_fault (recorded recorder.old) (line_reading raw.now) ≡ None) }
+    ensures ok { OnOk result
+        (recorded recorder.new ≡ with_line (recorded recorder.old) (line_reading raw.now)) }
+    ensures ready { OnOk result (IsReady recorder.new) }
+    ensures refused { IfErr result
+        (StopsFor (line_fault (recorded recorder.old) (line_reading raw.now))) }
+{
+    match read_line(raw) {
+        Line::Skipped => Ok(()),
+        Line::Refused(why) => Err(Stop::Fault(why)),
+        Line::Says(fields) => recorder.record(fields),
+    }
+}
+
+/// The first line of a text without its end, and what stands behind its end if it has one.
+fn first_line(text: &[u8]) -> (&[u8], Option<&[u8]>)
+    ensures lines { slice_split is_line_feed text.now ≡ result.0.now ∷ lines_left result.1 }
+    ensures shorter { bytes_left result.1 ≤ length text.now }
+{
+    match cut_at(b'\n', text) {
+        Some((line, rest)) => (line, Some(rest)),
+        None => (text, None),
+    }
+}
+
+/// The refusal of a text that stopped at this line.
+fn refusal_at(line: u64, stop: Stop) -> TextRefusal
+    ensures { result ≡ refusal_for line stop }
+{
+    match stop {
+        Stop::Fault(why) => TextRefusal { line, why },
+        Stop::Memory => TextRefusal {
+            line: 0,
+            why: TextCause::OutOfMemory,
+        },
+    }
+}
+
+/// Reads a trace text: its events with names and locations, or the first line that is refused with its
+/// first cause, 1 to 8; or 9 where memory was refused, which may come before a later fault is seen.
+pub fn parse(alloc: Global, text: &[u8]) -> Result<RawTrace, TextRefusal>
+    ensures read { IfOk result (λ trace. reading_of text.now ≡ Ok trace) }
+    ensures refused { IfErr result
+        (λ refusal. (refusal ≡ no_memory) ⊎ (reading_of text.now ≡ Err refusal)) }
+{
+    let mut recorder = Recorder::new(alloc, TextKeyed::of(text));
+    let mut left = Some(text);
+    let mut number: u64 = 0;
+    while let Some(lines) = left {
+        number += 1;
+        let (line, rest) = first_line(lines);
+        if let Err(stop) = record_line(&mut recorder, line) {
+            return Err(refusal_at(number, stop));
+        }
+        left = rest;
+    }
+    Ok(recorder.finish())
+}

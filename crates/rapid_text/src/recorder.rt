@@ -1,0 +1,147 @@
+//! Gathers the events of a text that is being read.
+ghost use Rattle.std.specs.Prelude.{◌≡◌, ◌+◌, ◌<◌, ◌^◌, [], ◌∷◌, ◌++◌, None, Ok, length, OnOk, IfOk, IfErr};
+ghost use Rattle.rapid_text.specs.Canonical.{canonical_text};
+ghost use Rattle.rapid_text.specs.Growth.{fault_beyond, with_event, with_operand, HasRoom};
+ghost use Rattle.rapid_text.specs.LineLayout.{named_in};
+ghost use Rattle.rapid_text.specs.Reading.{numbered_op, reading_of, recording_of};
+ghost use Rattle.rapid_text.specs.Recorded.{recorded, AreParts, IsReady, StopsFor};
+
+use crate::event::{Event, Kind, Op};
+use crate::line::Fields;
+use crate::memory::OutOfMemory;
+use crate::names::{Names, TextKeyed, number};
+use crate::raw_trace::{MAX_EVENTS, MAX_THREADS, RawTrace, Span};
+use crate::refusal::TextCause;
+use indexmap::IndexSet;
+use std::alloc::Global;
+
+/// Why an event is not recorded.
+#[derive(Clone, Copy)]
+pub(crate) enum Stop {
+    /// The line is refused.
+    Fault(TextCause),
+    /// A growth was refused.
+    Memory,
+}
+
+impl From<OutOfMemory> for Stop {
+    ghost use Rattle.std.specs.Prelude.{◌≡◌};
+    ghost use Rattle.rapid_text.specs.declared.recorder.Stop.TheVariants.{Memory};
+
+    ghost from_gives = { λ error stop. stop ≡ Memory };
+
+    fn from(_error: OutOfMemory) -> Stop {
+        Stop::Memory
+    }
+}
+
+/// What was read of a text so far.
+#[derive(Drop)]
+pub(crate) struct Recorder {
+    pub(crate) events: Vec<Event>,
+    pub(crate) threads: Names,
+    pub(crate) variables: Names,
+    pub(crate) locks: Names,
+    pub(crate) locations: Vec<u8>,
+    pub(crate) spans: Vec<Span>,
+    alloc: Global,
+}
+
+impl Recorder {
+    /// Nothing was read yet; the names are hashed by these hashers.
+    pub(crate) fn new(alloc: Global, hashers: TextKeyed) -> Recorder
+        ensures nothing { recorded result ≡ recording_of [] }
+        ensures ready { IsReady result }
+    {
+        Recorder {
+            events: Vec::new(alloc),
+            threads: IndexSet::with_hasher(alloc, hashers),
+            variables: IndexSet::with_hasher(alloc, hashers),
+            locks: IndexSet::with_hasher(alloc, hashers),
+            locations: Vec::new(alloc),
+            spans: Vec::new(alloc),
+            alloc,
+        }
+    }
+
+    /// The operation by number; its name is numbered if it is new.
+    fn number_operation(&mut self, kind: Kind, name: &[u8]) -> Result<Op, OutOfMemory>
+        requires { HasRoom (recorded self.old) }
+        ensures names { OnOk result
+            (recorded self.new ≡ with_operand (recorded self.old) kind name.now) }
+        ensures number { IfOk result (λ op.
+            op ≡ numbered_op
+            (recorded self.new).threads
+            (recorded self.new).variables
+            (recorded self.new).locks
+            kind
+            name.now) }
+        ensures parts { AreParts self.old → AreParts self.new }
+    {
+        let alloc = self.alloc;
+        Ok(match kind {
+            Kind::Reads => Op::Read(number(&mut self.variables, alloc, name)?),
+            Kind::Writes => Op::Write(number(&mut self.variables, alloc, name)?),
+            Kind::Acquires => Op::Acquire(number(&mut self.locks, alloc, name)?),
+            Kind::Releases => Op::Release(number(&mut self.locks, alloc, name)?),
+            Kind::Forks => Op::Fork(number(&mut self.threads, alloc, name)?),
+            Kind::Joins => Op::Join(number(&mut self.threads, alloc, name)?),
+        })
+    }
+
+    /// Puts the event last, at this location.
+    fn put_last(&mut self, event: Event, location: &[u8]) -> Result<(), OutOfMemory>
+        requires { AreParts self.old }
+        ensures ok { OnOk result
+            (recorded self.new
+            ≡ record (recorded self.old) {
+              events = (recorded self.old).events ++ event ∷ [];
+              locations = (recorded self.old).locations ++ location.now ∷ [];
+            }) }
+        ensures parts { OnOk result (AreParts self.new) }
+    {
+        let start = self.locations.len();
+        self.locations.extend_from_slice(location)?;
+        let end = self.locations.len();
+        self.spans.push(Span { start, end })?;
+        self.events.push(event)?;
+        Ok(())
+    }
+
+    /// Records one more event, if there is room for it.
+    pub(crate) fn record(&mut self, fields: Fields<'_>) -> Result<(), Stop>
+        requires { IsReady self.old }
+        ensures allowed { OnOk result (fault_beyond (recorded self.old) (named_in fields.entry) ≡ None) }
+        ensures ok { OnOk result
+            (recorded self.new ≡ with_event (recorded self.old) (named_in fields.entry)) }
+        ensures ready { OnOk result (IsReady self.new) }
+        ensures refused { IfErr result (StopsFor (fault_beyond (recorded self.old) (named_in fields.entry))) }
+    {
+        if self.events.len() >= MAX_EVENTS {
+            return Err(Stop::Fault(TextCause::TooManyEvents));
+        }
+        let thread = number(&mut self.threads, self.alloc, fields.thread)?;
+        let op = self.number_operation(fields.kind, fields.name)?;
+        if self.threads.len() > MAX_THREADS {
+            return Err(Stop::Fault(TextCause::TooManyNames));
+        }
+        self.put_last(Event { thread, op }, fields.location)?;
+        Ok(())
+    }
+
+    /// The recording of all that was read.
+    pub(crate) fn finish(self) -> RawTrace
+        requires ready { IsReady self }
+        requires reads_back { reading_of (canonical_text (recorded self)) ≡ Ok (recorded self) }
+        ensures { result ≡ recorded self }
+    {
+        RawTrace {
+            events: self.events,
+            threads: self.threads,
+            variables: self.variables,
+            locks: self.locks,
+            locations: self.locations,
+            spans: self.spans,
+        }
+    }
+}
