@@ -1,0 +1,259 @@
+-- What the rules say of a list of events, for the crates above: a list that keeps them has no first
+-- breach and the other way round; what a first breach says; and who holds a lock.
+use Rattle.std.proofs.Common.{◌≡◌, ◌≢◌, ℕ, zero, suc, ◌+◌, ◌-◌, ◌<◌, ◌≤◌, ◌==◌, Bool, true, false, ◌||◌, cond, List, [], ◌∷◌, ◌++◌, take, slice_get, option_and_then, Option, Some, None, refl, sym, ap, ◌∙◌, subst, arith, add-one, lt_irrefl, eq-eqb, ne_eqb, eqb-true, inl, inr}
+use Rattle.std.specs.List.{list_any}
+use Rattle.std.proofs.lemmas.Bool.{cases_Bool, cases_eq, cases_lt, or_left, or_right, or_from, true≢false, false_from_ne_true, eqb-false}
+use Rattle.std.proofs.lemmas.Option.{none-some, same_Some, slice_get_within}
+use Rattle.rapid_text.specs.Operations.{is_acquire, is_release, is_fork, is_join}
+use Rattle.rapid_text.specs.declared.event.Event.{Event}
+use Rattle.rapid_text.specs.declared.event.Op.{Op}
+use Rattle.rapid_text.specs.declared.event.Op.TheVariants.{Read, Write, Acquire, Release, Fork, Join}
+use Rattle.trace_rules.specs.Rules.{IsDisciplined, acquire_count, release_count, hold_count, breach_of_op, breach_of, breach_at, first_breach}
+use Rattle.trace_rules.specs.Tables.{depth_for, IsHoldOf}
+use Rattle.trace_rules.specs.declared.hold.Hold.{Hold}
+use Rattle.trace_rules.specs.declared.refusal.RuleCause.TheVariants.{ReleaseNotHeld, AcquireHeld, ForkTwice, ForkLate, OwnThread, AfterJoin}
+use Rattle.trace_rules.specs.declared.refusal.RuleRefusal.{RuleRefusal}
+use Rattle.trace_rules.proofs.Counts.{is_held_by_another, is_held_by_another-false, hold_count-other}
+use Rattle.trace_rules.proofs.FirstBreach.{HasNoBreach, IsFirstBreach, first_breach-from_none, none-from_first_breach, first-from_first_breach}
+use Rattle.trace_rules.proofs.HoldLemmas.{depth_for-other, hold_count-IsHoldOf, depth-above, IsHoldOf-acquire, IsHoldOf-release, IsHoldOf-last, IsHoldOf-other, IsOpenFor-from_none, owner-from_none}
+use Rattle.trace_rules.proofs.TableLemmas.{take-event, cond-from_none, breach_at-event, breach_of_op-own_fork, breach_of_op-own_join}
+
+-- an operation that passes a test is of that kind
+pub fork-from_test : (u : ℕ) (op : Op) → is_fork u op ≡ true → op ≡ Fork u
+fork-from_test u (Read x) is = absurd (true≢false (sym is))
+fork-from_test u (Write x) is = absurd (true≢false (sym is))
+fork-from_test u (Acquire x) is = absurd (true≢false (sym is))
+fork-from_test u (Release x) is = absurd (true≢false (sym is))
+fork-from_test u (Fork x) is = ap Fork (eqb-true x u is)
+fork-from_test u (Join x) is = absurd (true≢false (sym is))
+
+pub join-from_test : (u : ℕ) (op : Op) → is_join u op ≡ true → op ≡ Join u
+join-from_test u (Read x) is = absurd (true≢false (sym is))
+join-from_test u (Write x) is = absurd (true≢false (sym is))
+join-from_test u (Acquire x) is = absurd (true≢false (sym is))
+join-from_test u (Release x) is = absurd (true≢false (sym is))
+join-from_test u (Fork x) is = absurd (true≢false (sym is))
+join-from_test u (Join x) is = ap Join (eqb-true x u is)
+
+pub acquire-from_test : (l : ℕ) (op : Op) → is_acquire l op ≡ true → op ≡ Acquire l
+acquire-from_test l (Read x) is = absurd (true≢false (sym is))
+acquire-from_test l (Write x) is = absurd (true≢false (sym is))
+acquire-from_test l (Acquire x) is = ap Acquire (eqb-true x l is)
+acquire-from_test l (Release x) is = absurd (true≢false (sym is))
+acquire-from_test l (Fork x) is = absurd (true≢false (sym is))
+acquire-from_test l (Join x) is = absurd (true≢false (sym is))
+
+pub release-from_test : (l : ℕ) (op : Op) → is_release l op ≡ true → op ≡ Release l
+release-from_test l (Read x) is = absurd (true≢false (sym is))
+release-from_test l (Write x) is = absurd (true≢false (sym is))
+release-from_test l (Acquire x) is = absurd (true≢false (sym is))
+release-from_test l (Release x) is = ap Release (eqb-true x l is)
+release-from_test l (Fork x) is = absurd (true≢false (sym is))
+release-from_test l (Join x) is = absurd (true≢false (sym is))
+
+module _ (p : Event → Bool) where
+  -- an event that passes stands among the first j where it stands below j
+  list_any_before : (T : List Event) (i j : ℕ) (d : Event) → i < j → slice_get T i ≡ Some d → p d ≡ true
+      → list_any p (take j T) ≡ true
+  list_any_before [] i j d less at passes = absurd (none-some d at)
+  list_any_before (x ∷ T) i zero d less at passes = absurd (omega arith)
+  list_any_before (x ∷ T) zero (suc j) d less at passes = or_left (p x) (list_any p (take j T)) (ap p (same_Some x d at) ∙ passes)
+  list_any_before (x ∷ T) (suc i) (suc j) d less at passes = or_right (p x) (list_any p (take j T)) (list_any_before T i j d (omega arith) at passes)
+
+  -- where no event below j passes
+  none_before : (T : List Event) (j : ℕ)
+      → ((i : ℕ) (d : Event) → i < j → slice_get T i ≡ Some d → p d ≡ false) → list_any p (take j T) ≡ false
+  none_before T zero none = refl
+  none_before [] (suc j) none = refl
+  none_before (x ∷ T) (suc j) none = or_from (p x) (list_any p (take j T)) (none zero x (omega arith) refl) (none_before T j (λ i d less at. none (suc i) d (omega arith) at))
+
+-- what a fork that breaks no rule says
+fork_parts : (es : List Event) (t u : ℕ) → breach_of_op es t (Fork u) ≡ None
+    → (u ≢ t) × (list_any (λ e. is_fork u e.op) es ≡ false) × (list_any (λ e. e.thread == u || is_join u e.op) es ≡ false)
+fork_parts es t u is =
+    let own = cond-from_none (u == t) (cond (list_any (λ e. is_fork u e.op) es) (Some ForkTwice) (cond (list_any (λ e. e.thread == u || is_join u e.op) es) (Some ForkLate) None)) OwnThread is in
+    let twice = cond-from_none (list_any (λ e. is_fork u e.op) es) (cond (list_any (λ e. e.thread == u || is_join u e.op) es) (Some ForkLate) None) ForkTwice own.1 in
+    let late = cond-from_none (list_any (λ e. e.thread == u || is_join u e.op) es) None ForkLate twice.1 in
+    (eqb-false u t own.0, twice.0, late.0)
+
+module _ (T : List Event) (none : HasNoBreach T) (j : ℕ) (e : Event) (here : slice_get T j ≡ Some e) where
+  event_parts : (list_any (λ d. is_join e.thread d.op) (take j T) ≡ false) × (breach_of_op (take j T) e.thread e.op ≡ None)
+  event_parts =
+      cond-from_none (list_any (λ d. is_join e.thread d.op) (take j T)) (breach_of_op (take j T) e.thread e.op) AfterJoin (sym (breach_at-event T j e here) ∙ none j (slice_get_within T j e here))
+
+  op_breach : (op : Op) → e.op ≡ op → breach_of_op (take j T) e.thread op ≡ None
+  op_breach op is = ap (breach_of_op (take j T) e.thread) (sym is) ∙ event_parts.1
+
+  not_own_fork : e.op ≢ Fork e.thread
+  not_own_fork is = absurd (none-some OwnThread (sym (op_breach (Fork e.thread) is) ∙ breach_of_op-own_fork (take j T) e.thread e.thread refl))
+
+  not_own_join : e.op ≢ Join e.thread
+  not_own_join is = absurd (none-some OwnThread (sym (op_breach (Join e.thread) is) ∙ breach_of_op-own_join (take j T) e.thread e.thread refl))
+
+  lock_is_free : (l u : ℕ) → e.op ≡ Acquire l → u ≢ e.thread → hold_count (take j T) u l ≡ 0
+  lock_is_free l u is other =
+      let free = cond-from_none (is_held_by_another (take j T) e.thread l) None AcquireHeld (op_breach (Acquire l) is) in
+      hold_count-other (take j T) e.thread l u free.0 other
+
+  lock_is_held : (l : ℕ) → e.op ≡ Release l → 0 < hold_count (take j T) e.thread l
+  lock_is_held l is =
+      let held = cond-from_none (hold_count (take j T) e.thread l == 0) None ReleaseNotHeld (op_breach (Release l) is) in
+      let above : hold_count (take j T) e.thread l ≢ 0 = eqb-false (hold_count (take j T) e.thread l) 0 held.0 in
+      omega arith
+
+  module _ (i : ℕ) (d : Event) (less : i < j) (there : slice_get T i ≡ Some d) where
+    not_joined : d.op ≢ Join e.thread
+    not_joined is = true≢false (sym (list_any_before (λ d. is_join e.thread d.op) T i j d less there (ap (is_join e.thread) is ∙ eq-eqb e.thread e.thread refl)) ∙ event_parts.0)
+
+    module _ (u : ℕ) (fork : e.op ≡ Fork u) where
+      parts : (u ≢ e.thread) × (list_any (λ e. is_fork u e.op) (take j T) ≡ false) × (list_any (λ e. e.thread == u || is_join u e.op) (take j T) ≡ false)
+      parts = fork_parts (take j T) e.thread u (op_breach (Fork u) fork)
+
+      not_forked : d.op ≢ Fork u
+      not_forked is = true≢false (sym (list_any_before (λ e. is_fork u e.op) T i j d less there (ap (is_fork u) is ∙ eq-eqb u u refl)) ∙ parts.1)
+
+      has_no_event : d.thread ≢ u
+      has_no_event is = true≢false (sym (list_any_before (λ e. e.thread == u || is_join u e.op) T i j d less there (or_left (d.thread == u) (is_join u d.op) (eq-eqb d.thread u is))) ∙ parts.2)
+
+      was_not_joined : d.op ≢ Join u
+      was_not_joined is = true≢false (sym (list_any_before (λ e. e.thread == u || is_join u e.op) T i j d less there (or_right (d.thread == u) (is_join u d.op) (ap (is_join u) is ∙ eq-eqb u u refl))) ∙ parts.2)
+
+-- where no event breaks a rule, the list keeps the rules
+pub IsDisciplined-from_none : (T : List Event) → HasNoBreach T → IsDisciplined T
+IsDisciplined-from_none T none =
+    record {
+      no_event_after_join = λ i j d e less there here. not_joined T none j e here i d less there;
+      no_own_fork = λ j e here. not_own_fork T none j e here;
+      no_own_join = λ j e here. not_own_join T none j e here;
+      no_second_fork = λ i j u d e less there here fork. not_forked T none j e here i d less there u fork;
+      no_event_before_fork = λ i j u d e less there here fork. has_no_event T none j e here i d less there u fork;
+      no_join_before_fork = λ i j u d e less there here fork. was_not_joined T none j e here i d less there u fork;
+      acquires_free = λ j l u e here is other. lock_is_free T none j e here l u is other;
+      releases_held = λ j l e here is. lock_is_held T none j e here l is;
+    }
+
+module _ (T : List Event) (is : IsDisciplined T) (j : ℕ) (e : Event) (here : slice_get T j ≡ Some e) where
+  running : list_any (λ d. is_join e.thread d.op) (take j T) ≡ false
+  running = none_before (λ d. is_join e.thread d.op) T j (λ i d less there. false_from_ne_true (is_join e.thread d.op) (λ passes. is.no_event_after_join i j d e less there here (join-from_test e.thread d.op passes)))
+
+  unforked : (u : ℕ) → e.op ≡ Fork u → list_any (λ d. is_fork u d.op) (take j T) ≡ false
+  unforked u fork = none_before (λ d. is_fork u d.op) T j (λ i d less there. false_from_ne_true (is_fork u d.op) (λ passes. is.no_second_fork i j u d e less there here fork (fork-from_test u d.op passes)))
+
+  early : (u : ℕ) → e.op ≡ Fork u → list_any (λ d. d.thread == u || is_join u d.op) (take j T) ≡ false
+  early u fork =
+      none_before (λ d. d.thread == u || is_join u d.op) T j
+      (λ i d less there. or_from (d.thread == u) (is_join u d.op)
+      (ne_eqb d.thread u (is.no_event_before_fork i j u d e less there here fork))
+      (false_from_ne_true (is_join u d.op) (λ passes. is.no_join_before_fork i j u d e less there here fork (join-from_test u d.op passes))))
+
+  op_keeps : (op : Op) → e.op ≡ op → breach_of_op (take j T) e.thread op ≡ None
+  op_keeps (Read x) does = refl
+  op_keeps (Write x) does = refl
+  op_keeps (Acquire l) does = ap (λ b. cond b (Some AcquireHeld) None) (is_held_by_another-false (take j T) e.thread l (λ u other. is.acquires_free j l u e here does other))
+  op_keeps (Release l) does =
+      let held : 0 < hold_count (take j T) e.thread l = is.releases_held j l e here does in
+      ap (λ b. cond b (Some ReleaseNotHeld) None) (ne_eqb (hold_count (take j T) e.thread l) 0 (λ gone. omega arith))
+  op_keeps (Fork u) does =
+      ap (λ b. cond b (Some OwnThread) (cond (list_any (λ e. is_fork u e.op) (take j T)) (Some ForkTwice) (cond (list_any (λ e. e.thread == u || is_join u e.op) (take j T)) (Some ForkLate) None))) (ne_eqb u e.thread (λ own. is.no_own_fork j e here (does ∙ ap Fork own)))
+      ∙ ap (λ b. cond b (Some ForkTwice) (cond (list_any (λ e. e.thread == u || is_join u e.op) (take j T)) (Some ForkLate) None)) (unforked u does)
+      ∙ ap (λ b. cond b (Some ForkLate) None) (early u does)
+  op_keeps (Join u) does = ap (λ b. cond b (Some OwnThread) None) (ne_eqb u e.thread (λ own. is.no_own_join j e here (does ∙ ap Join own)))
+
+  event_keeps : breach_at T j ≡ None
+  event_keeps = breach_at-event T j e here ∙ ap (λ b. cond b (Some AfterJoin) (breach_of_op (take j T) e.thread e.op)) running ∙ op_keeps e.op refl
+
+-- in a list that keeps the rules, no event breaks one
+breach_at-cases : (T : List Event) → IsDisciplined T → (j : ℕ) (o : Option Event) → slice_get T j ≡ o
+    → breach_at T j ≡ None
+breach_at-cases T is j None at = ap (option_and_then (breach_of (take j T))) at
+breach_at-cases T is j (Some e) at = event_keeps T is j e at
+
+pub none-from_IsDisciplined : (T : List Event) → IsDisciplined T → HasNoBreach T
+none-from_IsDisciplined T is j within = breach_at-cases T is j (slice_get T j) refl
+
+-- a list keeps the rules exactly where it has no first breach
+pub disciplined-no_breach : (T : List Event) → IsDisciplined T → first_breach T ≡ None
+disciplined-no_breach T is = first_breach-from_none T (none-from_IsDisciplined T is)
+
+pub no_breach-disciplined : (T : List Event) → first_breach T ≡ None → IsDisciplined T
+no_breach-disciplined T is = IsDisciplined-from_none T (none-from_first_breach T is)
+
+-- a first breach is of an event, is its first breach, and no earlier event has one
+pub first_breach-is_first : (T : List Event) (r : RuleRefusal) → first_breach T ≡ Some r → IsFirstBreach T r
+first_breach-is_first T r is = first-from_first_breach T r is
+
+-- past the end nothing is added
+take-suc_past : (T : List Event) (j : ℕ) → slice_get T j ≡ None → take j T ≡ take (suc j) T
+take-suc_past [] zero past = refl
+take-suc_past [] (suc j) past = refl
+take-suc_past (x ∷ T) zero past = absurd (none-some x (sym past))
+take-suc_past (x ∷ T) (suc j) past = ap (λ es. x ∷ es) (take-suc_past T j past)
+
+take-past : (T : List Event) (j : ℕ) → slice_get T j ≡ None → take j T ≡ take (j + 1) T
+take-past T j past = take-suc_past T j past ∙ ap (λ k. take k T) (sym (add-one j))
+
+-- The holds of a lock after events that break no rule: some table's hold says them.
+module _ (T : List Event) (none : HasNoBreach T) (l : ℕ) where
+  hold_after_release : (j : ℕ) (e : Event) (h : Hold) → IsHoldOf (take j T) l h → e.op ≡ Release l
+      → h.owner ≡ Some e.thread → (after : Hold) × IsHoldOf (take j T ++ e ∷ []) l after
+  hold_after_release j e h is op owned =
+      let above : 0 < h.depth = depth-above h.owner h.depth e.thread is.depth owned in
+      elim (cases_lt 1 h.depth) [
+        | inl deep ↦ (record { owner = Some e.thread; depth = h.depth - 1 }, IsHoldOf-release (take j T) l e h is e.thread refl op owned deep)
+        | inr last ↦ (record { owner = None; depth = 0 }, IsHoldOf-last (take j T) l e h is e.thread (record { owner = None; depth = 0 }) refl op owned (omega arith) (record { counts = λ t. refl; depth = refl }))
+      ]
+
+  -- past an event e
+  hold_after : (j : ℕ) (e : Event) (h : Hold) → slice_get T j ≡ Some e → IsHoldOf (take j T) l h
+      → (after : Hold) × IsHoldOf (take j T ++ e ∷ []) l after
+  hold_after j e h here is =
+      elim (cases_Bool (is_acquire l e.op)) [
+        | inl takes ↦
+            let op : e.op ≡ Acquire l = acquire-from_test l e.op takes in
+            (record { owner = Some e.thread; depth = h.depth + 1 }, IsHoldOf-acquire (take j T) l e h is e.thread refl op (IsOpenFor-from_none (take j T) l h is e.thread (op_breach T none j e here (Acquire l) op)))
+        | inr keeps ↦ elim (cases_Bool (is_release l e.op)) [
+          | inl lets ↦
+              let op : e.op ≡ Release l = release-from_test l e.op lets in
+              hold_after_release j e h is op (owner-from_none (take j T) l h is e.thread (op_breach T none j e here (Release l) op))
+          | inr stays ↦ (h, IsHoldOf-other (take j T) l e h is keeps stays)
+        ]
+      ]
+
+  hold_past : (j : ℕ) (o : Option Event) → slice_get T j ≡ o → (h : Hold) × IsHoldOf (take j T) l h
+      → (after : Hold) × IsHoldOf (take (j + 1) T) l after
+  hold_past j None past before = (before.0, subst (λ es. IsHoldOf es l before.0) (take-past T j past) before.1)
+  hold_past j (Some e) here before =
+      let after = hold_after j e before.0 here before.1 in
+      (after.0, subst (λ es. IsHoldOf es l after.0) (sym (take-event T j e here)) after.1)
+
+  hold_up_to : (j : ℕ) → (h : Hold) × IsHoldOf (take j T) l h
+  hold_up_to zero = (record { owner = None; depth = 0 }, record { counts = λ t. refl; depth = refl })
+  hold_up_to (suc j) = rw (← add-one j) (hold_past j (slice_get T j) refl (hold_up_to j))
+
+-- an owner with a hold
+owner-from_depth : (owner : Option ℕ) (depth t : ℕ) → 0 < depth_for owner depth t → owner ≡ Some t
+owner-from_depth None depth t above = absurd (omega arith)
+owner-from_depth (Some u) depth t above =
+    elim (cases_eq u t) [
+      | inl same ↦ ap Some same
+      | inr other ↦ absurd (lt_irrefl 0 (subst (λ n. 0 < n) (depth_for-other (Some u) depth u refl t (λ is. other (sym is))) above))
+    ]
+
+module _ (T : List Event) (is : IsDisciplined T) (j t l : ℕ) where
+  -- in an execution that keeps the rules, no thread lets a lock go more often than it took it
+  pub release_count-le : release_count (take j T) t l ≤ acquire_count (take j T) t l
+  release_count-le =
+      let held = hold_up_to T (none-from_IsDisciplined T is) l j in
+      omega (arith, held.1.counts t)
+
+  -- so its acquires are its releases and its holds
+  pub acquire_count-split : acquire_count (take j T) t l ≡ release_count (take j T) t l + hold_count (take j T) t l
+  acquire_count-split = omega (arith, release_count-le)
+
+  -- at most one thread holds a lock
+  pub one_holder : (u : ℕ) → 0 < hold_count (take j T) t l → 0 < hold_count (take j T) u l → t ≡ u
+  one_holder u holds also =
+      let held = hold_up_to T (none-from_IsDisciplined T is) l j in
+      let mine = owner-from_depth held.0.owner held.0.depth t (omega (arith, hold_count-IsHoldOf (take j T) l held.0 held.1 t)) in
+      let its = owner-from_depth held.0.owner held.0.depth u (omega (arith, hold_count-IsHoldOf (take j T) l held.0 held.1 u)) in
+      same_Some t u (sym mine ∙ its)

@@ -1,0 +1,83 @@
+-- What a table's life says of the events so far, and how it goes on.
+use Rattle.std.proofs.Common.{◌≡◌, ◌≢◌, ℕ, ◌<◌, ◌==◌, Bool, true, false, ◌&&◌, ◌||◌, cond, List, [], ◌∷◌, ◌++◌, length, set, slice_get, Some, None, refl, sym, ap, ap₂, ◌∙◌, eq-eqb, ne_eqb, inl, inr}
+use Rattle.std.specs.List.{list_any}
+use Rattle.std.proofs.Math.Bool.{or-false}
+use Rattle.rapid_text.specs.Operations.{is_fork, is_join}
+use Rattle.rapid_text.specs.declared.event.Event.{Event}
+use Rattle.rapid_text.specs.declared.event.Op.TheVariants.{Fork}
+use Rattle.trace_rules.specs.Rules.{breach_of_op}
+use Rattle.trace_rules.specs.Tables.{IsLifeOf, AreLivesOf}
+use Rattle.trace_rules.specs.declared.life.Life.{Life}
+use Rattle.trace_rules.specs.declared.refusal.RuleCause.TheVariants.{ForkTwice, ForkLate}
+use Rattle.trace_rules.proofs.Counts.{list_any_push, list_any-or, slice_get-set}
+
+-- each part of a life goes on by its test
+pub IsLifeOf-push : (es : List Event) (t : ℕ) (e : Event) (s : Life) → IsLifeOf es t s → (after : Life)
+    → after.has_event ≡ (s.has_event || (e.thread == t))
+    → after.was_forked ≡ (s.was_forked || is_fork t e.op)
+    → after.was_joined ≡ (s.was_joined || is_join t e.op) → IsLifeOf (es ++ e ∷ []) t after
+IsLifeOf-push es t e s is after event forked joined =
+    record {
+      has_event = event ∙ ap (λ b. b || (e.thread == t)) is.has_event ∙ sym (list_any_push (λ e. e.thread == t) es e);
+      was_forked = forked ∙ ap (λ b. b || is_fork t e.op) is.was_forked ∙ sym (list_any_push (λ e. is_fork t e.op) es e);
+      was_joined = joined ∙ ap (λ b. b || is_join t e.op) is.was_joined ∙ sym (list_any_push (λ e. is_join t e.op) es e);
+    }
+
+-- what a fork of another thread breaks, by that thread's life
+pub breach_of_op-fork : (es : List Event) (t u : ℕ) (s : Life) → IsLifeOf es u s → u ≢ t
+    → breach_of_op es t (Fork u) ≡ cond s.was_forked (Some ForkTwice) (cond (s.has_event || s.was_joined) (Some ForkLate) None)
+breach_of_op-fork es t u s is other =
+    let apart : (u == t) ≡ false = ne_eqb u t other in
+    let late : list_any (λ e. e.thread == u || is_join u e.op) es ≡ (s.has_event || s.was_joined) =
+    list_any-or (λ e. e.thread == u) (λ e. is_join u e.op) es ∙ ap₂ (λ a b. a || b) (sym is.has_event) (sym is.was_joined) in
+    rw (apart, ← is.was_forked, late)
+
+-- a life that goes on by these tests
+pub record IsMarked (before : Life) (event forked joined : Bool) (after : Life) : Type 0 where
+  pub has_event : after.has_event ≡ (before.has_event || event)
+  pub was_forked : after.was_forked ≡ (before.was_forked || forked)
+  pub was_joined : after.was_joined ≡ (before.was_joined || joined)
+
+drop_false : (a b : Bool) → (a || (b && false)) ≡ a
+drop_false true b = refl
+drop_false false true = refl
+drop_false false false = refl
+
+keep_true : (a b : Bool) → (a || (b && true)) ≡ (a || b)
+keep_true true b = refl
+keep_true false true = refl
+keep_true false false = refl
+
+-- what stands at a place after a write at k of a life that goes on from the one there
+pub life_before : (lives : List Life) (k : ℕ) (x y : Life) → k < length lives → slice_get lives k ≡ Some x
+    → (t : ℕ) (s : Life) → slice_get (set lives k y) t ≡ Some s
+    → (before : Life) × (slice_get lives t ≡ Some before) × ((p : Life → Bool) (more : Bool) → p y ≡ (p x || more) → p s ≡ (p before || ((k == t) && more)))
+life_before lives k x y within read t s at =
+    elim (slice_get-set lives k t y s within at) [
+      | inl here ↦ (x, ap (slice_get lives) here.0 ∙ read, λ p more goes. ap p (sym here.1) ∙ goes ∙ ap (λ b. p x || (b && more)) (sym (eq-eqb k t (sym here.0))))
+      | inr there ↦ (s, there.1, λ p more goes. sym (or-false (p s)) ∙ ap (λ b. p s || (b && more)) (sym (ne_eqb k t (λ same. there.0 (sym same)))))
+    ]
+
+module _ (es : List Event) (e : Event) (lives : List Life) (are : AreLivesOf es lives) (x y : Life) (within : e.thread < length lives) (read : slice_get lives e.thread ≡ Some x) (goes : IsMarked x true false false y) where
+  -- past an event that forks and joins nobody
+  pub AreLivesOf-plain : ((t : ℕ) → (is_fork t e.op ≡ false) × (is_join t e.op ≡ false))
+      → AreLivesOf (es ++ e ∷ []) (set lives e.thread y)
+  AreLivesOf-plain none t s at =
+      let was = life_before lives e.thread x y within read t s at in
+      IsLifeOf-push es t e was.0 (are t was.0 was.1) s
+      (was.2 (λ l. l.has_event) true goes.has_event ∙ keep_true was.0.has_event (e.thread == t))
+      (was.2 (λ l. l.was_forked) false goes.was_forked ∙ drop_false was.0.was_forked (e.thread == t) ∙ sym (or-false was.0.was_forked) ∙ ap (λ b. was.0.was_forked || b) (sym (none t).0))
+      (was.2 (λ l. l.was_joined) false goes.was_joined ∙ drop_false was.0.was_joined (e.thread == t) ∙ sym (or-false was.0.was_joined) ∙ ap (λ b. was.0.was_joined || b) (sym (none t).1))
+
+  -- past a fork or a join of the thread u
+  pub AreLivesOf-marked : (u : ℕ) (v w : Life) (forks joins : Bool) → u < length (set lives e.thread y)
+      → slice_get (set lives e.thread y) u ≡ Some v → IsMarked v false forks joins w
+      → ((t : ℕ) → (is_fork t e.op ≡ ((u == t) && forks)) × (is_join t e.op ≡ ((u == t) && joins)))
+      → AreLivesOf (es ++ e ∷ []) (set (set lives e.thread y) u w)
+  AreLivesOf-marked u v w forks joins inside there marked tells t s at =
+      let then = life_before (set lives e.thread y) u v w inside there t s at in
+      let was = life_before lives e.thread x y within read t then.0 then.1 in
+      IsLifeOf-push es t e was.0 (are t was.0 was.1) s
+      (then.2 (λ l. l.has_event) false marked.has_event ∙ drop_false then.0.has_event (u == t) ∙ was.2 (λ l. l.has_event) true goes.has_event ∙ keep_true was.0.has_event (e.thread == t))
+      (then.2 (λ l. l.was_forked) forks marked.was_forked ∙ ap₂ (λ a b. a || b) (was.2 (λ l. l.was_forked) false goes.was_forked ∙ drop_false was.0.was_forked (e.thread == t)) (sym (tells t).0))
+      (then.2 (λ l. l.was_joined) joins marked.was_joined ∙ ap₂ (λ a b. a || b) (was.2 (λ l. l.was_joined) false goes.was_joined ∙ drop_false was.0.was_joined (e.thread == t)) (sym (tells t).1))

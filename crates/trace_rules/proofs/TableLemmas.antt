@@ -1,0 +1,133 @@
+-- The tables at an event, and past it.
+use Rattle.std.proofs.Common.{◌≡◌, ◌≢◌, ℕ, ◌+◌, ◌<◌, ◌==◌, Bool, true, false, ◌||◌, ◌⊎◌, cond, List, [], ◌∷◌, ◌++◌, length, take, get_or, set, slice_get, option_and_then, Option, Some, None, refl, sym, ap, ◌∙◌, subst, eq-eqb, ne_eqb, inl, inr}
+use Rattle.std.proofs.lemmas.List.{take_more}
+use Rattle.std.proofs.lemmas.Option.{none-some, slice_get_read, slice_get_within, get_or_from_slice_get}
+use Rattle.std.specs.List.{list_any}
+use Rattle.rapid_text.specs.Operations.{is_acquire, is_release, is_fork, is_join}
+use Rattle.rapid_text.specs.declared.event.Event.{Event}
+use Rattle.rapid_text.specs.Recording.{Recording}
+use Rattle.rapid_text.specs.declared.event.Op.{Op}
+use Rattle.rapid_text.specs.declared.event.Op.TheVariants.{Read, Write, Acquire, Release, Fork, Join}
+use Rattle.trace_rules.specs.Rules.{breach_at, breach_of, breach_of_op}
+use Rattle.trace_rules.specs.Tables.{IsHoldOf, IsLifeOf, AreHoldsOf, IsStateOf}
+use Rattle.trace_rules.specs.declared.hold.Hold.{Hold}
+use Rattle.trace_rules.specs.declared.life.Life.{Life}
+use Rattle.trace_rules.specs.declared.state.State.{State}
+use Rattle.trace_rules.specs.declared.refusal.RuleCause.{RuleCause}
+use Rattle.trace_rules.specs.declared.refusal.RuleCause.TheVariants.{ForkTwice, ForkLate, OwnThread, AfterJoin}
+use Rattle.trace_rules.proofs.Counts.{slice_get-set}
+use Rattle.trace_rules.proofs.HoldLemmas.{IsHoldOf-other}
+
+-- the element read at a place is the one that stands there
+pub slice_get-read : {X : Type 0} (xs : List X) (n k : ℕ) (x : X) → length xs ≡ n → k < n
+    → x ≡ get_or xs k x → slice_get xs k ≡ Some x
+slice_get-read xs n k x len within is = slice_get_read xs n k x (sym len) within is
+
+-- a test that succeeds decides
+pub cond-from_none : (b : Bool) (o : Option RuleCause) (why : RuleCause) → cond b (Some why) o ≡ None
+    → (b ≡ false) × (o ≡ None)
+cond-from_none true o why is = absurd (none-some why (sym is))
+cond-from_none false o why is = (refl, is)
+
+module _ (T : List Event) (i : ℕ) (e : Event) (here : slice_get T i ≡ Some e) where
+  -- the events up to this one and with it
+  pub take-event : take (i + 1) T ≡ take i T ++ e ∷ []
+  take-event =
+      take_more T i e (slice_get_within T i e here) ∙ ap (λ x. take i T ++ x ∷ []) (get_or_from_slice_get T i e e here)
+
+  pub breach_at-event : breach_at T i ≡ breach_of (take i T) e
+  breach_at-event = ap (option_and_then (breach_of (take i T))) here
+
+  module _ (life : Life) (is : IsLifeOf (take i T) e.thread life) where
+    -- an event of a joined thread
+    pub breach_at-after_join : life.was_joined ≡ true → breach_at T i ≡ Some AfterJoin
+    breach_at-after_join joined =
+        breach_at-event ∙ ap (λ b. cond b (Some AfterJoin) (breach_of_op (take i T) e.thread e.op)) (sym is.was_joined ∙ joined)
+
+    -- an event of another thread is judged by its operation
+    pub breach_at-op : life.was_joined ≡ false → breach_at T i ≡ breach_of_op (take i T) e.thread e.op
+    breach_at-op running =
+        breach_at-event ∙ ap (λ b. cond b (Some AfterJoin) (breach_of_op (take i T) e.thread e.op)) (sym is.was_joined ∙ running)
+
+  -- an event that breaks no rule
+  pub breach_of_op-from_none : breach_at T i ≡ None → breach_of_op (take i T) e.thread e.op ≡ None
+  breach_of_op-from_none kept =
+      (cond-from_none (list_any (λ d. is_join e.thread d.op) (take i T)) (breach_of_op (take i T) e.thread e.op) AfterJoin (sym breach_at-event ∙ kept)).1
+
+  -- past an event that is no operation on a lock
+  pub AreHoldsOf-same : (holds : List Hold) → AreHoldsOf (take i T) holds
+      → ((l : ℕ) → (is_acquire l e.op ≡ false) × (is_release l e.op ≡ false))
+      → AreHoldsOf (take (i + 1) T) holds
+  AreHoldsOf-same holds are none l h at =
+      rw (take-event) (IsHoldOf-other (take i T) l e h (are l h at) (none l).0 (none l).1)
+
+  -- past an operation on the lock m
+  pub AreHoldsOf-set : (holds : List Hold) (m : ℕ) (new : Hold) → m < length holds
+      → AreHoldsOf (take i T) holds → IsHoldOf (take i T ++ e ∷ []) m new
+      → ((l : ℕ) → l ≢ m → (is_acquire l e.op ≡ false) × (is_release l e.op ≡ false))
+      → AreHoldsOf (take (i + 1) T) (set holds m new)
+  AreHoldsOf-set holds m new within are is none l h at =
+      rw (take-event)
+      (elim (slice_get-set holds m l new h within at) [
+        | inl here ↦ subst (λ g. IsHoldOf (take i T ++ e ∷ []) l g) here.1 (subst (λ k. IsHoldOf (take i T ++ e ∷ []) k new) (sym here.0) is)
+        | inr there ↦ IsHoldOf-other (take i T) l e h (are l h there.1) (none l there.0).0 (none l there.0).1
+      ])
+
+module _ (r : Recording) (i : ℕ) (s : State) (is : IsStateOf r i s) where
+  -- the life that is read in the table
+  pub life_at : (t : ℕ) (x : Life) → t < length r.threads → x ≡ get_or s.lives.items t x
+      → IsLifeOf (take i r.events) t x
+  life_at t x within read = is.lives t x (slice_get-read s.lives.items (length r.threads) t x is.threads within read)
+
+  -- the hold that is read in the table
+  pub hold_at : (l : ℕ) (x : Hold) → l < length r.locks → x ≡ get_or s.holds.items l x
+      → IsHoldOf (take i r.events) l x
+  hold_at l x within read = is.holds l x (slice_get-read s.holds.items (length r.locks) l x is.locks within read)
+
+  -- an event whose thread was not joined is judged by its operation
+  pub breach_at-running : (e : Event) (op : Op) (x : Life) → slice_get r.events i ≡ Some e
+      → e.thread < length r.threads → x ≡ get_or s.lives.items e.thread x → x.was_joined ≡ false → e.op ≡ op
+      → breach_at r.events i ≡ breach_of_op (take i r.events) e.thread op
+  breach_at-running e op x here within read running does =
+      breach_at-op r.events i e here x (life_at e.thread x within read) running ∙ ap (breach_of_op (take i r.events) e.thread) does
+
+-- a fork or join of the own thread
+pub breach_of_op-own_fork : (es : List Event) (t u : ℕ) → u ≡ t → breach_of_op es t (Fork u) ≡ Some OwnThread
+breach_of_op-own_fork es t u same =
+    ap (λ b. cond b (Some OwnThread) (cond (list_any (λ e. is_fork u e.op) es) (Some ForkTwice) (cond (list_any (λ e. e.thread == u || is_join u e.op) es) (Some ForkLate) None))) (eq-eqb u t same)
+
+pub breach_of_op-own_join : (es : List Event) (t u : ℕ) → u ≡ t → breach_of_op es t (Join u) ≡ Some OwnThread
+breach_of_op-own_join es t u same = ap (λ b. cond b (Some OwnThread) None) (eq-eqb u t same)
+
+pub breach_of_op-join : (es : List Event) (t u : ℕ) → u ≢ t → breach_of_op es t (Join u) ≡ None
+breach_of_op-join es t u other = ap (λ b. cond b (Some OwnThread) None) (ne_eqb u t other)
+
+-- what is no operation on the lock
+abbrev pub IsApartFrom : ℕ → Op → Type 0
+IsApartFrom l op = (is_acquire l op ≡ false) × (is_release l op ≡ false)
+
+pub IsApartFrom-acquire : (op : Op) (m : ℕ) → op ≡ Acquire m → (l : ℕ) → l ≢ m → IsApartFrom l op
+IsApartFrom-acquire op m is l other =
+    (ap (is_acquire l) is ∙ ne_eqb m l (λ same. other (sym same)), ap (is_release l) is)
+
+pub IsApartFrom-release : (op : Op) (m : ℕ) → op ≡ Release m → (l : ℕ) → l ≢ m → IsApartFrom l op
+IsApartFrom-release op m is l other =
+    (ap (is_acquire l) is, ap (is_release l) is ∙ ne_eqb m l (λ same. other (sym same)))
+
+-- the other operations
+pub IsApartFrom-rest : (op : Op)
+    → (((x : ℕ) × (op ≡ Read x)) ⊎ (((x : ℕ) × (op ≡ Write x)) ⊎ (((x : ℕ) × (op ≡ Fork x)) ⊎ ((x : ℕ) × (op ≡ Join x)))))
+    → (l : ℕ) → IsApartFrom l op
+IsApartFrom-rest op (inl is) l = (ap (is_acquire l) is.1, ap (is_release l) is.1)
+IsApartFrom-rest op (inr (inl is)) l = (ap (is_acquire l) is.1, ap (is_release l) is.1)
+IsApartFrom-rest op (inr (inr (inl is))) l = (ap (is_acquire l) is.1, ap (is_release l) is.1)
+IsApartFrom-rest op (inr (inr (inr is))) l = (ap (is_acquire l) is.1, ap (is_release l) is.1)
+
+-- what forks and joins nobody
+pub IsForkless-rest : (op : Op)
+    → (((x : ℕ) × (op ≡ Read x)) ⊎ (((x : ℕ) × (op ≡ Write x)) ⊎ (((x : ℕ) × (op ≡ Acquire x)) ⊎ ((x : ℕ) × (op ≡ Release x)))))
+    → (t : ℕ) → (is_fork t op ≡ false) × (is_join t op ≡ false)
+IsForkless-rest op (inl is) t = (ap (is_fork t) is.1, ap (is_join t) is.1)
+IsForkless-rest op (inr (inl is)) t = (ap (is_fork t) is.1, ap (is_join t) is.1)
+IsForkless-rest op (inr (inr (inl is))) t = (ap (is_fork t) is.1, ap (is_join t) is.1)
+IsForkless-rest op (inr (inr (inr is))) t = (ap (is_fork t) is.1, ap (is_join t) is.1)

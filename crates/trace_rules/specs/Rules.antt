@@ -1,0 +1,82 @@
+-- The rules that a recorded execution has to keep. They are this project's own: which recordings a
+-- schedule can be judged on.
+use Rattle.std.specs.Prelude.{◌≡◌, ◌≢◌, ℕ, ◌-◌, ◌<◌, ◌==◌, nat_lt, not, ◌&&◌, ◌||◌, if◌then◌else◌, List, length, take, count_by, position, slice_get, Option, Some, None, is_some, option_and_then, unwrap_or}
+use Rattle.std.specs.List.{list_any, range_with_len}
+use Rattle.rapid_text.specs.Operations.{is_acquire, is_release, is_fork, is_join}
+use Rattle.rapid_text.specs.declared.event.Event.{Event}
+use Rattle.rapid_text.specs.declared.event.Op.{Op}
+use Rattle.rapid_text.specs.declared.event.Op.TheVariants.{Read, Write, Acquire, Release, Fork, Join}
+use Rattle.trace_rules.specs.declared.refusal.RuleCause.{RuleCause}
+use Rattle.trace_rules.specs.declared.refusal.RuleCause.TheVariants.{ReleaseNotHeld, AcquireHeld, ForkTwice, ForkLate, OwnThread, AfterJoin, OutOfMemory}
+use Rattle.trace_rules.specs.declared.refusal.RuleRefusal.{RuleRefusal}
+
+-- how often the thread took the lock in these events
+abbrev pub acquire_count : List Event → ℕ → ℕ → ℕ
+acquire_count es t l = count_by (λ e. e.thread == t && is_acquire l e.op) es
+
+-- how often the thread let the lock go in these events
+abbrev pub release_count : List Event → ℕ → ℕ → ℕ
+release_count es t l = count_by (λ e. e.thread == t && is_release l e.op) es
+
+-- how many holds of the lock the thread has after these events
+abbrev pub hold_count : List Event → ℕ → ℕ → ℕ
+hold_count es t l = acquire_count es t l - release_count es t l
+
+-- An execution that breaks no rule. `T` is its events, `i` and `j` are places of two of them.
+pub record IsDisciplined (T : List Event) : Type 0 where
+  -- nothing of a thread stands after a join of it
+  pub no_event_after_join :
+      (i j : ℕ) (d e : Event) → i < j → slice_get T i ≡ Some d → slice_get T j ≡ Some e → d.op ≢ Join e.thread
+  -- no thread forks or joins itself
+  pub no_own_fork : (j : ℕ) (e : Event) → slice_get T j ≡ Some e → e.op ≢ Fork e.thread
+  pub no_own_join : (j : ℕ) (e : Event) → slice_get T j ≡ Some e → e.op ≢ Join e.thread
+  -- a thread is forked once
+  pub no_second_fork :
+      (i j u : ℕ) (d e : Event) → i < j → slice_get T i ≡ Some d → slice_get T j ≡ Some e → e.op ≡ Fork u → d.op ≢ Fork u
+  -- a thread is forked before its first event, and before it is joined
+  pub no_event_before_fork :
+      (i j u : ℕ) (d e : Event) → i < j → slice_get T i ≡ Some d → slice_get T j ≡ Some e → e.op ≡ Fork u → d.thread ≢ u
+  pub no_join_before_fork :
+      (i j u : ℕ) (d e : Event) → i < j → slice_get T i ≡ Some d → slice_get T j ≡ Some e → e.op ≡ Fork u → d.op ≢ Join u
+  -- a lock is taken while no other thread holds it
+  pub acquires_free :
+      (j l u : ℕ) (e : Event) → slice_get T j ≡ Some e → e.op ≡ Acquire l → u ≢ e.thread → hold_count (take j T) u l ≡ 0
+  -- a lock is let go by a thread that holds it
+  pub releases_held :
+      (j l : ℕ) (e : Event) → slice_get T j ≡ Some e → e.op ≡ Release l → 0 < hold_count (take j T) e.thread l
+
+-- the first rule that the operation of thread t breaks after the events es, but for 16
+abbrev pub breach_of_op : List Event → ℕ → Op → Option RuleCause
+breach_of_op es t (Read x) = None
+breach_of_op es t (Write x) = None
+breach_of_op es t (Acquire l) =
+    if list_any (λ e. not (e.thread == t) && nat_lt 0 (hold_count es e.thread l)) es then Some AcquireHeld else None
+breach_of_op es t (Release l) = if hold_count es t l == 0 then Some ReleaseNotHeld else None
+breach_of_op es t (Fork u) =
+    if u == t
+    then Some OwnThread
+    else (if list_any (λ e. is_fork u e.op) es
+    then Some ForkTwice
+    else (if list_any (λ e. e.thread == u || is_join u e.op) es then Some ForkLate else None))
+breach_of_op es t (Join u) = if u == t then Some OwnThread else None
+
+-- the first rule that the event breaks after the events es
+abbrev pub breach_of : List Event → Event → Option RuleCause
+breach_of es e =
+    if list_any (λ d. is_join e.thread d.op) es then Some AfterJoin else breach_of_op es e.thread e.op
+
+-- the first rule that the event at place i breaks
+abbrev pub breach_at : List Event → ℕ → Option RuleCause
+breach_at T i = option_and_then (breach_of (take i T)) (slice_get T i)
+
+abbrev pub breach_by : List Event → Option ℕ → Option RuleRefusal
+breach_by T None = None
+breach_by T (Some i) = Some (record { event = i; why = unwrap_or (breach_at T i) OutOfMemory })
+
+-- the first event that breaks a rule, and the first rule that it breaks
+unfoldable pub first_breach : List Event → Option RuleRefusal
+first_breach T = breach_by T (position (λ i. is_some (breach_at T i)) (range_with_len 0 (length T)))
+
+-- a growth was refused; no event is at fault
+abbrev pub no_memory : RuleRefusal
+no_memory = record { event = 0; why = OutOfMemory }

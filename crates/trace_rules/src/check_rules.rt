@@ -1,0 +1,36 @@
+//! Tests a recorded execution against the rules.
+ghost use Rattle.std.specs.Prelude.{◌≡◌, ◌⊎◌, IfOk, IfErr, Some, None};
+ghost use Rattle.trace_rules.specs.Rules.{IsDisciplined, first_breach, no_memory};
+
+use crate::refusal::{RuleCause, RuleRefusal};
+use crate::state::State;
+use crate::trace::Trace;
+use rapid_text::RawTrace;
+use std::alloc::Global;
+
+/// Accepts exactly the executions that keep the rules. Else it gives the execution back, with the first
+/// event that breaks a rule and the first rule that it breaks, 11 to 16; or 17 where memory was refused,
+/// which may come before a breach is seen.
+pub fn check(alloc: Global, raw: RawTrace) -> Result<Trace, (RawTrace, RuleRefusal)>
+    ensures same { IfOk result (λ trace. trace ≡ raw) }
+    ensures disciplined { IfOk result (λ trace. IsDisciplined trace.events) }
+    ensures accepted { IfOk result (λ trace. first_breach trace.events ≡ None) }
+    ensures returned { IfErr result (λ refused. refused.0 ≡ raw) }
+    ensures refused { IfErr result
+        (λ refused. (refused.1 ≡ no_memory) ⊎ (first_breach raw.events ≡ Some refused.1)) }
+{
+    let Ok(mut state) = State::new(alloc, &raw) else {
+        let no_memory = RuleRefusal {
+            event: 0,
+            why: RuleCause::OutOfMemory,
+        };
+        return Err((raw, no_memory));
+    };
+    for event in 0..raw.len() {
+        if let Some(why) = state.breach(&raw, event) {
+            return Err((raw, RuleRefusal { event, why }));
+        }
+        state.apply(&raw, event);
+    }
+    Ok(Trace { raw })
+}

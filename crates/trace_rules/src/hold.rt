@@ -1,0 +1,80 @@
+//! Who holds a lock.
+ghost use Rattle.std.specs.Prelude.{◌≡◌, ◌≢◌, ℕ, ◌<◌, List, [], ◌∷◌, ◌++◌};
+ghost use Rattle.rapid_text.specs.declared.event.Event.{Event};
+ghost use Rattle.rapid_text.specs.declared.event.Op.{Op};
+ghost use Rattle.trace_rules.specs.Rules.{breach_of_op};
+ghost use Rattle.trace_rules.specs.Tables.{IsHoldOf, IsOpenTo};
+
+use crate::refusal::RuleCause;
+
+/// The thread that holds a lock, and how many more times it took it than it let it go.
+#[derive(Clone, Copy)]
+pub(crate) struct Hold {
+    pub(crate) owner: Option<u32>,
+    pub(crate) depth: u32,
+}
+
+/// The hold of a lock that nobody took yet.
+pub(crate) fn free() -> Hold
+    ensures { (l : ℕ) → IsHoldOf [] l result }
+{
+    Hold {
+        owner: None,
+        depth: 0,
+    }
+}
+
+/// The rule that the thread breaks where it takes the lock now.
+pub(crate) fn breach_of_acquire(hold: Hold, thread: u32) -> Option<RuleCause>
+    ensures breach { (es : List Event) (l : ℕ) → IsHoldOf es l hold → result ≡ breach_of_op es thread (Op.Acquire l) }
+    ensures allowed { result ≡ None → IsOpenTo thread hold }
+{
+    match hold.owner {
+        Some(owner) if owner == thread => None,
+        Some(_) => Some(RuleCause::AcquireHeld),
+        None => None,
+    }
+}
+
+/// The rule that the thread breaks where it lets the lock go now.
+pub(crate) fn breach_of_release(hold: Hold, thread: u32) -> Option<RuleCause>
+    ensures breach { (es : List Event) (l : ℕ) → IsHoldOf es l hold → result ≡ breach_of_op es thread (Op.Release l) }
+    ensures owned { result ≡ None → hold.owner ≡ Some thread }
+{
+    if hold.owner == Some(thread) {
+        None
+    } else {
+        Some(RuleCause::ReleaseNotHeld)
+    }
+}
+
+/// The hold after one more acquire by the thread.
+pub(crate) fn taken(hold: Hold, thread: u32) -> Hold
+    requires allowed { IsOpenTo thread hold }
+    requires room { hold.depth < u32.MAX }
+    ensures { (es : List Event) (l : ℕ) (e : Event) → e.thread ≡ thread → e.op ≡ Op.Acquire l → IsHoldOf es l hold
+        → IsHoldOf (es ++ e ∷ []) l result }
+{
+    Hold {
+        owner: Some(thread),
+        depth: hold.depth + 1,
+    }
+}
+
+/// The hold after one more release by the thread that holds it.
+pub(crate) fn let_go(hold: Hold, thread: u32) -> Hold
+    requires owned { hold.owner ≡ Some thread }
+    requires deep { 0 < hold.depth }
+    ensures { (es : List Event) (l : ℕ) (e : Event) → e.thread ≡ thread → e.op ≡ Op.Release l → IsHoldOf es l hold
+        → IsHoldOf (es ++ e ∷ []) l result }
+{
+    let depth = hold.depth - 1;
+    if depth == 0 {
+        free()
+    } else {
+        Hold {
+            owner: Some(thread),
+            depth,
+        }
+    }
+}

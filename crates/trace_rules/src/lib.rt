@@ -1,0 +1,15 @@
+//! The rules that a recorded execution has to keep, on locks, forks and joins.
+#![tactic(auto)]
+
+mod check_rules;
+mod hold;
+mod life;
+mod refusal;
+mod state;
+#[cfg(test)]
+mod tests;
+mod trace;
+
+pub use check_rules::check;
+pub use refusal::{RuleCause, RuleRefusal};
+pub use trace::Trace;
