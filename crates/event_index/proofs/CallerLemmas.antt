@@ -1,0 +1,170 @@
+-- Lemmas for the crates above: what the look-ups tell, from their definitions alone.
+use Rattle.std.proofs.Common.{◌≡◌, ℕ, ◌+◌, ◌-◌, ◌<◌, ◌≤◌, ◌⊎◌, true, false, eqb, List, reverse, Option, Some, None, length, refl, sym, ap, ◌∙◌, arith, inl, inr, true≢false}
+use Rattle.std.specs.List.{All, find, slice_get}
+use Rattle.std.specs.Option.{option_map}
+use Rattle.std.proofs.lemmas.Bool.{eqb-true, cases_order}
+use Rattle.std.proofs.lemmas.List.Elements.{All-from_get_or, All-filter, All-weaker, filter_passes}
+use Rattle.std.proofs.lemmas.List.FromFn.{length-range_with_len, get_or-range_with_len}
+use Rattle.std.proofs.lemmas.List.Sums.{length-filter, count_by-le-length}
+use Rattle.std.proofs.lemmas.Option.{none-some}
+use Rattle.rapid_text.specs.Operations.{is_fork}
+use Rattle.rapid_text.specs.declared.event.Event.{Event}
+use Rattle.rapid_text.specs.declared.event.Op.{Op}
+use Rattle.rapid_text.specs.declared.event.Op.TheVariants.{Read, Write, Acquire, Release, Fork, Join}
+use Rattle.trace_rules.specs.Rules.{IsDisciplined}
+use Rattle.event_index.specs.Events.{op_at, thread_at, passes_by, is_of_thread, is_write_at, is_fork_at}
+use Rattle.event_index.specs.Lookups.{before, events_of, place_of, place_by, last_writer, last_writer_by, fork_of, or_else, base_of, base_by, section_end, section_of, section_by}
+use Rattle.event_index.proofs.ScanLemmas.{find_first_is, find_last_is, find_last_none}
+use Rattle.event_index.proofs.StepLemmas.{count_before-le}
+pub use Rattle.event_index.proofs.PlaceLemmas.{events_before, length-events_before, events_of-place, place_of-events_of}
+pub use Rattle.event_index.proofs.RelationLaws.{Decides-is_clash, Decides-is_apart, Decides-is_conflict, Decides-is_independent}
+
+never : {A : Type 0} (w : ℕ) → None ≡ Some w → A
+never w h = absurd (none-some w h)
+
+-- the last write of x before e
+pub record IsLastWrite (T : List Event) (x e w : ℕ) : Type 0 where
+  pub earlier : w < e
+  pub writes : is_write_at T x w ≡ true
+  pub no_later : (k : ℕ) → w < k → k < e → is_write_at T x k ≡ false
+
+last_writer_by-some : (T : List Event) (e w : ℕ) (o : Option Op) → last_writer_by T e o ≡ Some w → (x : ℕ) × (o ≡ Some (Read x)) × IsLastWrite T x e w
+last_writer_by-some T e w None h = never w h
+last_writer_by-some T e w (Some (Read x)) h =
+    let found = find_last_is (is_write_at T x) e w h in
+    (x, refl, record { earlier = found.0; writes = found.1; no_later = found.2 })
+last_writer_by-some T e w (Some (Write x)) h = never w h
+last_writer_by-some T e w (Some (Acquire l)) h = never w h
+last_writer_by-some T e w (Some (Release l)) h = never w h
+last_writer_by-some T e w (Some (Fork u)) h = never w h
+last_writer_by-some T e w (Some (Join u)) h = never w h
+
+-- a last writer is the last write of the variable before its read
+pub last_writer-some : (T : List Event) (e w : ℕ) → last_writer T e ≡ Some w → (x : ℕ) × (op_at T e ≡ Some (Read x)) × IsLastWrite T x e w
+last_writer-some T e w h = last_writer_by-some T e w (op_at T e) h
+
+-- a read with no last writer has no write of its variable before it
+pub last_writer-none : (T : List Event) (e x : ℕ) → op_at T e ≡ Some (Read x) → last_writer T e ≡ None → (k : ℕ) → k < e → is_write_at T x k ≡ false
+last_writer-none T e x op h = find_last_none (is_write_at T x) e (sym (ap (last_writer_by T e) op) ∙ h)
+
+pub last_writer-earlier : (T : List Event) (e w : ℕ) → last_writer T e ≡ Some w → w < e
+last_writer-earlier T e w h = (last_writer-some T e w h).2.earlier
+
+-- the fork of a thread is an event that forks it, and none before it does
+pub fork_of-some : (T : List Event) (u f : ℕ) → fork_of T u ≡ Some f → (f < length T) × (is_fork_at T u f ≡ true) × ((k : ℕ) → k < f → is_fork_at T u k ≡ false)
+fork_of-some T u f h =
+    let found = find_first_is (is_fork_at T u) 0 (length T) f h in
+    (omega (arith, found.1), found.2, λ k lt. found.3 k (omega arith) lt)
+
+or_else-some : (o p : Option ℕ) (b : ℕ) → or_else o p ≡ Some b → (o ≡ Some b) ⊎ ((o ≡ None) × (p ≡ Some b))
+or_else-some None p b h = inr (refl, h)
+or_else-some (Some e) p b h = inl h
+
+-- a base is the event of the thread before it, or else the fork of the thread
+pub base_by-some :
+    (T : List Event) (e b : ℕ) (o : Option Event)
+    → base_by T e o ≡ Some b
+    → (v : Event) × (o ≡ Some v) × ((find (is_of_thread T v.thread) (reverse (before e)) ≡ Some b) ⊎ ((find (is_of_thread T v.thread) (reverse (before e)) ≡ None) × (fork_of T v.thread ≡ Some b)))
+base_by-some T e b None h = never b h
+base_by-some T e b (Some v) h = (v, refl, or_else-some (find (is_of_thread T v.thread) (reverse (before e))) (fork_of T v.thread) b h)
+
+fork_told : (u : ℕ) (op : Op) → is_fork u op ≡ true → op ≡ Fork u
+fork_told u (Read x) h = absurd (true≢false (sym h))
+fork_told u (Write x) h = absurd (true≢false (sym h))
+fork_told u (Acquire l) h = absurd (true≢false (sym h))
+fork_told u (Release l) h = absurd (true≢false (sym h))
+fork_told u (Fork w) h = ap Fork (eqb-true w u h)
+fork_told u (Join w) h = absurd (true≢false (sym h))
+
+fork_found : (u : ℕ) (o : Option Event) → passes_by (λ v. is_fork u v.op) o ≡ true → (v : Event) × (o ≡ Some v) × (v.op ≡ Fork u)
+fork_found u None h = absurd (true≢false (sym h))
+fork_found u (Some v) h = (v, refl, fork_told u v.op h)
+
+-- a base is earlier, in an execution that keeps the rules
+pub base_of-earlier : (T : List Event) → IsDisciplined T → (e b : ℕ) → base_of T e ≡ Some b → b < e
+base_of-earlier T rules e b h =
+    let found = base_by-some T e b (slice_get T e) h in
+    let v = found.0 in
+    elim found.2 [
+      | inl before_it ↦ (find_last_is (is_of_thread T v.thread) e b before_it).0
+      | inr first ↦
+          let fork = fork_found v.thread (slice_get T b) (fork_of-some T v.thread b first.1).1 in
+          let w = fork.0 in
+          elim (cases_order e b) [
+            | inl same ↦
+                let one : Some v ≡ Some w = sym found.1 ∙ ap (slice_get T) same ∙ fork.1 in
+                let is : v ≡ w = cc in
+                absurd (rules.no_own_fork e v found.1 (ap (λ (u : Event). u.op) is ∙ fork.2))
+            | inr apart ↦
+                elim apart [
+                  | inl late ↦ absurd (rules.no_event_before_fork e b v.thread v w late found.1 fork.1 fork.2 refl)
+                  | inr early ↦ early
+                ]
+          ]
+    ]
+
+section_by-some : (T : List Event) (e t j : ℕ) (op : Op) → section_by T e t op ≡ Some j → (e < j) × (j < length T)
+section_by-some T e t j (Read x) h = never j h
+section_by-some T e t j (Write x) h = never j h
+section_by-some T e t j (Acquire l) h =
+    let found = find_first_is _ (e + 1) (length T - (e + 1)) j h in
+    (omega (arith, found.0), omega (arith, found.0, found.1))
+section_by-some T e t j (Release l) h = never j h
+section_by-some T e t j (Fork u) h = never j h
+section_by-some T e t j (Join u) h = never j h
+
+section_of-some : (T : List Event) (e j : ℕ) (o : Option Event) → section_of T e o ≡ Some j → (e < j) × (j < length T)
+section_of-some T e j None h = never j h
+section_of-some T e j (Some v) h = section_by-some T e v.thread j v.op h
+
+-- a section ends at a later event
+pub section_end-later : (T : List Event) (e j : ℕ) → section_end T e ≡ Some j → (e < j) × (j < length T)
+section_end-later T e j h = section_of-some T e j (slice_get T e) h
+
+place_by-le : (T : List Event) (e : ℕ) (o : Option Event) → e ≤ length T → place_by T e o ≤ e
+place_by-le T e None within = omega arith
+place_by-le T e (Some v) within = count_before-le T e v.thread within
+
+-- as many events of its thread as stand before an event, at most
+pub place_of-le : (T : List Event) (e : ℕ) → e ≤ length T → place_of T e ≤ e
+place_of-le T e within = place_by-le T e (slice_get T e) within
+
+of_thread_is : (t : ℕ) (o : Option Event) → passes_by (λ v. eqb v.thread t) o ≡ true → option_map (λ (v : Event). v.thread) o ≡ Some t
+of_thread_is t None h = absurd (true≢false (sym h))
+of_thread_is t (Some v) h = ap Some (eqb-true v.thread t h)
+
+-- the events of a thread are events of the trace
+pub events_of-within : (T : List Event) (t : ℕ) → All (λ e. e < length T) (events_of T t)
+events_of-within T t =
+    All-filter
+    (is_of_thread T t)
+    (λ e. e < length T)
+    (before (length T))
+    (All-from_get_or
+    (λ e. e < length T)
+    (before (length T))
+    0
+    (λ i lt.
+    let size = length-range_with_len 0 (length T) in
+    let here = get_or-range_with_len 0 (length T) i 0 (omega (arith, size)) in
+    omega (arith, here, size)))
+
+-- and of the thread
+pub events_of-thread : (T : List Event) (t : ℕ) → All (λ e. thread_at T e ≡ Some t) (events_of T t)
+events_of-thread T t =
+    All-weaker
+    (λ e. is_of_thread T t e ≡ true)
+    (λ e. thread_at T e ≡ Some t)
+    (λ e h. of_thread_is t (slice_get T e) h)
+    (events_of T t)
+    (filter_passes (is_of_thread T t) (before (length T)))
+
+-- there are no more of them than events
+pub events_of-length : (T : List Event) (t : ℕ) → length (events_of T t) ≤ length T
+events_of-length T t =
+    omega (
+      arith,
+      length-filter (is_of_thread T t) (before (length T)),
+      count_by-le-length (is_of_thread T t) (before (length T)),
+      length-range_with_len 0 (length T),
+    )

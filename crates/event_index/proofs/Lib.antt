@@ -1,0 +1,10 @@
+pub mod CallerLemmas
+pub mod HoldLemmas
+pub mod PlaceLemmas
+pub mod ReadLemmas
+pub mod RelationLaws
+pub mod RowLemmas
+pub mod ScanLemmas
+pub mod SectionLemmas
+pub mod StepLemmas
+pub mod TableLemmas

@@ -1,0 +1,6 @@
+use Rattle.event_index.proofs.ReadLemmas.{base_read}
+use Rattle.event_index.proofs.indexed.Indexed.base.Goals as goal
+
+pub returns-clause-earlier : goal.returns-clause-earlier
+returns-clause-earlier c =
+    base_read c.self.inside.trace c.args.self.now c.self.inside.tables c.self.view_is c.self.invariant.disciplined c.self.invariant.tables c.args.event c.index.result.now c.requires c.index.ensures

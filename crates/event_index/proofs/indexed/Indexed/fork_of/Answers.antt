@@ -1,0 +1,6 @@
+use Rattle.event_index.proofs.ReadLemmas.{fork_read}
+use Rattle.event_index.proofs.indexed.Indexed.fork_of.Goals as goal
+
+pub returns-clause-within : goal.returns-clause-within
+returns-clause-within c =
+    fork_read c.self.inside.trace c.args.self.now c.self.inside.tables c.self.view_is c.self.invariant.disciplined c.self.invariant.tables c.args.thread c.index.result.now c.requires c.index.ensures

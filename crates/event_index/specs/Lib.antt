@@ -1,0 +1,5 @@
+pub mod Events
+pub mod Layout
+pub mod Lookups
+pub mod Open
+pub mod Relations

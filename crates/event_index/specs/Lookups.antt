@@ -1,0 +1,84 @@
+-- What the look-ups of an index answer. `T` is the events of a trace, named by their numbers.
+-- The last writer is that of Mathur, Kini and Viswanathan, "What happens-after the first race?"
+-- (OOPSLA 2018); the end of a section and the base are this project's own.
+use Rattle.std.specs.Prelude.{ℕ, ◌+◌, ◌-◌, ◌==◌, ◌&&◌, List, reverse, length, take, filter, find, count_by, slice_get, Option, Some, None}
+use Rattle.std.specs.List.{range_with_len}
+use Rattle.rapid_text.specs.Operations.{is_release}
+use Rattle.rapid_text.specs.declared.event.Event.{Event}
+use Rattle.rapid_text.specs.declared.event.Op.{Op}
+use Rattle.rapid_text.specs.declared.event.Op.TheVariants.{Read, Write, Acquire, Release, Fork, Join}
+use Rattle.trace_rules.specs.Rules.{hold_count}
+use Rattle.event_index.specs.Events.{op_at, passes_at, is_of_thread, is_write_at, is_fork_at}
+
+-- the numbers of the events before e, rising
+abbrev pub before : ℕ → List ℕ
+before e = range_with_len 0 e
+
+-- the events of the thread, in the order of the trace
+abbrev pub events_of : List Event → ℕ → List ℕ
+events_of T t = filter (is_of_thread T t) (before (length T))
+
+abbrev pub place_by : List Event → ℕ → Option Event → ℕ
+place_by T e None = 0
+place_by T e (Some v) = count_by (λ w. w.thread == v.thread) (take e T)
+
+-- the place of the event in its thread: how many events of the thread stand before it
+abbrev pub place_of : List Event → ℕ → ℕ
+place_of T e = place_by T e (slice_get T e)
+
+-- the last write of the variable among these events, which stand in the order in which they happen
+abbrev pub last_write : List Event → ℕ → List ℕ → Option ℕ
+last_write T x es = find (is_write_at T x) (reverse es)
+
+abbrev pub last_writer_by : List Event → ℕ → Option Op → Option ℕ
+last_writer_by T e None = None
+last_writer_by T e (Some (Read x)) = last_write T x (before e)
+last_writer_by T e (Some (Write x)) = None
+last_writer_by T e (Some (Acquire l)) = None
+last_writer_by T e (Some (Release l)) = None
+last_writer_by T e (Some (Fork u)) = None
+last_writer_by T e (Some (Join u)) = None
+
+-- the write that the read e sees in the trace, or none; none too where e is no read
+abbrev pub last_writer : List Event → ℕ → Option ℕ
+last_writer T e = last_writer_by T e (op_at T e)
+
+-- the event that forks the thread, if one does
+abbrev pub fork_of : List Event → ℕ → Option ℕ
+fork_of T u = find (is_fork_at T u) (before (length T))
+
+abbrev pub or_else : Option ℕ → Option ℕ → Option ℕ
+or_else None other = other
+or_else (Some e) other = Some e
+
+abbrev pub base_by : List Event → ℕ → Option Event → Option ℕ
+base_by T e None = None
+base_by T e (Some v) = or_else (find (is_of_thread T v.thread) (reverse (before e))) (fork_of T v.thread)
+
+-- the base of the event: the one before it in its thread; for the first the fork of the thread, or none
+abbrev pub base_of : List Event → ℕ → Option ℕ
+base_of T e = base_by T e (slice_get T e)
+
+-- the first release of the lock by the thread after e at which the thread holds the lock as often as
+-- it did before e
+abbrev pub release_after : List Event → ℕ → ℕ → ℕ → Option ℕ
+release_after T e t l =
+    find
+    (λ j. passes_at (λ v. v.thread == t && is_release l v.op) T j && hold_count (take (j + 1) T) t l == hold_count (take e T) t l)
+    (range_with_len (e + 1) (length T - (e + 1)))
+
+abbrev pub section_by : List Event → ℕ → ℕ → Op → Option ℕ
+section_by T e t (Read x) = None
+section_by T e t (Write x) = None
+section_by T e t (Acquire l) = release_after T e t l
+section_by T e t (Release l) = None
+section_by T e t (Fork u) = None
+section_by T e t (Join u) = None
+
+abbrev pub section_of : List Event → ℕ → Option Event → Option ℕ
+section_of T e None = None
+section_of T e (Some v) = section_by T e v.thread v.op
+
+-- the release that ends the critical section of the acquire e, or none; none too where e is no acquire
+abbrev pub section_end : List Event → ℕ → Option ℕ
+section_end T e = section_of T e (slice_get T e)

@@ -1,0 +1,62 @@
+//! The events of all threads in one row, thread by thread.
+ghost use Rattle.std.specs.Prelude.{◌≡◌, ◌+◌, ◌<◌, length, IfOk};
+ghost use Rattle.rapid_text.specs.Recording.{IsWellFormed};
+ghost use Rattle.event_index.specs.Lookups.{place_of, events_of};
+ghost use Rattle.event_index.specs.Layout.{IsTable, IsGrouped, IsFilled, count_before, start_of};
+
+use rapid_text::{OutOfMemory, RawTrace};
+use std::alloc::Global;
+
+/// Where the events of each thread begin in the row, and at the end of the list where the row ends.
+/// `counts` tells how many events each thread has.
+pub(crate) fn starts_of(
+    alloc: Global,
+    raw: &RawTrace,
+    counts: &[u32],
+) -> Result<Vec<u32>, OutOfMemory>
+    requires counts { IsTable (count_before raw.now.events (length raw.now.events)) (length raw.now.threads) counts.now }
+    ensures { IfOk result
+        (λ starts. IsTable (start_of raw.now.events) (length raw.now.threads + 1) starts.items) }
+{
+    let threads = raw.threads() as usize;
+    let mut starts = Vec::with_capacity(alloc, threads + 1)?;
+    let mut start = 0;
+    for thread in 0..threads {
+        starts.push(start)?;
+        start += counts[thread];
+    }
+    starts.push(start)?;
+    Ok(starts)
+}
+
+/// The row: each event stands its place in its thread behind the start of its thread.
+pub(crate) fn grouped_of(
+    alloc: Global,
+    raw: &RawTrace,
+    places: &[u32],
+    starts: &[u32],
+) -> Result<Vec<u32>, OutOfMemory>
+    requires places { IsTable (place_of raw.now.events) (length raw.now.events) places.now }
+    requires starts { IsTable (start_of raw.now.events) (length raw.now.threads + 1) starts.now }
+    ensures { IfOk result
+        (λ grouped. IsGrouped (events_of raw.now.events) (length raw.now.threads) grouped.items starts.now) }
+{
+    let mut grouped = vec![in alloc; 0u32; raw.len() as usize]?;
+    for event in 0..raw.len() {
+        put(&mut grouped, raw, places, starts, event);
+    }
+    Ok(grouped)
+}
+
+// Puts the event where it belongs, beside the events before it.
+fn put(grouped: &mut Vec<u32>, raw: &RawTrace, places: &[u32], starts: &[u32], event: u32)
+    requires well_formed { IsWellFormed raw.now }
+    requires event { event < length raw.now.events }
+    requires places { IsTable (place_of raw.now.events) (length raw.now.events) places.now }
+    requires starts { IsTable (start_of raw.now.events) (length raw.now.threads + 1) starts.now }
+    requires filled { IsFilled raw.now.events (length raw.now.threads) event grouped.old.items }
+    ensures { IsFilled raw.now.events (length raw.now.threads) (event + 1) grouped.new.items }
+{
+    let start = starts[raw.event(event).thread as usize];
+    grouped[(start + places[event as usize]) as usize] = event;
+}

@@ -1,0 +1,147 @@
+//! An accepted execution with its tables.
+ghost use Rattle.std.specs.Prelude.{◌≡◌, ◌<◌, ◌≤◌, ◌↔◌, length, All, IsTrue, IfOk, IfErr, IfSome, Some};
+ghost use Rattle.rapid_text.specs.Recording.{IsWellFormed};
+ghost use Rattle.trace_rules.specs.Rules.{IsDisciplined};
+ghost use Rattle.event_index.specs.Events.{thread_at};
+ghost use Rattle.event_index.specs.Lookups.{events_of, place_of, last_writer, fork_of, base_of, section_end};
+ghost use Rattle.event_index.specs.Relations.{IsConflicting, IsIndependent, is_conflict, is_independent};
+
+use crate::relations::{apart, clash};
+use crate::tables::{Tables, tables_of};
+use rapid_text::OutOfMemory;
+use std::alloc::Global;
+use std::marker::Model;
+use trace_rules::Trace;
+
+/// An accepted execution with its tables, so that each look-up has a constant cost.
+#[derive(Drop)]
+pub struct Indexed {
+    trace: Trace,
+    tables: Tables,
+}
+
+impl Model for Indexed {
+    ghost use Rattle.rapid_text.specs.Recording.{Recording};
+
+    ghost Value = { Recording };
+
+    ghost use Rattle.event_index.specs.Layout.{IsSound};
+
+    ghost view = { λ s. s.trace };
+
+    ghost invariant = { IsSound };
+}
+
+impl Indexed {
+    /// Makes the tables in passes over the events. Where memory is refused the execution comes back.
+    pub fn new(alloc: Global, trace: Trace) -> Result<Indexed, (Trace, OutOfMemory)>
+        ensures ok { IfOk result (λ indexed. indexed ≡ trace) }
+        ensures returned { IfErr result (λ refused. refused.0 ≡ trace) }
+    {
+        match tables_of(alloc, trace.raw()) {
+            Ok(tables) => Ok(Indexed { trace, tables }),
+            Err(error) => Err((trace, error)),
+        }
+    }
+
+    /// The execution that it was made of.
+    pub fn trace(&self) -> &Trace
+        ensures same { result.now ≡ self.now }
+        ensures well_formed { IsWellFormed self.now }
+        ensures disciplined { IsDisciplined self.now.events }
+    {
+        &self.trace
+    }
+
+    /// The number of events, at most 65,536.
+    pub fn len(&self) -> u32
+        ensures len { result ≡ length self.now.events }
+        ensures well_formed { IsWellFormed self.now }
+        ensures disciplined { IsDisciplined self.now.events }
+    {
+        self.trace.raw().len()
+    }
+
+    /// The place of the event in its thread, from 0.
+    pub fn place(&self, event: u32) -> u32
+        requires { event < length self.now.events }
+        ensures place { result ≡ place_of self.now.events event }
+        ensures within { result < length self.now.events }
+    {
+        self.tables.places[event as usize]
+    }
+
+    /// The events of the thread, in the order of the trace.
+    pub fn thread_events(&self, thread: u32) -> &[u32]
+        requires { thread < length self.now.threads }
+        ensures events { result.now ≡ events_of self.now.events thread }
+        ensures within { All (λ e. e < length self.now.events) result.now }
+        ensures thread { All (λ e. thread_at self.now.events e ≡ Some thread) result.now }
+        ensures len { length result.now ≤ length self.now.events }
+    {
+        let start = self.tables.starts[thread as usize] as usize;
+        let end = self.tables.starts[thread as usize + 1] as usize;
+        &self.tables.grouped[start..end]
+    }
+
+    /// The write that the read sees; None for a read with no write before it, and for what is no read.
+    pub fn last_writer(&self, event: u32) -> Option<u32>
+        requires { event < length self.now.events }
+        ensures writer { result ≡ last_writer self.now.events event }
+        ensures earlier { IfSome result (λ w. w < event) }
+    {
+        self.tables.writers[event as usize]
+    }
+
+    /// The event that forks the thread, or None.
+    pub fn fork_of(&self, thread: u32) -> Option<u32>
+        requires { thread < length self.now.threads }
+        ensures fork { result ≡ fork_of self.now.events thread }
+        ensures within { IfSome result (λ f. f < length self.now.events) }
+    {
+        self.tables.forks[thread as usize]
+    }
+
+    /// The event before it in its thread; for the first the fork of its thread, or None.
+    pub fn base(&self, event: u32) -> Option<u32>
+        requires { event < length self.now.events }
+        ensures base { result ≡ base_of self.now.events event }
+        ensures earlier { IfSome result (λ b. b < event) }
+    {
+        self.tables.bases[event as usize]
+    }
+
+    /// The release that ends the critical section of an acquire: the first at which the thread holds the
+    /// lock as often as before the acquire. None where there is none, and for what is no acquire.
+    pub fn section(&self, event: u32) -> Option<u32>
+        requires { event < length self.now.events }
+        ensures section { result ≡ section_end self.now.events event }
+        ensures later { IfSome result (λ r. (event < r) × (r < length self.now.events)) }
+    {
+        self.tables.sections[event as usize]
+    }
+
+    /// Whether the two events are of different threads and access one variable, at least one writing it.
+    pub fn conflict(&self, first: u32, second: u32) -> bool
+        requires first { first < length self.now.events }
+        requires second { second < length self.now.events }
+        ensures conflict { IsTrue result ↔ IsConflicting self.now.events first second }
+        ensures test { result ≡ is_conflict self.now.events first second }
+    {
+        let raw = self.trace.raw();
+        clash(raw.event(first), raw.event(second))
+    }
+
+    /// Whether the two events may change places wherever they stand side by side: of different threads,
+    /// with no conflict, not on one lock, neither a fork or join of the other's thread, and not the fork
+    /// and the join of one thread.
+    pub fn independent(&self, first: u32, second: u32) -> bool
+        requires first { first < length self.now.events }
+        requires second { second < length self.now.events }
+        ensures independent { IsTrue result ↔ IsIndependent self.now.events first second }
+        ensures test { result ≡ is_independent self.now.events first second }
+    {
+        let raw = self.trace.raw();
+        apart(raw.event(first), raw.event(second))
+    }
+}

@@ -1,0 +1,128 @@
+//! Tables that are made in one pass over the events, with what each thread or variable had last.
+ghost use Rattle.std.specs.Prelude.{◌≡◌, ◌+◌, ◌<◌, length, IfOk};
+ghost use Rattle.rapid_text.specs.Recording.{IsWellFormed};
+ghost use Rattle.event_index.specs.Lookups.{place_of, last_writer, last_write, before, fork_of, base_of};
+ghost use Rattle.event_index.specs.Layout.{IsTable, fork_before, count_before, last_before};
+
+use rapid_text::{Op, OutOfMemory, RawTrace};
+use std::alloc::Global;
+
+/// For each thread the event that forks it.
+pub(crate) fn forks_of(alloc: Global, raw: &RawTrace) -> Result<Vec<Option<u32>>, OutOfMemory>
+    ensures { IfOk result
+        (λ forks. IsTable (fork_of raw.now.events) (length raw.now.threads) forks.items) }
+{
+    let mut forks = vec![in alloc; None; raw.threads() as usize]?;
+    for event in 0..raw.len() {
+        note_fork(&mut forks, raw, event);
+    }
+    Ok(forks)
+}
+
+// Takes the event into the forks of the events before it.
+fn note_fork(forks: &mut Vec<Option<u32>>, raw: &RawTrace, event: u32)
+    requires event { event < length raw.now.events }
+    requires table { IsTable (fork_before raw.now.events event) (length raw.now.threads) forks.old.items }
+    ensures { IsTable (fork_before raw.now.events (event + 1)) (length raw.now.threads) forks.new.items }
+{
+    if let Op::Fork(thread) = raw.event(event).op {
+        let thread = thread as usize;
+        forks[thread] = forks[thread].or(Some(event));
+    }
+}
+
+/// For each event the write that it sees.
+pub(crate) fn writers_of(alloc: Global, raw: &RawTrace) -> Result<Vec<Option<u32>>, OutOfMemory>
+    ensures { IfOk result
+        (λ writers. IsTable (last_writer raw.now.events) (length raw.now.events) writers.items) }
+{
+    let mut writers = Vec::with_capacity(alloc, raw.len() as usize)?;
+    let mut last = vec![in alloc; None; raw.variables() as usize]?;
+    for event in 0..raw.len() {
+        writers.push(seen_by(&mut last, raw, event))?;
+    }
+    Ok(writers)
+}
+
+// The write that the event sees. Takes the event into the last writes of the events before it.
+fn seen_by(last: &mut Vec<Option<u32>>, raw: &RawTrace, event: u32) -> Option<u32>
+    requires event { event < length raw.now.events }
+    requires table { IsTable (λ x. last_write raw.now.events x (before event)) (length raw.now.variables) last.old.items }
+    ensures seen { result ≡ last_writer raw.now.events event }
+    ensures table { IsTable (λ x. last_write raw.now.events x (before (event + 1))) (length raw.now.variables) last.new.items }
+{
+    match raw.event(event).op {
+        Op::Read(variable) => last[variable as usize],
+        Op::Write(variable) => {
+            last[variable as usize] = Some(event);
+            None
+        }
+        Op::Acquire(_) | Op::Release(_) | Op::Fork(_) | Op::Join(_) => None,
+    }
+}
+
+/// For each event its place in its thread, and for each thread how many events it has.
+pub(crate) fn places_of(alloc: Global, raw: &RawTrace) -> Result<(Vec<u32>, Vec<u32>), OutOfMemory>
+    ensures places { IfOk result
+        (λ made. IsTable (place_of raw.now.events) (length raw.now.events) made.0.items) }
+    ensures counts { IfOk result
+        (λ made. IsTable (count_before raw.now.events (length raw.now.events)) (length raw.now.threads) made.1.items) }
+{
+    let mut places = Vec::with_capacity(alloc, raw.len() as usize)?;
+    let mut counts = vec![in alloc; 0u32; raw.threads() as usize]?;
+    for event in 0..raw.len() {
+        places.push(count_in(&mut counts, raw, event))?;
+    }
+    Ok((places, counts))
+}
+
+// The place of the event in its thread. Takes the event into the counts of the events before it.
+fn count_in(counts: &mut Vec<u32>, raw: &RawTrace, event: u32) -> u32
+    requires well_formed { IsWellFormed raw.now }
+    requires event { event < length raw.now.events }
+    requires table { IsTable (count_before raw.now.events event) (length raw.now.threads) counts.old.items }
+    ensures place { result ≡ place_of raw.now.events event }
+    ensures table { IsTable (count_before raw.now.events (event + 1)) (length raw.now.threads) counts.new.items }
+{
+    let thread = raw.event(event).thread as usize;
+    let place = counts[thread];
+    counts[thread] = place + 1;
+    place
+}
+
+/// For each event its base.
+pub(crate) fn bases_of(
+    alloc: Global,
+    raw: &RawTrace,
+    forks: &[Option<u32>],
+) -> Result<Vec<Option<u32>>, OutOfMemory>
+    requires forks { IsTable (fork_of raw.now.events) (length raw.now.threads) forks.now }
+    ensures { IfOk result
+        (λ bases. IsTable (base_of raw.now.events) (length raw.now.events) bases.items) }
+{
+    let mut bases = Vec::with_capacity(alloc, raw.len() as usize)?;
+    let mut last = vec![in alloc; None; raw.threads() as usize]?;
+    for event in 0..raw.len() {
+        bases.push(base_at(&mut last, raw, forks, event))?;
+    }
+    Ok(bases)
+}
+
+// The base of the event. Takes the event into the last events of the threads before it.
+fn base_at(
+    last: &mut Vec<Option<u32>>,
+    raw: &RawTrace,
+    forks: &[Option<u32>],
+    event: u32,
+) -> Option<u32>
+    requires event { event < length raw.now.events }
+    requires forks { IsTable (fork_of raw.now.events) (length raw.now.threads) forks.now }
+    requires table { IsTable (last_before raw.now.events event) (length raw.now.threads) last.old.items }
+    ensures base { result ≡ base_of raw.now.events event }
+    ensures table { IsTable (last_before raw.now.events (event + 1)) (length raw.now.threads) last.new.items }
+{
+    let thread = raw.event(event).thread as usize;
+    let base = last[thread].or(forks[thread]);
+    last[thread] = Some(event);
+    base
+}
