@@ -1,0 +1,5 @@
+pub mod Layout
+pub mod Refusals
+pub mod Reordering
+pub mod Scheduled
+pub mod Shows

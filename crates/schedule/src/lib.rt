@@ -1,0 +1,14 @@
+//! One correct reordering of a trace, which grows event by event.
+#![tactic(auto)]
+
+mod events;
+mod refusal;
+mod refusing;
+mod reordering;
+mod scans;
+mod showing;
+#[cfg(test)]
+mod tests;
+
+pub use refusal::{Disabled, ExtendRefusal};
+pub use reordering::Schedule;

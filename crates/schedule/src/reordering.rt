@@ -1,0 +1,127 @@
+//! A schedule: a correct reordering of its trace.
+ghost use Rattle.std.specs.Prelude.{◌≡◌, ◌≤◌, ◌↔◌, length, [], ◌∷◌, ◌++◌, IsOk, IsTrue, IfOk, OnOk, OnErr, IfErr, None, Some};
+ghost use Rattle.rapid_text.specs.Recording.{IsWellFormed};
+ghost use Rattle.trace_rules.specs.Rules.{IsDisciplined};
+ghost use Rattle.schedule.specs.Refusals.{refusal_of, IsRefusalOf, NamesHolder};
+ghost use Rattle.schedule.specs.Reordering.{IsCorrectReordering, IsEnabled};
+ghost use Rattle.schedule.specs.Shows.{Shows, does_show};
+
+use crate::refusal::{Disabled, ExtendRefusal};
+use crate::refusing::refusal_of;
+use crate::showing::is_ready;
+use event_index::Indexed;
+use rapid_text::OutOfMemory;
+use std::alloc::Global;
+use std::marker::Model;
+use std::snapshot::Snapshot;
+
+/// One correct reordering of a trace, or of a part of it.
+#[derive(Drop)]
+pub struct Schedule {
+    trace: Snapshot<Indexed>,
+    events: Vec<u32>,
+}
+
+impl Model for Schedule {
+    ghost use Rattle.schedule.specs.Scheduled.{Scheduled};
+
+    ghost Value = { Scheduled };
+
+    ghost use Rattle.rapid_text.specs.Recording.{IsWellFormed};
+    ghost use Rattle.trace_rules.specs.Rules.{IsDisciplined};
+    ghost use Rattle.schedule.specs.Reordering.{IsCorrectReordering};
+
+    ghost view = { λ s. record {
+      trace = s.trace.value;
+      events = s.events.items;
+    } };
+
+    ghost invariant = { λ s.
+        IsWellFormed s.trace.value × IsDisciplined s.trace.value.events × IsCorrectReordering s.trace.value.events s.events.items };
+}
+
+impl Schedule {
+    /// The events, in the order of the schedule: a correct reordering of the trace.
+    pub fn events(&self) -> &[u32]
+        ensures same { result.now ≡ self.now.events }
+        ensures reordering { IsCorrectReordering self.now.trace.events self.now.events }
+        // No event stands there twice, so they are at most as many as those of the trace.
+        ensures within { length self.now.events ≤ length self.now.trace.events }
+        // The trace is one that was accepted.
+        ensures well_formed { IsWellFormed self.now.trace }
+        ensures disciplined { IsDisciplined self.now.trace.events }
+    {
+        self.events.as_slice()
+    }
+
+    /// The schedule with no events. It takes no memory: `alloc` is kept for later.
+    pub fn empty(alloc: Global, indexed: &Indexed) -> Result<Schedule, OutOfMemory>
+        ensures trace { IfOk result (λ s. s.trace ≡ indexed.now) }
+        ensures events { IfOk result (λ s. s.events ≡ []) }
+    {
+        let _len = indexed.len();
+        Ok(Schedule {
+            trace: Snapshot::of(indexed),
+            events: Vec::new(alloc),
+        })
+    }
+
+    /// Whether the event may come next, or the first cause why it may not.
+    pub fn enabled(&self, indexed: &Indexed, event: u32) -> Result<(), Disabled>
+        requires { self.now.trace ≡ indexed.now }
+        // It may exactly where the schedule and then the event are a correct reordering.
+        ensures exact { IsOk result ↔ IsEnabled self.now.trace.events self.now.events event }
+        ensures none { OnOk result (refusal_of self.now.trace.events self.now.events event ≡ None) }
+        ensures cause { IfErr result
+            (λ cause. refusal_of self.now.trace.events self.now.events event ≡ Some cause) }
+        // A held lock is told with the one thread that holds it.
+        ensures holder { IfErr result
+            (NamesHolder self.now.trace.events self.now.events event) }
+    {
+        match refusal_of(indexed, &self.events, event) {
+            Some(cause) => Err(cause),
+            None => Ok(()),
+        }
+    }
+
+    /// Appends the event where it may come next.
+    pub fn extend(&mut self, indexed: &Indexed, event: u32) -> Result<(), ExtendRefusal>
+        requires { self.old.trace ≡ indexed.now }
+        ensures trace { self.new.trace ≡ self.old.trace }
+        ensures ok { OnOk result (self.new.events ≡ self.old.events ++ event ∷ []) }
+        ensures err { OnErr result (self.new ≡ self.old) }
+        // The event is appended only where it is enabled, and refused as `enabled` refuses it.
+        ensures enabled { OnOk result (IsEnabled self.old.trace.events self.old.events event) }
+        ensures none { OnOk result (refusal_of self.old.trace.events self.old.events event ≡ None) }
+        ensures refused { IfErr result
+            (IsRefusalOf self.old.trace.events self.old.events event) }
+    {
+        if let Some(cause) = refusal_of(indexed, &self.events, event) {
+            return Err(ExtendRefusal::Disabled(cause));
+        }
+        match self.events.push(event) {
+            Ok(()) => Ok(()),
+            Err(_) => Err(ExtendRefusal::OutOfMemory),
+        }
+    }
+
+    /// Whether the two events conflict and both are ready: not in the schedule, but all earlier events of
+    /// their threads are, and their threads' forks. False also where one of them is no event.
+    pub fn shows(&self, indexed: &Indexed, first: u32, second: u32) -> bool
+        requires { self.now.trace ≡ indexed.now }
+        ensures shows { IsTrue result ↔ Shows self.now.trace.events self.now.events first second }
+        // The same as a test, for definitions that filter by it.
+        ensures test { result ≡ does_show self.now.trace.events self.now.events first second }
+    {
+        if first >= indexed.len() {
+            return false;
+        }
+        if second >= indexed.len() {
+            return false;
+        }
+        if !indexed.conflict(first, second) {
+            return false;
+        }
+        is_ready(indexed, &self.events, first) && is_ready(indexed, &self.events, second)
+    }
+}
