@@ -1,0 +1,93 @@
+#!/usr/bin/env python3
+"""Writes the inputs of the benchmark into a folder. Everything random comes from one seed, so each run makes the
+same bytes."""
+import os
+import random
+import subprocess
+import sys
+
+EVENTS = 65_536
+
+
+def locked_trace(events, threads, location, seed):
+    """Blocks of four events: a thread takes a lock, writes and reads a variable, lets the lock go."""
+    pick = random.Random(seed)
+    lines = []
+    while len(lines) + 4 <= events:
+        t, l, x = pick.randrange(threads), pick.randrange(16), pick.randrange(256)
+        for op in (f"acq(L{l})", f"w(V{x})", f"r(V{x})", f"rel(L{l})"):
+            lines.append(f"T{t}|{op}|{location(len(lines))}")
+    return lines
+
+
+def named_trace(events, threads, names):
+    return [f"T{i % threads}|w({names[i % len(names)]})|{i}" for i in range(events)]
+
+
+def short(i):
+    return str(i % 1000)
+
+
+def long(i):
+    return f"org.example.project.module{i % 97}.ClassWithALongName.method{i % 13}(SourceFile.java:{i % 5000})"
+
+
+def nested(events):
+    """One thread takes one lock again and again, and then lets it go as often."""
+    return [f"T0|acq(L)|{i}" for i in range(events // 2)] + [f"T0|rel(L)|{i}" for i in range(events // 2)]
+
+
+def ordered_by_a_lock(events, threads):
+    """Every access of the one variable is ordered by a lock: no candidate at all."""
+    lines = []
+    i = 0
+    while len(lines) + 3 <= events:
+        t = i % threads
+        lines += [f"T{t}|acq(L)|1", f"T{t}|w(x)|2", f"T{t}|rel(L)|3"]
+        i += 1
+    return lines
+
+
+def unordered(events, threads):
+    """No lock and no fork: nothing orders the accesses of two threads."""
+    return [f"T{i % threads}|w(V{i % 509})|1" for i in range(events)]
+
+
+def colliding_names(folder, count):
+    """Names whose SipHash-1-3 under zero keys agrees in its low 11 bits, so that a table which hashed names with no
+    key of its own would put them into few places."""
+    here = os.path.dirname(os.path.abspath(__file__))
+    tool = os.path.join(folder, "collide")
+    subprocess.run(["cc", "-O2", "-o", tool, os.path.join(here, "collide.c")], check=True)
+    text = subprocess.run([tool, str(count), "11"], check=True, capture_output=True, text=True).stdout
+    return text.split()
+
+
+def write(folder, name, lines, script=()):
+    with open(os.path.join(folder, name), "w", encoding="ascii") as out:
+        out.write("".join(line + "\n" for line in lines))
+        out.write("---\n" + "".join(line + "\n" for line in script))
+
+
+def main():
+    folder = sys.argv[1]
+    os.makedirs(folder, exist_ok=True)
+    for threads in (4, 64):
+        write(folder, f"locked_{threads}_short", locked_trace(EVENTS, threads, short, 1))
+        write(folder, f"locked_{threads}_long", locked_trace(EVENTS, threads, long, 2))
+        write(folder, f"ordered_{threads}", ordered_by_a_lock(EVENTS, threads))
+        write(folder, f"unordered_{threads}", unordered(EVENTS, threads))
+        write(folder, f"unordered_{threads}_8192", unordered(EVENTS // 8, threads))
+        write(folder, f"ordered_{threads}_8192", ordered_by_a_lock(EVENTS // 8, threads))
+        write(folder, f"locked_{threads}_8192", locked_trace(EVENTS // 8, threads, short, 1))
+    write(folder, "nested", nested(EVENTS))
+    write(folder, "many_names", named_trace(EVENTS, 4, [f"variable_{i}" for i in range(EVENTS)]))
+    write(folder, "colliding_names", named_trace(EVENTS, 4, colliding_names(folder, EVENTS)))
+    write(folder, "skipped_lines", ["T1|begin(b)|1"] * 4_000_000)
+    write(folder, "replay_new", ["T1|w(x)|1"], [f"1 new S{i}" for i in range(200_000)])
+    write(folder, "replay_show", ["T1|w(x)|1"], ["1 new A", "1 add A 0"] + ["1 show A"] * 400_000)
+    write(folder, "replay_grow_2000", ["T1|w(x)|1"] * 2_000, ["1 new A"] + [f"1 add A {i}" for i in range(2_000)])
+    write(folder, "replay_grow_4000", ["T1|w(x)|1"] * 4_000, ["1 new A"] + [f"1 add A {i}" for i in range(4_000)])
+
+
+main()

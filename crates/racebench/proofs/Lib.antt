@@ -1,0 +1,9 @@
+pub mod DeskLemmas
+pub mod JointLemmas
+pub mod KnownBytesLemmas
+pub mod LineLemmas
+pub mod PositionLemmas
+pub mod ReplayLemmas
+pub mod RunLemmas
+pub mod ScriptLemmas
+pub mod WordLemmas

@@ -1,0 +1,13 @@
+pub mod Answers
+pub mod Desk
+pub mod FaultTexts
+pub mod Joint
+pub mod Layout
+pub mod LinesLeft
+pub mod Messages
+pub mod Outcomes
+pub mod Replay
+pub mod Replies
+pub mod Scripts
+pub mod Steps
+pub mod Words

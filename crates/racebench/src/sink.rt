@@ -1,0 +1,101 @@
+//! Where bytes go: a writer whose bytes and failures a contract can name.
+ghost use Rattle.std.specs.Prelude.{◌≡◌, ℕ, ◌<◌, ◌≤◌, ◌||◌, length, take, is_err, false, IfOk, OnOk, OnErr, MatchResult};
+ghost use Rattle.std.specs.Io.KnownBytes.{Appends, WriteAppends};
+
+use crate::source::{Failed, MAX_INTERRUPTS};
+use std::io;
+use std::io::ErrorKind;
+use std::marker::Model;
+
+/// A writer. `taken` is the bytes that it has taken, where its type tells them; `has_failed` is whether a
+/// call has failed.
+pub trait Sink {
+    ghost use Rattle.std.specs.Prelude.{Bool, List, ℕ, Option};
+
+    ghost taken: { Self → Option (List ℕ) };
+
+    ghost has_failed: { Self → Bool };
+
+    /// Takes at least one byte from the front of `bytes` and says how many. A call that fails takes none.
+    fn write(&mut self, bytes: &[u8]) -> Result<usize, Failed>
+        requires { 0 < length bytes.now }
+        ensures bound { IfOk result (λ n. (0 < n) × (n ≤ length bytes.now)) }
+        ensures bytes { WriteAppends (taken self.old) (taken self.new) result bytes.now }
+        ensures failed { has_failed self.new ≡ (has_failed self.old || is_err result) };
+}
+
+/// Makes a `Sink` of one of std's writers. A write that takes nothing is a failure.
+#[derive(Drop)]
+pub struct FromWrite<W: io::Write> {
+    writer: W,
+    failed: bool,
+}
+
+impl<W: io::Write> Model for FromWrite<W> {
+    ghost use Rattle.std.specs.Prelude.{Bool, List, ℕ, Option};
+
+    ghost Value = { Option (List ℕ) × Bool };
+
+    ghost view = { λ s. (W.contents s.writer, s.failed) };
+}
+
+impl<W: io::Write> FromWrite<W> {
+    /// A sink that has not failed.
+    pub fn new(writer: W) -> FromWrite<W>
+        ensures { result ≡ (W.contents writer, false) }
+    {
+        FromWrite {
+            writer,
+            failed: false,
+        }
+    }
+
+    /// Hands on what the writer itself keeps back.
+    pub fn flush(&mut self) -> Result<(), Failed> {
+        match self.writer.flush() {
+            Ok(()) => Ok(()),
+            Err(_) => {
+                self.failed = true;
+                Err(Failed)
+            }
+        }
+    }
+}
+
+impl<W: io::Write> Sink for FromWrite<W> {
+    ghost taken = { λ s. s.0 };
+
+    ghost has_failed = { λ s. s.1 };
+
+    // A write that a signal interrupted took nothing, and is tried again.
+    fn write(&mut self, bytes: &[u8]) -> Result<usize, Failed> {
+        'tries: for _ in 0..MAX_INTERRUPTS {
+            match self.writer.write(bytes) {
+                Ok(0) => break,
+                Ok(count) => return Ok(count),
+                Err(error) => {
+                    if error.kind() != ErrorKind::Interrupted {
+                        break;
+                    }
+                }
+            }
+        }
+        self.failed = true;
+        Err(Failed)
+    }
+}
+
+/// Writes all bytes. Where the sink fails, it has taken the first of them, and not all.
+pub fn write_all<K: Sink>(sink: &mut K, bytes: &[u8]) -> Result<(), Failed>
+    requires { K.has_failed sink.old ≡ false }
+    ensures ok { OnOk result (Appends (K.taken sink.old) (K.taken sink.new) bytes.now) }
+    ensures err { OnErr result
+        ((n : ℕ) × (n < length bytes.now) × Appends (K.taken sink.old) (K.taken sink.new) (take n bytes.now)) }
+    ensures failed { K.has_failed sink.new ≡ is_err result }
+{
+    let mut at = 0;
+    while at < bytes.len() {
+        at += sink.write(&bytes[at..])?;
+    }
+    Ok(())
+}

@@ -1,0 +1,1 @@
+yes "" | head -n 70000000; echo "T1"

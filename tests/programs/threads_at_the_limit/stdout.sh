@@ -1,0 +1,1 @@
+printf "0: done\n1: done\nshown 63\n"
