@@ -3,7 +3,6 @@ pub mod Desk
 pub mod FaultTexts
 pub mod Joint
 pub mod Layout
-pub mod LinesLeft
 pub mod Messages
 pub mod Outcomes
 pub mod Replay

@@ -1,5 +1,5 @@
 -- What a replay of known bytes answers, and what its writer has taken.
-use Rattle.std.specs.Prelude.{◌≡◌, ℕ, ◌<◌, List, length, take, Option, Result, Ok, Err, Vec, ⊤}
+use Rattle.std.specs.Prelude.{◌≡◌, ℕ, ◌<◌, ◌≤◌, List, length, take, Option, Result, Ok, Err, Vec, ⊤}
 use Rattle.std.specs.Io.KnownBytes.{Appends}
 use Rattle.racebench.specs.Replay.{Transcript, text_of, tally_of, replay_of, text_or_nothing}
 use Rattle.racebench.specs.declared.fault.ReadCause.TheVariants.{Device, TooLong}
@@ -42,3 +42,27 @@ WritesNothing (Script refusal) old new = new ≡ old
 WritesNothing (Read input why) old new = new ≡ old
 WritesNothing Write old new = ⊤
 WritesNothing OutOfMemory old new = ⊤
+
+-- a fault of reading names the one input
+abbrev pub NamesInput : ℕ → ReplayFault → Type 0
+NamesInput input (Text refusal) = ⊤
+NamesInput input (Rule refusal) = ⊤
+NamesInput input (Script refusal) = ⊤
+NamesInput input (Read place why) = place ≡ input
+NamesInput input Write = ⊤
+NamesInput input OutOfMemory = ⊤
+
+-- a fault that an input past the limit may have: none of its text, nor of the writer
+abbrev pub MayBeOfLength : ReplayFault → Type 0
+MayBeOfLength (Text refusal) = ⊥
+MayBeOfLength (Rule refusal) = ⊥
+MayBeOfLength (Script refusal) = ⊥
+MayBeOfLength (Read place why) = ⊤
+MayBeOfLength Write = ⊥
+MayBeOfLength OutOfMemory = ⊤
+
+-- bytes past the limit are no input: they are refused as too long, unless the reader failed or memory
+-- was refused before
+abbrev pub KeepsLimit : List ℕ → Result Tally ReplayFault → Type 0
+KeepsLimit bytes (Ok tally) = length bytes ≤ LIMIT
+KeepsLimit bytes (Err fault) = LIMIT < length bytes → MayBeOfLength fault

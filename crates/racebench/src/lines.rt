@@ -1,45 +1,12 @@
 //! The lines of a text, and the words of a line.
-ghost use Rattle.std.specs.Prelude.{◌≡◌, ◌≤◌, [], ◌∷◌, length, drop, IfSome, IfNone};
-ghost use Rattle.std.specs.List.{slice_split, prefix_len, suffix_len, join_with_byte, position_or_len};
-ghost use Rattle.rapid_text.specs.Reading.{is_blank, is_line_feed, trimmed};
+ghost use Rattle.std.specs.Prelude.{◌≡◌, ◌≤◌, [], ◌∷◌, length, IfSome, IfNone};
+ghost use Rattle.std.specs.List.{slice_split, join_with_byte, position_or_len};
+ghost use Rattle.rapid_text.specs.Reading.{is_blank, is_line_feed};
 ghost use Rattle.racebench.specs.Words.{words_of};
 
 use memchr::memchr;
+use rapid_text::{is_a_blank, trim_start};
 use std::marker::Model;
-
-/// Whether the byte is a space, a tab or a carriage return.
-fn is_a_blank(byte: u8) -> bool
-    ensures { result ≡ is_blank byte }
-{
-    byte == b' ' || byte == b'\t' || byte == b'\r'
-}
-
-/// How many blanks the bytes begin with.
-fn blanks_before(bytes: &[u8]) -> usize
-    ensures blanks { result ≡ prefix_len is_blank bytes.now }
-    ensures within { result ≤ length bytes.now }
-{
-    bytes.iter().take_while(|byte| is_a_blank(**byte)).count()
-}
-
-/// How many blanks the bytes end with.
-fn blanks_after(bytes: &[u8]) -> usize
-    ensures blanks { result ≡ suffix_len is_blank bytes.now }
-    ensures within { result ≤ length bytes.now }
-{
-    bytes
-        .iter()
-        .rev()
-        .take_while(|byte| is_a_blank(**byte))
-        .count()
-}
-
-/// The bytes without the blanks at their front.
-fn without_front_blanks(bytes: &[u8]) -> &[u8]
-    ensures { result.now ≡ drop (prefix_len is_blank bytes.now) bytes.now }
-{
-    &bytes[blanks_before(bytes)..]
-}
 
 /// How many bytes stand before the first blank.
 fn word_len(bytes: &[u8]) -> usize
@@ -49,20 +16,12 @@ fn word_len(bytes: &[u8]) -> usize
     bytes.iter().take_while(|byte| !is_a_blank(**byte)).count()
 }
 
-/// The bytes without the blanks at both ends.
-pub(crate) fn trim(bytes: &[u8]) -> &[u8]
-    ensures { result.now ≡ trimmed bytes.now }
-{
-    let rest = without_front_blanks(bytes);
-    &rest[..rest.len() - blanks_after(rest)]
-}
-
 /// The first word of a line and what stands after it, if there is a word.
 fn first_word(line: &[u8]) -> Option<(&[u8], &[u8])>
     ensures none { IfNone result (words_of line.now ≡ []) }
     ensures some { IfSome result (λ parts. words_of line.now ≡ parts.0.now ∷ words_of parts.1.now) }
 {
-    let rest = without_front_blanks(line);
+    let rest = trim_start(line);
     if rest.is_empty() {
         return None;
     }
@@ -112,7 +71,7 @@ pub(crate) struct Lines<'a> {
 
 impl<'a> Model for Lines<'a> {
     ghost use Rattle.std.specs.Prelude.{List, ℕ};
-    ghost use Rattle.racebench.specs.LinesLeft.{lines_left};
+    ghost use Rattle.rapid_text.specs.LinesLeft.{lines_left};
 
     ghost Value = { List (List ℕ) };
 

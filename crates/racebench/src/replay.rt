@@ -1,7 +1,7 @@
 //! Replays a joint text: reads a trace and a script, makes the script's calls, and writes their answers.
 ghost use Rattle.std.specs.Prelude.{◌≡◌, [], true, false, is_err, IfErr, IfSome, OnOk, OnErr, Err};
 ghost use Rattle.std.specs.Io.KnownBytes.{Appends};
-ghost use Rattle.racebench.specs.Outcomes.{AppendsPart, IsReplay, IsJointReplay, WritesNothing};
+ghost use Rattle.racebench.specs.Outcomes.{AppendsPart, IsReplay, IsJointReplay, KeepsLimit, NamesInput, WritesNothing};
 ghost use Rattle.racebench.specs.Replay.{transcript};
 ghost use Rattle.racebench.specs.Steps.{IsReadBy, IsCheckedBy, IsLoadedBy, AreLoadedBy, HandsOn, IsRunOf, unread};
 ghost use Rattle.racebench.specs.declared.fault.ReadCause.TheVariants.{Device};
@@ -205,9 +205,11 @@ pub fn replay_joint<S: Source, K: Sink>(
     ensures replay { IfSome (S.rest reader.old)
         (λ bytes. IsJointReplay bytes (K.taken writer.old) (K.taken writer.new) result) }
     ensures silent { IfErr result (λ fault. WritesNothing fault (K.taken writer.old) (K.taken writer.new)) }
+    ensures limit { IfSome (S.rest reader.old) (λ bytes. KeepsLimit bytes result) }
     // The device is at fault exactly where a read failed, and the writer exactly where a write failed.
     ensures device { result ≡ Err (Read 1 Device) → S.has_failed reader.new ≡ true }
     ensures read_failed { S.has_failed reader.new ≡ true → result ≡ Err (Read 1 Device) }
+    ensures input { IfErr result (NamesInput 1) }
     ensures write { result ≡ Err Write → K.has_failed writer.new ≡ true }
     ensures write_failed { K.has_failed writer.new ≡ true → result ≡ Err Write }
 {

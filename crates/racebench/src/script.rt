@@ -3,9 +3,10 @@ ghost use Rattle.std.specs.Prelude.{◌≡◌, ◌⊎◌, IfOk, IfErr, Ok, Err};
 ghost use Rattle.racebench.specs.Scripts.{name_reading, number_reading, new_reading, add_reading, show_reading, command_reading, client_reading, line_reading, script_reading, no_script_memory};
 
 use crate::fault::{ScriptCause, ScriptRefusal};
-use crate::lines::{Lines, Words, trim};
+use crate::lines::{Lines, Words};
 use crate::name::Name;
 use crate::number::number;
+use rapid_text::trim;
 use std::alloc::Global;
 
 /// The most bytes of a script line, without the blanks at its ends.

@@ -1,6 +1,6 @@
 //! Where bytes go: a writer whose bytes and failures a contract can name.
 ghost use Rattle.std.specs.Prelude.{◌≡◌, ℕ, ◌<◌, ◌≤◌, ◌||◌, length, take, is_err, false, IfOk, OnOk, OnErr, MatchResult};
-ghost use Rattle.std.specs.Io.KnownBytes.{Appends, WriteAppends};
+ghost use Rattle.std.specs.Io.KnownBytes.{Appends, Keeps, WriteAppends};
 
 use crate::source::{Failed, MAX_INTERRUPTS};
 use std::io;
@@ -50,8 +50,11 @@ impl<W: io::Write> FromWrite<W> {
         }
     }
 
-    /// Hands on what the writer itself keeps back.
-    pub fn flush(&mut self) -> Result<(), Failed> {
+    /// Hands on what the writer itself keeps back; the bytes that it has taken stay.
+    pub fn flush(&mut self) -> Result<(), Failed>
+        ensures bytes { Keeps self.old.0 self.new.0 }
+        ensures failed { self.new.1 ≡ (self.old.1 || is_err result) }
+    {
         match self.writer.flush() {
             Ok(()) => Ok(()),
             Err(_) => {

@@ -1,5 +1,5 @@
 //! Cuts a text where a byte stands, and takes blanks off its ends.
-ghost use Rattle.std.specs.Prelude.{◌≡◌, ◌==◌, ◌≤◌, true, false, length, IfNone, IfSome};
+ghost use Rattle.std.specs.Prelude.{◌≡◌, ◌==◌, ◌≤◌, true, false, drop, length, IfNone, IfSome};
 ghost use Rattle.std.specs.List.{before_first, after_first, list_any, prefix_len, suffix_len};
 ghost use Rattle.rapid_text.specs.Reading.{is_blank, trimmed};
 
@@ -29,8 +29,8 @@ pub(crate) fn cut_or_all(byte: u8, bytes: &[u8]) -> (&[u8], &[u8])
     }
 }
 
-/// Whether the byte is a space, a tab or a carriage return.
-fn is_a_blank(byte: u8) -> bool
+/// Whether the byte is a blank of the trace text: a space, a tab or a carriage return.
+pub fn is_a_blank(byte: u8) -> bool
     ensures { result ≡ is_blank byte }
 {
     byte == b' ' || byte == b'\t' || byte == b'\r'
@@ -56,10 +56,17 @@ fn blanks_after(bytes: &[u8]) -> usize
         .count()
 }
 
+/// The bytes without the blanks at their front.
+pub fn trim_start(bytes: &[u8]) -> &[u8]
+    ensures { result.now ≡ drop (prefix_len is_blank bytes.now) bytes.now }
+{
+    &bytes[blanks_before(bytes)..]
+}
+
 /// The bytes without the blanks at both ends.
-pub(crate) fn trim(bytes: &[u8]) -> &[u8]
+pub fn trim(bytes: &[u8]) -> &[u8]
     ensures { result.now ≡ trimmed bytes.now }
 {
-    let rest = &bytes[blanks_before(bytes)..];
+    let rest = trim_start(bytes);
     &rest[..rest.len() - blanks_after(rest)]
 }

@@ -18,6 +18,7 @@ mod refusal;
 mod tests;
 
 pub use bytes::Bytes;
+pub use cutting::{is_a_blank, trim, trim_start};
 pub use event::{Event, Kind, Op};
 pub use memory::OutOfMemory;
 pub use names::TextKeyed;

@@ -1,5 +1,8 @@
 //! What no clause says: that a text means what the format's worked examples say, and that a call succeeds.
-use crate::{Bytes, Event, Op, OutOfMemory, RawTrace, TextCause, TextRefusal, parse};
+use crate::{
+    Bytes, Event, Op, OutOfMemory, RawTrace, TextCause, TextRefusal, is_a_blank, parse, trim,
+    trim_start,
+};
 use std::alloc::Global;
 
 // The line and the cause for which the text is refused, if it is.
@@ -249,4 +252,12 @@ fn there_are_at_most_65536_events(rt: HostRuntime) -> Result<(), OutOfMemory> {
     append(&mut text, b"T1|w(x)|1\n", 1)?;
     assert!(rt; refusal(alloc, text.items()) == Some((65_537, TextCause::TooManyEvents)));
     Ok(())
+}
+
+#[test]
+fn blanks_are_space_tab_and_carriage_return(rt: HostRuntime) {
+    assert!(rt; trim(b" \t\ra b\r ") == b"a b".as_slice());
+    assert!(rt; trim_start(b" \t\ra b\r ") == b"a b\r ".as_slice());
+    assert!(rt; trim(b"\x0b\x0c").len() == 2);
+    assert!(rt; is_a_blank(b'\r') && !is_a_blank(b'\n'));
 }
