@@ -1,0 +1,31 @@
+-- What is printed of how much of what is in an execution.
+use Rattle.std.specs.Prelude.{ℕ, List, ◌++◌, length, flat_map, codes, decimal}
+use Rattle.std.specs.List.{range_with_len}
+use Rattle.rapid_text.specs.Canonical.{name_at}
+use Rattle.rapid_text.specs.Recording.{Recording}
+use Rattle.event_index.specs.Lookups.{events_of}
+
+-- the line of a word and a number
+abbrev pub count_line : List ℕ → ℕ → List ℕ
+count_line word n = word ++ codes " " ++ decimal n ++ codes "\n"
+
+-- how many events, threads, variables and locks there are
+abbrev pub counts_text : Recording → List ℕ
+counts_text r =
+    count_line (codes "events") (length r.events)
+    ++ count_line (codes "threads") (length r.threads)
+    ++ count_line (codes "variables") (length r.variables)
+    ++ count_line (codes "locks") (length r.locks)
+
+-- the line of a thread: its number, its name, and the number of its events
+abbrev pub thread_line : Recording → ℕ → List ℕ
+thread_line r t =
+    codes "thread " ++ decimal t ++ codes " " ++ name_at r.threads t ++ codes " " ++ decimal (length (events_of r.events t)) ++ codes "\n"
+
+-- the lines of the first n threads
+abbrev pub thread_lines : Recording → ℕ → List ℕ
+thread_lines r n = flat_map (thread_line r) (range_with_len 0 n)
+
+-- the four numbers, and then a line for each thread in rising number
+unfoldable pub info_text : Recording → List ℕ
+info_text r = counts_text r ++ thread_lines r (length r.threads)

@@ -1,0 +1,70 @@
+//! Prints pairs of events that are candidates for a race.
+ghost use Rattle.std.specs.Prelude.{◌≡◌, ◌<◌, ◌++◌, length, All, OnOk, OnErr};
+ghost use Rattle.event_index.specs.Relations.{IsConflicting};
+ghost use Rattle.report.specs.Candidates.{candidates_text, candidate_line, candidate_lines, variable_words};
+
+use crate::pieces::{append_count, append_number};
+use event_index::{Indexed, Pairs};
+use rapid_text::{Op, OutOfMemory};
+
+/// Appends how many pairs there are, and for each its two events and the name of the variable that both
+/// access, each in a line. Where memory is refused `out` stays as it was.
+pub fn candidates(indexed: &Indexed, pairs: &Pairs, out: &mut Vec<u8>) -> Result<(), OutOfMemory>
+    requires { All (λ pair. IsConflicting indexed.now.events pair.0 pair.1) pairs.now }
+    ensures ok { OnOk result (out.new.items ≡ out.old.items ++ candidates_text indexed.now pairs.now) }
+    ensures err { OnErr result (out.new.items ≡ out.old.items) }
+{
+    let mut text = Vec::new(*out.allocator());
+    append_pairs(&mut text, indexed, pairs.items())?;
+    out.extend_from_slice(&text)?;
+    Ok(())
+}
+
+/// Appends the number of pairs and their lines.
+fn append_pairs(
+    out: &mut Vec<u8>,
+    indexed: &Indexed,
+    pairs: &[(u32, u32)],
+) -> Result<(), OutOfMemory>
+    requires { All (λ pair. IsConflicting indexed.now.events pair.0 pair.1) pairs.now }
+    ensures { OnOk result (out.new.items ≡ out.old.items ++ candidates_text indexed.now pairs.now) }
+{
+    append_count(out, b"candidates", pairs.len() as u64)?;
+    for pair in pairs {
+        let (first, second) = *pair;
+        append_pair(out, indexed, first, second)?;
+    }
+    Ok(())
+}
+
+/// Appends the line of a pair.
+fn append_pair(
+    out: &mut Vec<u8>,
+    indexed: &Indexed,
+    first: u32,
+    second: u32,
+) -> Result<(), OutOfMemory>
+    requires { first < length indexed.now.events }
+    ensures { OnOk result (out.new.items ≡ out.old.items ++ candidate_line indexed.now (first, second)) }
+{
+    out.extend_from_slice(b"candidate ")?;
+    append_number(out, u64::from(first))?;
+    out.push(b' ')?;
+    append_number(out, u64::from(second))?;
+    out.push(b' ')?;
+    out.extend_from_slice(variable_of(indexed, first))?;
+    out.push(b'\n')?;
+    Ok(())
+}
+
+/// The name of the variable that the event accesses; nothing where it accesses none.
+fn variable_of(indexed: &Indexed, event: u32) -> &[u8]
+    requires { event < length indexed.now.events }
+    ensures { result.now ≡ variable_words indexed.now event }
+{
+    let raw = indexed.trace().raw();
+    match raw.event(event).op {
+        Op::Read(variable) | Op::Write(variable) => raw.variable_name(variable),
+        Op::Acquire(_) | Op::Release(_) | Op::Fork(_) | Op::Join(_) => &[],
+    }
+}

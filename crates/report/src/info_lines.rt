@@ -1,0 +1,66 @@
+//! Prints how much of what is in an execution.
+ghost use Rattle.std.specs.Prelude.{◌≡◌, ◌<◌, ◌++◌, length, OnOk, OnErr};
+ghost use Rattle.rapid_text.specs.Canonical.{name_at};
+ghost use Rattle.report.specs.Info.{info_text, counts_text, thread_line, thread_lines};
+
+use crate::pieces::{append_count, append_number};
+use event_index::Indexed;
+use rapid_text::OutOfMemory;
+
+/// Appends how many events, threads, variables and locks there are, and for each thread its number, its
+/// name and the number of its events, each in a line. Where memory is refused `out` stays as it was.
+pub fn info(indexed: &Indexed, out: &mut Vec<u8>) -> Result<(), OutOfMemory>
+    ensures ok { OnOk result (out.new.items ≡ out.old.items ++ info_text indexed.now) }
+    ensures err { OnErr result (out.new.items ≡ out.old.items) }
+{
+    let mut text = Vec::new(*out.allocator());
+    append_counts(&mut text, indexed)?;
+    append_threads(&mut text, indexed)?;
+    out.extend_from_slice(&text)?;
+    Ok(())
+}
+
+/// Appends the lines of the four numbers.
+fn append_counts(out: &mut Vec<u8>, indexed: &Indexed) -> Result<(), OutOfMemory>
+    ensures { OnOk result (out.new.items ≡ out.old.items ++ counts_text indexed.now) }
+{
+    let raw = indexed.trace().raw();
+    append_count(out, b"events", u64::from(raw.len()))?;
+    append_count(out, b"threads", u64::from(raw.threads()))?;
+    append_count(out, b"variables", u64::from(raw.variables()))?;
+    append_count(out, b"locks", u64::from(raw.locks()))?;
+    Ok(())
+}
+
+/// Appends the lines of all threads.
+fn append_threads(out: &mut Vec<u8>, indexed: &Indexed) -> Result<(), OutOfMemory>
+    ensures { OnOk result (out.new.items ≡ out.old.items ++ thread_lines indexed.now (length indexed.now.threads)) }
+{
+    for thread in 0..indexed.trace().raw().threads() {
+        append_thread(out, indexed, thread)?;
+    }
+    Ok(())
+}
+
+/// Appends the line of a thread.
+fn append_thread(out: &mut Vec<u8>, indexed: &Indexed, thread: u32) -> Result<(), OutOfMemory>
+    requires { thread < length indexed.now.threads }
+    ensures { OnOk result (out.new.items ≡ out.old.items ++ thread_line indexed.now thread) }
+{
+    out.extend_from_slice(b"thread ")?;
+    append_number(out, u64::from(thread))?;
+    out.push(b' ')?;
+    out.extend_from_slice(name_of(indexed, thread))?;
+    out.push(b' ')?;
+    append_number(out, indexed.thread_events(thread).len() as u64)?;
+    out.push(b'\n')?;
+    Ok(())
+}
+
+/// The name of a thread.
+fn name_of(indexed: &Indexed, thread: u32) -> &[u8]
+    requires { thread < length indexed.now.threads }
+    ensures { result.now ≡ name_at indexed.now.threads thread }
+{
+    indexed.trace().raw().thread_name(thread)
+}

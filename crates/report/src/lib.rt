@@ -1,0 +1,11 @@
+//! What is printed of an accepted execution: how much of what is in it, and its candidates for a race.
+#![tactic(auto)]
+
+mod candidate_lines;
+mod info_lines;
+mod pieces;
+#[cfg(test)]
+mod tests;
+
+pub use candidate_lines::candidates;
+pub use info_lines::info;
