@@ -1,1 +1,3 @@
+pub mod CandidateLaws
 pub mod LineLemmas
+pub mod TestLemmas
