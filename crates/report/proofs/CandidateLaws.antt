@@ -1,5 +1,5 @@
 -- The variable that is named of a pair is the one that both of its events access.
-use Rattle.std.proofs.Common.{◌≡◌, ℕ, Bool, true, false, ◌||◌, eqb, List, Option, Some, sym, ap, ◌∙◌, subst, ⊎_elim, true≢false}
+use Rattle.std.proofs.Common.{◌≡◌, ℕ, true, false, eqb, Option, Some, sym, ap, ◌∙◌, ⊎_elim, true≢false}
 use Rattle.std.specs.Option.{option_map}
 use Rattle.std.proofs.lemmas.Bool.{eqb-true, or_cases}
 use Rattle.rapid_text.specs.Canonical.{name_at}

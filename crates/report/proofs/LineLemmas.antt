@@ -1,5 +1,5 @@
 -- The lines of one thread more.
-use Rattle.std.proofs.Common.{◌≡◌, ℕ, zero, suc, ◌+◌, List, [], ◌∷◌, ◌++◌, ap, sym, ◌∙◌, arith, add-one, append-nil, append_assoc}
+use Rattle.std.proofs.Common.{◌≡◌, ℕ, zero, suc, ◌+◌, List, [], ◌++◌, ap, sym, ◌∙◌, arith, add-one, append-nil, append_assoc}
 use Rattle.std.specs.List.{flat_map, range_with_len}
 use Rattle.rapid_text.specs.Recording.{Recording}
 use Rattle.report.specs.Info.{thread_line, thread_lines}

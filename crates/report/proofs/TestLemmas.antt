@@ -1,6 +1,6 @@
 -- What holds of two things holds of each in the list of the two.
-use Rattle.std.proofs.Common.{ℕ, zero, suc, ◌<◌, List, [], ◌∷◌, length, arith}
-use Rattle.std.specs.List.{All, slice_index_or}
+use Rattle.std.proofs.Common.{zero, suc, [], ◌∷◌, arith}
+use Rattle.std.specs.List.{All}
 
 pub All-two : {X : Type 0} (P : X → Type 0) (first second : X) → P first → P second → All P (first ∷ second ∷ [])
 All-two P first second at_first at_second zero d within = at_first

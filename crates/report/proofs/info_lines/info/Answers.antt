@@ -1,5 +1,5 @@
 -- The numbers and the lines of the threads are the whole text.
-use Rattle.std.proofs.Common.{List, ℕ, length}
+use Rattle.std.proofs.Common.{length}
 use Rattle.report.specs.Info.{info_text, counts_text, thread_lines}
 use Rattle.report.proofs.LineLemmas.{appended-parts}
 use Rattle.report.proofs.info_lines.info.Goals as goal
