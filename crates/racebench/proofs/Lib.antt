@@ -1,7 +1,9 @@
 pub mod DeskLemmas
+pub mod InfoLemmas
 pub mod JointLemmas
 pub mod KnownBytesLemmas
 pub mod LineLemmas
+pub mod LoadingLemmas
 pub mod PositionLemmas
 pub mod ReplayLemmas
 pub mod RunLemmas

@@ -2,38 +2,20 @@
 use Rattle.std.proofs.Common.{◌≡◌, ℕ, List, take, Option, Some, None, Result, Ok, Err, refl, sym, ap, ◌∙◌, subst}
 use Rattle.std.specs.Prelude.{IfSome, IfErr}
 use Rattle.std.specs.Io.KnownBytes.{Appends}
-use Rattle.rapid_text.specs.Reading.{reading_of}
 use Rattle.rapid_text.specs.Recording.{Recording}
-use Rattle.trace_rules.specs.Rules.{first_breach}
 use Rattle.racebench.specs.Joint.{trace_part, script_part}
 use Rattle.racebench.specs.Outcomes.{AppendsPart, IsReplay, IsJointReplay, WritesNothing}
-use Rattle.racebench.specs.Replay.{Transcript, transcript, replay_of, replay_read, replay_checked, replay_calls, text_of, text_or_nothing}
+use Rattle.racebench.specs.Replay.{Transcript, transcript, replay_of, replay_trace, replay_calls, text_of, text_or_nothing}
 use Rattle.racebench.specs.Scripts.{script_reading}
-use Rattle.racebench.specs.Steps.{IsReadBy, IsCheckedBy, IsLoadedBy, AreLoadedBy, IsRunOf}
+use Rattle.racebench.specs.Loading.{IsLoadedBy}
+use Rattle.racebench.specs.Steps.{AreLoadedBy, IsRunOf}
 use Rattle.racebench.specs.declared.fault.ReadCause.TheVariants.{Device, TooLong}
 use Rattle.racebench.specs.declared.fault.ReplayFault.{ReplayFault}
 use Rattle.racebench.specs.declared.fault.ReplayFault.TheVariants.{Text, Rule, Script, Read, Write, OutOfMemory}
 use Rattle.racebench.specs.declared.fault.Tally.{Tally}
 use Rattle.racebench.specs.declared.script.Call.{Call}
+use Rattle.racebench.proofs.LoadingLemmas.{trace_of-unread, trace_of-unchecked, trace_of-loaded}
 use Rattle.racebench.proofs.RunLemmas.{Appends-nothing}
-
--- a text that is not read is not loaded
-pub loaded-unread : (text : List ℕ) (fault : ReplayFault) → IsReadBy text (Err fault) → IsLoadedBy text (Err fault)
-loaded-unread text (Text refusal) h = h
-loaded-unread text (Rule refusal) h = absurd h
-loaded-unread text (Script refusal) h = absurd h
-loaded-unread text (Read input why) h = absurd h
-loaded-unread text Write h = absurd h
-loaded-unread text OutOfMemory h = tt
-
--- nor is one whose recording breaks a rule
-pub loaded-unchecked : (text : List ℕ) (raw : Recording) (fault : ReplayFault) → reading_of text ≡ Ok raw → IsCheckedBy raw (Err fault) → IsLoadedBy text (Err fault)
-loaded-unchecked text raw (Text refusal) e h = absurd h
-loaded-unchecked text raw (Rule refusal) e h = (raw, e, h)
-loaded-unchecked text raw (Script refusal) e h = absurd h
-loaded-unchecked text raw (Read input why) e h = absurd h
-loaded-unchecked text raw Write e h = absurd h
-loaded-unchecked text raw OutOfMemory e h = tt
 
 -- nothing was written
 pub nothing-part : (known : Option (List ℕ)) (bytes : List ℕ) → AppendsPart known known bytes
@@ -43,9 +25,9 @@ module _ (bytes : List ℕ) (known : Option (List ℕ)) where
   -- a trace that is refused
   pub unloaded-replay : (fault : ReplayFault) → IsLoadedBy (trace_part bytes) (Err fault) → IsReplay bytes known known (Err fault)
   unfolding replay_of
-  unloaded-replay (Text refusal) h = ap (λ r. replay_read r (script_part bytes)) h
+  unloaded-replay (Text refusal) h = ap (λ r. replay_trace r (script_part bytes)) (trace_of-unread (trace_part bytes) refusal h)
   unloaded-replay (Rule refusal) h =
-      ap (λ r. replay_read r (script_part bytes)) h.1 ∙ ap (λ b. replay_checked h.0 b (script_part bytes)) h.2
+      ap (λ r. replay_trace r (script_part bytes)) (trace_of-unchecked (trace_part bytes) refusal h)
   unloaded-replay (Script refusal) h = absurd h
   unloaded-replay (Read input why) h = absurd h
   unloaded-replay Write h = absurd h
@@ -66,9 +48,7 @@ module _ (bytes : List ℕ) (known : Option (List ℕ)) where
     -- what stands after a trace that is accepted
     pub replay-loaded : replay_of bytes ≡ replay_calls trace (script_reading (script_part bytes))
     unfolding replay_of
-    replay-loaded =
-        ap (λ r. replay_read r (script_part bytes)) loaded.0
-        ∙ ap (λ b. replay_checked trace b (script_part bytes)) loaded.1
+    replay-loaded = ap (λ r. replay_trace r (script_part bytes)) (trace_of-loaded (trace_part bytes) trace loaded)
 
     -- a script that is refused
     pub unscripted-replay : (fault : ReplayFault) → AreLoadedBy (script_part bytes) (Err fault) → IsReplay bytes known known (Err fault)

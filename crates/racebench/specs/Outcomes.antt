@@ -63,6 +63,6 @@ MayBeOfLength OutOfMemory = ⊤
 
 -- bytes past the limit are no input: they are refused as too long, unless the reader failed or memory
 -- was refused before
-abbrev pub KeepsLimit : List ℕ → Result Tally ReplayFault → Type 0
-KeepsLimit bytes (Ok tally) = length bytes ≤ LIMIT
+abbrev pub KeepsLimit : {A : Type 0} → List ℕ → Result A ReplayFault → Type 0
+KeepsLimit bytes (Ok done) = length bytes ≤ LIMIT
 KeepsLimit bytes (Err fault) = LIMIT < length bytes → MayBeOfLength fault

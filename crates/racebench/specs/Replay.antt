@@ -1,17 +1,14 @@
 -- What a replay of a joint text writes: the text of each call's answer, or the fault that comes before.
-use Rattle.std.specs.Prelude.{ℕ, List, [], length, filter, flat_map, Option, Some, None, Result, Ok, Err, is_ok, is_err}
-use Rattle.rapid_text.specs.Reading.{reading_of}
+use Rattle.std.specs.Prelude.{ℕ, List, [], length, filter, flat_map, Result, Ok, Err, is_ok, is_err}
 use Rattle.rapid_text.specs.Recording.{Recording}
-use Rattle.rapid_text.specs.declared.refusal.TextRefusal.{TextRefusal}
-use Rattle.trace_rules.specs.Rules.{first_breach}
-use Rattle.trace_rules.specs.declared.refusal.RuleRefusal.{RuleRefusal}
 use Rattle.racebench.specs.Desk.{Answer, empty_desk, answers_from}
 use Rattle.racebench.specs.Joint.{trace_part, script_part}
 use Rattle.racebench.specs.Replies.{answer_text}
 use Rattle.racebench.specs.Scripts.{script_reading}
+use Rattle.racebench.specs.Traces.{trace_of}
 use Rattle.racebench.specs.declared.script.Call.{Call}
 use Rattle.racebench.specs.declared.fault.ReplayFault.{ReplayFault}
-use Rattle.racebench.specs.declared.fault.ReplayFault.TheVariants.{Text, Rule, Script}
+use Rattle.racebench.specs.declared.fault.ReplayFault.TheVariants.{Script}
 use Rattle.racebench.specs.declared.fault.ScriptRefusal.{ScriptRefusal}
 use Rattle.racebench.specs.declared.fault.Tally.{Tally}
 
@@ -41,18 +38,14 @@ abbrev pub replay_calls : Recording → Result (List Call) ScriptRefusal → Res
 replay_calls trace (Ok calls) = Ok (transcript trace calls)
 replay_calls trace (Err refusal) = Err (Script refusal)
 
-abbrev pub replay_checked : Recording → Option RuleRefusal → List ℕ → Result Transcript ReplayFault
-replay_checked trace None script = replay_calls trace (script_reading script)
-replay_checked trace (Some refusal) script = Err (Rule refusal)
-
-abbrev pub replay_read : Result Recording TextRefusal → List ℕ → Result Transcript ReplayFault
-replay_read (Ok trace) script = replay_checked trace (first_breach trace.events) script
-replay_read (Err refusal) script = Err (Text refusal)
+abbrev pub replay_trace : Result Recording ReplayFault → List ℕ → Result Transcript ReplayFault
+replay_trace (Ok trace) script = replay_calls trace (script_reading script)
+replay_trace (Err fault) script = Err fault
 
 -- what a joint text gives: the trace's refusal by its text, or by its rules, or the script's refusal, or
 -- the answers to all calls
 unfoldable pub replay_of : List ℕ → Result Transcript ReplayFault
-replay_of bytes = replay_read (reading_of (trace_part bytes)) (script_part bytes)
+replay_of bytes = replay_trace (trace_of (trace_part bytes)) (script_part bytes)
 
 -- the text where the replay has one, and else nothing
 abbrev pub text_or_nothing : Result Transcript ReplayFault → List ℕ

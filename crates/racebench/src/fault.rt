@@ -91,6 +91,14 @@ impl From<AllocError> for ReplayFault {
     }
 }
 
+/// Why a command of the program stopped. Its message is that of the fault within.
+#[derive(Clone, Copy, PartialEq, Eq, Debug, Error)]
+pub enum BenchFault {
+    /// 91, 92 and 94 to 96: a fault of reading, of the text, or of writing.
+    #[error("{0}")]
+    Replay(ReplayFault),
+}
+
 /// Why an input was not read, or the want of memory for it.
 #[derive(Clone, Copy, PartialEq, Eq, Debug)]
 pub enum ReadFault {

@@ -1,11 +1,16 @@
-//! The workbench as a program: reads a trace and a script from standard input, makes the script's calls
-//! on the trace, and prints what each call answers.
+//! The workbench as a program: replays a script on a trace, or prints what a trace holds.
 #![tactic(auto)]
 
 mod desk;
+#[cfg(test)]
+mod fakes;
 mod fault;
+mod info_call;
+#[cfg(test)]
+mod info_tests;
 mod joint;
 mod lines;
+mod loading;
 mod message;
 mod name;
 mod number;
@@ -16,38 +21,104 @@ mod sink;
 mod source;
 #[cfg(test)]
 mod tests;
+mod unopened;
+mod words;
 
-use crate::fault::ReplayFault;
+use crate::fault::{BenchFault, ReplayFault};
+use crate::info_call::info;
 use crate::message::fault_text;
 use crate::replay::replay_joint;
 use crate::sink::{FromWrite, write_all};
 use crate::source::FromRead;
+use crate::unopened::Unopened;
+use crate::words::{Task, no_text, task_of};
+use clap::error::{Error, ErrorKind};
+use std::alloc::AllocError;
+use std::fs::File;
 use std::io;
 use std::process::ExitCode;
 
-/// The status at which the program refuses its words.
-const BAD_WORDS: u8 = 2;
+/// Why nothing is to be done.
+enum Stop {
+    /// The words are refused, or ask for help.
+    Words(Error),
+    /// A fault.
+    Fault(BenchFault),
+}
 
-/// Whether the program was given words beside its own name. Words that are no text count as some.
-fn has_words(rt: &HostRuntime) -> Result<bool, ReplayFault> {
+impl From<ReplayFault> for Stop {
+    fn from(fault: ReplayFault) -> Stop {
+        Stop::Fault(BenchFault::Replay(fault))
+    }
+}
+
+impl From<BenchFault> for Stop {
+    fn from(fault: BenchFault) -> Stop {
+        Stop::Fault(fault)
+    }
+}
+
+impl From<AllocError> for Stop {
+    fn from(_error: AllocError) -> Stop {
+        Stop::from(ReplayFault::OutOfMemory)
+    }
+}
+
+impl From<Error> for Stop {
+    fn from(error: Error) -> Stop {
+        match error.kind() {
+            ErrorKind::OutOfMemory => Stop::from(ReplayFault::OutOfMemory),
+            _ => Stop::Words(error),
+        }
+    }
+}
+
+/// The words that the program is called with, its own name first.
+fn read_words(rt: &HostRuntime) -> Result<Vec<String>, Stop> {
     match std::env::args(rt) {
-        Ok(words) => Ok(words.count() > 1),
+        Ok(words) => Ok(words.collect(rt.alloc())?),
         Err(error) => match error.kind() {
-            io::ErrorKind::OutOfMemory => Err(ReplayFault::OutOfMemory),
-            _ => Ok(true),
+            io::ErrorKind::OutOfMemory => Err(Stop::from(ReplayFault::OutOfMemory)),
+            _ => Err(Stop::from(no_text(rt.alloc())?)),
         },
     }
 }
 
+/// Hands on what a writer keeps back.
+fn finish<W: io::Write>(writer: &mut FromWrite<W>) -> Result<(), ReplayFault> {
+    match writer.flush() {
+        Ok(()) => Ok(()),
+        Err(_) => Err(ReplayFault::Write),
+    }
+}
+
 /// Replays the joint text on standard input.
-fn replay_input(rt: &HostRuntime) -> Result<(), ReplayFault> {
+fn replay_input(rt: &HostRuntime) -> Result<(), Stop> {
     let mut reader = FromRead::new(rt.reader());
     let mut writer = FromWrite::new(io::writer(rt));
     replay_joint(rt.alloc(), &mut reader, &mut writer)?;
-    if writer.flush().is_err() {
-        return Err(ReplayFault::Write);
-    }
+    finish(&mut writer)?;
     Ok(())
+}
+
+/// Prints what the trace in a file holds.
+fn info_of_file(rt: &HostRuntime, path: &str) -> Result<(), Stop> {
+    let mut writer = FromWrite::new(io::writer(rt));
+    match File::open(rt, path) {
+        Ok(file) => info(rt.alloc(), &mut FromRead::new(file), &mut writer)?,
+        Err(_) => info(rt.alloc(), &mut Unopened::new(), &mut writer)?,
+    }
+    finish(&mut writer)?;
+    Ok(())
+}
+
+/// Does what the words ask for.
+fn work(rt: &HostRuntime) -> Result<(), Stop> {
+    let words = read_words(rt)?;
+    match task_of(rt.alloc(), words.as_slice())? {
+        Task::Joint => replay_input(rt),
+        Task::Info(path) => info_of_file(rt, path),
+    }
 }
 
 /// The line that tells a fault.
@@ -60,7 +131,7 @@ fn fault_line(rt: &HostRuntime, fault: &ReplayFault) -> Result<Vec<u8>, ReplayFa
 }
 
 /// Tells a fault on standard error. Where that fails too there is nobody left to tell.
-fn report(rt: &HostRuntime, fault: &ReplayFault) {
+fn tell_fault(rt: &HostRuntime, fault: &ReplayFault) -> ExitCode {
     match fault_line(rt, fault) {
         Ok(line) => {
             let mut errors = FromWrite::new(rt.stderr());
@@ -70,28 +141,22 @@ fn report(rt: &HostRuntime, fault: &ReplayFault) {
             let _ = eprintln!(rt; "racebench: out of memory");
         }
     }
+    ExitCode::FAILURE
 }
 
-/// The status that the work ends with; a fault is told first.
-fn status_of(rt: &HostRuntime, outcome: Result<(), ReplayFault>) -> ExitCode {
-    match outcome {
-        Ok(()) => ExitCode::SUCCESS,
-        Err(fault) => {
-            report(rt, &fault);
-            ExitCode::FAILURE
-        }
+/// Tells why the words are refused, or helps.
+fn tell_words(rt: &HostRuntime, error: &Error) -> ExitCode {
+    let told = error.print(rt);
+    if told.is_err() && !error.use_stderr() {
+        return tell_fault(rt, &ReplayFault::Write);
     }
+    ExitCode::from(error.exit_code() as u8)
 }
 
 fn main(rt: HostRuntime) -> ExitCode {
-    match has_words(&rt) {
-        Ok(false) => status_of(&rt, replay_input(&rt)),
-        Ok(true) => {
-            let _ = eprintln!(rt;
-                "usage: racebench < FILE\n\nFILE holds a trace, a line `---` and a script."
-            );
-            ExitCode::from(BAD_WORDS)
-        }
-        Err(fault) => status_of(&rt, Err(fault)),
+    match work(&rt) {
+        Ok(()) => ExitCode::SUCCESS,
+        Err(Stop::Words(error)) => tell_words(&rt, &error),
+        Err(Stop::Fault(BenchFault::Replay(fault))) => tell_fault(&rt, &fault),
     }
 }

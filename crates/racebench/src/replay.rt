@@ -3,72 +3,24 @@ ghost use Rattle.std.specs.Prelude.{◌≡◌, [], true, false, is_err, IfErr, I
 ghost use Rattle.std.specs.Io.KnownBytes.{Appends};
 ghost use Rattle.racebench.specs.Outcomes.{AppendsPart, IsReplay, IsJointReplay, KeepsLimit, NamesInput, WritesNothing};
 ghost use Rattle.racebench.specs.Replay.{transcript};
-ghost use Rattle.racebench.specs.Steps.{IsReadBy, IsCheckedBy, IsLoadedBy, AreLoadedBy, HandsOn, IsRunOf, unread};
+ghost use Rattle.racebench.specs.Steps.{AreLoadedBy, HandsOn, IsRunOf};
 ghost use Rattle.racebench.specs.declared.fault.ReadCause.TheVariants.{Device};
 ghost use Rattle.racebench.specs.declared.fault.ReplayFault.TheVariants.{Write, Read};
 
 use crate::desk::Desk;
-use crate::fault::{ReadCause, ReadFault, ReplayFault, ScriptCause, Tally};
+use crate::fault::{ReplayFault, ScriptCause, Tally};
 use crate::joint::parts_of;
+use crate::loading::{load, read_fault};
 use crate::replies::make_call;
 use crate::script::{Call, read_script};
 use crate::sink::{Sink, write_all};
 use crate::source::{Source, read_all};
 use event_index::Indexed;
-use rapid_text::{RawTrace, TextCause, TextKeyed, parse};
+use rapid_text::TextKeyed;
 use std::alloc::Global;
-use trace_rules::{RuleCause, Trace, check};
 
 /// How many bytes are kept back before they are written.
 const FULL: usize = 65_536;
-
-/// Reads a trace text.
-fn read_trace(alloc: Global, text: &[u8]) -> Result<RawTrace, ReplayFault>
-    ensures { IsReadBy text.now result }
-{
-    match parse(alloc, text) {
-        Ok(raw) => Ok(raw),
-        Err(refusal) => {
-            if refusal.why == TextCause::OutOfMemory {
-                return Err(ReplayFault::OutOfMemory);
-            }
-            Err(ReplayFault::Text(refusal))
-        }
-    }
-}
-
-/// Checks a recording against the rules.
-fn check_trace(alloc: Global, raw: RawTrace) -> Result<Trace, ReplayFault>
-    ensures { IsCheckedBy raw result }
-{
-    match check(alloc, raw) {
-        Ok(trace) => Ok(trace),
-        Err((_, refusal)) => {
-            if refusal.why == RuleCause::OutOfMemory {
-                return Err(ReplayFault::OutOfMemory);
-            }
-            Err(ReplayFault::Rule(refusal))
-        }
-    }
-}
-
-/// Reads and checks a trace, and makes its tables.
-fn load(alloc: Global, text: &[u8]) -> Result<Indexed, ReplayFault>
-    ensures { IsLoadedBy text.now result }
-{
-    let raw = match read_trace(alloc, text) {
-        Ok(raw) => raw,
-        Err(fault) => return Err(fault),
-    };
-    let trace = match check_trace(alloc, raw) {
-        Ok(trace) => trace,
-        Err(fault) => return Err(fault),
-    };
-    match Indexed::new(alloc, trace) {
-        Ok(indexed) => Ok(indexed),
-        Err(_) => Err(ReplayFault::OutOfMemory),
-    }
-}
 
 /// Reads the calls of a script.
 fn load_calls(alloc: Global, text: &[u8]) -> Result<Vec<Call<'_>>, ReplayFault>
@@ -171,23 +123,6 @@ fn replay_text<K: Sink>(alloc: Global, text: &[u8], writer: &mut K) -> Result<Ta
     // The names of schedules are a stranger's too.
     let hashers = TextKeyed::of(script);
     run(alloc, &indexed, hashers, calls.as_slice(), writer)
-}
-
-/// Why the joint text was not read.
-fn read_fault(fault: ReadFault) -> ReplayFault
-    ensures { result ≡ unread fault }
-{
-    match fault {
-        ReadFault::Device => ReplayFault::Read {
-            input: 1,
-            why: ReadCause::Device,
-        },
-        ReadFault::TooLong => ReplayFault::Read {
-            input: 1,
-            why: ReadCause::TooLong,
-        },
-        ReadFault::OutOfMemory => ReplayFault::OutOfMemory,
-    }
 }
 
 /// Reads a trace, a line `---` and a script, whole; then makes the script's calls on the trace and writes

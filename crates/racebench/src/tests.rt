@@ -1,7 +1,6 @@
 //! What no clause says: that ample memory gives an answer, the worked examples byte by byte, and that the
 //! message of a fault is the text that `fault_text` appends.
-ghost use Rattle.std.specs.Prelude.{◌≡◌, false};
-
+use crate::fakes::{AMPLE, Broken, Full, with_room};
 use crate::fault::{ReadCause, ReplayFault, ScriptCause, ScriptRefusal, Tally};
 use crate::joint::parts_of;
 use crate::message::fault_text;
@@ -9,82 +8,12 @@ use crate::name::Name;
 use crate::number::number;
 use crate::replay::replay_joint;
 use crate::script::read_script;
-use crate::sink::{FromWrite, Sink, write_all};
-use crate::source::{Failed, FromRead, Source, read_all};
+use crate::sink::{FromWrite, write_all};
+use crate::source::{FromRead, read_all};
 use rapid_text::{TextCause, TextRefusal};
 use std::alloc::Global;
 use std::test::Fail;
 use trace_rules::{RuleCause, RuleRefusal};
-
-/// A reader that gives three bytes at a time and fails at one of its reads.
-#[derive(Drop)]
-struct Broken<'a> {
-    left: &'a [u8],
-    reads: u32,
-    fails_at: u32,
-    failed: bool,
-}
-
-impl<'a> Source for Broken<'a> {
-    ghost use Rattle.std.specs.Prelude.{Some};
-
-    ghost rest = { λ s. Some s.left.now };
-
-    ghost has_failed = { λ s. s.failed };
-
-    fn read(&mut self, buf: &mut [u8]) -> Result<usize, Failed> {
-        self.reads = self.reads.saturating_add(1);
-        if self.reads == self.fails_at {
-            self.failed = true;
-            return Err(Failed);
-        }
-        let count = self.left.len().min(buf.len()).min(3);
-        let (front, rest) = self.left.split_at(count);
-        buf[..count].copy_from_slice(front);
-        self.left = rest;
-        Ok(count)
-    }
-}
-
-/// A writer that takes a number of bytes and then fails.
-#[derive(Drop)]
-struct Full {
-    taken: Vec<u8>,
-    room: usize,
-    failed: bool,
-}
-
-impl Sink for Full {
-    ghost use Rattle.std.specs.Prelude.{Some};
-
-    ghost taken = { λ s. Some s.taken.items };
-
-    ghost has_failed = { λ s. s.failed };
-
-    fn write(&mut self, bytes: &[u8]) -> Result<usize, Failed> {
-        let count = bytes.len().min(self.room);
-        if count == 0 || self.taken.extend_from_slice(&bytes[..count]).is_err() {
-            self.failed = true;
-            return Err(Failed);
-        }
-        self.room -= count;
-        Ok(count)
-    }
-}
-
-/// A writer that has room for this many bytes.
-fn with_room(alloc: Global, room: usize) -> Full
-    ensures { result.failed ≡ false }
-{
-    Full {
-        taken: Vec::new(alloc),
-        room,
-        failed: false,
-    }
-}
-
-/// More room than any of these tests needs.
-const AMPLE: usize = 100_000;
 
 /// What a joint text gives, and what was written.
 fn replayed(alloc: Global, text: &str) -> (Result<Tally, ReplayFault>, Full) {

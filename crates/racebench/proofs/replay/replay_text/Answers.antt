@@ -1,6 +1,7 @@
 use Rattle.std.proofs.Common.{◌≡◌, Ok, Err, sym, ap, ◌∙◌, subst}
 use Rattle.racebench.specs.Replay.{transcript, replay_calls}
-use Rattle.racebench.specs.Steps.{IsLoadedBy, AreLoadedBy, IsRunOf}
+use Rattle.racebench.specs.Loading.{IsLoadedBy}
+use Rattle.racebench.specs.Steps.{AreLoadedBy, IsRunOf}
 use Rattle.racebench.proofs.ReplayLemmas.{unloaded-replay, unscripted-replay, replay-loaded, run-replay, run-silent}
 use Rattle.racebench.proofs.replay.replay_text.Goals as goal
 

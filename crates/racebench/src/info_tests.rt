@@ -1,0 +1,113 @@
+//! What no clause says of `info`: that ample memory gives an answer, and the worked examples byte by byte.
+
+use crate::fakes::{AMPLE, Broken, Full, with_room};
+use crate::fault::{BenchFault, ReadCause, ReplayFault};
+use crate::info_call::info;
+use crate::message::fault_text;
+use crate::source::FromRead;
+use crate::unopened::Unopened;
+use std::alloc::Global;
+use std::test::Fail;
+
+/// Two threads that write one variable after each took and let go one lock.
+const ONE_LOCK: &str = "T1|w(x)|1\nT1|acq(l)|2\nT1|rel(l)|3\nT2|acq(l)|4\nT2|rel(l)|5\nT2|w(x)|6\n";
+
+const ONE_LOCK_TOLD: &[u8] =
+    b"events 6\nthreads 2\nvariables 1\nlocks 1\nthread 0 T1 3\nthread 1 T2 3\n";
+
+/// What a trace text gives, and what was written to a writer with this room.
+fn informed(alloc: Global, text: &str, room: usize) -> (Result<(), BenchFault>, Full) {
+    let mut reader = FromRead::new(text.as_bytes());
+    let mut writer = with_room(alloc, room);
+    let outcome = info(alloc, &mut reader, &mut writer);
+    (outcome, writer)
+}
+
+/// What was written, or else the fault's text.
+fn told(alloc: Global, text: &str) -> Result<Vec<u8>, Fail> {
+    let (outcome, writer) = informed(alloc, text, AMPLE);
+    match outcome {
+        Ok(()) => Ok(writer.taken),
+        Err(BenchFault::Replay(fault)) => {
+            let mut line = writer.taken;
+            fault_text(&fault, &mut line)?;
+            Ok(line)
+        }
+    }
+}
+
+#[test]
+fn info_of_traces(rt: HostRuntime) -> Result<(), Fail> {
+    let rows: [(&str, &[u8]); 4] = [
+        (ONE_LOCK, ONE_LOCK_TOLD),
+        ("", b"events 0\nthreads 0\nvariables 0\nlocks 0\n"),
+        (
+            "M|begin(b)|\nM|fork(W)|\n\nM|end(b)|",
+            b"events 1\nthreads 2\nvariables 0\nlocks 0\nthread 0 M 1\nthread 1 W 0\n",
+        ),
+        ("T1|w(x)|1\n---\n", b"trace line 2: 1 no bar"),
+    ];
+    for (text, wanted) in rows {
+        let line = told(rt.alloc(), text)?;
+        assert_eq!(rt; line.as_slice(), wanted);
+    }
+    Ok(())
+}
+
+#[test]
+fn info_of_refused_traces(rt: HostRuntime) -> Result<(), Fail> {
+    let rows = [
+        ("T1|inc(x)|2\n", "trace line 1: 3 unknown operation"),
+        ("T1|rel(l)|1\n", "trace event 0: 11 release not held"),
+    ];
+    for (text, wanted) in rows {
+        let line = told(rt.alloc(), text)?;
+        assert_eq!(rt; line.as_slice(), wanted.as_bytes());
+    }
+    Ok(())
+}
+
+/// The fault of a reader that failed.
+fn device() -> BenchFault {
+    BenchFault::Replay(ReplayFault::Read {
+        input: 1,
+        why: ReadCause::Device,
+    })
+}
+
+#[test]
+fn info_with_readers_that_fail(rt: HostRuntime) {
+    // 68 bytes are 23 reads of at most three bytes, and one more that finds the end.
+    for fails_at in 1..25 {
+        let mut reader = Broken {
+            left: ONE_LOCK.as_bytes(),
+            reads: 0,
+            fails_at,
+            failed: false,
+        };
+        let mut writer = with_room(rt.alloc(), AMPLE);
+        let outcome = info(rt.alloc(), &mut reader, &mut writer);
+        assert!(rt; outcome == Err(device()));
+        assert_eq!(rt; writer.taken.len(), 0);
+    }
+}
+
+#[test]
+fn info_of_no_file(rt: HostRuntime) {
+    let mut writer = with_room(rt.alloc(), AMPLE);
+    let outcome = info(rt.alloc(), &mut Unopened::new(), &mut writer);
+    assert!(rt; outcome == Err(device()));
+    assert_eq!(rt; writer.taken.len(), 0);
+}
+
+#[test]
+fn info_with_writers_that_fail(rt: HostRuntime) {
+    for room in 0..ONE_LOCK_TOLD.len() {
+        let (outcome, writer) = informed(rt.alloc(), ONE_LOCK, room);
+        assert!(rt; outcome == Err(BenchFault::Replay(ReplayFault::Write)));
+        assert_eq!(rt; writer.taken.len(), room);
+        assert!(rt; ONE_LOCK_TOLD.starts_with(&writer.taken));
+    }
+    let (outcome, _) = informed(rt.alloc(), ONE_LOCK, ONE_LOCK_TOLD.len());
+    assert!(rt; outcome.is_ok());
+}

@@ -1,0 +1,42 @@
+//! What is read of a file that could not be opened.
+ghost use Rattle.std.specs.Prelude.{◌≡◌, false};
+
+use crate::source::{Failed, Source};
+use std::marker::Model;
+
+/// A file that could not be opened: each read fails.
+#[derive(Drop)]
+pub struct Unopened {
+    failed: bool,
+}
+
+impl Model for Unopened {
+    ghost use Rattle.std.specs.Prelude.{Bool};
+
+    ghost Value = { Bool };
+
+    ghost view = { λ s. s.failed };
+}
+
+impl Unopened {
+    /// A source that has not failed yet.
+    pub fn new() -> Unopened
+        ensures { result ≡ false }
+    {
+        Unopened { failed: false }
+    }
+}
+
+impl Source for Unopened {
+    ghost use Rattle.std.specs.Prelude.{None};
+
+    ghost rest = { λ s. None };
+
+    ghost has_failed = { λ s. s };
+
+    fn read(&mut self, buf: &mut [u8]) -> Result<usize, Failed> {
+        let _ = buf;
+        self.failed = true;
+        Err(Failed)
+    }
+}
