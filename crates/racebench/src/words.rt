@@ -12,28 +12,28 @@ pub(crate) enum Task<'a> {
     Info(&'a str),
 }
 
-const ABOUT: &str =
-    "Builds other orders of a recorded execution in which two of its accesses can stand side by side";
+const ABOUT: &str = "Checks a recorded execution and builds correct reorderings of it";
 
-const JOINT: &str =
-    "Without a command, standard input has a trace, a line `---` and a script; the answer to each call of the
-script is printed:
+const INFO: &str = "Prints how many events, threads, variables and locks a trace has";
+
+const JOINT: &str = "Without a command, standard input holds a trace, a line `---` and a script. The
+answer to each call of the script is printed. For example, of
 
   T1|w(x)|1
   T2|w(x)|2
   ---
   1 new A
   1 add A 1
-  1 show A";
+  1 show A
+
+the answers are `0: done`, `1: done` and `shown 1`.";
 
 /// The words that the program takes.
 fn words_taken<'a>(alloc: Global) -> Result<Command<'a>, AllocError> {
     let trace = Arg::new(alloc, "TRACE")
         .required(true)
         .help("A file that holds a trace");
-    let info = Command::new(alloc, "info")
-        .about("Prints how many events, threads, variables and locks a trace has")
-        .arg(trace)?;
+    let info = Command::new(alloc, "info").about(INFO).arg(trace)?;
     Command::new(alloc, "racebench")
         .bin_name("racebench")?
         .about(ABOUT)
