@@ -69,9 +69,23 @@ def write(folder, name, lines, script=()):
         out.write("---\n" + "".join(line + "\n" for line in script))
 
 
+def write_trace(folder, name, lines):
+    with open(os.path.join(folder, name), "w", encoding="ascii") as out:
+        out.write("".join(line + "\n" for line in lines))
+
+
+def write_traces(folder):
+    """Traces alone, for `info`."""
+    os.makedirs(folder, exist_ok=True)
+    for threads in (4, 64):
+        write_trace(folder, f"locked_{threads}", locked_trace(EVENTS, threads, short, 1))
+    write_trace(folder, "nested", nested(EVENTS))
+
+
 def main():
     folder = sys.argv[1]
     os.makedirs(folder, exist_ok=True)
+    write_traces(os.path.join(folder, "info"))
     for threads in (4, 64):
         write(folder, f"locked_{threads}_short", locked_trace(EVENTS, threads, short, 1))
         write(folder, f"locked_{threads}_long", locked_trace(EVENTS, threads, long, 2))
