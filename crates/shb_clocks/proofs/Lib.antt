@@ -1,6 +1,9 @@
+pub mod ChainLemmas
 pub mod CountLemmas
 pub mod EdgeLemmas
+pub mod ListedLemmas
 pub mod OrderLemmas
+pub mod PartnerLemmas
 pub mod PlaceLemmas
 pub mod ReadLemmas
 pub mod ReleaseLemmas

@@ -1,3 +1,4 @@
 pub mod Candidates
 pub mod HappensBefore
 pub mod Layout
+pub mod Search

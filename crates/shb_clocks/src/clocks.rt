@@ -3,11 +3,12 @@ ghost use Rattle.std.specs.Prelude.{◌≡◌, ◌<◌, ◌↔◌, length, IsTru
 ghost use Rattle.rapid_text.specs.Recording.{IsWellFormed};
 ghost use Rattle.trace_rules.specs.Rules.{IsDisciplined};
 ghost use Rattle.shb_clocks.specs.HappensBefore.{IsShbBefore};
-ghost use Rattle.shb_clocks.specs.Candidates.{IsApart, IsCandidatePair};
+ghost use Rattle.shb_clocks.specs.Candidates.{IsApart, IsCandidatePair, AreFirstCandidates};
 
+use crate::candidates::first_candidates;
 use crate::events::threads_in;
 use crate::rows::{counts_of, threads_of};
-use event_index::Indexed;
+use event_index::{Indexed, Pairs};
 use rapid_text::OutOfMemory;
 use std::alloc::Global;
 use std::marker::Model;
@@ -80,8 +81,22 @@ impl Clocks {
         }
     }
 
-    // Whether the second event has no base, or the first is not SHB-before or equal to it.
-    fn is_apart(&self, indexed: &Indexed, first: u32, second: u32) -> bool
+    /// The first candidates of all, in rising order of their first event and then their second, as many as
+    /// there are up to the limit.
+    pub fn candidates(
+        &self,
+        alloc: Global,
+        indexed: &Indexed,
+        limit: u32,
+    ) -> Result<Pairs, OutOfMemory>
+        requires trace { self.now ≡ indexed.now }
+        ensures { IfOk result (AreFirstCandidates self.now.events limit) }
+    {
+        first_candidates(alloc, self, indexed, limit)
+    }
+
+    /// Whether the second event has no base, or the first is not SHB-before or equal to it.
+    pub(crate) fn is_apart(&self, indexed: &Indexed, first: u32, second: u32) -> bool
         requires trace { self.now ≡ indexed.now }
         requires first { first < length self.now.events }
         requires second { second < length self.now.events }

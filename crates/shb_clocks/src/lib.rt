@@ -1,6 +1,8 @@
 //! The order SHB of an execution's events, and the candidates for races that it leaves.
 #![tactic(auto)]
 
+mod candidates;
+mod chains;
 mod clocks;
 mod events;
 mod rows;

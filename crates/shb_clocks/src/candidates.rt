@@ -1,0 +1,146 @@
+//! The candidates of an execution, in rising order. An event's partners in another thread are a beginning of
+//! the accesses that follow it there, since SHB only grows along a thread: no other pair is looked at.
+ghost use Rattle.std.specs.Prelude.{◌≡◌, ℕ, ◌+◌, ◌*◌, ◌<◌, ◌≤◌, ◌⊎◌, length, IfOk, OnOk, Some, slice_index};
+ghost use Rattle.event_index.specs.Events.{op_at};
+ghost use Rattle.shb_clocks.specs.Candidates.{AreFirstCandidates};
+ghost use Rattle.shb_clocks.specs.Search.{sought_by, IsSought, IsKept, AreChains, ArePartners, AreListed, AreFirstBelow};
+
+use crate::chains::Chains;
+use crate::clocks::Clocks;
+use crate::events::{event_at, threads_in};
+use event_index::{Indexed, Pairs};
+use rapid_text::{Op, OutOfMemory};
+use std::alloc::Global;
+
+/// The first candidates of all, up to the limit.
+pub(crate) fn first_candidates(
+    alloc: Global,
+    clocks: &Clocks,
+    indexed: &Indexed,
+    limit: u32,
+) -> Result<Pairs, OutOfMemory>
+    requires trace { clocks.now ≡ indexed.now }
+    ensures { IfOk result (AreFirstCandidates indexed.now.events limit) }
+{
+    let mut accesses = Chains::new(alloc, indexed, false)?;
+    let mut writes = Chains::new(alloc, indexed, true)?;
+    let mut partners = vec![in alloc; 0u32; threads_in(indexed) as usize]?;
+    let mut pairs = Pairs::new(alloc);
+    for first in 0..indexed.len() {
+        if pairs.items().len() >= limit as usize {
+            return Ok(pairs);
+        }
+        accesses.pass(indexed, first);
+        writes.pass(indexed, first);
+        match event_at(indexed, first).op {
+            Op::Read(variable) => {
+                seek(&mut partners, clocks, indexed, &writes, first, variable);
+                list(
+                    &mut pairs,
+                    &mut partners,
+                    clocks,
+                    indexed,
+                    &writes,
+                    first,
+                    limit,
+                )?;
+            }
+            Op::Write(variable) => {
+                seek(&mut partners, clocks, indexed, &accesses, first, variable);
+                list(
+                    &mut pairs,
+                    &mut partners,
+                    clocks,
+                    indexed,
+                    &accesses,
+                    first,
+                    limit,
+                )?;
+            }
+            Op::Acquire(_) | Op::Release(_) | Op::Fork(_) | Op::Join(_) => {}
+        }
+    }
+    Ok(pairs)
+}
+
+// Finds the first partner of the event in each thread.
+fn seek(
+    partners: &mut Vec<u32>,
+    clocks: &Clocks,
+    indexed: &Indexed,
+    chains: &Chains,
+    first: u32,
+    variable: u32,
+)
+    requires trace { clocks.now ≡ indexed.now }
+    requires first { first < length indexed.now.events }
+    requires sought { op_at indexed.now.events first ≡ Some (sought_by chains.now.writes variable) }
+    requires variable { variable < length indexed.now.variables }
+    requires chains { AreChains indexed.now (first + 1) chains.now }
+    requires len { length partners.old.items ≡ length indexed.now.threads }
+    ensures { ArePartners indexed.now.events (length indexed.now.threads) first (first + 1) partners.new.items }
+{
+    for thread in 0..chains.width {
+        let head = chains.heads[variable as usize * chains.width + thread];
+        partners[thread] = kept(clocks, indexed, first, head);
+    }
+}
+
+// Lists the event with its partners, the least first, up to the limit.
+fn list(
+    pairs: &mut Pairs,
+    partners: &mut Vec<u32>,
+    clocks: &Clocks,
+    indexed: &Indexed,
+    chains: &Chains,
+    first: u32,
+    limit: u32,
+) -> Result<(), OutOfMemory>
+    requires trace { clocks.now ≡ indexed.now }
+    requires first { first < length indexed.now.events }
+    requires sought { IsSought indexed.now.events first chains.now.writes }
+    requires chains { AreChains indexed.now (first + 1) chains.now }
+    requires partners { ArePartners indexed.now.events (length indexed.now.threads) first (first + 1) partners.old.items }
+    requires listed { AreListed indexed.now.events first 0 pairs.old }
+    requires limit { length pairs.old ≤ limit }
+    ensures listed { OnOk result (AreFirstBelow indexed.now.events limit (first + 1) pairs.new) }
+    ensures len { OnOk result (length partners.new.items ≡ length indexed.now.threads) }
+{
+    let end = indexed.len();
+    for _listed in pairs.items().len()..limit as usize {
+        let second = least(partners.as_slice(), end);
+        if second == end {
+            return Ok(());
+        }
+        pairs.push((first, second))?;
+        let thread = event_at(indexed, second).thread as usize;
+        partners[thread] = kept(clocks, indexed, first, chains.next[second as usize]);
+    }
+    Ok(())
+}
+
+// The least of the partners, or the end where there are no threads.
+fn least(partners: &[u32], end: u32) -> u32
+    ensures lowest { (u : ℕ) → u < length partners.now → result ≤ slice_index partners.now u }
+    ensures found { (result ≡ end)
+        ⊎ ((u : ℕ) × (u < length partners.now) × (slice_index partners.now u ≡ result)) }
+{
+    partners.iter().copied().min().unwrap_or(end)
+}
+
+// The event that is the head of a chain, where SHB does not keep the first before its base. Otherwise the
+// end: SHB then keeps the first before the bases of all that follow in the chain.
+fn kept(clocks: &Clocks, indexed: &Indexed, first: u32, head: u32) -> u32
+    requires trace { clocks.now ≡ indexed.now }
+    requires first { first < length indexed.now.events }
+    ensures { IsKept indexed.now.events first head result }
+{
+    if head >= indexed.len() {
+        return indexed.len();
+    }
+    if clocks.is_apart(indexed, first, head) {
+        head
+    } else {
+        indexed.len()
+    }
+}
