@@ -2,7 +2,7 @@
 ghost use Rattle.std.specs.Prelude.{◌≡◌, false, true, is_err, IfErr, IfSome, OnOk, OnErr, Err};
 ghost use Rattle.std.specs.Io.KnownBytes.{Appends};
 ghost use Rattle.racebench.specs.InfoCall.{IsInfo, OnReplay};
-ghost use Rattle.racebench.specs.InfoSteps.{IsPrintedBy, IsPastReading};
+ghost use Rattle.racebench.specs.InfoSteps.{AppendsCandidates, IsPrintedBy, IsPastReading};
 ghost use Rattle.racebench.specs.Outcomes.{AppendsPart, KeepsLimit, NamesInput, WritesNothing};
 ghost use Rattle.racebench.specs.declared.fault.BenchFault.TheVariants.{Replay};
 ghost use Rattle.racebench.specs.declared.fault.ReadCause.TheVariants.{Device};
@@ -12,7 +12,26 @@ use crate::fault::{BenchFault, ReplayFault};
 use crate::loading::{load, read_fault};
 use crate::sink::{Sink, write_all};
 use crate::source::{Source, read_all};
+use event_index::Indexed;
+use rapid_text::OutOfMemory;
+use shb_clocks::Clocks;
 use std::alloc::Global;
+
+/// The most candidates that are printed.
+pub const MAX_CANDIDATES: u32 = 1_000;
+
+/// Appends the lines of the first candidates for races.
+fn append_candidates(
+    alloc: Global,
+    indexed: &Indexed,
+    text: &mut Vec<u8>,
+) -> Result<(), OutOfMemory>
+    ensures { OnOk result (AppendsCandidates indexed.now text.old.items text.new.items) }
+{
+    let clocks = Clocks::new(alloc, indexed)?;
+    let pairs = clocks.candidates(alloc, indexed, MAX_CANDIDATES)?;
+    report::candidates(indexed, &pairs, text)
+}
 
 /// Makes the whole text of a trace text.
 fn text_of(alloc: Global, bytes: &[u8]) -> Result<Vec<u8>, ReplayFault>
@@ -24,6 +43,7 @@ fn text_of(alloc: Global, bytes: &[u8]) -> Result<Vec<u8>, ReplayFault>
     };
     let mut text = Vec::new(alloc);
     report::info(&indexed, &mut text)?;
+    append_candidates(alloc, &indexed, &mut text)?;
     Ok(text)
 }
 
@@ -71,8 +91,8 @@ fn read_and_write<S: Source, K: Sink>(
     write_text(alloc, bytes.as_slice(), writer)
 }
 
-/// Reads a trace text, whole, and writes how many events, threads, variables and locks the trace has, and
-/// for each thread its number, its name and the number of its events.
+/// Reads a trace text, whole, and writes how many events, threads, variables and locks the trace has, for
+/// each thread its number, its name and the number of its events, and the first 1,000 candidates for races.
 ///
 /// Before the faults 91 to 94 nothing is written, nor where memory is refused. At 95 what was written is a
 /// beginning of the text.

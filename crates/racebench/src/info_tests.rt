@@ -13,7 +13,13 @@ use std::test::Fail;
 const ONE_LOCK: &str = "T1|w(x)|1\nT1|acq(l)|2\nT1|rel(l)|3\nT2|acq(l)|4\nT2|rel(l)|5\nT2|w(x)|6\n";
 
 const ONE_LOCK_TOLD: &[u8] =
-    b"events 6\nthreads 2\nvariables 1\nlocks 1\nthread 0 T1 3\nthread 1 T2 3\n";
+    b"events 6\nthreads 2\nvariables 1\nlocks 1\nthread 0 T1 3\nthread 1 T2 3\ncandidates 0\n";
+
+/// Two pairs of accesses that nothing orders.
+const TWO_PAIRS: &str = "T1|w(x)|1\nT2|r(x)|2\nT2|w(z)|3\nT1|w(z)|4";
+
+const TWO_PAIRS_TOLD: &[u8] =
+    b"events 4\nthreads 2\nvariables 2\nlocks 0\nthread 0 T1 2\nthread 1 T2 2\ncandidates 2\ncandidate 0 1 x\ncandidate 2 3 z\n";
 
 /// What a trace text gives, and what was written to a writer with this room.
 fn informed(alloc: Global, text: &str, room: usize) -> (Result<(), BenchFault>, Full) {
@@ -38,12 +44,16 @@ fn told(alloc: Global, text: &str) -> Result<Vec<u8>, Fail> {
 
 #[test]
 fn info_of_traces(rt: HostRuntime) -> Result<(), Fail> {
-    let rows: [(&str, &[u8]); 4] = [
+    let rows: [(&str, &[u8]); 5] = [
         (ONE_LOCK, ONE_LOCK_TOLD),
-        ("", b"events 0\nthreads 0\nvariables 0\nlocks 0\n"),
+        (
+            "",
+            b"events 0\nthreads 0\nvariables 0\nlocks 0\ncandidates 0\n",
+        ),
+        (TWO_PAIRS, TWO_PAIRS_TOLD),
         (
             "M|begin(b)|\nM|fork(W)|\n\nM|end(b)|",
-            b"events 1\nthreads 2\nvariables 0\nlocks 0\nthread 0 M 1\nthread 1 W 0\n",
+            b"events 1\nthreads 2\nvariables 0\nlocks 0\nthread 0 M 1\nthread 1 W 0\ncandidates 0\n",
         ),
         ("T1|w(x)|1\n---\n", b"trace line 2: 1 no bar"),
     ];

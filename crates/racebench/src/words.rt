@@ -12,9 +12,9 @@ pub(crate) enum Task<'a> {
     Info(&'a str),
 }
 
-const ABOUT: &str = "Checks a recorded execution and builds correct reorderings of it";
+const ABOUT: &str = "Checks a recorded execution, finds what may race, builds correct reorderings";
 
-const INFO: &str = "Prints how many events, threads, variables and locks a trace has";
+const INFO: &str = "Prints what a trace holds, and which pairs of its accesses may race";
 
 const JOINT: &str = "Without a command, standard input holds a trace, a line `---` and a script. The
 answer to each call of the script is printed. For example, of
