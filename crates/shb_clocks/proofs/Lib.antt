@@ -1,6 +1,8 @@
+pub mod CallerLemmas
 pub mod ChainLemmas
 pub mod CountLemmas
 pub mod EdgeLemmas
+pub mod FirstLemmas
 pub mod ListedLemmas
 pub mod OrderLemmas
 pub mod PartnerLemmas

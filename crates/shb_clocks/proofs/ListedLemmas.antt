@@ -20,7 +20,7 @@ before-next : (p : ℕ × ℕ) (a f : ℕ) → StandsBefore p (a, f) → StandsB
 before-next p a f (inl less) = inl (omega arith)
 before-next p a f (inr h) = inl (omega (arith, h.0))
 
-before-trans : (p q s : ℕ × ℕ) → StandsBefore p q → StandsBefore q s → StandsBefore p s
+pub before-trans : (p q s : ℕ × ℕ) → StandsBefore p q → StandsBefore q s → StandsBefore p s
 before-trans p q s (inl h) (inl k) = inl (omega arith)
 before-trans p q s (inl h) (inr k) = inl (omega (arith, k.0))
 before-trans p q s (inr h) (inl k) = inl (omega (arith, h.0))

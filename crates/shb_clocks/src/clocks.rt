@@ -56,7 +56,7 @@ impl Clocks {
     pub fn ordered(&self, first: u32, second: u32) -> bool
         requires first { first < length self.now.events }
         requires second { second < length self.now.events }
-        ensures { IsTrue result ↔ IsShbBefore self.now.events first second }
+        ensures ordered { IsTrue result ↔ IsShbBefore self.now.events first second }
     {
         let thread = self.threads[first as usize] as usize;
         let counted = self.counts[second as usize * self.width + thread];
@@ -69,7 +69,7 @@ impl Clocks {
         requires trace { self.now ≡ indexed.now }
         requires first { first < length self.now.events }
         requires second { second < length self.now.events }
-        ensures { IsTrue result ↔ IsCandidatePair self.now.events first second }
+        ensures candidate { IsTrue result ↔ IsCandidatePair self.now.events first second }
     {
         if !indexed.conflict(first, second) {
             return false;
@@ -90,7 +90,7 @@ impl Clocks {
         limit: u32,
     ) -> Result<Pairs, OutOfMemory>
         requires trace { self.now ≡ indexed.now }
-        ensures { IfOk result (AreFirstCandidates self.now.events limit) }
+        ensures first { IfOk result (AreFirstCandidates self.now.events limit) }
     {
         first_candidates(alloc, self, indexed, limit)
     }

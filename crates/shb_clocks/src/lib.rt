@@ -5,6 +5,10 @@ mod candidates;
 mod chains;
 mod clocks;
 mod events;
+#[cfg(test)]
+mod generated_tests;
 mod rows;
+#[cfg(test)]
+mod tests;
 
 pub use clocks::Clocks;

@@ -28,4 +28,4 @@ returns c =
     let i = c.self.invariant in
     let of = thread_read s.trace.value c.args.self.now s.threads.items s.counts.items s.width c.self.view_is i.well_formed i.threads i.width i.len i.counts c.args.first c.index.result.now c.requires.first c.index.ensures in
     let row = row_read s.trace.value c.args.self.now s.threads.items s.counts.items s.width c.self.view_is i.well_formed i.threads i.width i.len i.counts c.args.first c.index.result.now c.requires.first c.index.ensures in
-    ordered_by c.args.self.now.events c.args.first c.args.second _ _ _ of (row c.args.first c.index-2.result.now c.requires.first c.index-2.ensures) (row c.args.second c.index-counted.result.now c.requires.second c.index-counted.ensures)
+    record { ordered = ordered_by c.args.self.now.events c.args.first c.args.second _ _ _ of (row c.args.first c.index-2.result.now c.requires.first c.index-2.ensures) (row c.args.second c.index-counted.result.now c.requires.second c.index-counted.ensures) }
