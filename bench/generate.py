@@ -53,6 +53,11 @@ def unordered(events, threads):
     return [f"T{i % threads}|w(V{i % 509})|1" for i in range(events)]
 
 
+def readers(events, threads):
+    """Each thread reads one variable again and again; nothing writes it, so that no two accesses conflict."""
+    return [f"T{i % threads}|r(x)|1" for i in range(events)]
+
+
 def colliding_names(folder, count):
     """Names whose SipHash-1-3 under zero keys agrees in its low 11 bits, so that a table which hashed names with no
     key of its own would put them into few places."""
@@ -75,11 +80,17 @@ def write_trace(folder, name, lines):
 
 
 def write_traces(folder):
-    """Traces alone, for `info`."""
+    """Traces alone, for `info`: how it grows with the events and the threads, where many pairs are candidates for races,
+    where none is, and where one event has many partners in other threads."""
     os.makedirs(folder, exist_ok=True)
     for threads in (4, 64):
-        write_trace(folder, f"locked_{threads}", locked_trace(EVENTS, threads, short, 1))
-    write_trace(folder, "nested", nested(EVENTS))
+        for events in (EVENTS // 8, EVENTS):
+            write_trace(folder, f"locked_{threads}_{events}", locked_trace(events, threads, short, 1))
+            write_trace(folder, f"ordered_{threads}_{events}", ordered_by_a_lock(events, threads))
+            write_trace(folder, f"unordered_{threads}_{events}", unordered(events, threads))
+            write_trace(folder, f"readers_{threads}_{events}", readers(events, threads))
+    write_trace(folder, f"nested_{EVENTS}", nested(EVENTS))
+    write_trace(folder, f"many_names_{EVENTS}", named_trace(EVENTS, 64, [f"variable_{i}" for i in range(EVENTS)]))
 
 
 def main():
