@@ -8,8 +8,8 @@ use Rattle.shb_clocks.specs.HappensBefore.{IsShbBefore, same, chain}
 use Rattle.shb_clocks.specs.Candidates.{IsCandidate, AreFirstCandidates}
 -- an edge, and so SHB, never leads back in the trace
 pub use Rattle.shb_clocks.proofs.EdgeLemmas.{Edge-earlier, IsShbBefore-le, along_thread}
--- the base and the partner of an event: all that is SHB-before it is SHB-before or equal to one of them
-pub use Rattle.shb_clocks.proofs.SourceLemmas.{Edge-base, Edge-partner}
+-- the base and the counterpart of an event: all that is SHB-before it is SHB-before or equal to one of them
+pub use Rattle.shb_clocks.proofs.SourceLemmas.{Edge-base, Edge-counterpart}
 pub use Rattle.shb_clocks.proofs.OrderLemmas.{Leads, IsShbBefore-sources}
 -- the events of a candidate are in the trace
 pub use Rattle.shb_clocks.proofs.PartnerLemmas.{candidate_within}

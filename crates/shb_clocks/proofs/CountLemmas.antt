@@ -11,11 +11,11 @@ use Rattle.trace_rules.specs.Rules.{IsDisciplined}
 use Rattle.event_index.specs.Events.{thread_at}
 use Rattle.event_index.specs.Lookups.{place_of, base_of}
 use Rattle.shb_clocks.specs.HappensBefore.{IsShbBefore, same}
-use Rattle.shb_clocks.specs.Layout.{IsCount, AreCounts, count_by, partner_of}
+use Rattle.shb_clocks.specs.Layout.{IsCount, AreCounts, count_by, counterpart_of}
 use Rattle.shb_clocks.proofs.EdgeLemmas.{Edge-earlier, IsShbBefore-le, along_thread, thread_here, one_thread}
-use Rattle.shb_clocks.proofs.OrderLemmas.{Leads, IsShbBefore-base, IsShbBefore-partner, IsShbBefore-sources}
+use Rattle.shb_clocks.proofs.OrderLemmas.{Leads, IsShbBefore-base, IsShbBefore-counterpart, IsShbBefore-sources}
 use Rattle.shb_clocks.proofs.PlaceLemmas.{place_of-le_from, le-from_place_of}
-use Rattle.shb_clocks.proofs.SourceLemmas.{Edge-partner}
+use Rattle.shb_clocks.proofs.SourceLemmas.{Edge-counterpart}
 
 -- n counts the events of thread t up to this event; none where there is no such event
 abbrev pub IsCountBy : List Event → Option ℕ → ℕ → ℕ → Type 0
@@ -44,21 +44,21 @@ module _ (T : List Event) (rules : IsDisciplined T) (e : ℕ) (v : Event) (at : 
 
   -- in another thread
   pub IsCount-other :
-      (t n m : ℕ) → t ≢ v.thread → IsCountBy T (base_of T e) t n → IsCountBy T (partner_of T e) t m → IsCount T e t (max n m)
-  IsCount-other t n m other base partner =
+      (t n m : ℕ) → t ≢ v.thread → IsCountBy T (base_of T e) t n → IsCountBy T (counterpart_of T e) t m → IsCount T e t (max n m)
+  IsCount-other t n m other base counterpart =
       let here : thread_at T e ≡ Some v.thread = thread_here T e v at in
       record {
         reached = λ a of lt.
             elim (cases_lt (place_of T a) n) [
               | inl by_base ↦ IsShbBefore-base T a e (reached_by T (base_of T e) t n a base of by_base)
-              | inr past ↦ IsShbBefore-partner T a e (reached_by T (partner_of T e) t m a partner of (omega arith))
+              | inr past ↦ IsShbBefore-counterpart T a e (reached_by T (counterpart_of T e) t m a counterpart of (omega arith))
             ];
         counted = λ a of before.
             elim (IsShbBefore-sources T rules a e before) [
               | inl is ↦ absurd (other (one_thread T e t v.thread (ap (thread_at T) (sym is) ∙ of) here))
               | inr sources ↦ elim sources [
                 | inl leads ↦ omega (arith, counted_by T (base_of T e) t n a base of leads)
-                | inr leads ↦ omega (arith, counted_by T (partner_of T e) t m a partner of leads)
+                | inr leads ↦ omega (arith, counted_by T (counterpart_of T e) t m a counterpart of leads)
               ]
             ];
         own = λ is. absurd (other (one_thread T e t v.thread is here));
@@ -91,9 +91,9 @@ AreCounts-push T width e t n counts are len low is f u lower within =
     ]
 
 -- the sources of an event have rows before it
-pub partner_of-earlier : (T : List Event) → IsDisciplined T → (e : ℕ) (o : Option ℕ) → o ≡ partner_of T e → IfSome o (λ s. s < e)
-partner_of-earlier T rules e None is = tt
-partner_of-earlier T rules e (Some s) is = Edge-earlier T rules s e (Edge-partner T e s (sym is))
+pub counterpart_of-earlier : (T : List Event) → IsDisciplined T → (e : ℕ) (o : Option ℕ) → o ≡ counterpart_of T e → IfSome o (λ s. s < e)
+counterpart_of-earlier T rules e None is = tt
+counterpart_of-earlier T rules e (Some s) is = Edge-earlier T rules s e (Edge-counterpart T e s (sym is))
 
 pub within_rows : (o : Option ℕ) (e width t len : ℕ) → IfSome o (λ s. s < e) → t < width → e * width ≤ len → IfSome o (λ s. s * width + t < len)
 within_rows None e width t len early low rows = tt

@@ -240,12 +240,3 @@ module _ (T : List Event) (k a from : ℕ) (partners : List ℕ) (are : ArePartn
                   })
             ];
       }
-
--- what takes or lets go a lock, forks or joins, is no access
-pub no_access-from :
-    (op : Op) → ((l : ℕ) × (op ≡ Acquire l)) ⊎ (((l : ℕ) × (op ≡ Release l)) ⊎ (((u : ℕ) × (op ≡ Fork u)) ⊎ ((u : ℕ) × (op ≡ Join u))))
-    → (y : ℕ) → is_access y op ≡ false
-no_access-from op (inl is) y = ap (is_access y) is.1
-no_access-from op (inr (inl is)) y = ap (is_access y) is.1
-no_access-from op (inr (inr (inl is))) y = ap (is_access y) is.1
-no_access-from op (inr (inr (inr is))) y = ap (is_access y) is.1

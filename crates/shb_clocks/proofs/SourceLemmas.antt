@@ -1,4 +1,4 @@
--- The base and the partner of an event: edges lead from them to it, and of all that has an edge to it
+-- The base and the counterpart of an event: edges lead from them to it, and of all that has an edge to it
 -- they are the last. `T` is the events of an execution that keeps the rules.
 use Rattle.std.proofs.Common.{◌≡◌, ℕ, zero, suc, ◌+◌, ◌-◌, ◌<◌, ◌≤◌, ◌⊎◌, true, eqb, List, reverse, Option, Some, None, length, get_or, take, refl, sym, ap, ◌∙◌, subst, arith, eq-eqb, inl, inr, true≢false}
 use Rattle.std.specs.List.{find, slice_get}
@@ -17,7 +17,7 @@ use Rattle.event_index.proofs.HoldLemmas.{takes, frees, takes_is, takes_not_thre
 use Rattle.event_index.proofs.ScanLemmas.{find_last_is, find_last_none, find_none}
 use Rattle.event_index.proofs.StepLemmas.{passes_here}
 use Rattle.shb_clocks.specs.HappensBefore.{Edge, in_thread, by_lock, by_fork, by_join, from_fork_to_join, by_writer, IsShbBefore, chain}
-use Rattle.shb_clocks.specs.Layout.{is_release_at, last_release, end_of_thread, partner_by, partner_of}
+use Rattle.shb_clocks.specs.Layout.{is_release_at, last_release, end_of_thread, counterpart_by, counterpart_of}
 use Rattle.shb_clocks.proofs.EdgeLemmas.{thread_event, op_event, thread_here, op_here, is_of_thread-from, along_thread}
 use Rattle.shb_clocks.proofs.PlaceLemmas.{le-from_place_of}
 
@@ -163,7 +163,7 @@ end_is T u s (Some k) at is =
     let one : k ≡ s = same_Some k s is in
     inl (subst (λ (j : ℕ). thread_at T j ≡ Some u) one (place_of-events_of T u (length (events_of T u) - 1) k at).1)
 
-Edge-by : (T : List Event) (e s : ℕ) (o : Option Op) → op_at T e ≡ o → partner_by T e o ≡ Some s → Edge T s e
+Edge-by : (T : List Event) (e s : ℕ) (o : Option Op) → op_at T e ≡ o → counterpart_by T e o ≡ Some s → Edge T s e
 Edge-by T e s None op is = absurd (none-some s is)
 Edge-by T e s (Some (Read x)) op is = by_writer is
 Edge-by T e s (Some (Write x)) op is = absurd (none-some s is)
@@ -178,12 +178,12 @@ Edge-by T e s (Some (Join u)) op is =
       | inr fork ↦ from_fork_to_join u fork op
     ]
 
--- an edge leads from the partner
-pub Edge-partner : (T : List Event) (e s : ℕ) → partner_of T e ≡ Some s → Edge T s e
-Edge-partner T e s is = Edge-by T e s (op_at T e) refl is
+-- an edge leads from the counterpart
+pub Edge-counterpart : (T : List Event) (e s : ℕ) → counterpart_of T e ≡ Some s → Edge T s e
+Edge-counterpart T e s is = Edge-by T e s (op_at T e) refl is
 
-pub partner_of-op : (T : List Event) (e : ℕ) (op : Op) → op_at T e ≡ Some op → partner_of T e ≡ partner_by T e (Some op)
-partner_of-op T e op is = ap (partner_by T e) is
+pub counterpart_of-op : (T : List Event) (e : ℕ) (op : Op) → op_at T e ≡ Some op → counterpart_of T e ≡ counterpart_by T e (Some op)
+counterpart_of-op T e op is = ap (counterpart_by T e) is
 
 release_cases :
     (T : List Event) (e l m : ℕ) → m < e → op_at T m ≡ Some (Release l) → (o : Option ℕ) → last_release T e l ≡ o

@@ -45,19 +45,19 @@ last_release T e l = find (is_release_at T l) (reverse (before e))
 abbrev pub end_of_thread : List Event → ℕ → Option ℕ
 end_of_thread T u = or_else (slice_get (events_of T u) (length (events_of T u) - 1)) (fork_of T u)
 
-abbrev pub partner_by : List Event → ℕ → Option Op → Option ℕ
-partner_by T e None = None
-partner_by T e (Some (Read x)) = last_writer T e
-partner_by T e (Some (Write x)) = None
-partner_by T e (Some (Acquire l)) = last_release T e l
-partner_by T e (Some (Release l)) = None
-partner_by T e (Some (Fork u)) = None
-partner_by T e (Some (Join u)) = end_of_thread T u
+abbrev pub counterpart_by : List Event → ℕ → Option Op → Option ℕ
+counterpart_by T e None = None
+counterpart_by T e (Some (Read x)) = last_writer T e
+counterpart_by T e (Some (Write x)) = None
+counterpart_by T e (Some (Acquire l)) = last_release T e l
+counterpart_by T e (Some (Release l)) = None
+counterpart_by T e (Some (Fork u)) = None
+counterpart_by T e (Some (Join u)) = end_of_thread T u
 
 -- the last event that comes before e for what e does: its writer, the last release of its lock, the end
 -- of the thread that it joins
-abbrev pub partner_of : List Event → ℕ → Option ℕ
-partner_of T e = partner_by T e (op_at T e)
+abbrev pub counterpart_of : List Event → ℕ → Option ℕ
+counterpart_of T e = counterpart_by T e (op_at T e)
 
 -- what holds of the fields of all clocks
 pub record IsSound (s : Inside) : Type 0 where

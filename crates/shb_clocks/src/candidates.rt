@@ -1,7 +1,8 @@
 //! The candidates of an execution, in rising order. An event's partners in another thread are a beginning of
 //! the accesses that follow it there, since SHB only grows along a thread: no other pair is looked at.
-ghost use Rattle.std.specs.Prelude.{◌≡◌, ℕ, ◌+◌, ◌*◌, ◌<◌, ◌≤◌, ◌⊎◌, length, IfOk, OnOk, Some, slice_index};
+ghost use Rattle.std.specs.Prelude.{◌≡◌, true, false, None, IfSome, ℕ, ◌+◌, ◌*◌, ◌<◌, ◌≤◌, ◌⊎◌, length, IfOk, OnOk, Some, slice_index};
 ghost use Rattle.event_index.specs.Events.{op_at};
+ghost use Rattle.event_index.specs.Relations.{is_access};
 ghost use Rattle.shb_clocks.specs.Candidates.{AreFirstCandidates};
 ghost use Rattle.shb_clocks.specs.Search.{sought_by, IsSought, IsKept, AreChains, ArePartners, AreListed, AreFirstBelow};
 
@@ -32,35 +33,37 @@ pub(crate) fn first_candidates(
         }
         accesses.pass(indexed, first);
         writes.pass(indexed, first);
-        match event_at(indexed, first).op {
-            Op::Read(variable) => {
-                seek(&mut partners, clocks, indexed, &writes, first, variable);
-                list(
-                    &mut pairs,
-                    &mut partners,
-                    clocks,
-                    indexed,
-                    &writes,
-                    first,
-                    limit,
-                )?;
-            }
-            Op::Write(variable) => {
-                seek(&mut partners, clocks, indexed, &accesses, first, variable);
-                list(
-                    &mut pairs,
-                    &mut partners,
-                    clocks,
-                    indexed,
-                    &accesses,
-                    first,
-                    limit,
-                )?;
-            }
-            Op::Acquire(_) | Op::Release(_) | Op::Fork(_) | Op::Join(_) => {}
+        let op = event_at(indexed, first).op;
+        if let Some((chains, variable)) = sought(op, &accesses, &writes) {
+            seek(&mut partners, clocks, indexed, chains, first, variable);
+            list(
+                &mut pairs,
+                &mut partners,
+                clocks,
+                indexed,
+                chains,
+                first,
+                limit,
+            )?;
         }
     }
     Ok(pairs)
+}
+
+// The chains in which the partners of an access stand, and its variable: those of a read are the writes, those
+// of a write all accesses.
+fn sought<'a>(op: Op, accesses: &'a Chains, writes: &'a Chains) -> Option<(&'a Chains, u32)>
+    requires accesses { accesses.now.writes ≡ false }
+    requires writes { writes.now.writes ≡ true }
+    ensures sought { IfSome result (λ s. op ≡ sought_by s.0.now.writes s.1) }
+    ensures chains { IfSome result (λ s. (s.0.now ≡ accesses.now) ⊎ (s.0.now ≡ writes.now)) }
+    ensures none { result ≡ None → (x : ℕ) → is_access x op ≡ false }
+{
+    match op {
+        Op::Read(variable) => Some((writes, variable)),
+        Op::Write(variable) => Some((accesses, variable)),
+        Op::Acquire(_) | Op::Release(_) | Op::Fork(_) | Op::Join(_) => None,
+    }
 }
 
 // Finds the first partner of the event in each thread.

@@ -1,7 +1,7 @@
 //! The rows of counts, made in one pass over the events.
 ghost use Rattle.std.specs.Prelude.{◌≡◌, ◌+◌, ◌*◌, ◌<◌, ◌≤◌, length, IfOk, OnOk, IfSome, slice_index};
 ghost use Rattle.event_index.specs.Layout.{IsTable};
-ghost use Rattle.shb_clocks.specs.Layout.{AreThreads, IsCount, AreCounts, last_release, partner_of, count_by};
+ghost use Rattle.shb_clocks.specs.Layout.{AreThreads, IsCount, AreCounts, last_release, counterpart_of, count_by};
 
 use crate::events::{event_at, threads_in};
 use event_index::Indexed;
@@ -32,18 +32,18 @@ pub(crate) fn counts_of(alloc: Global, indexed: &Indexed) -> Result<Vec<u32>, Ou
     let mut counts = Vec::with_capacity(alloc, raw.len() as usize * raw.threads() as usize)?;
     let mut releases = vec![in alloc; None; raw.locks() as usize]?;
     for event in 0..raw.len() {
-        let partner = partner_at(&mut releases, indexed, event);
-        push_row(&mut counts, indexed, event, partner)?;
+        let counterpart = counterpart_at(&mut releases, indexed, event);
+        push_row(&mut counts, indexed, event, counterpart)?;
     }
     Ok(counts)
 }
 
 // The last event that comes before this one for what this one does. Takes the event into the last releases
 // of the events before it.
-fn partner_at(releases: &mut Vec<Option<u32>>, indexed: &Indexed, event: u32) -> Option<u32>
+fn counterpart_at(releases: &mut Vec<Option<u32>>, indexed: &Indexed, event: u32) -> Option<u32>
     requires event { event < length indexed.now.events }
     requires table { IsTable (last_release indexed.now.events event) (length indexed.now.locks) releases.old.items }
-    ensures partner { result ≡ partner_of indexed.now.events event }
+    ensures counterpart { result ≡ counterpart_of indexed.now.events event }
     ensures table { IsTable (last_release indexed.now.events (event + 1)) (length indexed.now.locks) releases.new.items }
 {
     match event_at(indexed, event).op {
@@ -67,10 +67,10 @@ fn push_row(
     counts: &mut Vec<u32>,
     indexed: &Indexed,
     event: u32,
-    partner: Option<u32>,
+    counterpart: Option<u32>,
 ) -> Result<(), OutOfMemory>
     requires event { event < length indexed.now.events }
-    requires partner { partner ≡ partner_of indexed.now.events event }
+    requires counterpart { counterpart ≡ counterpart_of indexed.now.events event }
     requires len { length counts.old.items ≡ event * length indexed.now.threads }
     requires counts { AreCounts indexed.now.events (length indexed.now.threads) counts.old.items }
     ensures len { OnOk result (length counts.new.items ≡ (event + 1) * length indexed.now.threads) }
@@ -78,17 +78,23 @@ fn push_row(
         (AreCounts indexed.now.events (length indexed.now.threads) counts.new.items) }
 {
     for thread in 0..threads_in(indexed) {
-        let count = count_of(counts.as_slice(), indexed, event, partner, thread);
+        let count = count_of(counts.as_slice(), indexed, event, counterpart, thread);
         counts.push(count)?;
     }
     Ok(())
 }
 
 // How many events of the thread come before the event or are it: in its own thread all events up to it, in
-// another those that its base or its partner counts.
-fn count_of(counts: &[u32], indexed: &Indexed, event: u32, partner: Option<u32>, thread: u32) -> u32
+// another those that its base or its counterpart counts.
+fn count_of(
+    counts: &[u32],
+    indexed: &Indexed,
+    event: u32,
+    counterpart: Option<u32>,
+    thread: u32,
+) -> u32
     requires event { event < length indexed.now.events }
-    requires partner { partner ≡ partner_of indexed.now.events event }
+    requires counterpart { counterpart ≡ counterpart_of indexed.now.events event }
     requires thread { thread < length indexed.now.threads }
     requires len { event * length indexed.now.threads ≤ length counts.now }
     requires counts { AreCounts indexed.now.events (length indexed.now.threads) counts.now }
@@ -99,7 +105,7 @@ fn count_of(counts: &[u32], indexed: &Indexed, event: u32, partner: Option<u32>,
     }
     let width = threads_in(indexed) as usize;
     let by_base = count_at(counts, width, indexed.base(event), thread);
-    by_base.max(count_at(counts, width, partner, thread))
+    by_base.max(count_at(counts, width, counterpart, thread))
 }
 
 // What the row of the event counts of the thread; nothing where there is no such event.

@@ -1,8 +1,8 @@
 use Rattle.std.proofs.Common.{arith, ◌<◌, ◌≤◌, length, ◌∙◌}
 use Rattle.shb_clocks.proofs.ListedLemmas.{AreListed-room, AreFirstCandidates-full, AreFirstCandidates-all, AreFirstBelow-none}
-use Rattle.shb_clocks.proofs.PartnerLemmas.{no_partner, no_access-from}
+use Rattle.shb_clocks.proofs.PartnerLemmas.{no_partner}
 use Rattle.shb_clocks.proofs.candidates.first_candidates.Goals as goal
-use Rattle.shb_clocks.proofs.candidates.first_candidates.Goals.{in-Read+in_ok-list-in-Read, in-Write+in_ok-list-in-Write, in-Acquire}
+use Rattle.shb_clocks.proofs.candidates.first_candidates.Goals.{in-Some+in_ok-list, in_default}
 
 pub returns-then-items-limit : goal.returns-then-items-limit
 returns-then-items-limit c =
@@ -14,44 +14,30 @@ list-requires-clause-listed c =
     let room : length c.loop-first.pairs < c.args.limit = rw (← c.items.ensures) c.if-items-limit.false in
     AreListed-room c.args.indexed.now.events c.loop-first.first c.args.limit c.loop-first.pairs c.loop-first.invariant.listed room
 
-pub list-requires-in-Write-clause-listed : goal.list-requires-in-Write-clause-listed
-list-requires-in-Write-clause-listed c =
-    let room : length c.loop-first.pairs < c.args.limit = rw (← c.items.ensures) c.if-items-limit.false in
-    AreListed-room c.args.indexed.now.events c.loop-first.first c.args.limit c.loop-first.pairs c.loop-first.invariant.listed room
-
 pub loop-first-preserved : goal.loop-first-preserved
 loop-first-preserved c =
     let i = c.loop-first.invariant in
     let room : length c.loop-first.pairs < c.args.limit = rw (← c.items.ensures) c.if-items-limit.false in
     let of_accesses = c.pass.ensures.writes ∙ i.of_accesses in
     let of_writes = c.pass-in-loop-first.ensures.writes ∙ i.of_writes in
-    elim c.match-event_at.branch [
-      | in-Read+in_ok-list-in-Read w ↦
+    elim c.match-sought.branch [
+      | in-Some+in_ok-list w ↦
           record {
             accesses = c.pass.ensures.chains;
             of_accesses = of_accesses;
             writes = c.pass-in-loop-first.ensures.chains;
             of_writes = of_writes;
-            partners = rw w.partners-is w.in_ok-list-in-Read.ensures.len;
-            listed = rw w.pairs-is w.in_ok-list-in-Read.ensures.listed;
+            partners = rw w.partners-is w.in_ok-list.ensures.len;
+            listed = rw w.pairs-is w.in_ok-list.ensures.listed;
           }
-      | in-Write+in_ok-list-in-Write w ↦
-          record {
-            accesses = c.pass.ensures.chains;
-            of_accesses = of_accesses;
-            writes = c.pass-in-loop-first.ensures.chains;
-            of_writes = of_writes;
-            partners = rw w.partners-is w.in_ok-list-in-Write.ensures.len;
-            listed = rw w.pairs-is w.in_ok-list-in-Write.ensures.listed;
-          }
-      | in-Acquire w ↦
+      | in_default w ↦
           record {
             accesses = c.pass.ensures.chains;
             of_accesses = of_accesses;
             writes = c.pass-in-loop-first.ensures.chains;
             of_writes = of_writes;
             partners = rw w.partners-is i.partners;
-            listed = rw w.pairs-is (AreFirstBelow-none c.args.indexed.now.events c.loop-first.first c.args.limit c.loop-first.pairs i.listed room (λ b. no_partner c.args.indexed.now.events c.loop-first.first b c.event_at.result c.event_at.ensures.found (no_access-from c.event_at.result.op w.in-Acquire.is)));
+            listed = rw w.pairs-is (AreFirstBelow-none c.args.indexed.now.events c.loop-first.first c.args.limit c.loop-first.pairs i.listed room (λ b. no_partner c.args.indexed.now.events c.loop-first.first b c.event_at-op.result c.event_at-op.ensures.found (c.sought.ensures.none w.in_default.is)));
           }
     ]
 

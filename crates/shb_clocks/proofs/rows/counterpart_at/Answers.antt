@@ -5,20 +5,20 @@ use Rattle.event_index.proofs.TableLemmas.{get_or-IsTable}
 use Rattle.shb_clocks.specs.Layout.{last_release}
 use Rattle.shb_clocks.proofs.EdgeLemmas.{op_here}
 use Rattle.shb_clocks.proofs.ReleaseLemmas.{last_release-more, last_release-same}
-use Rattle.shb_clocks.proofs.SourceLemmas.{partner_of-op}
-use Rattle.shb_clocks.proofs.rows.partner_at.Goals as goal
+use Rattle.shb_clocks.proofs.SourceLemmas.{counterpart_of-op}
+use Rattle.shb_clocks.proofs.rows.counterpart_at.Goals as goal
 
 pub returns-in-Read-clause-table : goal.returns-in-Read-clause-table
 returns-in-Read-clause-table c =
     last_release-same c.args.indexed.now.events c.args.event _ c.event_at.result _ c.event_at.ensures.found c.requires.table (λ l. ap (is_release l) c.in-Read.is)
 
-pub returns-in-Acquire-clause-partner : goal.returns-in-Acquire-clause-partner
-returns-in-Acquire-clause-partner c =
+pub returns-in-Acquire-clause-counterpart : goal.returns-in-Acquire-clause-counterpart
+returns-in-Acquire-clause-counterpart c =
     let T = c.args.indexed.now.events in
     let named = rw c.in-Acquire.is at c.event_at.ensures.named.1 in
     c.index.ensures
     ∙ get_or-IsTable (last_release T c.args.event) _ _ c.requires.table c.in-Acquire.lock c.index.result.now named
-    ∙ sym (partner_of-op T c.args.event (Acquire c.in-Acquire.lock) (op_here T c.args.event c.event_at.result c.event_at.ensures.found ∙ ap Some c.in-Acquire.is))
+    ∙ sym (counterpart_of-op T c.args.event (Acquire c.in-Acquire.lock) (op_here T c.args.event c.event_at.result c.event_at.ensures.found ∙ ap Some c.in-Acquire.is))
 
 pub returns-in-Acquire-clause-table : goal.returns-in-Acquire-clause-table
 returns-in-Acquire-clause-table c =
