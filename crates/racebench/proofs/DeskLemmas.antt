@@ -1,5 +1,5 @@
 -- Names and schedules at their places, and the answer to `add`.
-use Rattle.std.proofs.Common.{◌≡◌, ℕ, suc, ◌+◌, ◌<◌, Bool, true, false, not, cond, ltb, List, [], ◌∷◌, ◌++◌, map, length, position, get_or, set, Option, Some, None, option_map, Result, Ok, Err, Vec, Global, refl, sym, ap, ◌∙◌, subst, inl, inr, bytes_eq}
+use Rattle.std.proofs.Common.{◌≡◌, ℕ, suc, ◌+◌, ◌<◌, Bool, false, not, cond, List, [], ◌∷◌, ◌++◌, map, position, Option, Some, None, option_map, Result, Ok, Err, Vec, Global, refl, sym, ap, ◌∙◌, subst, inl, inr, bytes_eq}
 use Rattle.std.specs.List.{position_or_len, list_any, slice_index_or, slice_set}
 use Rattle.std.proofs.lemmas.Bool.{cases_Bool, cond_below}
 use Rattle.std.proofs.lemmas.List.{length-map, map-append, map-set}
@@ -10,15 +10,14 @@ use Rattle.schedule.specs.Scheduled.{Scheduled}
 use Rattle.schedule.specs.declared.refusal.Disabled.{Disabled}
 use Rattle.rapid_text.specs.Recording.{Recording}
 use Rattle.racebench.specs.Answers.{IsAnsweredBy, StopsFor}
-use Rattle.racebench.specs.Desk.{Named, Done, Answer, answer_of, desk_by, place_of, schedule_at, add_answer, add_answer_by, unless_full, with_event}
+use Rattle.racebench.specs.Desk.{Named, answer_of, desk_by, place_of, schedule_at, add_answer, add_answer_by, with_event}
 use Rattle.racebench.specs.Layout.{bytes_in, events_in, no_events, with_next}
-use Rattle.racebench.specs.declared.desk.Refusal.{Refusal}
 use Rattle.racebench.specs.declared.desk.Refusal.TheVariants.{NoSuchSchedule, NameTaken, NotEnabled, LogFull}
 use Rattle.racebench.specs.declared.desk.Stop.{Stop}
 use Rattle.racebench.specs.declared.desk.Stop.TheVariants.{Refused, OutOfMemory}
 use Rattle.racebench.specs.declared.desk.TheConstants.{MAX_ENTRIES}
 use Rattle.racebench.specs.declared.script.Call.{Call}
-use Rattle.racebench.specs.declared.script.Call.TheVariants.{Fresh, Add, Show}
+use Rattle.racebench.specs.declared.script.Call.TheVariants.{Add}
 use Rattle.racebench.proofs.PositionLemmas.{position-cons_yes, position-cons_no}
 
 -- the first place of a list of images

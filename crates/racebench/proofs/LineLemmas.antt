@@ -1,13 +1,13 @@
 -- The first line of a text, by the first place of a byte.
-use Rattle.std.proofs.Common.{◌≡◌, ℕ, zero, suc, ◌+◌, ◌<◌, ◌≤◌, Bool, true, false, eqb, List, [], ◌∷◌, length, take, drop, get_or, Option, Some, None, refl, sym, ap, ◌∙◌, subst, arith, le_refl, inl, inr}
-use Rattle.std.specs.List.{slice_split, position_or_len, All, join_with_byte}
+use Rattle.std.proofs.Common.{◌≡◌, ℕ, zero, suc, ◌+◌, ◌<◌, Bool, true, false, List, [], ◌∷◌, length, take, drop, get_or, Option, Some, None, refl, sym, subst, arith, inl, inr}
+use Rattle.std.specs.List.{slice_split, position_or_len, join_with_byte}
 use denote.Ref.{Bor}
 use Rattle.std.specs.Prelude.{unwrap_or}
 use Rattle.rapid_text.specs.LinesLeft.{lines_left}
 use Rattle.std.proofs.lemmas.Bool.{cases_Bool}
 use Rattle.std.proofs.lemmas.List.Sums.{position_or_len_is}
 use Rattle.std.proofs.lemmas.List.Splits.{slice_split_first, slice_split_none, join_with_byte-slice_split}
-use Rattle.memchr.specs.Find.{IsFirstByte, Passes}
+use Rattle.memchr.specs.Find.{IsFirstByte}
 
 -- within the list the default is not read
 get_or_default : (xs : List ℕ) (k d : ℕ) → k < length xs → get_or xs k 0 ≡ get_or xs k d

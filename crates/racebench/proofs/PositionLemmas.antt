@@ -1,5 +1,5 @@
 -- The first place that passes, from the front of a list on.
-use Rattle.std.proofs.Common.{◌≡◌, ℕ, suc, ◌+◌, ◌<◌, ◌≤◌, ltb, Bool, true, false, not, cond, List, [], ◌∷◌, ◌++◌, length, position, Option, Some, None, option_map, refl, sym, ap, ◌∙◌, arith, inl, inr}
+use Rattle.std.proofs.Common.{◌≡◌, ℕ, suc, ◌+◌, ltb, Bool, true, false, not, cond, List, [], ◌∷◌, ◌++◌, length, position, Some, None, option_map, refl, sym, ap, ◌∙◌, arith, inl, inr}
 use Rattle.std.specs.List.{position_or_len, AllByRecursion}
 use Rattle.std.proofs.lemmas.Bool.{cases_lt, cond_below, cond_above}
 

@@ -1,19 +1,17 @@
 -- What the steps of a replay say of the whole.
-use Rattle.std.proofs.Common.{◌≡◌, ℕ, List, take, Option, Some, None, Result, Ok, Err, refl, sym, ap, ◌∙◌, subst}
+use Rattle.std.proofs.Common.{◌≡◌, ℕ, List, Option, Some, None, Result, Ok, Err, refl, sym, ap, ◌∙◌, subst}
 use Rattle.std.specs.Prelude.{IfSome, IfErr}
-use Rattle.std.specs.Io.KnownBytes.{Appends}
 use Rattle.rapid_text.specs.Recording.{Recording}
 use Rattle.racebench.specs.Joint.{trace_part, script_part}
 use Rattle.racebench.specs.Outcomes.{AppendsPart, IsReplay, IsJointReplay, WritesNothing}
-use Rattle.racebench.specs.Replay.{Transcript, transcript, replay_of, replay_trace, replay_calls, text_of, text_or_nothing}
+use Rattle.racebench.specs.Replay.{Transcript, replay_of, replay_trace, replay_calls, text_or_nothing}
 use Rattle.racebench.specs.Scripts.{script_reading}
 use Rattle.racebench.specs.Loading.{IsLoadedBy}
 use Rattle.racebench.specs.Steps.{AreLoadedBy, IsRunOf}
-use Rattle.racebench.specs.declared.fault.ReadCause.TheVariants.{Device, TooLong}
+use Rattle.racebench.specs.declared.fault.ReadCause.TheVariants.{Device}
 use Rattle.racebench.specs.declared.fault.ReplayFault.{ReplayFault}
 use Rattle.racebench.specs.declared.fault.ReplayFault.TheVariants.{Text, Rule, Script, Read, Write, OutOfMemory}
 use Rattle.racebench.specs.declared.fault.Tally.{Tally}
-use Rattle.racebench.specs.declared.script.Call.{Call}
 use Rattle.racebench.proofs.LoadingLemmas.{trace_of-unread, trace_of-unchecked, trace_of-loaded}
 use Rattle.racebench.proofs.RunLemmas.{Appends-nothing}
 

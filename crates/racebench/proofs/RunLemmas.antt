@@ -1,5 +1,5 @@
 -- Calls that are made one after another, whose answers are kept back and written in pieces.
-use Rattle.std.proofs.Common.{◌≡◌, ℕ, suc, ◌+◌, ◌-◌, ◌<◌, ◌≤◌, Bool, true, false, cond, List, [], ◌∷◌, ◌++◌, length, filter, take, drop, get_or, flat_map, Option, Some, None, Result, Ok, Err, is_ok, is_err, refl, sym, ap, ◌∙◌, subst, arith, append_assoc, append-nil, drop-cons}
+use Rattle.std.proofs.Common.{◌≡◌, ℕ, suc, ◌+◌, ◌-◌, ◌<◌, ◌≤◌, Bool, true, false, cond, List, [], ◌∷◌, ◌++◌, length, filter, take, drop, get_or, Option, Some, None, Ok, Err, is_ok, is_err, refl, sym, ap, ◌∙◌, subst, arith, append_assoc, append-nil, drop-cons}
 use Rattle.std.specs.Io.KnownBytes.{Appends}
 use Rattle.std.specs.Int.{from_bool}
 use Rattle.std.proofs.lemmas.List.{take-append-drop, drop_all}
@@ -9,7 +9,6 @@ use Rattle.racebench.specs.Outcomes.{AppendsPart}
 use Rattle.racebench.specs.Replay.{transcript, text_of, tally_of, answers_text}
 use Rattle.racebench.specs.Replies.{answer_text}
 use Rattle.racebench.specs.Steps.{HandsOn}
-use Rattle.racebench.specs.declared.fault.Tally.{Tally}
 use Rattle.racebench.specs.declared.script.Call.{Call}
 use Rattle.racebench.specs.declared.script.Call.TheVariants.{Fresh, Add, Show}
 use Rattle.racebench.proofs.KnownBytesLemmas.{Appends-then}

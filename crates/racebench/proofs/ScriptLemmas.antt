@@ -1,5 +1,5 @@
 -- A script that is read line by line.
-use Rattle.std.proofs.Common.{◌≡◌, ℕ, suc, ◌+◌, ◌≤◌, List, [], ◌∷◌, ◌++◌, map, length, filter_map, position, Option, Some, None, option_map, Result, Ok, Err, is_err, refl, sym, ap, ◌∙◌, arith, append-nil, append_assoc, slice_index_or}
+use Rattle.std.proofs.Common.{◌≡◌, ℕ, suc, ◌+◌, List, [], ◌∷◌, ◌++◌, map, filter_map, position, Option, Some, None, option_map, Result, Ok, Err, is_err, refl, sym, ap, ◌∙◌, arith, append-nil, append_assoc, slice_index_or}
 use Rattle.racebench.specs.Scripts.{line_reading, cause_in, call_in, script_by, script_reading_of}
 use Rattle.racebench.specs.declared.script.Call.{Call}
 use Rattle.racebench.specs.declared.fault.ScriptCause.{ScriptCause}

@@ -1,12 +1,11 @@
 -- How the calls on a desk tell their answers. No public clause cites this module.
-use Rattle.std.specs.Prelude.{◌≡◌, ℕ, List, Option, Some, None, Result, Ok, Err, ⊤, Bool, true, false, ◌++◌}
+use Rattle.std.specs.Prelude.{◌≡◌, ℕ, List, Some, None, Result, Ok, Err, ⊤, Bool, true, false, ◌++◌}
 use Rattle.rapid_text.specs.declared.memory.OutOfMemory.{OutOfMemory as NoMemory}
 use Rattle.racebench.specs.Replies.{answer_text}
 use Rattle.rapid_text.specs.Recording.{Recording}
 use Rattle.schedule.specs.Refusals.{refusal_of}
 use Rattle.racebench.specs.Desk.{Named, Done, answer_of, desk_after}
 use Rattle.racebench.specs.declared.script.Call.{Call}
-use Rattle.racebench.specs.declared.desk.Refusal.{Refusal}
 use Rattle.racebench.specs.declared.desk.Refusal.TheVariants.{NoSuchSchedule, NameTaken, NotEnabled, LogFull}
 use Rattle.racebench.specs.declared.desk.Stop.{Stop}
 use Rattle.racebench.specs.declared.desk.Stop.TheVariants.{Refused, OutOfMemory}

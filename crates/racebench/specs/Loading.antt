@@ -1,5 +1,5 @@
 -- What the steps of loading a trace answer. No public clause cites this module.
-use Rattle.std.specs.Prelude.{◌≡◌, ℕ, List, Option, Some, None, Result, Ok, Err, ⊤}
+use Rattle.std.specs.Prelude.{◌≡◌, ℕ, List, Some, None, Result, Ok, Err, ⊤}
 use Rattle.rapid_text.specs.Reading.{reading_of}
 use Rattle.rapid_text.specs.Recording.{Recording}
 use Rattle.trace_rules.specs.Rules.{first_breach}

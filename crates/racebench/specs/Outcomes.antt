@@ -1,5 +1,5 @@
 -- What a replay of known bytes answers, and what its writer has taken.
-use Rattle.std.specs.Prelude.{◌≡◌, ℕ, ◌<◌, ◌≤◌, List, length, take, Option, Result, Ok, Err, Vec, ⊤}
+use Rattle.std.specs.Prelude.{◌≡◌, ℕ, ◌<◌, ◌≤◌, List, length, take, Option, Result, Ok, Err, ⊤}
 use Rattle.std.specs.Io.KnownBytes.{Appends}
 use Rattle.racebench.specs.Replay.{Transcript, text_of, tally_of, replay_of, text_or_nothing}
 use Rattle.racebench.specs.declared.fault.ReadCause.TheVariants.{Device, TooLong}

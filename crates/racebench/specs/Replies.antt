@@ -1,11 +1,11 @@
 -- What is printed of the answer to a call: one line.
-use Rattle.std.specs.Prelude.{ℕ, List, [], ◌∷◌, ◌++◌, flat_map, slice_get, Option, Some, None, Result, Ok, Err, codes, decimal}
+use Rattle.std.specs.Prelude.{ℕ, List, ◌∷◌, ◌++◌, flat_map, slice_get, Option, Some, None, Ok, Err, codes, decimal}
 use Rattle.rapid_text.specs.Recording.{Recording}
 use Rattle.schedule.specs.declared.refusal.Disabled.{Disabled}
 use Rattle.schedule.specs.declared.refusal.Disabled.TheVariants.{NoSuchEvent, NotNext, NotForked, WrongWriter, LockHeld, JoinEarly}
 use Rattle.racebench.specs.declared.desk.Refusal.{Refusal}
 use Rattle.racebench.specs.declared.desk.Refusal.TheVariants.{NoSuchSchedule, NameTaken, NotEnabled, LogFull}
-use Rattle.racebench.specs.Desk.{Reply, Done, Shown, Answer}
+use Rattle.racebench.specs.Desk.{Done, Shown, Answer}
 
 -- an event's number, or that there is none
 abbrev pub event_words : Option ℕ → List ℕ

@@ -1,5 +1,5 @@
 -- What a script says: its calls, or its first refused line and cause.
-use Rattle.std.specs.Prelude.{ℕ, ◌+◌, ◌==◌, nat_lt, Bool, true, false, if◌then◌else◌, List, [], ◌∷◌, map, length, filter_map, position, slice_index_or, Option, Some, None, ok_or, Result, Ok, Err, is_err, codes, bytes_eq}
+use Rattle.std.specs.Prelude.{ℕ, ◌+◌, ◌==◌, nat_lt, Bool, false, if◌then◌else◌, List, [], ◌∷◌, map, length, filter_map, position, slice_index_or, Option, Some, None, ok_or, Result, Ok, Err, is_err, codes, bytes_eq}
 use Rattle.std.specs.List.{slice_split}
 use Rattle.rapid_text.specs.Reading.{is_line_feed, trimmed}
 use Rattle.racebench.specs.Words.{words_of, is_name, number_of}

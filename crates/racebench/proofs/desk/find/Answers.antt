@@ -1,4 +1,4 @@
-use Rattle.std.proofs.Common.{◌≡◌, ℕ, sym, ◌∙◌, rules, position, bytes_eq, Vec, Global}
+use Rattle.std.proofs.Common.{ℕ, sym, ◌∙◌, bytes_eq, Vec, Global}
 use Rattle.racebench.proofs.DeskLemmas.{position-map}
 use Rattle.racebench.proofs.desk.find.Goals as goal
 

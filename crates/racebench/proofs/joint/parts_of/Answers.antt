@@ -1,4 +1,4 @@
-use Rattle.std.proofs.Common.{◌≡◌, sym, ◌∙◌, arith, rules, length, length-take}
+use Rattle.std.proofs.Common.{sym, ◌∙◌, arith, rules, length-take}
 use Rattle.racebench.proofs.JointLemmas.{passed-start, passed-more, passed-within, trace-here, script-here, trace-whole, script-none}
 use Rattle.racebench.proofs.joint.parts_of.Goals as goal
 

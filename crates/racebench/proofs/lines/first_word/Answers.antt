@@ -1,4 +1,4 @@
-use Rattle.std.proofs.Common.{◌≡◌, ◌∷◌, ◌<◌, sym, ap, ◌∙◌, arith, rules, length}
+use Rattle.std.proofs.Common.{◌≡◌, ◌<◌, sym, ap, ◌∙◌, rules, length}
 use Rattle.rapid_text.specs.Reading.{is_blank}
 use Rattle.racebench.specs.Words.{words_of}
 use Rattle.racebench.proofs.WordLemmas.{words-drop, words-empty, words-next}

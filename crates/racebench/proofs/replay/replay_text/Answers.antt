@@ -1,8 +1,8 @@
-use Rattle.std.proofs.Common.{◌≡◌, Ok, Err, sym, ap, ◌∙◌, subst}
+use Rattle.std.proofs.Common.{Ok, Err, sym, ap, ◌∙◌, subst}
 use Rattle.racebench.specs.Replay.{transcript, replay_calls}
 use Rattle.racebench.specs.Loading.{IsLoadedBy}
-use Rattle.racebench.specs.Steps.{AreLoadedBy, IsRunOf}
-use Rattle.racebench.proofs.ReplayLemmas.{unloaded-replay, unscripted-replay, replay-loaded, run-replay, run-silent}
+use Rattle.racebench.specs.Steps.{AreLoadedBy}
+use Rattle.racebench.proofs.ReplayLemmas.{unloaded-replay, unscripted-replay, replay-loaded, run-replay}
 use Rattle.racebench.proofs.replay.replay_text.Goals as goal
 
 pub returns-in-Err-clause-replay : goal.returns-in-Err-clause-replay

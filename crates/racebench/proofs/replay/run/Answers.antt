@@ -1,5 +1,5 @@
-use Rattle.std.proofs.Common.{◌≡◌, ◌+◌, ◌≤◌, cond, length, refl, sym, ap, ◌∙◌, subst, arith, is_ok}
-use Rattle.racebench.specs.Desk.{Named, answer_of, desk_after}
+use Rattle.std.proofs.Common.{◌≡◌, ◌+◌, ◌≤◌, cond, refl, sym, ap, ◌∙◌, subst, arith, is_ok}
+use Rattle.racebench.specs.Desk.{Named, answer_of}
 use Rattle.racebench.specs.Steps.{IsLate}
 use Rattle.racebench.proofs.RunLemmas.{underway-part, underway-more, called-part, ended-part, ended-whole, replies-ended, tally-ended, desk_after-trace, from_bool-cond, cond-one}
 use Rattle.racebench.proofs.replay.run.Goals as goal

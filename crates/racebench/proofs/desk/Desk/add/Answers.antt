@@ -1,7 +1,6 @@
-use Rattle.std.proofs.Common.{◌≡◌, ◌+◌, ◌<◌, Ok, Err, sym, ap, ◌∙◌}
-use Rattle.std.specs.List.{slice_index_or}
+use Rattle.std.proofs.Common.{◌+◌, Ok, Err, sym, ap, ◌∙◌}
 use Rattle.racebench.specs.Desk.{Named}
-use Rattle.racebench.specs.Layout.{named_in, bytes_in, events_in, no_events}
+use Rattle.racebench.specs.Layout.{named_in, bytes_in, events_in}
 use Rattle.racebench.specs.declared.script.Call.TheVariants.{Add}
 use Rattle.racebench.proofs.DeskLemmas.{named, answered-at, stops-at, add-refused, add-done, events-at, events-extended}
 use Rattle.racebench.proofs.desk.Desk.add.Goals as goal

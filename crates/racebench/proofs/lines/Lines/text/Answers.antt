@@ -1,4 +1,4 @@
-use Rattle.std.proofs.Common.{◌≡◌, refl, sym, ap, ◌∙◌}
+use Rattle.std.proofs.Common.{refl, ap, ◌∙◌}
 use Rattle.std.specs.List.{join_with_byte}
 use Rattle.racebench.proofs.LineLemmas.{text_left}
 use Rattle.racebench.proofs.lines.Lines.text.Goals as goal
