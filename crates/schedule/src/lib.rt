@@ -10,5 +10,5 @@ mod showing;
 #[cfg(test)]
 mod tests;
 
-pub use refusal::{Disabled, ExtendRefusal};
+pub use refusal::{Disabled, ExtendRefusal, PrefixRefusal};
 pub use reordering::Schedule;

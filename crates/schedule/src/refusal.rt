@@ -34,3 +34,12 @@ pub enum ExtendRefusal {
     /// 27: a growth was refused.
     OutOfMemory,
 }
+
+/// Why no beginning of that length was made.
+#[derive(Clone, Copy, PartialEq, Eq, Debug)]
+pub enum PrefixRefusal {
+    /// 30: the schedule has fewer events.
+    TooShort,
+    /// 27: a growth was refused.
+    OutOfMemory,
+}

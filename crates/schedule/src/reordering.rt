@@ -1,12 +1,13 @@
 //! A schedule: a correct reordering of its trace.
-ghost use Rattle.std.specs.Prelude.{◌≡◌, ◌≤◌, ◌↔◌, length, [], ◌∷◌, ◌++◌, IsOk, IsTrue, IfOk, OnOk, OnErr, IfErr, None, Some};
+ghost use Rattle.std.specs.Prelude.{◌≡◌, ◌<◌, ◌≤◌, ◌↔◌, length, take, [], ◌∷◌, ◌++◌, IsOk, IsTrue, IfOk, OnOk, OnErr, IfErr, Err, IfSome, None, Some};
 ghost use Rattle.rapid_text.specs.Recording.{IsWellFormed};
 ghost use Rattle.trace_rules.specs.Rules.{IsDisciplined};
 ghost use Rattle.schedule.specs.Refusals.{refusal_of, IsRefusalOf, NamesHolder};
 ghost use Rattle.schedule.specs.Reordering.{IsCorrectReordering, IsEnabled};
 ghost use Rattle.schedule.specs.Shows.{Shows, does_show};
+ghost use Rattle.schedule.specs.declared.refusal.PrefixRefusal.TheVariants.{TooShort};
 
-use crate::refusal::{Disabled, ExtendRefusal};
+use crate::refusal::{Disabled, ExtendRefusal, PrefixRefusal};
 use crate::refusing::refusal_of;
 use crate::showing::is_ready;
 use event_index::Indexed;
@@ -103,6 +104,45 @@ impl Schedule {
             Ok(()) => Ok(()),
             Err(_) => Err(ExtendRefusal::OutOfMemory),
         }
+    }
+
+    /// Takes the last event off and gives it, or gives None where the schedule has no events. It takes no
+    /// memory.
+    pub fn retract(&mut self, indexed: &Indexed) -> Option<u32>
+        requires { self.old.trace ≡ indexed.now }
+        ensures trace { self.new.trace ≡ self.old.trace }
+        ensures taken { IfSome result (λ e. self.old.events ≡ self.new.events ++ e ∷ []) }
+        ensures none { result ≡ None → self.new ≡ self.old }
+        ensures empty { (result ≡ None) ↔ (self.old.events ≡ []) }
+    {
+        let _ = indexed;
+        self.events.pop()
+    }
+
+    /// A schedule of the same trace with the first `len` events of this one.
+    pub fn prefix(
+        &self,
+        alloc: Global,
+        indexed: &Indexed,
+        len: u32,
+    ) -> Result<Schedule, PrefixRefusal>
+        requires { self.now.trace ≡ indexed.now }
+        ensures trace { IfOk result (λ s. s.trace ≡ self.now.trace) }
+        ensures ok { IfOk result (λ s. s.events ≡ take len self.now.events) }
+        // It is refused for its length exactly where this schedule has fewer events.
+        ensures too_short { (result ≡ Err TooShort) ↔ (length self.now.events < len) }
+    {
+        let len = len as usize;
+        if self.events.len() < len {
+            return Err(PrefixRefusal::TooShort);
+        }
+        let Ok(events) = Vec::from_slice(alloc, &self.events[..len]) else {
+            return Err(PrefixRefusal::OutOfMemory);
+        };
+        Ok(Schedule {
+            trace: Snapshot::of(indexed),
+            events,
+        })
     }
 
     /// Whether the two events conflict and both are ready: not in the schedule, but all earlier events of

@@ -1,8 +1,8 @@
-//! What no clause says: that `empty` and `extend` succeed where there is memory, and that the definitions
-//! give the answers that worked examples expect, read from their texts.
-ghost use Rattle.std.specs.Prelude.{◌≡◌};
+//! What no clause says: that `empty`, `extend` and `prefix` succeed where there is memory, and that the
+//! definitions give the answers that worked examples expect, read from their texts.
+ghost use Rattle.std.specs.Prelude.{◌≡◌, IfSome};
 
-use crate::{Disabled, ExtendRefusal, Schedule};
+use crate::{Disabled, ExtendRefusal, PrefixRefusal, Schedule};
 use event_index::Indexed;
 use rapid_text::parse;
 use std::alloc::Global;
@@ -82,6 +82,46 @@ fn grow(schedule: &mut Schedule, indexed: &Indexed, events: &[u32]) -> bool
         }
     }
     true
+}
+
+// The schedule of these events, where they may follow each other so.
+fn grown(alloc: Global, indexed: &Indexed, events: &[u32]) -> Option<Schedule>
+    ensures { IfSome result (λ s. s.trace ≡ indexed.now) }
+{
+    let mut schedule = Schedule::empty(alloc, indexed).ok()?;
+    if grow(&mut schedule, indexed, events) {
+        Some(schedule)
+    } else {
+        None
+    }
+}
+
+// Whether `retract` after these events takes this one off, and each event is then judged so.
+fn judge_retracted(
+    alloc: Global,
+    text: &[u8],
+    events: &[u32],
+    taken: Option<u32>,
+    judged: &[(u32, Option<Disabled>)],
+) -> Option<bool> {
+    let indexed = indexed_of(alloc, text)?;
+    let mut schedule = grown(alloc, &indexed, events)?;
+    let retracted = schedule.retract(&indexed);
+    Some(retracted == taken && are_judged(&mut schedule, &indexed, judged))
+}
+
+// Whether these events have that beginning of this length, and stay as they are.
+fn has_prefix(alloc: Global, text: &[u8], events: &[u32], len: u32, front: &[u32]) -> Option<bool> {
+    let indexed = indexed_of(alloc, text)?;
+    let schedule = grown(alloc, &indexed, events)?;
+    let made = schedule.prefix(alloc, &indexed, len).ok()?;
+    Some(made.events() == front && schedule.events() == events)
+}
+
+fn prefix_refusal(alloc: Global, text: &[u8], events: &[u32], len: u32) -> Option<PrefixRefusal> {
+    let indexed = indexed_of(alloc, text)?;
+    let schedule = grown(alloc, &indexed, events)?;
+    schedule.prefix(alloc, &indexed, len).err()
 }
 
 // Whether the schedule shows each pair or not, as is expected.
@@ -176,4 +216,56 @@ fn a_pair_is_shown_where_both_are_ready(rt: HostRuntime) {
         show(rt.alloc(), FORK_AND_JOIN, &[0, 1], &after_the_write),
         Some(true)
     );
+}
+
+#[test]
+fn what_was_taken_off_no_longer_counts(rt: HostRuntime) {
+    let alloc = rt.alloc();
+    let lock_is_free = [
+        (0, Some(Disabled::NotNext)),
+        (1, None),
+        (2, None),
+        (3, None),
+    ];
+    assert_eq!(rt;
+        judge_retracted(alloc, ONE_LOCK, &[0, 3], Some(3), &lock_is_free),
+        Some(true)
+    );
+    let nothing_written = Disabled::WrongWriter {
+        needs: Some(0),
+        has: None,
+    };
+    let no_writer = [(1, Some(nothing_written)), (0, None), (1, None)];
+    assert_eq!(rt;
+        judge_retracted(alloc, TWO_PAIRS, &[0], Some(0), &no_writer),
+        Some(true)
+    );
+    let at_the_start = [(4, Some(Disabled::NotNext)), (3, None)];
+    assert_eq!(rt;
+        judge_retracted(alloc, ONE_LOCK, &[], None, &at_the_start),
+        Some(true)
+    );
+}
+
+#[test]
+fn a_prefix_has_the_first_events(rt: HostRuntime) {
+    let alloc = rt.alloc();
+    assert_eq!(rt; has_prefix(alloc, ONE_LOCK, &[0, 3], 0, &[]), Some(true));
+    assert_eq!(rt; has_prefix(alloc, ONE_LOCK, &[0, 3], 1, &[0]), Some(true));
+    assert_eq!(rt;
+        has_prefix(alloc, ONE_LOCK, &[0, 3], 2, &[0, 3]),
+        Some(true)
+    );
+}
+
+#[test]
+fn a_prefix_longer_than_the_schedule(rt: HostRuntime) {
+    let alloc = rt.alloc();
+    let refused = Some(PrefixRefusal::TooShort);
+    assert_eq!(rt; prefix_refusal(alloc, ONE_LOCK, &[0, 3], 3), refused);
+    assert_eq!(rt;
+        prefix_refusal(alloc, ONE_LOCK, &[0, 3], 4_294_967_295),
+        refused
+    );
+    assert_eq!(rt; prefix_refusal(alloc, ONE_LOCK, &[], 1), refused);
 }
