@@ -17,6 +17,12 @@ pub use Rattle.schedule.proofs.EnabledLemmas.{IsEnabled-none, refusal_of-enabled
 pub use Rattle.schedule.proofs.EnabledLemmas.{NamesHolder-refusal}
 -- a beginning of a correct reordering is one
 pub use Rattle.schedule.proofs.EnabledLemmas.{IsCorrectReordering-take}
+-- exchanging two independent neighbours keeps a correct reordering, and they may be exchanged back
+pub use Rattle.schedule.proofs.SwapLemmas.{IsCorrectReordering-exchanged, MayExchange-exchanged, IsIndependent-sym}
+-- nothing refuses an exchange exactly where it may be made, and what each cause tells
+pub use Rattle.schedule.proofs.SwapLemmas.{swap_refusal-may, MayExchange-none, swap_refusal-past, swap_refusal-no_pair, swap_refusal-dependent}
+-- an exchange, by the pieces of the list and by places; a second one gives the list back
+pub use Rattle.schedule.proofs.ExchangeLemmas.{exchanged-pieces, exchanged-exchanged, length-exchanged, get_or-exchanged_first, get_or-exchanged_second, take-exchanged, drop-exchanged}
 -- the tests of readiness and of a shown pair tell the relations
 pub use Rattle.schedule.proofs.ShowLemmas.{is_ready-true, is_ready-ready}
 

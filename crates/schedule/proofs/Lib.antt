@@ -1,8 +1,10 @@
-pub mod EnabledLemmas
-pub mod ListLemmas
 pub mod CallerLemmas
 pub mod CountLemmas
+pub mod EnabledLemmas
+pub mod ExchangeLemmas
+pub mod ListLemmas
 pub mod LockLemmas
 pub mod ShowLemmas
+pub mod SwapLemmas
 pub mod TestLemmas
 pub mod ThreadLemmas

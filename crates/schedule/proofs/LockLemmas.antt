@@ -29,7 +29,7 @@ AtEach-grows Q R P none more each =
     subst Q (take_all (length P) P (omega arith)) (grown Q R P none more each (length P) (omega arith))
 
 -- the last that passes, of a list with one more
-find-reverse_push : (p : ℕ → Bool) (xs : List ℕ) (e : ℕ) → find p (reverse (xs ++ e ∷ [])) ≡ cond (p e) (Some e) (find p (reverse xs))
+pub find-reverse_push : (p : ℕ → Bool) (xs : List ℕ) (e : ℕ) → find p (reverse (xs ++ e ∷ [])) ≡ cond (p e) (Some e) (find p (reverse xs))
 find-reverse_push p xs e = ap (find p) (reverse-append xs (e ∷ []))
 
 -- the thread took the lock last, or has released it as often as it took it
@@ -45,7 +45,7 @@ not_acquire_by : (l w : ℕ) (o : Option Event) → passes_by (λ v. is_acquire 
 not_acquire_by l w None h = refl
 not_acquire_by l w (Some v) h = and_right (v.thread == w) (is_acquire l v.op) h
 
-counts_push : (p : ℕ → Bool) (xs : List ℕ) (e : ℕ) → count_by p (xs ++ e ∷ []) ≡ count_by p xs + cond (p e) 1 0
+pub counts_push : (p : ℕ → Bool) (xs : List ℕ) (e : ℕ) → count_by p (xs ++ e ∷ []) ≡ count_by p xs + cond (p e) 1 0
 counts_push p xs e = sum_by_push (λ d. cond (p d) 1 0) xs e
 
 -- an acquire of the lock by another thread is the last one then

@@ -3,3 +3,4 @@ pub mod Refusals
 pub mod Reordering
 pub mod Scheduled
 pub mod Shows
+pub mod Swaps

@@ -7,8 +7,9 @@ mod refusing;
 mod reordering;
 mod scans;
 mod showing;
+mod swapping;
 #[cfg(test)]
 mod tests;
 
-pub use refusal::{Disabled, ExtendRefusal, PrefixRefusal};
+pub use refusal::{Disabled, ExtendRefusal, PrefixRefusal, SwapRefusal};
 pub use reordering::Schedule;

@@ -1,15 +1,18 @@
 //! A schedule: a correct reordering of its trace.
-ghost use Rattle.std.specs.Prelude.{◌≡◌, ◌<◌, ◌≤◌, ◌↔◌, length, take, [], ◌∷◌, ◌++◌, IsOk, IsTrue, IfOk, OnOk, OnErr, IfErr, Err, IfSome, None, Some};
+ghost use Rattle.std.specs.Prelude.{◌≡◌, ◌+◌, ◌<◌, ◌≤◌, ◌↔◌, length, take, [], ◌∷◌, ◌++◌, IsOk, IsTrue, IfOk, OnOk, OnErr, IfErr, Err, IfSome, None, Some};
 ghost use Rattle.rapid_text.specs.Recording.{IsWellFormed};
 ghost use Rattle.trace_rules.specs.Rules.{IsDisciplined};
 ghost use Rattle.schedule.specs.Refusals.{refusal_of, IsRefusalOf, NamesHolder};
 ghost use Rattle.schedule.specs.Reordering.{IsCorrectReordering, IsEnabled};
 ghost use Rattle.schedule.specs.Shows.{Shows, does_show};
+ghost use Rattle.schedule.specs.Swaps.{exchanged, swap_refusal, MayExchange};
 ghost use Rattle.schedule.specs.declared.refusal.PrefixRefusal.TheVariants.{TooShort};
+ghost use Rattle.schedule.specs.declared.refusal.SwapRefusal.TheVariants.{NoSuchPair};
 
-use crate::refusal::{Disabled, ExtendRefusal, PrefixRefusal};
+use crate::refusal::{Disabled, ExtendRefusal, PrefixRefusal, SwapRefusal};
 use crate::refusing::refusal_of;
 use crate::showing::is_ready;
+use crate::swapping::swap_refusal;
 use event_index::Indexed;
 use rapid_text::OutOfMemory;
 use std::alloc::Global;
@@ -117,6 +120,29 @@ impl Schedule {
     {
         let _ = indexed;
         self.events.pop()
+    }
+
+    /// Exchanges the events at this place and the next, where they are independent. It takes no memory.
+    pub fn swap(&mut self, indexed: &Indexed, at: u32) -> Result<(), SwapRefusal>
+        requires { self.old.trace ≡ indexed.now }
+        ensures trace { self.new.trace ≡ self.old.trace }
+        ensures ok { OnOk result (self.new.events ≡ exchanged self.old.events at) }
+        ensures err { OnErr result (self.new ≡ self.old) }
+        // It is refused for the place exactly where no event stands at the next one, and else exactly where
+        // the two events are not independent.
+        ensures exact { IsOk result ↔ MayExchange self.old.trace.events self.old.events at }
+        ensures no_pair { (result ≡ Err NoSuchPair) ↔ (length self.old.events ≤ at + 1) }
+        // The same as a function, for definitions that compute with it.
+        ensures none { OnOk result (swap_refusal self.old.trace.events self.old.events at ≡ None) }
+        ensures cause { IfErr result
+            (λ cause. swap_refusal self.old.trace.events self.old.events at ≡ Some cause) }
+    {
+        if let Some(cause) = swap_refusal(indexed, &self.events, at) {
+            return Err(cause);
+        }
+        let at = at as usize;
+        self.events.swap(at, at + 1);
+        Ok(())
     }
 
     /// A schedule of the same trace with the first `len` events of this one.
