@@ -346,6 +346,12 @@ swap_refusal-within T P i within =
     ap (λ o. pair_refusal T o (slice_get P (i + 1))) (slice_get-get_or P i 0 lt)
     ∙ ap (pair_refusal T (Some (get_or P i 0))) (slice_get-get_or P (i + 1) 0 within)
 
+pub swap_refusal-tied : (T : List Event) (P : List ℕ) (i : ℕ) → i + 1 < length P → ¬ IsIndependent T (slice_index P i) (slice_index P (i + 1)) → swap_refusal T P i ≡ Some Dependent
+swap_refusal-tied T P i within tied =
+    let test : Bool = is_independent T (get_or P i 0) (get_or P (i + 1) 0) in
+    swap_refusal-within T P i within
+    ∙ cond-false test None (Some Dependent) (false_from_ne_true test (λ h. tied ((Decides-is_independent T (get_or P i 0) (get_or P (i + 1) 0)).0 h)))
+
 -- nothing refuses an exchange exactly where it may be made
 pub swap_refusal-may : (T : List Event) (P : List ℕ) (i : ℕ) → MayExchange T P i → swap_refusal T P i ≡ None
 swap_refusal-may T P i may =
