@@ -11,7 +11,7 @@ use Rattle.rapid_text.specs.declared.event.Op.TheVariants.{Read, Write, Acquire,
 use Rattle.rapid_text.specs.declared.refusal.TextCause.{TextCause}
 use Rattle.rapid_text.specs.declared.refusal.TextCause.TheVariants.{NoBar, BadParentheses, UnknownOperation, EmptyName, NameTooLong, LineTooLong, TooManyEvents, TooManyNames, OutOfMemory}
 use Rattle.rapid_text.specs.declared.refusal.TextRefusal.{TextRefusal}
-use Rattle.rapid_text.specs.declared.raw_trace.TheConstants.{MAX_EVENTS, MAX_THREADS, MAX_LINE, MAX_NAME}
+use Rattle.rapid_text.specs.Limits.{event_limit, thread_limit, line_limit, name_limit}
 use Rattle.rapid_text.specs.Recording.{Recording}
 
 -- a space, a tab or a carriage return
@@ -79,7 +79,7 @@ named_reading thread None name location = Refused UnknownOperation
 named_reading thread (Some kind) name location =
     if length thread == 0 || length name == 0
     then Refused EmptyName
-    else (if nat_lt MAX_NAME (length thread) || nat_lt MAX_NAME (length name)
+    else (if nat_lt name_limit (length thread) || nat_lt name_limit (length name)
     then Refused NameTooLong
     else Says (record { thread = thread; kind = kind; name = name; location = location }))
 
@@ -107,7 +107,7 @@ line_reading raw =
     let line = trimmed raw in
     if length line == 0
     then Skipped
-    else (if nat_lt MAX_LINE (length line)
+    else (if nat_lt line_limit (length line)
     then Refused LineTooLong
     else (if not (list_any is_bar line) then Refused NoBar else fields_reading line))
 
@@ -203,9 +203,9 @@ abbrev pub fault_after : List NamedEvent → LineReading → Option TextCause
 fault_after earlier Skipped = None
 fault_after earlier (Refused why) = Some why
 fault_after earlier (Says event) =
-    if nat_le MAX_EVENTS (length earlier)
+    if nat_le event_limit (length earlier)
     then Some TooManyEvents
-    else (if nat_lt MAX_THREADS (length (first_uses (thread_uses (earlier ++ event ∷ []))))
+    else (if nat_lt thread_limit (length (first_uses (thread_uses (earlier ++ event ∷ []))))
     then Some TooManyNames
     else None)
 
