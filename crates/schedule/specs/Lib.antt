@@ -1,4 +1,4 @@
-pub mod Layout
+pub mod Locks
 pub mod Refusals
 pub mod Reordering
 pub mod Scheduled

@@ -122,6 +122,24 @@ impl Schedule {
         self.events.pop()
     }
 
+    /// Whether the events at this place and the next may change places, or why they may not: what `swap`
+    /// answers there.
+    pub fn exchangeable(&self, indexed: &Indexed, at: u32) -> Result<(), SwapRefusal>
+        requires { self.now.trace ≡ indexed.now }
+        // They may exactly where both are there and they are independent.
+        ensures exact { IsOk result ↔ MayExchange self.now.trace.events self.now.events at }
+        ensures no_pair { (result ≡ Err NoSuchPair) ↔ (length self.now.events ≤ at + 1) }
+        // The same as a function, for definitions that compute with it.
+        ensures none { OnOk result (swap_refusal self.now.trace.events self.now.events at ≡ None) }
+        ensures cause { IfErr result
+            (λ cause. swap_refusal self.now.trace.events self.now.events at ≡ Some cause) }
+    {
+        match swap_refusal(indexed, &self.events, at) {
+            Some(cause) => Err(cause),
+            None => Ok(()),
+        }
+    }
+
     /// Exchanges the events at this place and the next, where they are independent. It takes no memory.
     pub fn swap(&mut self, indexed: &Indexed, at: u32) -> Result<(), SwapRefusal>
         requires { self.old.trace ≡ indexed.now }
