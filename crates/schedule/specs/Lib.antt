@@ -1,3 +1,4 @@
+pub mod Faults
 pub mod Locks
 pub mod Refusals
 pub mod Reordering

@@ -11,5 +11,5 @@ mod swapping;
 #[cfg(test)]
 mod tests;
 
-pub use refusal::{Disabled, ExtendRefusal, PrefixRefusal, SwapRefusal};
+pub use refusal::{Disabled, ExtendRefusal, ListRefusal, PrefixRefusal, SwapRefusal};
 pub use schedule::Schedule;
