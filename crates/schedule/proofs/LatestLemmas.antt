@@ -1,13 +1,13 @@
 -- What one event more, or one less, makes of what is kept of a variable or a lock.
-use Rattle.std.proofs.Common.{◌≡◌, ℕ, ◌+◌, ◌-◌, ◌≤◌, ◌⊎◌, Bool, true, false, cond, List, [], ◌∷◌, ◌++◌, length, reverse, find, count_by, Option, Some, None, slice_get, sym, refl, ap, ◌∙◌, arith, inl, inr}
-use Rattle.std.proofs.lemmas.Bool.{cases_Bool, cases_eq, eqb-true, eq-eqb, ne_eqb, false≢true, cond-true, cond-false}
+use Rattle.std.proofs.Common.{◌≡◌, ℕ, ◌+◌, ◌-◌, ◌≤◌, Bool, true, false, cond, List, [], ◌∷◌, ◌++◌, length, reverse, find, count_by, Option, Some, None, slice_get, sym, refl, ap, ◌∙◌, arith, inl, inr}
+use Rattle.std.proofs.lemmas.Bool.{cases_Bool, eqb-true, false≢true, cond-true, cond-false}
 use Rattle.std.proofs.lemmas.List.Sums.{count_by-le-length, sum_by-cons}
 use Rattle.std.proofs.lemmas.Option.{none-some, same_Some}
 use Rattle.rapid_text.specs.Operations.{is_write, is_acquire, is_release}
 use Rattle.rapid_text.specs.declared.event.Event.{Event}
 use Rattle.rapid_text.specs.declared.event.Op.{Op}
 use Rattle.rapid_text.specs.declared.event.Op.TheVariants.{Read, Write, Acquire, Release, Fork, Join}
-use Rattle.event_index.specs.Events.{passes_by, passes_at, is_write_at}
+use Rattle.event_index.specs.Events.{passes_by, is_write_at}
 use Rattle.schedule.specs.Locks.{is_acquire_at, is_release_at}
 use Rattle.schedule.specs.Keys.{key_eq, key_eq_equiv}
 use Rattle.schedule.specs.Tables.{sets_op, frees_op, sets, frees, last_set, latest_by, latest_of, shadow_of_op, shadow_by, shadow_at, event_of, depth_of, covered, lowered, raised, uncovered, stepped, stepped_back}

@@ -1,9 +1,9 @@
 -- An exchange of two independent neighbours exchanges what their places shadow, and leaves the other tables.
-use Rattle.std.proofs.Common.{◌≡◌, ◌≢◌, ℕ, ◌+◌, ◌-◌, ◌<◌, ◌≤◌, ◌⊎◌, nat_eq, Bool, true, cond, List, [], ◌∷◌, ◌++◌, length, take, drop, reverse, get_or, slice_index_or, set, find, count_by, Option, Some, None, slice_get, sym, refl, ap, ◌∙◌, subst, arith, inl, inr, get_or-set_other}
+use Rattle.std.proofs.Common.{◌≡◌, ◌≢◌, ℕ, ◌+◌, ◌-◌, ◌<◌, ◌≤◌, nat_eq, Bool, true, cond, List, [], ◌∷◌, ◌++◌, length, take, drop, reverse, get_or, slice_index_or, set, find, count_by, Option, Some, None, slice_get, sym, refl, ap, ◌∙◌, subst, arith, inl, inr, get_or-set_other}
 use Rattle.std.specs.HashMap.{get}
 use Rattle.std.specs.List.{swap}
 use Rattle.std.specs.Option.{option_or}
-use Rattle.std.proofs.lemmas.Bool.{cases_eq, cases_lt, eqb-true, eq-eqb, ne_eqb, false≢true, false_from_ne_true, or_left, or_right, cond-true, cond-false}
+use Rattle.std.proofs.lemmas.Bool.{cases_eq, cases_lt, eq-eqb, ne_eqb, false_from_ne_true, or_left, or_right, cond-true, cond-false}
 use Rattle.std.proofs.lemmas.List.{length_push, length-take-le, reverse-append, take-take, take_more}
 use Rattle.std.proofs.lemmas.List.Edits.{swap_is}
 use Rattle.std.proofs.lemmas.List.Folds.{find-append}
@@ -11,15 +11,13 @@ use Rattle.std.proofs.lemmas.List.Sums.{sum_by-append}
 use Rattle.std.proofs.Math.Seq.{take-append-add}
 use Rattle.rapid_text.specs.Operations.{is_read, is_write, is_acquire, is_release}
 use Rattle.rapid_text.specs.declared.event.Event.{Event}
-use Rattle.rapid_text.specs.declared.event.Op.{Op}
-use Rattle.rapid_text.specs.declared.event.Op.TheVariants.{Read, Write, Acquire, Release, Fork, Join}
 use Rattle.event_index.specs.Events.{passes_by, is_of_thread}
 use Rattle.event_index.specs.Layout.{IsTable}
 use Rattle.event_index.specs.Relations.{IsIndependent}
 use Rattle.event_index.proofs.TableLemmas.{get_or-IsTable, IsTable-set}
 use Rattle.schedule.specs.Swaps.{exchanged, MayExchange}
 use Rattle.schedule.specs.Keys.{key_eq}
-use Rattle.schedule.specs.Tables.{AreTables, sets_op, sets, frees, last_set, latest_by, latest_of, shadow_of, shadow_at, shadow_of_op, shadow_by}
+use Rattle.schedule.specs.Tables.{AreTables, sets_op, sets, frees, last_set, latest_by, latest_of, shadow_of, shadow_at, shadow_by}
 use Rattle.schedule.specs.declared.latest.Key.{Key}
 use Rattle.schedule.specs.declared.latest.Key.TheVariants.{Variable, Lock}
 use Rattle.schedule.specs.declared.tables.Tables.{Tables}

@@ -27,7 +27,8 @@ use std::snapshot::Snapshot;
 pub struct Schedule {
     trace: Snapshot<Indexed>,
     events: Vec<u32>,
-    tables: Tables,
+    // In a box, since rows of schedules are moved about.
+    tables: Box<Tables>,
 }
 
 impl Model for Schedule {
@@ -46,7 +47,7 @@ impl Model for Schedule {
     } };
 
     ghost invariant = { λ s.
-        IsWellFormed s.trace.value × IsDisciplined s.trace.value.events × IsCorrectReordering s.trace.value.events s.events.items × AreTables s.trace.value.events s.events.items s.tables };
+        IsWellFormed s.trace.value × IsDisciplined s.trace.value.events × IsCorrectReordering s.trace.value.events s.events.items × AreTables s.trace.value.events s.events.items s.tables.value };
 }
 
 impl Schedule {
@@ -63,16 +64,19 @@ impl Schedule {
         self.events.as_slice()
     }
 
-    /// The schedule with no events. It takes no memory: `alloc` is kept for later.
+    /// The schedule with no events.
     pub fn empty(alloc: Global, indexed: &Indexed) -> Result<Schedule, OutOfMemory>
         ensures trace { IfOk result (λ s. s.trace ≡ indexed.now) }
         ensures events { IfOk result (λ s. s.events ≡ []) }
     {
         let _len = indexed.len();
+        let Ok(tables) = Box::new(alloc, no_tables(alloc, indexed)) else {
+            return Err(OutOfMemory);
+        };
         Ok(Schedule {
             trace: Snapshot::of(indexed),
             events: Vec::new(alloc),
-            tables: no_tables(alloc, indexed),
+            tables,
         })
     }
 

@@ -124,9 +124,9 @@ pub(crate) fn tables_of(
     alloc: Global,
     indexed: &Indexed,
     events: &[u32],
-) -> Result<Tables, AllocError>
+) -> Result<Box<Tables>, AllocError>
     requires { IsCorrectReordering indexed.now.events events.now }
-    ensures { IfOk result (λ tables. AreTables indexed.now.events events.now tables) }
+    ensures { IfOk result (λ tables. AreTables indexed.now.events events.now tables.value) }
 {
     let mut tables = no_tables(alloc, indexed);
     for at in 0..events.len() {
@@ -134,5 +134,8 @@ pub(crate) fn tables_of(
             return Err(AllocError);
         };
     }
+    let Ok(tables) = Box::new(alloc, tables) else {
+        return Err(AllocError);
+    };
     Ok(tables)
 }

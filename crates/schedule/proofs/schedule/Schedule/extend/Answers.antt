@@ -9,7 +9,7 @@ use Rattle.schedule.proofs.schedule.Schedule.extend.Goals as goal
 pub note-requires-clause-enabled : goal.note-requires-clause-enabled
 note-requires-clause-enabled c =
     let T = c.args.indexed.now.events in
-    let P = c.deref-2.result.now in
+    let P = c.deref-3.result.now in
     let none : refusal_of T P c.args.event ≡ None = search rules in
     let is : IsCorrectReordering T P = search rules in
     let disciplined : IsDisciplined T = search rules in
@@ -24,8 +24,8 @@ invariant_of-self-in-Ok-push c =
     let is : IsEnabled T P c.args.event = IsEnabled-none T P c.args.event c.self.invariant.1 c.self.invariant.2 none in
     let pushed : c.push.new.self.items ≡ P ++ c.args.event ∷ [] = c.in-Ok-push.ensures.items in
     let tables : AreTables T (P ++ c.args.event ∷ []) c.note.new.tables =
-    subst (λ l. AreTables T (l ++ c.args.event ∷ []) c.note.new.tables) c.deref-2.ensures.value
-    (subst (λ r. AreTables r.events (c.deref-2.result.now ++ c.args.event ∷ []) c.note.new.tables) (sym same_trace) c.in-Ok.ensures.ok) in (
+    subst (λ l. AreTables T (l ++ c.args.event ∷ []) c.note.new.tables) c.deref-3.ensures.value
+    (subst (λ r. AreTables r.events (c.deref-3.result.now ++ c.args.event ∷ []) c.note.new.tables) (sym same_trace) c.in-Ok.ensures.ok) in (
       c.self.invariant.0,
       c.self.invariant.1,
       subst (IsCorrectReordering T) (sym pushed) is,

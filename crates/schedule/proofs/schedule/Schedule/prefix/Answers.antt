@@ -26,6 +26,6 @@ invariant_of-result c =
       subst IsWellFormed same c.self.invariant.0,
       subst (λ r. IsDisciplined r.events) same c.self.invariant.1,
       subst (λ r. IsCorrectReordering r.events c.in-Ok.events.items) same is,
-      subst (λ r. AreTables r.events c.in-Ok.events.items c.in-Ok-tables_of.tables) (sym c.of.ensures)
-          (subst (λ l. AreTables c.args.indexed.now.events l c.in-Ok-tables_of.tables) (sym c.in-Ok.ensures.items) c.in-Ok-tables_of.ensures),
+      subst (λ r. AreTables r.events c.in-Ok.events.items c.in-Ok-tables_of.tables.value) (sym c.of.ensures)
+          (subst (λ l. AreTables c.args.indexed.now.events l c.in-Ok-tables_of.tables.value) (sym c.in-Ok.ensures.items) c.in-Ok-tables_of.ensures),
     )
