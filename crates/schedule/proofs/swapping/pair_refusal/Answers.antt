@@ -1,6 +1,6 @@
 use Rattle.std.proofs.Common.{cond, Some, None, sym, ap}
 use Rattle.std.proofs.lemmas.Bool.Decides.{same_from_decides}
-use Rattle.event_index.specs.Relations.{IsIndependent, is_independent}
+use Rattle.event_index.specs.Relations.{is_independent}
 use Rattle.event_index.proofs.CallerLemmas.{Decides-is_independent}
 use Rattle.std.proofs.Common.{◌≡◌, ◌∙◌}
 use Rattle.schedule.specs.declared.refusal.SwapRefusal.TheVariants.{Dependent}
