@@ -1,22 +1,26 @@
 -- Lemmas for the crates above: what the look-ups tell, from their definitions alone.
-use Rattle.std.proofs.Common.{◌≡◌, ℕ, ◌+◌, ◌-◌, ◌<◌, ◌≤◌, ◌⊎◌, true, false, eqb, List, reverse, Option, Some, None, length, refl, sym, ap, ◌∙◌, arith, inl, inr, true≢false}
+use Rattle.std.proofs.Common.{◌≡◌, ℕ, ◌+◌, ◌-◌, ◌<◌, ◌≤◌, ◌⊎◌, ◌||◌, Bool, true, false, eqb, List, reverse, Option, Some, None, length, refl, sym, ap, ◌∙◌, arith, inl, inr, true≢false}
 use Rattle.std.specs.List.{All, find, slice_get}
 use Rattle.std.specs.Option.{option_map}
-use Rattle.std.proofs.lemmas.Bool.{eqb-true, cases_order}
+use Rattle.std.proofs.lemmas.Bool.{eqb-true, cases_order, or_cases, or_left, or_right}
 use Rattle.std.proofs.lemmas.List.Elements.{All-from_get_or, All-filter, All-weaker, filter_passes}
 use Rattle.std.proofs.lemmas.List.FromFn.{length-range_with_len, get_or-range_with_len}
 use Rattle.std.proofs.lemmas.List.Sums.{length-filter, count_by-le-length}
-use Rattle.std.proofs.lemmas.Option.{none-some}
-use Rattle.rapid_text.specs.Operations.{is_fork}
+use Rattle.std.proofs.lemmas.Option.{none-some, slice_get_within}
+use Rattle.rapid_text.specs.Operations.{is_fork, is_write}
 use Rattle.rapid_text.specs.declared.event.Event.{Event}
 use Rattle.rapid_text.specs.declared.event.Op.{Op}
 use Rattle.rapid_text.specs.declared.event.Op.TheVariants.{Read, Write, Acquire, Release, Fork, Join}
 use Rattle.trace_rules.specs.Rules.{IsDisciplined}
 use Rattle.event_index.specs.Events.{op_at, thread_at, passes_by, is_of_thread, is_write_at, is_fork_at}
+use Rattle.event_index.specs.Relations.{IsConflicting}
 use Rattle.event_index.specs.Lookups.{before, events_of, place_of, place_by, last_writer, last_writer_by, fork_of, or_else, base_of, base_by, section_end, section_of, section_by}
 use Rattle.event_index.proofs.ScanLemmas.{find_first_is, find_last_is, find_last_none}
 use Rattle.event_index.proofs.StepLemmas.{count_before-le}
 pub use Rattle.event_index.proofs.PlaceLemmas.{events_before, length-events_before, events_of-place, place_of-events_of}
+-- the first and the last that passes a test, one event further; how a count and a place go on
+pub use Rattle.event_index.proofs.ScanLemmas.{before_more, filter_more_before, find_first_is, find_last_is, find_last_yes, find_last_no, none_found, find_none}
+pub use Rattle.event_index.proofs.StepLemmas.{passes_here, count_more, place_of-count}
 pub use Rattle.event_index.proofs.RelationLaws.{Decides-is_clash, Decides-is_apart, Decides-is_conflict, Decides-is_independent}
 
 never : {A : Type 0} (w : ℕ) → None ≡ Some w → A
@@ -168,3 +172,34 @@ events_of-length T t =
       count_by-le-length (is_of_thread T t) (before (length T)),
       length-range_with_len 0 (length T),
     )
+
+-- the fork of a thread forks it
+pub fork_of-op : (T : List Event) (u f : ℕ) → fork_of T u ≡ Some f → op_at T f ≡ Some (Fork u)
+fork_of-op T u f is =
+    let fork = fork_found u (slice_get T f) (fork_of-some T u f is).1 in
+    ap (option_map (λ (v : Event). v.op)) fork.1 ∙ ap Some fork.2
+
+-- a base is an event of the trace, in an execution that keeps the rules
+pub base_of-within : (T : List Event) → IsDisciplined T → (e b : ℕ) → base_of T e ≡ Some b → b < length T
+base_of-within T rules e b is =
+    let found = base_by-some T e b (slice_get T e) is in
+    omega (arith, base_of-earlier T rules e b is, slice_get_within T e found.0 found.1)
+
+or_turned : (p q : Bool) → (p || q) ≡ true → (q || p) ≡ true
+or_turned p q h = elim (or_cases p q h) [ inl first ↦ or_right q p first | inr second ↦ or_left q p second ]
+
+-- a conflict goes both ways
+pub IsConflicting-sym : (T : List Event) (a b : ℕ) → IsConflicting T a b → IsConflicting T b a
+IsConflicting-sym T a b is = record {
+  v = is.w;
+  w = is.v;
+  first = is.second;
+  second = is.first;
+  clash = record {
+    threads = λ one. is.clash.threads (sym one);
+    variable = is.clash.variable;
+    first = is.clash.second;
+    second = is.clash.first;
+    writes = or_turned (is_write is.clash.variable is.v.op) (is_write is.clash.variable is.w.op) is.clash.writes;
+  };
+}

@@ -11,6 +11,10 @@ pub use Rattle.shb_clocks.proofs.EdgeLemmas.{Edge-earlier, IsShbBefore-le, along
 -- the base and the counterpart of an event: all that is SHB-before it is SHB-before or equal to one of them
 pub use Rattle.shb_clocks.proofs.SourceLemmas.{Edge-base, Edge-counterpart}
 pub use Rattle.shb_clocks.proofs.OrderLemmas.{Leads, IsShbBefore-sources}
+-- an earlier event of the thread, and the thread's fork, are at or before the base
+pub use Rattle.shb_clocks.proofs.SourceLemmas.{base-after, base-after_fork, is_of_thread-thread, fork_of-is, end_of_thread-event, end_of_thread-fork}
+-- what an event found in the trace does, and which thread does it
+pub use Rattle.shb_clocks.proofs.EdgeLemmas.{thread_here, op_here, one_thread}
 -- the events of a candidate are in the trace
 pub use Rattle.shb_clocks.proofs.PartnerLemmas.{candidate_within}
 -- no other list is meant by the first candidates
