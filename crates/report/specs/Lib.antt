@@ -1,2 +1,4 @@
 pub mod Candidates
+pub mod Causes
 pub mod Info
+pub mod Pieces

@@ -2,6 +2,7 @@
 #![tactic(auto)]
 
 mod candidate_lines;
+mod causes;
 mod info_lines;
 mod pieces;
 #[cfg(test)]
@@ -9,3 +10,4 @@ mod tests;
 
 pub use candidate_lines::candidates;
 pub use info_lines::info;
+pub use pieces::{Piece, append_number, append_pieces};
