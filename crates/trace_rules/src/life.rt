@@ -1,5 +1,5 @@
 //! What a thread went through so far.
-ghost use Rattle.std.specs.Prelude.{◌≡◌, ◌≢◌, ℕ, List, []};
+ghost use Rattle.std.specs.Prelude.{◌≡◌, ℕ, List, []};
 ghost use Rattle.rapid_text.specs.declared.event.Event.{Event};
 ghost use Rattle.rapid_text.specs.declared.event.Op.{Op};
 ghost use Rattle.trace_rules.specs.Rules.{breach_of_op};
@@ -26,10 +26,13 @@ pub(crate) fn unborn() -> Life
     }
 }
 
-/// The rule that another thread breaks where it forks the thread of this life now.
-pub(crate) fn breach_of_fork(life: Life) -> Option<RuleCause>
-    ensures { (es : List Event) (t u : ℕ) → u ≢ t → IsLifeOf es u life → result ≡ breach_of_op es t (Op.Fork u) }
+/// The rule that the thread `by` breaks where it forks the thread of this life now.
+pub(crate) fn breach_of_fork(life: Life, thread: u32, by: u32) -> Option<RuleCause>
+    ensures { (es : List Event) → IsLifeOf es thread life → result ≡ breach_of_op es by (Op.Fork thread) }
 {
+    if thread == by {
+        return Some(RuleCause::OwnThread);
+    }
     if life.was_forked {
         return Some(RuleCause::ForkTwice);
     }
@@ -37,4 +40,15 @@ pub(crate) fn breach_of_fork(life: Life) -> Option<RuleCause>
         return Some(RuleCause::ForkLate);
     }
     None
+}
+
+/// The rule that the thread `by` breaks where it joins this thread.
+pub(crate) fn breach_of_join(thread: u32, by: u32) -> Option<RuleCause>
+    ensures { (es : List Event) → result ≡ breach_of_op es by (Op.Join thread) }
+{
+    if thread == by {
+        Some(RuleCause::OwnThread)
+    } else {
+        None
+    }
 }

@@ -43,19 +43,9 @@ impl State {
             Op::Acquire(lock) => hold::breach_of_acquire(self.holds[lock as usize], event.thread),
             Op::Release(lock) => hold::breach_of_release(self.holds[lock as usize], event.thread),
             Op::Fork(thread) => {
-                if thread == event.thread {
-                    Some(RuleCause::OwnThread)
-                } else {
-                    life::breach_of_fork(self.lives[thread as usize])
-                }
+                life::breach_of_fork(self.lives[thread as usize], thread, event.thread)
             }
-            Op::Join(thread) => {
-                if thread == event.thread {
-                    Some(RuleCause::OwnThread)
-                } else {
-                    None
-                }
-            }
+            Op::Join(thread) => life::breach_of_join(thread, event.thread),
         }
     }
 
