@@ -50,9 +50,8 @@ with_event r e =
 
 -- the recording behind a line that is not refused
 abbrev pub with_line : Recording → LineReading → Recording
-with_line r Skipped = r
-with_line r (Refused why) = r
 with_line r (Says e) = with_event r e
+with_line r line = r
 
 -- why the event is refused behind this recording, if it is
 abbrev pub fault_beyond : Recording → NamedEvent → Option TextCause

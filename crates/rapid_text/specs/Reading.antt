@@ -113,9 +113,8 @@ line_reading raw =
 
 -- the event that a line asks for, if it asks for one
 abbrev pub event_said : LineReading → Option NamedEvent
-event_said Skipped = None
-event_said (Refused why) = None
 event_said (Says event) = Some event
+event_said line = None
 
 -- the events that lines ask for, in order
 abbrev pub named_events : List (List ℕ) → List NamedEvent
@@ -125,39 +124,31 @@ named_events lines = filter_map (λ line. event_said (line_reading line)) lines
 abbrev pub name_where : (Kind → Bool) → NamedEvent → List (List ℕ)
 name_where test event = if test event.kind then event.name ∷ [] else []
 
-abbrev pub is_of_variable : Kind → Bool
-is_of_variable Reads = true
-is_of_variable Writes = true
-is_of_variable Acquires = false
-is_of_variable Releases = false
-is_of_variable Forks = false
-is_of_variable Joins = false
+-- whether the name behind the operation is that of a variable, of a lock, of a thread
+abbrev pub names_variable : Kind → Bool
+names_variable Reads = true
+names_variable Writes = true
+names_variable kind = false
 
-abbrev pub is_of_lock : Kind → Bool
-is_of_lock Reads = false
-is_of_lock Writes = false
-is_of_lock Acquires = true
-is_of_lock Releases = true
-is_of_lock Forks = false
-is_of_lock Joins = false
+abbrev pub names_lock : Kind → Bool
+names_lock Acquires = true
+names_lock Releases = true
+names_lock kind = false
 
-abbrev pub is_of_thread : Kind → Bool
-is_of_thread Reads = false
-is_of_thread Writes = false
-is_of_thread Acquires = false
-is_of_thread Releases = false
-is_of_thread Forks = true
-is_of_thread Joins = true
+abbrev pub names_thread : Kind → Bool
+names_thread Forks = true
+names_thread Joins = true
+names_thread kind = false
 
 -- the uses of threads, variables and locks by name; in a line its thread comes before its operation
 abbrev pub thread_uses : List NamedEvent → List (List ℕ)
-thread_uses events = flat_map (λ event. event.thread ∷ name_where is_of_thread event) events
+thread_uses events = flat_map (λ event. event.thread ∷ name_where names_thread event) events
 
 abbrev pub variable_uses : List NamedEvent → List (List ℕ)
-variable_uses events = flat_map (name_where is_of_variable) events
+variable_uses events = flat_map (name_where names_variable) events
 
 abbrev pub lock_uses : List NamedEvent → List (List ℕ)
-lock_uses events = flat_map (name_where is_of_lock) events
+lock_uses events = flat_map (name_where names_lock) events
 
 -- each name once, in the order of first uses
 abbrev pub first_uses : List (List ℕ) → List (List ℕ)

@@ -6,6 +6,7 @@ ghost use Rattle.schedule.specs.Faults.{IsListRefusal};
 ghost use Rattle.schedule.specs.Refusals.{refusal_of, IsRefusalOf, NamesHolder};
 ghost use Rattle.schedule.specs.Reordering.{IsCorrectReordering, IsEnabled};
 ghost use Rattle.schedule.specs.Shows.{Shows, does_show};
+ghost use Rattle.schedule.specs.Tables.{AreTables};
 ghost use Rattle.schedule.specs.Swaps.{exchanged, swap_refusal, MayExchange};
 ghost use Rattle.schedule.specs.declared.refusal.PrefixRefusal.TheVariants.{TooShort};
 ghost use Rattle.schedule.specs.declared.refusal.SwapRefusal.TheVariants.{NoSuchPair};
@@ -14,6 +15,7 @@ use crate::refusal::{Disabled, ExtendRefusal, ListRefusal, PrefixRefusal, SwapRe
 use crate::refusing::refusal_of;
 use crate::showing::is_ready;
 use crate::swapping::swap_refusal;
+use crate::tables::{Tables, forget, no_tables, note, tables_of};
 use event_index::Indexed;
 use rapid_text::OutOfMemory;
 use std::alloc::Global;
@@ -25,6 +27,8 @@ use std::snapshot::Snapshot;
 pub struct Schedule {
     trace: Snapshot<Indexed>,
     events: Vec<u32>,
+    // In a box, since rows of schedules are moved about.
+    tables: Box<Tables>,
 }
 
 impl Model for Schedule {
@@ -35,6 +39,7 @@ impl Model for Schedule {
     ghost use Rattle.rapid_text.specs.Recording.{IsWellFormed};
     ghost use Rattle.trace_rules.specs.Rules.{IsDisciplined};
     ghost use Rattle.schedule.specs.Reordering.{IsCorrectReordering};
+    ghost use Rattle.schedule.specs.Tables.{AreTables};
 
     ghost view = { λ s. record {
       trace = s.trace.value;
@@ -42,7 +47,7 @@ impl Model for Schedule {
     } };
 
     ghost invariant = { λ s.
-        IsWellFormed s.trace.value × IsDisciplined s.trace.value.events × IsCorrectReordering s.trace.value.events s.events.items };
+        IsWellFormed s.trace.value × IsDisciplined s.trace.value.events × IsCorrectReordering s.trace.value.events s.events.items × AreTables s.trace.value.events s.events.items s.tables.value };
 }
 
 impl Schedule {
@@ -59,15 +64,19 @@ impl Schedule {
         self.events.as_slice()
     }
 
-    /// The schedule with no events. It takes no memory: `alloc` is kept for later.
+    /// The schedule with no events.
     pub fn empty(alloc: Global, indexed: &Indexed) -> Result<Schedule, OutOfMemory>
         ensures trace { IfOk result (λ s. s.trace ≡ indexed.now) }
         ensures events { IfOk result (λ s. s.events ≡ []) }
     {
         let _len = indexed.len();
+        let Ok(tables) = Box::new(alloc, no_tables(alloc, indexed)) else {
+            return Err(OutOfMemory);
+        };
         Ok(Schedule {
             trace: Snapshot::of(indexed),
             events: Vec::new(alloc),
+            tables,
         })
     }
 
@@ -81,11 +90,14 @@ impl Schedule {
         ensures trace { IfOk result (λ s. s.trace ≡ indexed.now) }
         ensures events { IfOk result (λ s. s.events ≡ events.items) }
     {
-        let _ = alloc;
         let _len = indexed.len();
+        let Ok(tables) = tables_of(alloc, indexed, &events) else {
+            return Err(OutOfMemory);
+        };
         Ok(Schedule {
             trace: Snapshot::of(indexed),
             events,
+            tables,
         })
     }
 
@@ -130,7 +142,7 @@ impl Schedule {
         ensures holder { IfErr result
             (NamesHolder self.now.trace.events self.now.events event) }
     {
-        match refusal_of(indexed, &self.events, event) {
+        match refusal_of(indexed, &self.tables, &self.events, event) {
             Some(cause) => Err(cause),
             None => Ok(()),
         }
@@ -148,13 +160,17 @@ impl Schedule {
         ensures refused { IfErr result
             (IsRefusalOf self.old.trace.events self.old.events event) }
     {
-        if let Some(cause) = refusal_of(indexed, &self.events, event) {
+        if let Some(cause) = refusal_of(indexed, &self.tables, &self.events, event) {
             return Err(ExtendRefusal::Disabled(cause));
         }
-        match self.events.push(event) {
-            Ok(()) => Ok(()),
-            Err(_) => Err(ExtendRefusal::OutOfMemory),
-        }
+        let Ok(()) = note(&mut self.tables, indexed, &self.events, event) else {
+            return Err(ExtendRefusal::OutOfMemory);
+        };
+        let Ok(()) = self.events.push(event) else {
+            forget(&mut self.tables, indexed, &self.events, event);
+            return Err(ExtendRefusal::OutOfMemory);
+        };
+        Ok(())
     }
 
     /// Takes the last event off and gives it, or gives None where the schedule has no events. It takes no
@@ -166,8 +182,11 @@ impl Schedule {
         ensures none { result ≡ None → self.new ≡ self.old }
         ensures empty { (result ≡ None) ↔ (self.old.events ≡ []) }
     {
-        let _ = indexed;
-        self.events.pop()
+        let Some(event) = self.events.pop() else {
+            return None;
+        };
+        forget(&mut self.tables, indexed, &self.events, event);
+        Some(event)
     }
 
     /// Whether the events at this place and the next may change places, or why they may not: what `swap`
@@ -208,6 +227,7 @@ impl Schedule {
         }
         let at = at as usize;
         self.events.swap(at, at + 1);
+        self.tables.shadows.swap(at, at + 1);
         Ok(())
     }
 
@@ -228,12 +248,17 @@ impl Schedule {
         if self.events.len() < len {
             return Err(PrefixRefusal::TooShort);
         }
-        let Ok(events) = Vec::from_slice(alloc, &self.events[..len]) else {
+        let front = &self.events[..len];
+        let Ok(events) = Vec::from_slice(alloc, front) else {
+            return Err(PrefixRefusal::OutOfMemory);
+        };
+        let Ok(tables) = tables_of(alloc, indexed, front) else {
             return Err(PrefixRefusal::OutOfMemory);
         };
         Ok(Schedule {
             trace: Snapshot::of(indexed),
             events,
+            tables,
         })
     }
 
@@ -254,6 +279,7 @@ impl Schedule {
         if !indexed.conflict(first, second) {
             return false;
         }
-        is_ready(indexed, &self.events, first) && is_ready(indexed, &self.events, second)
+        is_ready(indexed, &self.tables, &self.events, first)
+            && is_ready(indexed, &self.tables, &self.events, second)
     }
 }
