@@ -5,7 +5,7 @@ use Rattle.schedule.specs.Reordering.{IsCorrectReordering}
 use Rattle.schedule.specs.Swaps.{exchanged, swap_refusal}
 use Rattle.schedule.specs.declared.refusal.SwapRefusal.TheVariants.{NoSuchPair}
 use Rattle.schedule.proofs.CallerLemmas.{IsCorrectReordering-exchanged, swap_refusal-may, MayExchange-none, swap_refusal-past, swap_refusal-no_pair}
-use Rattle.schedule.proofs.reordering.Schedule.swap.Goals as goal
+use Rattle.schedule.proofs.schedule.Schedule.swap.Goals as goal
 
 pub returns-in-Some-clause-exact : goal.returns-in-Some-clause-exact
 returns-in-Some-clause-exact c =

@@ -3,8 +3,8 @@ use Rattle.trace_rules.specs.Rules.{IsDisciplined}
 use Rattle.schedule.specs.Refusals.{refusal_of}
 use Rattle.schedule.specs.Reordering.{IsCorrectReordering, IsEnabled}
 use Rattle.schedule.proofs.EnabledLemmas.{IsEnabled-none}
-use Rattle.schedule.proofs.reordering.Schedule.extend.Goals as goal
-use Rattle.schedule.proofs.reordering.Schedule.extend.Goals.{in-Ok, in-Err}
+use Rattle.schedule.proofs.schedule.Schedule.extend.Goals as goal
+use Rattle.schedule.proofs.schedule.Schedule.extend.Goals.{in-Ok, in-Err}
 
 pub invariant_of-self : goal.invariant_of-self
 invariant_of-self c =

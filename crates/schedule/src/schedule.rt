@@ -1,7 +1,8 @@
 //! A schedule: a correct reordering of its trace.
-ghost use Rattle.std.specs.Prelude.{◌≡◌, ◌+◌, ◌<◌, ◌≤◌, ◌↔◌, length, take, [], ◌∷◌, ◌++◌, IsOk, IsTrue, IfOk, OnOk, OnErr, IfErr, Err, IfSome, None, Some};
+ghost use Rattle.std.specs.Prelude.{◌≡◌, ℕ, ◌+◌, ◌<◌, ◌≤◌, ◌↔◌, length, take, [], ◌∷◌, ◌++◌, IsOk, IsTrue, IfOk, OnOk, OnErr, IfErr, Err, IfSome, None, Some};
 ghost use Rattle.rapid_text.specs.Recording.{IsWellFormed};
 ghost use Rattle.trace_rules.specs.Rules.{IsDisciplined};
+ghost use Rattle.schedule.specs.Faults.{IsListRefusal};
 ghost use Rattle.schedule.specs.Refusals.{refusal_of, IsRefusalOf, NamesHolder};
 ghost use Rattle.schedule.specs.Reordering.{IsCorrectReordering, IsEnabled};
 ghost use Rattle.schedule.specs.Shows.{Shows, does_show};
@@ -9,7 +10,7 @@ ghost use Rattle.schedule.specs.Swaps.{exchanged, swap_refusal, MayExchange};
 ghost use Rattle.schedule.specs.declared.refusal.PrefixRefusal.TheVariants.{TooShort};
 ghost use Rattle.schedule.specs.declared.refusal.SwapRefusal.TheVariants.{NoSuchPair};
 
-use crate::refusal::{Disabled, ExtendRefusal, PrefixRefusal, SwapRefusal};
+use crate::refusal::{Disabled, ExtendRefusal, ListRefusal, PrefixRefusal, SwapRefusal};
 use crate::refusing::refusal_of;
 use crate::showing::is_ready;
 use crate::swapping::swap_refusal;
@@ -70,6 +71,53 @@ impl Schedule {
         })
     }
 
+    /// The schedule of these events. What it takes, besides the list itself, is in the order of their number.
+    pub fn from_reordering(
+        alloc: Global,
+        indexed: &Indexed,
+        events: Vec<u32>,
+    ) -> Result<Schedule, OutOfMemory>
+        requires { IsCorrectReordering indexed.now.events events.items }
+        ensures trace { IfOk result (λ s. s.trace ≡ indexed.now) }
+        ensures events { IfOk result (λ s. s.events ≡ events.items) }
+    {
+        let _ = alloc;
+        let _len = indexed.len();
+        Ok(Schedule {
+            trace: Snapshot::of(indexed),
+            events,
+        })
+    }
+
+    /// The schedule of these events where they are a correct reordering; else the first place whose event may
+    /// not come next, and why. Memory may be wanting before that place is reached.
+    pub fn from_list(
+        alloc: Global,
+        indexed: &Indexed,
+        events: &[u32],
+    ) -> Result<Schedule, ListRefusal>
+        ensures trace { IfOk result (λ s. s.trace ≡ indexed.now) }
+        ensures events { IfOk result (λ s. s.events ≡ events.now) }
+        // It is made only of a correct reordering, and refused as none only at the first fault of the list.
+        ensures reordering { OnOk result (IsCorrectReordering indexed.now.events events.now) }
+        ensures refused { IfErr result (IsListRefusal indexed.now.events events.now) }
+    {
+        let Ok(mut schedule) = Schedule::empty(alloc, indexed) else {
+            return Err(ListRefusal::OutOfMemory);
+        };
+        for event in events {
+            let position = schedule.events().len() as u32;
+            match schedule.extend(indexed, *event) {
+                Ok(()) => {},
+                Err(ExtendRefusal::Disabled(cause)) => {
+                    return Err(ListRefusal::NotReordering { position, cause });
+                },
+                Err(ExtendRefusal::OutOfMemory) => return Err(ListRefusal::OutOfMemory),
+            }
+        }
+        Ok(schedule)
+    }
+
     /// Whether the event may come next, or the first cause why it may not.
     pub fn enabled(&self, indexed: &Indexed, event: u32) -> Result<(), Disabled>
         requires { self.now.trace ≡ indexed.now }
@@ -120,6 +168,24 @@ impl Schedule {
     {
         let _ = indexed;
         self.events.pop()
+    }
+
+    /// Whether the events at this place and the next may change places, or why they may not: what `swap`
+    /// answers there.
+    pub fn exchangeable(&self, indexed: &Indexed, at: u32) -> Result<(), SwapRefusal>
+        requires { self.now.trace ≡ indexed.now }
+        // They may exactly where both are there and they are independent.
+        ensures exact { IsOk result ↔ MayExchange self.now.trace.events self.now.events at }
+        ensures no_pair { (result ≡ Err NoSuchPair) ↔ (length self.now.events ≤ at + 1) }
+        // The same as a function, for definitions that compute with it.
+        ensures none { OnOk result (swap_refusal self.now.trace.events self.now.events at ≡ None) }
+        ensures cause { IfErr result
+            (λ cause. swap_refusal self.now.trace.events self.now.events at ≡ Some cause) }
+    {
+        match swap_refusal(indexed, &self.events, at) {
+            Some(cause) => Err(cause),
+            None => Ok(()),
+        }
     }
 
     /// Exchanges the events at this place and the next, where they are independent. It takes no memory.

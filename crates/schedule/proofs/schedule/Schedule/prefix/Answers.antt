@@ -3,7 +3,7 @@ use Rattle.rapid_text.specs.Recording.{IsWellFormed}
 use Rattle.trace_rules.specs.Rules.{IsDisciplined}
 use Rattle.schedule.specs.Reordering.{IsCorrectReordering}
 use Rattle.schedule.proofs.CallerLemmas.{IsCorrectReordering-take}
-use Rattle.schedule.proofs.reordering.Schedule.prefix.Goals as goal
+use Rattle.schedule.proofs.schedule.Schedule.prefix.Goals as goal
 
 pub invariant_of-result : goal.invariant_of-result
 invariant_of-result c =

@@ -1,7 +1,7 @@
 use Rattle.std.proofs.Common.{◌≡◌, ◌-◌, length, take, sym, subst, arith, rules}
 use Rattle.schedule.specs.Reordering.{IsCorrectReordering}
 use Rattle.schedule.proofs.CallerLemmas.{IsCorrectReordering-take}
-use Rattle.schedule.proofs.reordering.Schedule.retract.Goals as goal
+use Rattle.schedule.proofs.schedule.Schedule.retract.Goals as goal
 
 pub invariant_of-self : goal.invariant_of-self
 invariant_of-self c =
