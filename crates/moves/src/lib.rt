@@ -2,6 +2,7 @@
 #![tactic(auto)]
 
 mod board;
+mod checks;
 mod command;
 mod inverse;
 mod listing;

@@ -1,10 +1,11 @@
 //! Steps on the rows of a workspace, which lie in rising birth.
-ghost use Rattle.std.specs.Prelude.{◌≡◌, ◌<◌, ◌++◌, ◌∷◌, [], ℕ, List, OnOk, OnErr, IfOk, IfErr, IfSome, IfNone, Some, None, slice_get, nat_lt, ◌==◌, position, length};
+ghost use Rattle.std.specs.Prelude.{◌≡◌, ◌<◌, ◌++◌, ◌∷◌, [], ℕ, List, OnOk, OnErr, IfOk, IfErr, IfSome, IfNone, Some, None, slice_get, nat_lt, ◌==◌, position, length, option_map};
 ghost use Rattle.std.specs.List.{position_or_len};
 ghost use Rattle.indexmap.specs.IndexMap.{values, index_map_len};
 ghost use Rattle.indexmap.specs.Layout.{set_value_at};
 ghost use Rattle.schedule.specs.Refusals.{refusal_of, IsRefusalOf};
 ghost use Rattle.schedule.specs.Swaps.{exchanged, swap_refusal};
+ghost use Rattle.moves.specs.declared.row.Row.{Row as RowValue};
 ghost use Rattle.moves.specs.Rows.{row_of, put_in, with_row, age, Below, IsOfTrace};
 ghost use Rattle.moves.specs.Moves.{with_events, front};
 ghost use Rattle.moves.specs.Applied.{IsAt, IsTakenOff};
@@ -118,7 +119,9 @@ pub(crate) fn pop_at(rows: &mut Listing, indexed: &Indexed, at: usize) -> Option
     let (_, row) = rows.pair_mut(at);
     // that the whole list is a correct reordering is why its last event may be appended again
     let _events = row.schedule.events();
-    let event = row.schedule.retract(indexed)?;
+    let Some(event) = row.schedule.retract(indexed) else {
+        return None;
+    };
     Some(event)
 }
 
@@ -158,7 +161,11 @@ pub(crate) fn replace_at(rows: &mut Listing, at: usize, schedule: Schedule) -> S
 }
 
 /// The schedule of this name.
-pub(crate) fn schedule_of(rows: &Listing, indexed: &Indexed, name: Name) -> Option<&Schedule>
+pub(crate) fn schedule_of<'a>(
+    rows: &'a Listing,
+    indexed: &Indexed,
+    name: Name,
+) -> Option<&'a Schedule>
     requires { IsOfTrace indexed.now rows.now.entries }
     ensures none { IfNone result (row_of rows.now.entries name ≡ None) }
     ensures some { IfSome result

@@ -7,6 +7,7 @@ ghost use Rattle.moves.specs.Inverses.{CanTurn, IsTurned};
 ghost use Rattle.moves.specs.Applied.{IsApplied, IsChecked};
 
 use crate::board::Board;
+use crate::checks;
 use crate::command::Command;
 use crate::inverse::Inverse;
 use crate::listing::Listing;
@@ -107,7 +108,7 @@ impl Workspace {
         requires { IsOfTrace indexed.now self.now }
         ensures { (n : ℕ) → IsChecked indexed.now board.now n command.now self.now result }
     {
-        Err(MoveRefusal::OutOfMemory)
+        checks::check(&self.rows, indexed, board, command)
     }
 
     /// Applies the command, and gives what takes it back. A row that it makes has this birth.

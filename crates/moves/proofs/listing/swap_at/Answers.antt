@@ -4,9 +4,9 @@ use Rattle.indexmap.specs.Layout.{set_value_at}
 use Rattle.moves.proofs.PlaceLemmas.{set_same}
 use Rattle.moves.proofs.listing.swap_at.Goals as goal
 
-pub returns-in_default-clause-err : goal.returns-in_default-clause-err
-returns-in_default-clause-err c =
+pub returns-clause-err : goal.returns-clause-err
+returns-clause-err c =
     let W = c.args.rows.now.entries in
     let r = c.pair_mut-row.result.1.now in
-    ap (λ (s : Scheduled). set_value_at W c.args.at (record { birth = r.birth; schedule = s })) c.in_default.ensures.err
+    ap (λ (s : Scheduled). set_value_at W c.args.at (record { birth = r.birth; schedule = s })) c.in-Err.ensures.err
     ∙ set_same W c.args.at c.pair_mut-row.result.0.now r c.pair_mut-row.ensures.value
