@@ -138,8 +138,7 @@ pub found : (W : Rows) (x : List ℕ) (o : Option ℕ) → o ≡ position (bytes
 found W x None e value there = tt
 found W x (Some i) e value there = found_case W x i (row_of W x) (sym e) value there refl
 
-
-front_push : (P : List ℕ) (e : ℕ) → front (P ++ e ∷ []) ≡ P
+pub front_push : (P : List ℕ) (e : ℕ) → front (P ++ e ∷ []) ≡ P
 front_push P e = take_at P (e ∷ []) (length (P ++ e ∷ []) - 1) (omega (arith, length_push P e))
 
 -- a row whose last event was taken off, and may come next again
@@ -149,8 +148,7 @@ taken_off W V i r s e is trace last reordering =
     let P : List ℕ = r.schedule.events in
     let shorter : s.events ≡ front P = sym (ap front last ∙ front_push s.events e) in
     let same : s ≡ (record { trace = r.schedule.trace; events = front P }) = λ j. record { trace = trace j; events = shorter j } in
-    let whole : P ≡ front P ++ e ∷ [] = last ∙ ap (λ (Q : List ℕ). Q ++ e ∷ []) shorter in
-    (
+    let whole : P ≡ front P ++ e ∷ [] = last ∙ ap (λ (Q : List ℕ). Q ++ e ∷ []) shorter in (
       is ∙ ap (λ (t : Scheduled). set_value_at W i (record { birth = r.birth; schedule = t })) same,
       whole,
       refusal_of-enabled r.schedule.trace.events (front P) e (subst (IsCorrectReordering r.schedule.trace.events) whole reordering),

@@ -21,12 +21,7 @@ fn check_fresh(rows: &Listing, indexed: &Indexed, name: Name) -> Result<(), Move
     Ok(())
 }
 
-fn check_add(
-    rows: &Listing,
-    indexed: &Indexed,
-    name: Name,
-    event: u32,
-) -> Result<(), MoveRefusal>
+fn check_add(rows: &Listing, indexed: &Indexed, name: Name, event: u32) -> Result<(), MoveRefusal>
     requires { IsOfTrace indexed.now rows.now.entries }
     ensures { (n : ℕ) → IsChecked indexed.now [] n (Command.Add name event) rows.now.entries result }
 {

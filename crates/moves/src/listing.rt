@@ -6,7 +6,7 @@ ghost use Rattle.indexmap.specs.Layout.{set_value_at};
 ghost use Rattle.schedule.specs.Refusals.{refusal_of, IsRefusalOf};
 ghost use Rattle.schedule.specs.Swaps.{exchanged, swap_refusal};
 ghost use Rattle.moves.specs.declared.row.Row.{Row as RowValue};
-ghost use Rattle.moves.specs.Rows.{row_of, put_in, with_row, age, Below, IsOfTrace};
+ghost use Rattle.moves.specs.Rows.{row_of, put_in, age, Below, IsOfTrace};
 ghost use Rattle.moves.specs.Moves.{with_events, front};
 ghost use Rattle.moves.specs.Applied.{IsAt, IsTakenOff};
 
@@ -54,11 +54,7 @@ fn place_of(rows: &Listing, birth: u64) -> usize
 }
 
 /// Puts in a row at its place by birth.
-pub(crate) fn put(
-    rows: &mut Listing,
-    name: Name,
-    row: Row,
-) -> Result<(), AllocFailed<(Name, Row)>>
+pub(crate) fn put(rows: &mut Listing, name: Name, row: Row) -> Result<(), AllocFailed<(Name, Row)>>
     requires fresh { row_of rows.old.entries name ≡ None }
     ensures ok { OnOk result (rows.new.entries ≡ put_in name row rows.old.entries) }
     ensures err { OnErr result (rows.new.entries ≡ rows.old.entries) }
@@ -78,14 +74,6 @@ pub(crate) fn find(rows: &Listing, name: Name) -> Option<usize>
     rows.get_index_of(&name)
 }
 
-/// Takes the row of this name out.
-pub(crate) fn take_out(rows: &mut Listing, name: Name) -> Option<Row>
-    ensures row { result ≡ row_of rows.old.entries name }
-    ensures rows { rows.new.entries ≡ with_row rows.old.entries name None }
-{
-    rows.shift_remove(&name)
-}
-
 /// Appends an event to the row at this place.
 pub(crate) fn push_at(
     rows: &mut Listing,
@@ -97,8 +85,8 @@ pub(crate) fn push_at(
     requires of_trace { IsOfTrace indexed.now rows.old.entries }
     ensures ok { OnOk result
         (IfSome (slice_get rows.old.entries at) (λ p.
-            (rows.new.entries ≡ set_value_at rows.old.entries at (with_events p.1 (p.1.schedule.events ++ event ∷ [])))
-            × (refusal_of p.1.schedule.trace.events p.1.schedule.events event ≡ None))) }
+        (rows.new.entries ≡ set_value_at rows.old.entries at (with_events p.1 (p.1.schedule.events ++ event ∷ [])))
+        × (refusal_of p.1.schedule.trace.events p.1.schedule.events event ≡ None))) }
     ensures err { OnErr result (rows.new.entries ≡ rows.old.entries) }
     ensures refused { IfErr result (λ why. IfSome (slice_get rows.old.entries at) (λ p.
         IsRefusalOf p.1.schedule.trace.events p.1.schedule.events event why)) }
@@ -136,8 +124,8 @@ pub(crate) fn swap_at(
     requires of_trace { IsOfTrace indexed.now rows.old.entries }
     ensures ok { OnOk result
         (IfSome (slice_get rows.old.entries at) (λ p.
-            (rows.new.entries ≡ set_value_at rows.old.entries at (with_events p.1 (exchanged p.1.schedule.events place)))
-            × (swap_refusal p.1.schedule.trace.events p.1.schedule.events place ≡ None))) }
+        (rows.new.entries ≡ set_value_at rows.old.entries at (with_events p.1 (exchanged p.1.schedule.events place)))
+        × (swap_refusal p.1.schedule.trace.events p.1.schedule.events place ≡ None))) }
     ensures err { OnErr result (rows.new.entries ≡ rows.old.entries) }
     ensures refused { IfErr result (λ why. IfSome (slice_get rows.old.entries at) (λ p.
         swap_refusal p.1.schedule.trace.events p.1.schedule.events place ≡ Some why)) }
