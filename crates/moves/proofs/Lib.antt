@@ -1,3 +1,4 @@
+pub mod BackLemmas
 pub mod CallerLemmas
 pub mod ChainLemmas
 pub mod EffectLemmas
