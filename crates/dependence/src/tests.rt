@@ -1,0 +1,1 @@
+//! What no clause says: that the calls find room where there is memory.
