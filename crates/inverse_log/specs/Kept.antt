@@ -40,4 +40,4 @@ pub record IsBench (T : Recording) (L : List Entry) (W : Rows) (B : List Proposa
   pub kept : IsKept T L W B steps
   pub listed : IsListed L N C
   pub legal : IsLegal T L
-  pub edits : edits ≡ edits_of L
+  pub counted : edits ≡ edits_of L
