@@ -1,10 +1,13 @@
--- Numbers put at the end of a list and taken out of it.
-use Rattle.std.proofs.Common.{◌≡◌, ◌≢◌, ◌++◌, All, ℕ, ◌<◌, Bool, true, false, eqb, cond, List, [], ◌∷◌, refl, sym, ap, ◌∙◌, arith, inl, inr}
+-- Numbers put at the end of lists and taken out of them.
+use Rattle.std.proofs.Common.{◌≡◌, ◌≢◌, ◌++◌, All, ℕ, ◌<◌, ◌≤◌, Bool, true, false, eqb, cond, List, [], ◌∷◌, refl, sym, ap, subst, ◌∙◌, arith, inl, inr}
 use Rattle.std.proofs.lemmas.Bool.{eq-eqb}
 use Rattle.std.proofs.lemmas.Bool.Decides.{eqb_tells}
 use Rattle.std.proofs.lemmas.List.{append-nil}
-use Rattle.std.proofs.lemmas.List.Elements.{All-head, All-tail, All-weaker}
-use Rattle.dependence.specs.Lists.{without}
+use Rattle.std.proofs.lemmas.List.Elements.{All-head, All-tail, All-weaker, All-push}
+use Rattle.std.proofs.lemmas.Map.Views.{All-remove_key}
+use Rattle.moves.specs.declared.command.Command.{Command}
+use Rattle.moves.specs.Commands.{touches}
+use Rattle.dependence.specs.Lists.{Lists, without, under, Pushed, Removed, Same, AllBelow}
 
 -- a number that is not there
 pub without_other : (k : ℕ) (xs : List ℕ) → All (λ j. j ≢ k) xs → without k xs ≡ xs
@@ -31,3 +34,24 @@ without_last k xs all =
 pub back_out : (b : Bool) (k : ℕ) (t u v w : List ℕ) → All (λ j. j < k) t → u ≡ cond b (t ++ k ∷ []) t → v ≡ u → w ≡ cond b (without k v) v → w ≡ t
 back_out true k t u v w low pushed same removed = removed ∙ ap (without k) (same ∙ pushed) ∙ without_last k t low
 back_out false k t u v w low pushed same removed = removed ∙ same ∙ pushed
+
+below_put : (b : Bool) (k m : ℕ) (t : List ℕ) → All (λ j. j < k) t → k < m → All (λ j. j < m) (cond b (t ++ k ∷ []) t)
+below_put true k m t low up = All-push (λ j. j < m) t k (All-weaker (λ j. j < k) (λ j. j < m) (λ j h. omega arith) t low) up
+below_put false k m t low up = All-weaker (λ j. j < k) (λ j. j < m) (λ j h. omega arith) t low
+
+-- numbers that are below k, and k itself, are below what is above k
+pub below_pushed : (k m : ℕ) (d : Command) (T U : Lists) → AllBelow k T → k < m → Pushed k d T U → AllBelow m U
+below_pushed k m d T U low up pushed x = subst (All (λ j. j < m)) (sym (pushed x)) (below_put (touches d x) k m (under T x) (low x) up)
+
+pub below_more : (k m : ℕ) (T : Lists) → AllBelow k T → k ≤ m → AllBelow m T
+below_more k m T low up x = All-weaker (λ j. j < k) (λ j. j < m) (λ j h. omega arith) (under T x) (low x)
+
+pub below_same : (k : ℕ) (T U : Lists) → AllBelow k T → Same T U → AllBelow k U
+below_same k T U low same x = subst (All (λ j. j < k)) (sym (same x)) (low x)
+
+below_taken : (b : Bool) (k m : ℕ) (t : List ℕ) → All (λ j. j < m) t → All (λ j. j < m) (cond b (without k t) t)
+below_taken true k m t low = All-remove_key (eqb k) (λ j. j < m) t low
+below_taken false k m t low = low
+
+pub below_removed : (k m : ℕ) (d : Command) (T U : Lists) → AllBelow m T → Removed k d T U → AllBelow m U
+below_removed k m d T U low removed x = subst (All (λ j. j < m)) (sym (removed x)) (below_taken (touches d x) k m (under T x) (low x))

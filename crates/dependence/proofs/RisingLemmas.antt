@@ -23,9 +23,9 @@ pub insert_last : (k : ℕ) (xs : List ℕ) → All (λ j. j < k) xs → insert_
 insert_last k [] all = refl
 insert_last k (x ∷ xs) all =
     subst
-        (λ r. match_ordering r (k ∷ x ∷ xs) (x ∷ xs) (x ∷ insert_key nat_cmp xs k) ≡ x ∷ (xs ++ k ∷ []))
-        (nat_cmp_is k x Greater (All-head (λ j. j < k) x xs all))
-        (ap (λ ys. x ∷ ys) (insert_last k xs (All-tail (λ j. j < k) x xs all)))
+    (λ r. match_ordering r (k ∷ x ∷ xs) (x ∷ xs) (x ∷ insert_key nat_cmp xs k) ≡ x ∷ (xs ++ k ∷ []))
+    (nat_cmp_is k x Greater (All-head (λ j. j < k) x xs all))
+    (ap (λ ys. x ∷ ys) (insert_last k xs (All-tail (λ j. j < k) x xs all)))
 
 -- the first of those that pass a test is the first that passes it
 pub first_kept : (p : ℕ → Bool) (xs : List ℕ) → slice_get (filter p xs) 0 ≡ find p xs

@@ -57,9 +57,7 @@ impl Numbers {
         ensures least { IsLeastAbove entry self.now result }
         ensures first { result ≡ find (λ k. nat_lt entry k) self.now }
     {
-        let mut above = self
-            .items
-            .range((Bound::Excluded(entry), Bound::Unbounded));
+        let mut above = self.items.range((Bound::Excluded(entry), Bound::Unbounded));
         above.next().copied()
     }
 }

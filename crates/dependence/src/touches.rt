@@ -75,16 +75,14 @@ impl Touches {
         ensures ok { OnOk result (Pushed entry command.now self.old self.new) }
         ensures err { OnErr result (Same self.old self.new) }
     {
-        let touched = command.touches();
-        self.push_name(entry, touched.first)?;
-        let Some(second) = touched.second else {
-            return Ok(());
-        };
-        if second == touched.first {
+        let written = command.writes();
+        let read = command.reads();
+        self.push_name(entry, written)?;
+        if read == written {
             return Ok(());
         }
-        let Ok(()) = self.push_name(entry, second) else {
-            self.remove_name(entry, &touched.first);
+        let Ok(()) = self.push_name(entry, read) else {
+            self.remove_name(entry, &written);
             return Err(OutOfMemory);
         };
         Ok(())
@@ -94,13 +92,11 @@ impl Touches {
     pub fn remove(&mut self, entry: u64, command: &Command)
         ensures { Removed entry command.now self.old self.new }
     {
-        let touched = command.touches();
-        self.remove_name(entry, &touched.first);
-        let Some(second) = touched.second else {
-            return;
-        };
-        if second != touched.first {
-            self.remove_name(entry, &second);
+        let written = command.writes();
+        let read = command.reads();
+        self.remove_name(entry, &written);
+        if read != written {
+            self.remove_name(entry, &read);
         }
     }
 
