@@ -1,7 +1,9 @@
 -- The other calls: a proposal, and the looks, which change nothing.
 use Rattle.std.proofs.Common.{◌≡◌, false, true, inr, inl, ℕ, ◌<◌, ◌≤◌, List, [], ◌∷◌, ◌++◌, Option, Some, None, Ok, Err, length, filter, sym, ap, ◌∙◌, subst, refl, arith}
 use Rattle.std.specs.Arc.{arc_value}
-use Rattle.std.specs.Option.{option_map}
+use Rattle.std.specs.Option.{option_map, IfSome}
+use Rattle.std.specs.Str.{bytes_eq}
+use Rattle.std.proofs.lemmas.Map.Entries.{All-lookup}
 use Rattle.std.proofs.lemmas.Bool.{lt-ltb, cases_Bool}
 use Rattle.std.proofs.lemmas.List.{append-nil}
 use Rattle.std.proofs.lemmas.List.Elements.{filter-append}
@@ -29,7 +31,7 @@ use Rattle.inverse_log.specs.Kept.{IsBench}
 use Rattle.inverse_log.specs.Log.{board_of, is_by, is_edit, edits_of}
 use Rattle.inverse_log.specs.Pairs.{shown_pairs}
 use Rattle.inverse_log.specs.Touching.{touches_name}
-use Rattle.inverse_log.proofs.DoLemmas.{after_ok}
+use Rattle.inverse_log.proofs.DoLemmas.{after_ok, of_trace}
 use Rattle.inverse_log.proofs.Inner.{Keeps}
 use Rattle.inverse_log.proofs.KeptLemmas.{kept_rows, kept_proposed}
 use Rattle.inverse_log.proofs.LawLemmas.{proposal}
@@ -120,6 +122,14 @@ module _ (own : Inside) (b : Keeps own) where
 
   pub list_answer : (c : ℕ) (names : List (List ℕ)) → names ≡ names_of W → answer_of T L c ListNames ≡ Ok (Listing names)
   list_answer c names is = rw (kept_rows T L W B steps b.kept, is) refl
+
+  -- a schedule of the rows is one of the trace
+  pub races_trace : (x : List ℕ) (s : Scheduled) → option_map (λ (r : Row). r.schedule) (row_of W x) ≡ Some s → s.trace ≡ T
+  races_trace x s there = trace_is (row_of W x) (All-lookup (λ (r : Row). r.schedule.trace ≡ T) (bytes_eq x) W (of_trace own b T refl)) there
+    where
+      trace_is : (o : Option Row) → IfSome o (λ (r : Row). r.schedule.trace ≡ T) → option_map (λ (r : Row). r.schedule) o ≡ Some s → s.trace ≡ T
+      trace_is None all h = absurd cc
+      trace_is (Some r) all h = let e : Some r.schedule ≡ Some s = h in let same : r.schedule ≡ s = cc in ap (λ (q : Scheduled). q.trace) (sym same) ∙ all
 
   pub races_none : (c : ℕ) (x : List ℕ) → row_of W x ≡ None → answer_of T L c (Races x) ≡ Err (Move NoSuchSchedule)
   races_none c x none = rw (kept_rows T L W B steps b.kept, none) refl
