@@ -1,0 +1,4 @@
+pub mod Sights
+pub mod Turns
+pub mod Seating
+pub mod Runs
