@@ -2,6 +2,7 @@ pub mod CallerLemmas
 pub mod CountLemmas
 pub mod EnabledLemmas
 pub mod ExchangeLemmas
+pub mod FaultLemmas
 pub mod ListLemmas
 pub mod LockLemmas
 pub mod ShowLemmas

@@ -9,7 +9,7 @@ use Rattle.rapid_text.specs.declared.event.Event.{Event}
 use Rattle.rapid_text.specs.declared.event.Op.TheVariants.{Acquire}
 use Rattle.trace_rules.specs.Rules.{acquire_count, release_count, hold_count}
 use Rattle.event_index.specs.Events.{passes_by, thread_at}
-use Rattle.schedule.specs.Layout.{is_acquire_at, is_acquire_by, is_release_by, last_taker}
+use Rattle.schedule.specs.Locks.{is_acquire_at, is_acquire_by, is_release_by, last_taker}
 use Rattle.schedule.specs.Refusals.{other_holder, IsOnlyHolder}
 use Rattle.schedule.specs.Reordering.{events_at, AtEach, FindsLockFree, RespectsLocks}
 use Rattle.schedule.proofs.CountLemmas.{count_by-events_at, is_acquire-true}

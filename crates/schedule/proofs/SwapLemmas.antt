@@ -14,7 +14,7 @@ use Rattle.event_index.specs.Events.{op_at, thread_at, passes_by, passes_at, is_
 use Rattle.event_index.specs.Lookups.{events_of, last_write, fork_of}
 use Rattle.event_index.specs.Relations.{is_access, is_on_lock, IsIndependent, is_independent}
 use Rattle.event_index.proofs.CallerLemmas.{fork_of-some, Decides-is_independent}
-use Rattle.schedule.specs.Layout.{is_acquire_by, is_release_by}
+use Rattle.schedule.specs.Locks.{is_acquire_by, is_release_by}
 use Rattle.schedule.specs.Refusals.{next_of}
 use Rattle.schedule.specs.Reordering.{IsCorrectReordering, StandsAfterThread, events_at}
 use Rattle.schedule.specs.Swaps.{exchanged, MayExchange, pair_refusal, swap_refusal}

@@ -1,4 +1,5 @@
-pub mod Layout
+pub mod Faults
+pub mod Locks
 pub mod Refusals
 pub mod Reordering
 pub mod Scheduled

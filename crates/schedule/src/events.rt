@@ -2,7 +2,7 @@
 ghost use Rattle.std.specs.Prelude.{◌≡◌, slice_get, IfSome};
 ghost use Rattle.rapid_text.specs.Recording.{IsNamed};
 ghost use Rattle.event_index.specs.Events.{is_of_thread, is_write_at};
-ghost use Rattle.schedule.specs.Layout.{is_acquire_at, is_acquire_by, is_release_by};
+ghost use Rattle.schedule.specs.Locks.{is_acquire_at, is_acquire_by, is_release_by};
 
 use event_index::Indexed;
 use rapid_text::{Event, Op};

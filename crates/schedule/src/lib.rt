@@ -4,12 +4,12 @@
 mod events;
 mod refusal;
 mod refusing;
-mod reordering;
 mod scans;
+mod schedule;
 mod showing;
 mod swapping;
 #[cfg(test)]
 mod tests;
 
-pub use refusal::{Disabled, ExtendRefusal, PrefixRefusal, SwapRefusal};
-pub use reordering::Schedule;
+pub use refusal::{Disabled, ExtendRefusal, ListRefusal, PrefixRefusal, SwapRefusal};
+pub use schedule::Schedule;

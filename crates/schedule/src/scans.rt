@@ -4,7 +4,7 @@ ghost use Rattle.std.specs.List.{list_all};
 ghost use Rattle.trace_rules.specs.Rules.{hold_count};
 ghost use Rattle.event_index.specs.Events.{is_of_thread};
 ghost use Rattle.event_index.specs.Lookups.{last_write, events_of};
-ghost use Rattle.schedule.specs.Layout.{last_acquire, last_taker};
+ghost use Rattle.schedule.specs.Locks.{last_acquire, last_taker};
 ghost use Rattle.schedule.specs.Refusals.{is_in, is_forked, same_option, next_of, other_holder};
 ghost use Rattle.schedule.specs.Reordering.{events_at, IsCorrectReordering};
 

@@ -1,7 +1,7 @@
 use Rattle.std.proofs.Common.{◌≡◌, ◌-◌, ◌==◌, ◌&&◌, count_by, arith, rules}
 use Rattle.rapid_text.specs.Operations.{is_acquire, is_release}
 use Rattle.trace_rules.specs.Rules.{acquire_count, release_count}
-use Rattle.schedule.specs.Layout.{is_acquire_by, is_release_by}
+use Rattle.schedule.specs.Locks.{is_acquire_by, is_release_by}
 use Rattle.schedule.specs.Reordering.{events_at}
 use Rattle.schedule.proofs.CountLemmas.{count_by-events_at}
 use Rattle.schedule.proofs.scans.hold_count.Goals as goal

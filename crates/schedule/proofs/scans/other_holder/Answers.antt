@@ -1,6 +1,6 @@
 use Rattle.std.proofs.Common.{◌≡◌, ◌<◌, Some, None, sym, arith}
 use Rattle.trace_rules.specs.Rules.{hold_count}
-use Rattle.schedule.specs.Layout.{last_taker}
+use Rattle.schedule.specs.Locks.{last_taker}
 use Rattle.schedule.specs.Reordering.{events_at}
 use Rattle.schedule.proofs.LockLemmas.{other_holder-no_taker, other_holder-own, other_holder-freed, other_holder-taker}
 use Rattle.schedule.proofs.scans.other_holder.Goals as goal
