@@ -2,6 +2,10 @@
 #![tactic(auto)]
 
 mod board;
+#[cfg(test)]
+mod judging;
+#[cfg(test)]
+mod lane_tests;
 mod seat;
 mod seats;
 #[cfg(test)]
