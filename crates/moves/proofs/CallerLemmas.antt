@@ -8,6 +8,8 @@ pub use Rattle.moves.proofs.ChainLemmas.{IsPlain, plain_more, plain_step, plain_
 -- a chain of commands and the fold tell the same; another fact at each command; a longer board
 pub use Rattle.moves.proofs.FoldLemmas.{Nothing, fold_from_leads, leads_from_fold, leads_other, leads_longer, leads_once, made_longer, get_longer}
 -- one more command; a command that no later one touches can be taken back
-pub use Rattle.moves.proofs.UndoLemmas.{plain_nil, rises_split, leads_push, IsUndone, undone, row_updated, free_here}
+pub use Rattle.moves.proofs.UndoLemmas.{plain_nil, rises_split, leads_push, IsUndone, undone, row_updated}
 -- what an applied command, a refused one and a step back leave
 pub use Rattle.moves.proofs.TurnLemmas.{applied_parts, refused_same, listing-applied, listing-turned}
+-- commands lead from correct reorderings of the trace to correct reorderings of it
+pub use Rattle.moves.proofs.KeepLemmas.{leads_kept, AreReorderings-nil, IsOfTrace-kept}

@@ -29,7 +29,7 @@ module _ (x : List ℕ) where
   ])
 
 -- a row that another listing has is free here, where the two agree elsewhere
-free_here : (x : List ℕ) (W V : Rows) (o : Option Row) → IsListing V → row_of V x ≡ o → ((y : List ℕ) → y ≢ x → row_of V y ≡ row_of W y) → IsFree W x o
+pub free_here : (x : List ℕ) (W V : Rows) (o : Option Row) → IsListing V → row_of V x ≡ o → ((y : List ℕ) → y ≢ x → row_of V y ≡ row_of W y) → IsFree W x o
 free_here x W V None l at agree = tt
 free_here x W V (Some r) l at agree = λ y s apart there.
     free_from_all V x r (others_differ V x r l at) y s apart (agree y apart ∙ there)

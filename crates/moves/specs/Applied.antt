@@ -12,7 +12,7 @@ use Rattle.moves.specs.Rows.{Rows, row_of}
 use Rattle.indexmap.specs.Layout.{set_value_at}
 use Rattle.schedule.specs.Refusals.{refusal_of}
 use Rattle.moves.specs.Moves.{made_at, applied, with_events, front}
-use Rattle.moves.specs.Inverses.{Fits}
+use Rattle.moves.specs.Inverses.{Fits, CanTurn, IsTurned}
 
 -- The command is accepted, with an inverse that is the written name's and fits its rows before and after;
 -- or want of memory where it would be accepted; or its first refusal. W are the rows before, V those after.
@@ -21,6 +21,10 @@ IsApplied T B n d W V (Ok inverse) =
     (applied T B n d W ≡ Ok V) × (inverse.name ≡ writes d) × Fits inverse.step (row_of W (writes d)) (row_of V (writes d))
 IsApplied T B n d W V (Err OutOfMemory) = IsOk (applied T B n d W) × (V ≡ W)
 IsApplied T B n d W V (Err why) = (applied T B n d W ≡ Err why) × (V ≡ W)
+
+-- the inverse can be taken at the rows V, and leads from there to W and to no other rows
+abbrev pub TakesBack : Inverse → Rows → Rows → Type 0
+TakesBack inverse V W = CanTurn inverse.name inverse.step V × ((U : Rows) → IsTurned inverse.name inverse.step V U → U ≡ W)
 
 -- it would be accepted, or its first refusal
 abbrev pub IsChecked : Recording → List Proposal → ℕ → Command → Rows → Result (Unit {0}) MoveRefusal → Type 0

@@ -1,10 +1,10 @@
 //! The workspace: named schedules, in the order in which they were made.
-ghost use Rattle.std.specs.Prelude.{◌≡◌, ◌<◌, ℕ, [], length, slice_get, option_map, Some, None, false, OnOk, OnErr, IsOk, IfOk, IfErr, IfSome, IfNone};
+ghost use Rattle.std.specs.Prelude.{◌≡◌, ◌+◌, ◌<◌, ℕ, [], length, slice_get, option_map, Some, None, false, OnOk, OnErr, IsOk, IfOk, IfErr, IfSome, IfNone};
 ghost use Rattle.moves.specs.declared.row.Row.{Row as RowValue};
 ghost use Rattle.moves.specs.Rows.{Rows, row_of, IsListing, IsOfTrace, Below, names_of};
 ghost use Rattle.moves.specs.Boards.{IsBoardOf};
 ghost use Rattle.moves.specs.Inverses.{CanTurn, IsTurned, wants_memory};
-ghost use Rattle.moves.specs.Applied.{IsApplied, IsChecked};
+ghost use Rattle.moves.specs.Applied.{IsApplied, IsChecked, TakesBack};
 
 use crate::board::Board;
 use crate::command::Command;
@@ -122,7 +122,12 @@ impl Workspace {
         requires of_trace { IsOfTrace indexed.now self.old }
         requires board { IsBoardOf indexed.now board.now }
         requires late { Below birth self.old }
-        ensures { IsApplied indexed.now board.now birth command.now self.old self.new result }
+        ensures applied { IsApplied indexed.now board.now birth command.now self.old self.new result }
+        // Taken back at once, the inverse gives the rows that were there before.
+        ensures back { IfOk result (λ inverse. TakesBack inverse self.new self.old) }
+        // What the next call asks for.
+        ensures of_trace { IsOfTrace indexed.now self.new }
+        ensures late { Below (birth + 1) self.new }
     {
         effects::effect(&mut self.rows, self.alloc, indexed, board, birth, command)
     }
