@@ -1,4 +1,5 @@
+pub mod Counts
+pub mod Runs
+pub mod Seating
 pub mod Sights
 pub mod Turns
-pub mod Seating
-pub mod Runs

@@ -1,4 +1,4 @@
--- What a seat is seen as, and what one call through it is.
+-- What a contract sees of a seat and of all seats, and what the steps of a call tell a place. This project's own.
 use Rattle.std.specs.Prelude.{slice_get, slice_set, zero, suc, ◌-◌, ◌≡◌, ◌⊎◌, ℕ, ◌+◌, ◌*◌, ◌<◌, ◌≤◌, length, List, [], ◌∷◌, Option, Some, None}
 use Rattle.atomic_table.specs.Seated.{TableId}
 use Rattle.atomic_table.specs.Table.{Me}
@@ -8,12 +8,13 @@ use Rattle.inverse_log.specs.Log.{Benched}
 use Rattle.workspace_lock.specs.Sights.{Mark, idle, waits, holds, Sight}
 use Rattle.workspace_lock.specs.Turns.{mark, saw, solo, mark_of, ticket_in, on_turn, Sees, Each, fresh_marks}
 
--- which workspace it is: its board, what it began with, and how many clients it has
+-- which workspace it is: its lock, what it began with, and how many clients it has
 pub record Site : Type 0 where
   pub table : TableId
   pub start : Benched
   pub clients : ℕ
 
+-- a seat: its site, its number, the calls that it has made, and the log that it has seen
 pub record SeatView : Type 0 where
   pub site : Site
   pub number : ℕ
@@ -46,10 +47,6 @@ TookBench m b n = (t : ℕ) × Sees (mark_of m.0) b.log × (b.trace ≡ (mark_of
 -- the front was read
 abbrev pub Looked : PlaceState → ℕ → PlaceState → Type 0
 Looked m found n = (log : List Entry) × Sees (mark_of m.0) log × (found ≡ length log) × (n ≡ (solo (saw (mark_of m.0) log) m.0.turns idle, []))
-
--- the board of a site
-abbrev pub IsBoard : TableId → Benched → ℕ → Site → Type 0
-IsBoard table start clients site = (table ≡ site.table) × (start ≡ site.start) × (clients ≡ site.clients)
 
 abbrev pub mark_at : Site → ℕ → List Entry → Mark
 mark_at site number seen = mark site.start site.clients number seen
@@ -88,7 +85,7 @@ marks_in [] = []
 marks_in (Some c ∷ os) = mark_in c ∷ marks_in os
 marks_in (None ∷ os) = marks_in os
 
--- all seats are in, at this board
+-- all seats are in, at this lock
 abbrev pub IsSeated : TableId → Option SeatView → Type 0
 IsSeated z (Some c) = c.site.table ≡ z
 IsSeated z None = ⊥

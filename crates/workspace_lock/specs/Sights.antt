@@ -1,4 +1,4 @@
--- What a place at the board knows.
+-- What a place at the lock knows.
 use Rattle.std.specs.Prelude.{ℕ, List, []}
 use Rattle.inverse_log.specs.declared.entry.Entry.{Entry}
 use Rattle.inverse_log.specs.Log.{Benched}

@@ -1,4 +1,7 @@
--- The rule of the board, and what its steps tell.
+-- The rule that the lock keeps at all times, and what each step tells the place that makes it. All notions here are this
+-- project's own. The lock has three words and one slot: TICKET is the next ticket to be drawn, SERVING the ticket whose turn
+-- it is, FRONT the length of the log; the slot holds the bench while nobody has the turn. What the places know, spent ones
+-- too, is the list of views.
 use Rattle.std.specs.Prelude.{◌≡◌, ◌≢◌, ◌⊎◌, ◌==◌, ℕ, zero, suc, ◌+◌, ◌*◌, ◌<◌, ◌≤◌, Bool, true, false, List, [], ◌∷◌, ◌++◌, length, Option, Some, None}
 use mathlib.Core.Option as maybe
 use mathlib.Core.Option.{some, none}
@@ -114,13 +117,15 @@ pub record Known (start : Benched) (clients serving : ℕ) (log : List Entry) (v
   pub fair : v.turns ≤ 4294967296 * length v.marks
   pub current : Current serving log v.marks v.stage
 
--- the bench is in its slot and no place has the turn, or the slot is out with the place that has it
+-- the bench is in its slot, and no place has the turn
 abbrev pub AtHome : Recording → List Entry → List (maybe.Option (Option Benched)) → List Sight → Type 0
 AtHome trace log homes views = (homes ≡ some (Some (bench_of trace log)) ∷ []) × ((j : ℕ) (v : Sight) (t : ℕ) → get_elem? views j ≡ some v → v.stage ≡ holds t → ⊥)
 
+-- the slot is out, with the place that has the turn
 abbrev pub IsOut : List (maybe.Option (Option Benched)) → List Sight → Type 0
 IsOut homes views = (homes ≡ none ∷ []) × ((j : ℕ) × (v : Sight) × (t : ℕ) × (get_elem? views j ≡ some v) × (v.stage ≡ holds t))
 
+-- The rule. `start` is the bench at the opening, `clients` the number of seats.
 pub record Kept (start : Benched) (clients : ℕ) (s : State (Option Benched) Sight) : Type 0 where
   pub ticket : ℕ
   pub serving : ℕ
@@ -128,14 +133,18 @@ pub record Kept (start : Benched) (clients : ℕ) (s : State (Option Benched) Si
   pub words : s.words ≡ ticket ∷ serving ∷ length log ∷ []
   pub order : serving ≤ ticket
   pub few : clients ≤ 32
+  -- the log is one that calls of clients build, and past the opening it has only entries of clients with a seat
   pub legal : IsLegal start.trace log
   pub past : Past start.log clients log
+  -- as many tickets were drawn as turns were taken, and each client is known to one place at most
   pub counted : total turns_of s.views ≡ ticket
   pub shared : total parts_of s.views ≡ clients
   pub apart : (c : ℕ) → total (claims c) s.views ≤ 1
+  -- each ticket that waits to be served is in one place's hand, and no other ticket is
   pub drawn : (t : ℕ) → serving ≤ t → t < ticket → total (draws t) s.views ≡ 1
   pub early : (t : ℕ) → t < serving → total (draws t) s.views ≡ 0
   pub late : (t : ℕ) → ticket ≤ t → total (draws t) s.views ≡ 0
+  -- what each place knows is true of the log
   pub each : (j : ℕ) (v : Sight) → get_elem? s.views j ≡ some v → Known start clients serving log v
   pub home : AtHome start.trace log s.homes s.views ⊎ IsOut s.homes s.views
 
@@ -152,7 +161,7 @@ PlaceState = Me (Option Benched) Sight
 abbrev At : Type 0
 At = Step (Option Benched)
 
--- S1
+-- a ticket was drawn
 abbrev pub drew : At → PlaceState → ℕ → PlaceState → Type 0
 drew st m r n = n ≡ (record m.0 { turns = m.0.turns + 1; stage = waits r }, m.1)
 
@@ -165,7 +174,7 @@ ticket_in (holds t) = t
 abbrev pub on_turn : Mark → ℕ → ℕ → List Entry → PlaceState
 on_turn k turns t log = (solo (saw k log) turns (holds t), (0, Some (bench_of k.start.trace log)) ∷ [])
 
--- S2
+-- SERVING was read: it is the place's ticket, and the place has the turn and the bench; or nothing has changed
 abbrev pub watched : At → PlaceState → ℕ → PlaceState → Type 0
 watched st m r n = (r ≡ ticket_in m.0.stage → (log : List Entry) × Sees (mark_of m.0) log × (n ≡ on_turn (mark_of m.0) m.0.turns r log)) × (r ≢ ticket_in m.0.stage → n ≡ m)
 
@@ -177,11 +186,11 @@ abbrev pub log_in : List (ℕ × Option Benched) → List Entry
 log_in [] = []
 log_in (x ∷ xs) = log_in_slot x.1
 
--- S6, with the log that the call names
+-- FRONT grew by one, where the log is the one that the call names
 abbrev pub published : List Entry → At → PlaceState → ℕ → PlaceState → Type 0
 published log st m r n = n ≡ (solo (saw (mark_of m.0) log) m.0.turns m.0.stage, m.1)
 
--- S7
+-- FRONT was read
 abbrev pub fronted : At → PlaceState → ℕ → PlaceState → Type 0
 fronted st m r n = (log : List Entry) × Sees (mark_of m.0) log × (r ≡ length log) × (n ≡ (solo (saw (mark_of m.0) log) m.0.turns m.0.stage, m.1))
 
@@ -189,11 +198,11 @@ fronted st m r n = (log : List Entry) × Sees (mark_of m.0) log × (r ≡ length
 abbrev pub ended : At → PlaceState → ℕ → PlaceState → Type 0
 ended st m r n = (log : List Entry) × Each (λ k. Sees k log) m.0.marks × (n.1 ≡ (0, Some (bench_of (mark_of m.0).start.trace log)) ∷ [])
 
--- S5
+-- the turn was passed on
 abbrev pub passed : At → PlaceState → ℕ → PlaceState → Type 0
 passed st m r n = n ≡ (record m.0 { stage = idle }, [])
 
--- B2: the first mark goes to the new place
+-- a place is cut in two: the first mark goes to the new one
 abbrev pub one_mark : List Mark → List Mark
 one_mark [] = []
 one_mark (m ∷ ms) = m ∷ []
@@ -208,6 +217,6 @@ stays v = record v { marks = other_marks v.marks }
 abbrev pub goes_off : Sight → Sight
 goes_off v = record { marks = one_mark v.marks; turns = 0; stage = idle }
 
--- B3
+-- a place is joined to another
 abbrev pub joined : Sight → Sight → Sight
 joined v w = record { marks = v.marks ++ w.marks; turns = v.turns + w.turns; stage = v.stage }

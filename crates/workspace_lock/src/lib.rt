@@ -1,11 +1,11 @@
 //! One bench that the threads of several clients share, each through a seat of its own.
 #![tactic(auto)]
 
-mod board;
 #[cfg(test)]
 mod judging;
 #[cfg(test)]
 mod lane_tests;
+mod lock;
 mod seat;
 mod seats;
 #[cfg(test)]

@@ -5,9 +5,9 @@ ghost use Rattle.std.specs.Arc.{arc_value};
 ghost use Rattle.workspace_lock.specs.Sights.{idle};
 ghost use Rattle.workspace_lock.specs.Turns.{mark_of, saw, solo};
 ghost use Rattle.workspace_lock.specs.Seating.{IsSized, IsEnd, Gathers, mark_in, marks_in, AllSeated, HasAll, TakesFirst, Closes, SeatView, site_at, dealt, fresh_rows, Opened};
-ghost use Rattle.workspace_lock.specs.Runs.{IsBadCount};
+ghost use Rattle.workspace_lock.specs.Counts.{IsBadCount};
 
-use crate::board::{Board, Deal, Draw, Finish, Gather, Opening, Place};
+use crate::lock::{Deal, Draw, Finish, Gather, Lock, Opening, Place};
 use crate::seat::Seat;
 use atomic_table::{Refused, Table};
 use inverse_log::Bench;
@@ -17,29 +17,30 @@ use std::snapshot::Snapshot;
 use std::sync::Arc;
 
 // The bench comes out for good, by a place that has all marks: its ticket is served at once.
-fn finish(board: &Board, place: &mut Place) -> Bench
-    requires place { (place.old.table_id ≡ board.now.shared.table_id) × IsSized place.old.table_id × Gathers place.old.me }
-    requires all { (0 < length place.old.me.0.marks) × (length place.old.me.0.marks ≡ board.now.shared.key.clients) }
+fn finish(lock: &Lock, place: &mut Place) -> Bench
+    requires place { (place.old.table_id ≡ lock.now.shared.table_id) × IsSized place.old.table_id × Gathers place.old.me }
+    requires all { (0 < length place.old.me.0.marks) × (length place.old.me.0.marks ≡ lock.now.shared.key.clients) }
     ensures { IsEnd (mark_of place.old.me.0).start.trace place.old.me.0.marks result }
 {
-    board.shared.fetch_add::<Draw>(place, 0, 1);
-    board.shared.load::<Finish>(place, 1);
-    board.shared.exchange(place, 0, None).unwrap()
+    lock.shared.fetch_add::<Draw>(place, 0, 1);
+    lock.shared.load::<Finish>(place, 1);
+    lock.shared.exchange(place, 0, None).unwrap()
 }
 
 // The seat's view goes into the place's.
-fn join_in(board: &Board, place: &mut Place, seat: Seat)
-    requires place { (place.old.table_id ≡ board.now.shared.table_id) × IsSized place.old.table_id × Gathers place.old.me }
-    requires seat { seat.site.table ≡ board.now.shared.table_id }
+fn join_in(lock: &Lock, place: &mut Place, seat: Seat)
+    requires place { (place.old.table_id ≡ lock.now.shared.table_id) × IsSized place.old.table_id × Gathers place.old.me }
+    requires seat { seat.site.table ≡ lock.now.shared.table_id }
     ensures { (place.new.table_id ≡ place.old.table_id) × Gathers place.new.me × (place.new.me.0.marks ≡ place.old.me.0.marks ++ mark_in seat ∷ []) }
 {
     let other = seat.into_place();
-    board.shared.join_seat::<Gather>(place, other);
+    lock.shared.join_seat::<Gather>(place, other);
 }
 
-fn gather(board: &Board, place: &mut Place, mut rows: Vec<Option<Seat>>)
-    requires place { (place.old.table_id ≡ board.now.shared.table_id) × IsSized place.old.table_id × Gathers place.old.me }
-    requires rows { AllSeated board.now.shared.table_id rows.items }
+// All seats that are in go into the place.
+fn gather(lock: &Lock, place: &mut Place, mut rows: Vec<Option<Seat>>)
+    requires place { (place.old.table_id ≡ lock.now.shared.table_id) × IsSized place.old.table_id × Gathers place.old.me }
+    requires rows { AllSeated lock.now.shared.table_id rows.items }
     requires first { 0 < length place.old.me.0.marks }
     ensures place { (place.new.table_id ≡ place.old.table_id) × Gathers place.new.me × (mark_of place.new.me.0 ≡ mark_of place.old.me.0) }
     ensures count { length place.new.me.0.marks ≡ length place.old.me.0.marks + length rows.items }
@@ -47,14 +48,14 @@ fn gather(board: &Board, place: &mut Place, mut rows: Vec<Option<Seat>>)
 {
     while let Some(row) = rows.pop() {
         let Some(seat) = row else { unreachable!() };
-        join_in(board, place, seat);
+        join_in(lock, place, seat);
     }
 }
 
 /// All seats of a shared bench. Those that are in stand in the order of their numbers.
 #[derive(Drop)]
 pub struct Seats {
-    board: Arc<Board, Global>,
+    lock: Arc<Lock, Global>,
     rows: Vec<Option<Seat>>,
 }
 
@@ -73,9 +74,9 @@ impl Model for Seats {
 
     ghost Value = { SeatsView };
 
-    ghost view = { λ s. record { site = site_at (arc_value s.board).shared.table_id (arc_value s.board).shared.key.bench.value (arc_value s.board).shared.key.clients; rows = s.rows.items } };
+    ghost view = { λ s. record { site = site_at (arc_value s.lock).shared.table_id (arc_value s.lock).shared.key.bench.value (arc_value s.lock).shared.key.clients; rows = s.rows.items } };
 
-    ghost invariant = { λ s. IsSeatsView (site_at (arc_value s.board).shared.table_id (arc_value s.board).shared.key.bench.value (arc_value s.board).shared.key.clients) s.rows.items };
+    ghost invariant = { λ s. IsSeatsView (site_at (arc_value s.lock).shared.table_id (arc_value s.lock).shared.key.bench.value (arc_value s.lock).shared.key.clients) s.rows.items };
 }
 
 // The first row that has a seat.
@@ -114,7 +115,7 @@ impl Seats {
         row.take()
     }
 
-    /// The seat comes back where one of its number is in.
+    /// Takes the seat back. It is handed back where one of its number is in.
     pub fn give(&mut self, seat: Seat) -> Result<(), Seat>
         requires { seat.site ≡ self.old.site }
         ensures ok { OnOk result ((slice_get self.old.rows (seat.number - 1) ≡ Some None) × (self.new ≡ record self.old { rows = slice_set self.old.rows (seat.number - 1) (Some seat) })) }
@@ -128,7 +129,7 @@ impl Seats {
         Ok(())
     }
 
-    /// The bench, once all seats are in. It takes no memory and waits for nobody.
+    /// The bench, once all seats are in; else the seats. It takes no memory and waits for nobody.
     pub fn close(self) -> Result<Bench, (Seats, CloseRefusal)>
         ensures ok { IfOk result (λ b. Closes self b × ((i : ℕ) → i < length self.rows → (c : SeatView) × (slice_get self.rows i ≡ Some (Some c)))) }
         ensures err { IfErr result (λ e. (e.0 ≡ self) × (e.1 ≡ CloseRefusal.NotAll) × ((i : ℕ) × (slice_get self.rows i ≡ Some None))) }
@@ -136,13 +137,13 @@ impl Seats {
         if is_one_out(self.rows.as_slice()) {
             return Err((self, CloseRefusal::NotAll));
         }
-        let Seats { board, mut rows } = self;
+        let Seats { lock, mut rows } = self;
         let Some(Some(first)) = rows.pop() else {
             unreachable!()
         };
         let mut place = first.into_place();
-        gather(&board, &mut place, rows);
-        Ok(finish(&board, &mut place))
+        gather(&lock, &mut place, rows);
+        Ok(finish(&lock, &mut place))
     }
 }
 
@@ -157,33 +158,33 @@ pub enum OpenRefusal {
 
 // A seat for each client, by the first place, which is spent then.
 fn deal(
-    board: Arc<Board, Global>,
+    lock: Arc<Lock, Global>,
     mut place: Place,
     mut rows: Vec<Option<Seat>>,
     clients: u32,
 ) -> Result<Seats, (Bench, OpenRefusal)>
-    requires place { (place.table_id ≡ (arc_value board).shared.table_id) × IsSized place.table_id × (place.me ≡ dealt (arc_value board).shared.key.bench.value clients 0) }
-    requires clients { (clients ≡ (arc_value board).shared.key.clients) × (0 < clients) × (clients ≤ 32) }
+    requires place { (place.table_id ≡ (arc_value lock).shared.table_id) × IsSized place.table_id × (place.me ≡ dealt (arc_value lock).shared.key.bench.value clients 0) }
+    requires clients { (clients ≡ (arc_value lock).shared.key.clients) × (0 < clients) × (clients ≤ 32) }
     requires rows { (rows.items ≡ []) × (clients ≤ vec_capacity rows) }
-    ensures ok { IfOk result (λ s. Opened (arc_value board).shared.key.bench.value clients s) }
-    ensures err { IfErr result (λ e. e.0 ≡ (arc_value board).shared.key.bench.value) }
+    ensures ok { IfOk result (λ s. Opened (arc_value lock).shared.key.bench.value clients s) }
+    ensures err { IfErr result (λ e. e.0 ≡ (arc_value lock).shared.key.bench.value) }
     ensures memory { IfErr result (λ e. e.1 ≡ OpenRefusal.OutOfMemory) }
 {
     for i in 0..clients {
-        let Ok(own) = Arc::try_clone(&board) else {
-            gather(&board, &mut place, rows);
-            return Err((finish(&board, &mut place), OpenRefusal::OutOfMemory));
+        let Ok(own) = Arc::try_clone(&lock) else {
+            gather(&lock, &mut place, rows);
+            return Err((finish(&lock, &mut place), OpenRefusal::OutOfMemory));
         };
-        let other = board.shared.split_seat::<Deal>(&mut place);
+        let other = lock.shared.split_seat::<Deal>(&mut place);
         rows.push_reserved(Some(Seat::at(own, other, i + 1)));
     }
-    Ok(Seats { board, rows })
+    Ok(Seats { lock, rows })
 }
 
-// The board goes where all seats can reach it.
+// The lock goes where all seats can reach it.
 fn share(
     alloc: Global,
-    table: Board,
+    table: Lock,
     mut place: Place,
     rows: Vec<Option<Seat>>,
     clients: u32,
@@ -196,7 +197,7 @@ fn share(
     ensures memory { IfErr result (λ e. e.1 ≡ OpenRefusal.OutOfMemory) }
 {
     match Arc::new(alloc, table) {
-        Ok(board) => deal(board, place, rows, clients),
+        Ok(lock) => deal(lock, place, rows, clients),
         Err(AllocFailed { value: table }) => {
             Err((finish(&table, &mut place), OpenRefusal::OutOfMemory))
         }

@@ -1,7 +1,7 @@
 use Rattle.std.proofs.Common.{rules}
 use mathlib.Core.Option.{none}
 use Rattle.atomic_table.specs.Table.{step}
-use Rattle.workspace_lock.proofs.Told.{fronts_from, looked}
+use Rattle.workspace_lock.proofs.PlaceLemmas.{fronts_from, looked}
 use Rattle.workspace_lock.proofs.seat.look.Goals as goal
 
 pub load-requires : goal.load-requires

@@ -1,6 +1,6 @@
 use Rattle.std.proofs.Common.{rules, Some}
 use Rattle.workspace_lock.specs.Turns.{bench_of, mark_of}
-use Rattle.workspace_lock.proofs.Told.{draws_from, has_bench}
+use Rattle.workspace_lock.proofs.PlaceLemmas.{draws_from, has_bench}
 use Rattle.workspace_lock.proofs.seat.take_bench.Goals as goal
 
 pub fetch_add-ticket-requires : goal.fetch_add-ticket-requires

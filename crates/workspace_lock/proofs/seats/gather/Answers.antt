@@ -1,17 +1,17 @@
 use Rattle.std.proofs.Common.{rules, subst, arith, length-append, length, ◌∷◌, [], ap, ◌∙◌}
 use Rattle.std.proofs.lemmas.Grind.{common_steps}
 use Rattle.workspace_lock.specs.Seating.{AllSeated, IsSeated, mark_in}
-use Rattle.workspace_lock.proofs.Rows.{seated_rest, moved_on, all_in, longer_first}
+use Rattle.workspace_lock.proofs.RowLemmas.{seated_rest, moved_on, all_in, longer_first}
 use Rattle.workspace_lock.proofs.seats.gather.Goals as goal
 
 pub unreachable-requires : goal.unreachable-requires
-unreachable-requires c = let z = c.args.board.now.shared.table_id in subst (IsSeated z) c.in_default-row.is (seated_rest z c.pop.new.self.items c.in-Some.row (subst (AllSeated z) c.in-Some.ensures.items c.loop-row.invariant.rows)).1
+unreachable-requires c = let z = c.args.lock.now.shared.table_id in subst (IsSeated z) c.in_default-row.is (seated_rest z c.pop.new.self.items c.in-Some.row (subst (AllSeated z) c.in-Some.ensures.items c.loop-row.invariant.rows)).1
 
 pub join_in-requires-clause-seat : goal.join_in-requires-clause-seat
-join_in-requires-clause-seat c = let z = c.args.board.now.shared.table_id in subst (IsSeated z) c.in-Some-row.is (seated_rest z c.pop.new.self.items c.in-Some.row (subst (AllSeated z) c.in-Some.ensures.items c.loop-row.invariant.rows)).1
+join_in-requires-clause-seat c = let z = c.args.lock.now.shared.table_id in subst (IsSeated z) c.in-Some-row.is (seated_rest z c.pop.new.self.items c.in-Some.row (subst (AllSeated z) c.in-Some.ensures.items c.loop-row.invariant.rows)).1
 
 pub loop-row-preserved : goal.loop-row-preserved
-loop-row-preserved c = let z = c.args.board.now.shared.table_id in let inv = c.loop-row.invariant in let items = c.in-Some.ensures.items in let now = c.join_in.ensures.2 in
+loop-row-preserved c = let z = c.args.lock.now.shared.table_id in let inv = c.loop-row.invariant in let items = c.in-Some.ensures.items in let now = c.join_in.ensures.2 in
     record {
       same = search rules;
       gathers = c.join_in.ensures.1;

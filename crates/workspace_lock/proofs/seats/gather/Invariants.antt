@@ -8,7 +8,7 @@ invariant-loop-row l = record {
   same : l.place.table_id ≡ l.initial.place.table_id;
   gathers : Gathers l.place.me;
   first : (0 < length l.place.me.0.marks) × (mark_of l.place.me.0 ≡ mark_of l.initial.place.me.0);
-  rows : AllSeated l.board.shared.table_id l.rows.items;
+  rows : AllSeated l.lock.shared.table_id l.rows.items;
   count : length l.place.me.0.marks + length l.rows.items ≡ length l.initial.place.me.0.marks + length l.initial.rows.items;
   marks : HasAll (l.initial.place.me.0.marks ++ marks_in l.initial.rows.items) (l.place.me.0.marks ++ marks_in l.rows.items);
 }

@@ -1,4 +1,4 @@
-use Rattle.workspace_lock.proofs.Rows.{is_in_next}
+use Rattle.workspace_lock.proofs.RowLemmas.{is_in_next}
 use Rattle.workspace_lock.proofs.seats.is_one_out.Goals as goal
 
 pub loop-row-preserved : goal.loop-row-preserved

@@ -1,6 +1,6 @@
 use Rattle.std.proofs.Common.{rules}
 use Rattle.workspace_lock.specs.Seating.{mark_in}
-use Rattle.workspace_lock.proofs.Rows.{joins_from, gathered}
+use Rattle.workspace_lock.proofs.RowLemmas.{joins_from, gathered}
 use Rattle.workspace_lock.proofs.seats.join_in.Goals as goal
 
 pub join_seat-requires : goal.join_seat-requires

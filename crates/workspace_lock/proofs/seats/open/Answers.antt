@@ -1,5 +1,5 @@
 use Rattle.std.proofs.Common.{rules, ◌∙◌, ap, ◌++◌, ◌∷◌, [], Some}
-use Rattle.workspace_lock.proofs.Deals.{opens_from}
+use Rattle.workspace_lock.proofs.DealLemmas.{opens_from}
 use Rattle.workspace_lock.proofs.seats.open.Goals as goal
 
 pub new-requires : goal.new-requires

@@ -1,5 +1,5 @@
 use Rattle.std.proofs.Common.{ap, arith, ◌≡◌}
-use Rattle.workspace_lock.proofs.Deals.{dealt_length, nothing_begun}
+use Rattle.workspace_lock.proofs.DealLemmas.{dealt_length, nothing_begun}
 use Rattle.workspace_lock.proofs.seats.share.Goals as goal
 
 pub finish-requires-clause-all : goal.finish-requires-clause-all

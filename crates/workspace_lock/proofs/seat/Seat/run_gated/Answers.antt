@@ -1,4 +1,4 @@
-use Rattle.workspace_lock.proofs.Told.{may_go_back}
+use Rattle.workspace_lock.proofs.PlaceLemmas.{may_go_back}
 use Rattle.workspace_lock.proofs.seat.Seat.run_gated.Goals as goal
 
 pub give_back-requires-clause-bench : goal.give_back-requires-clause-bench

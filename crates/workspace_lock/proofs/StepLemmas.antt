@@ -12,8 +12,8 @@ use Rattle.inverse_log.specs.Answer.{IsLegal, Grown}
 use Rattle.inverse_log.specs.Log.{Benched, client_of}
 use Rattle.workspace_lock.specs.Sights.{Mark, Stage, idle, waits, holds, Sight}
 use Rattle.workspace_lock.specs.Turns.{bench_of, saw, solo, one_where, claims_in, claims, has_drawn, draws, turns_of, parts_of, Each, Fits, Current, Known, Past, AtHome, IsOut, Kept, Sees, drew, watched, ticket_in, published, fronted, ended, passed}
-use Rattle.workspace_lock.proofs.Sums.{total-set, total-one, total-two, total-le, total-some}
-use Rattle.workspace_lock.proofs.Logs.{prefix_self, prefix_trans, grown_begins, grown_own, past_grows}
+use Rattle.workspace_lock.proofs.SumLemmas.{total-set, total-one, total-two, total-le, total-some}
+use Rattle.workspace_lock.proofs.LogLemmas.{prefix_self, prefix_trans, grown_begins, grown_own, past_grows}
 
 abbrev pub W : Type 0
 W = Option Benched

@@ -9,12 +9,12 @@ use Rattle.inverse_log.specs.Log.{Benched}
 use Rattle.inverse_log.specs.declared.call.Call.{Call}
 use Rattle.inverse_log.specs.declared.reply.Reply.{Reply}
 use Rattle.inverse_log.specs.declared.refusal.Refusal.{Refusal}
-use Rattle.workspace_lock.proofs.Logs.{grown_more, grown_same}
+use Rattle.workspace_lock.proofs.LogLemmas.{grown_more, grown_same}
 use Rattle.inverse_log.proofs.CallerLemmas.{called_grown, called_legal}
 use Rattle.workspace_lock.specs.Sights.{Mark, idle, waits, holds}
 use Rattle.workspace_lock.specs.Turns.{bench_of, saw, solo, mark_of, Kept, Sees, drew, watched, ticket_in, on_turn, published, fronted, passed, ended, Each}
 use Rattle.workspace_lock.specs.Seating.{IsResting, IsWaiting, IsBusy, GotTurn, TookBench, Gathers, IsEnd, Looked}
-use Rattle.workspace_lock.proofs.Steps.{W, PlaceState, draws_ok, watches, publishes, fronts, passes, ends}
+use Rattle.workspace_lock.proofs.StepLemmas.{W, PlaceState, draws_ok, watches, publishes, fronts, passes, ends}
 
 module _ (start : Benched) (clients slots id : ℕ) where
   pub draws_from : (m : PlaceState) → IsResting m → m.0.turns < 4294967295 → Allows (Kept start clients) slots id m 0 (λ n. (n + 1) % 2 ^ 64) (drew (step slots 0 1 0 none) m)
@@ -64,7 +64,7 @@ pub may_go_back : (m n : PlaceState) (b after : Benched) (number : ℕ) (call : 
 may_go_back m n b after number call r took is low high kept called = let k = mark_of m.0 in let e : mark_of n.0 ≡ saw k b.log = ap (λ (x : PlaceState). mark_of x.0) took.3 in
     let legal : IsLegal b.trace b.log = subst (λ z. IsLegal z b.log) (sym took.2) took.1.legal in
     let P : Mark → Type 0 = λ q. IsLegal q.start.trace after.log × Grown q.seen q.number after.log × (after.trace ≡ q.start.trace) in
-    subst P (sym e) (subst (λ z. IsLegal z after.log) took.2 (called_legal b.trace b.log number call r after.log low high legal called), subst (λ z. Grown b.log z after.log) (sym is) (called_grown b.trace b.log number call r after.log called), kept ∙ took.2)
+    subst P (sym e) (subst (λ z. IsLegal z after.log) took.2 (called_legal b.trace b.log after.log number call r low high legal called), subst (λ z. Grown b.log z after.log) (sym is) (called_grown b.trace b.log after.log number call r called), kept ∙ took.2)
 
 module _ (start : Benched) (clients slots id : ℕ) where
   ends_at : (ms : List Mark) (turns t : ℕ) → length ms ≡ clients → 0 < length ms

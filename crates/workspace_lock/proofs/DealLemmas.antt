@@ -12,9 +12,9 @@ use Rattle.inverse_log.specs.Log.{Benched, own_entries, client_of}
 use Rattle.workspace_lock.specs.Sights.{Mark, idle}
 use Rattle.workspace_lock.specs.Turns.{mark, solo, mark_of, Kept, fresh_marks, opened, stays, goes_off, Sees, Past, AllOf}
 use Rattle.workspace_lock.specs.Seating.{SeatView, Site, site_at, seat_view, mark_at, Has, HasAll, Gathers, marks_in, AllSeated, RowsFit, IsEnd, fresh_seat, fresh_rows, dealt}
-use Rattle.workspace_lock.proofs.Steps.{W, PlaceState}
-use Rattle.workspace_lock.proofs.Ends.{splits, opens}
-use Rattle.workspace_lock.proofs.Rows.{has_left, has_right, each_has}
+use Rattle.workspace_lock.proofs.StepLemmas.{W, PlaceState}
+use Rattle.workspace_lock.proofs.EndLemmas.{splits, opens}
+use Rattle.workspace_lock.proofs.RowLemmas.{has_left, has_right, each_has}
 
 module _ (start : Benched) (clients : ℕ) where
   from_suc : (i k : ℕ) → clients - i ≡ suc k → dealt start clients i ≡ (record { marks = mark start clients (i + 1) start.log ∷ fresh_marks start clients (suc (i + 1)) k; turns = 0; stage = idle }, [])

@@ -1,4 +1,4 @@
--- Places are made from the first one, joined again, and the board is closed.
+-- Places are made from the first one, joined again, and the lock is closed.
 use Rattle.std.proofs.Common.{◌≡◌, ◌==◌, Bool, true, false, ℕ, zero, suc, ◌+◌, ◌<◌, ◌≤◌, List, [], ◌∷◌, ◌++◌, length, set, sym, refl, ap, ◌∙◌, subst, inl, inr, ⊎_elim, arith, length-append, Option, Some}
 use mathlib.Core.Logic.{dite}
 use mathlib.Core.Option.{some, some-injective}
@@ -11,9 +11,9 @@ use Rattle.inverse_log.specs.Answer.{IsLegal}
 use Rattle.inverse_log.specs.Log.{Benched}
 use Rattle.workspace_lock.specs.Sights.{Mark, Stage, idle, waits, holds, Sight, blank}
 use Rattle.workspace_lock.specs.Turns.{bench_of, one_where, claims_in, claims, has_drawn, draws, turns_of, parts_of, Each, Fits, Current, Known, Past, AtHome, Kept, fresh_marks, opened, one_mark, other_marks, stays, goes_off, joined}
-use Rattle.workspace_lock.proofs.Sums.{total-set, total-snoc, total-two}
-use Rattle.workspace_lock.proofs.Logs.{prefix_self, past_self}
-use Rattle.workspace_lock.proofs.Steps.{W, St, at_other, holder_apart, holder_marked, idle_holds, none_if}
+use Rattle.workspace_lock.proofs.SumLemmas.{total-set, total-snoc, total-two}
+use Rattle.workspace_lock.proofs.LogLemmas.{prefix_self, past_self}
+use Rattle.workspace_lock.proofs.StepLemmas.{W, St, at_other, holder_apart, holder_marked, idle_holds, none_if}
 
 length_cut : (ms : List Mark) → length (other_marks ms) + length (one_mark ms) ≡ length ms
 length_cut [] = refl

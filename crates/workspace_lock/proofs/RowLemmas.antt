@@ -10,8 +10,8 @@ use Rattle.inverse_log.specs.Log.{Benched}
 use Rattle.workspace_lock.specs.Sights.{Mark, idle, blank}
 use Rattle.workspace_lock.specs.Turns.{solo, Kept, joined, first_mark, mark_of, Each, Sees}
 use Rattle.workspace_lock.specs.Seating.{SeatView, mark_in, Has, HasAll, Gathers, marks_in, IsSeated, AllSeated, Site, RowFits, RowsFit, IsEnd, Closes, IsSeatsView}
-use Rattle.workspace_lock.proofs.Steps.{PlaceState}
-use Rattle.workspace_lock.proofs.Ends.{joins}
+use Rattle.workspace_lock.proofs.StepLemmas.{PlaceState}
+use Rattle.workspace_lock.proofs.EndLemmas.{joins}
 
 some_is : {A : Type 0} (a b : A) → Some a ≡ Some b → a ≡ b
 some_is a b e = cc e

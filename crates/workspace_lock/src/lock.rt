@@ -1,4 +1,4 @@
-//! The board that the seats share.
+//! The lock that the seats share: its rule, and the kinds of step that a place makes at it.
 ghost use Rattle.std.specs.Prelude.{List, []};
 ghost use Rattle.inverse_log.specs.declared.entry.Entry.{Entry};
 
@@ -21,13 +21,14 @@ impl Model for View {
     ghost view = { λ _. blank };
 }
 
-/// What a board is told when it is made.
+/// What the lock is told when it is made: the bench, and how many seats there are.
 #[derive(Drop)]
 pub struct Opening {
     pub bench: Snapshot<Bench>,
     pub clients: u32,
 }
 
+/// The rule that the words, the slot and all places keep.
 pub struct Order;
 
 impl TableRule<Option<Bench>, View, Opening> for Order {
@@ -38,10 +39,13 @@ impl TableRule<Option<Bench>, View, Opening> for Order {
     ghost first = { λ key. opened key.bench.value key.clients };
 }
 
-pub type Board = Table<Option<Bench>, View, Opening, Order, Global>;
+/// Three words, TICKET, SERVING and FRONT, and a slot for the bench.
+pub type Lock = Table<Option<Bench>, View, Opening, Order, Global>;
 
+/// One client's place at the lock.
 pub type Place = Seat<Option<Bench>, View>;
 
+/// A ticket is drawn.
 pub struct Draw;
 
 impl Play<Option<Bench>, View> for Draw {
@@ -50,6 +54,7 @@ impl Play<Option<Bench>, View> for Draw {
     ghost then = { drew };
 }
 
+/// SERVING is read.
 pub struct Watch;
 
 impl Play<Option<Bench>, View> for Watch {
@@ -67,6 +72,7 @@ impl Named for Brand {
     ghost log = { [] };
 }
 
+/// FRONT grows by one.
 pub struct Publish<N: Named> {
     of: PhantomData<N>,
 }
@@ -77,6 +83,7 @@ impl<N: Named> Play<Option<Bench>, View> for Publish<N> {
     ghost then = { published N.log };
 }
 
+/// FRONT is read.
 pub struct Look;
 
 impl Play<Option<Bench>, View> for Look {
@@ -85,6 +92,7 @@ impl Play<Option<Bench>, View> for Look {
     ghost then = { fronted };
 }
 
+/// SERVING grows by one.
 pub struct PassOn;
 
 impl Play<Option<Bench>, View> for PassOn {
@@ -93,6 +101,7 @@ impl Play<Option<Bench>, View> for PassOn {
     ghost then = { passed };
 }
 
+/// SERVING is read for the last time, by the place that has all marks.
 pub struct Finish;
 
 impl Play<Option<Bench>, View> for Finish {
@@ -101,6 +110,7 @@ impl Play<Option<Bench>, View> for Finish {
     ghost then = { ended };
 }
 
+/// A place is cut off for a client.
 pub struct Deal;
 
 impl Split<View> for Deal {
@@ -111,6 +121,7 @@ impl Split<View> for Deal {
     ghost right = { goes_off };
 }
 
+/// A client's place is joined to another.
 pub struct Gather;
 
 impl Join<View> for Gather {
