@@ -151,7 +151,7 @@ fn runs_of_many_threads_are_legal(rt: HostRuntime) -> Result<(), Fail> {
     let (Ok(a), Ok(b)) = (Name::new(b"A"), Name::new(b"B")) else {
         panic!(rt; "no names")
     };
-    for seed in 0..200u32 {
+    for seed in 0..1_000u32 {
         let clients = 2 + seed % 7;
         assert_eq!(rt;
             is_legal_run(&rt, rt.alloc(), [a, b], clients, seed),

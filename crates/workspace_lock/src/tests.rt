@@ -3,9 +3,9 @@
 //! thread builds with the same calls.
 ghost use Rattle.std.specs.Prelude.{◌≡◌};
 
-use crate::{CloseRefusal, Gate, OpenRefusal, Seat, Seats, open};
+use crate::{CloseRefusal, Gate, OpenRefusal, Seat, SeatRefusal, Seats, open};
 use event_index::Indexed;
-use inverse_log::{Bench, Call, Reply};
+use inverse_log::{Bench, Call, Refusal, Reply};
 use moves::{Command, Name};
 use rapid_text::parse;
 use std::alloc::Global;
@@ -279,5 +279,63 @@ fn a_seat_that_is_out_keeps_the_seats_open(rt: HostRuntime) -> Result<(), Fail> 
         panic!(rt; "not closed")
     };
     assert_eq!(rt; bench.log_len(), 0);
+    Ok(())
+}
+
+// The call, and if a growth was refused the same again: the first one changed nothing, and the other seat was served
+// meanwhile.
+fn is_done_at_last<R: Wait>(rt: &R, seat: &mut Seat, other: &mut Seat, call: &Call) -> bool {
+    let before = other.front();
+    match seat.run(rt, call) {
+        Ok(_) => true,
+        Err(why) => {
+            why == SeatRefusal::Bench(Refusal::OutOfMemory)
+                && other.front() == before
+                && other.run(rt, &Call::Undo).is_err()
+                && other.front() == before
+                && seat.run(rt, call).is_ok()
+        },
+    }
+}
+
+// Each of its allocations can be refused in turn, one in a run.
+#[test]
+fn refused_memory_changes_nothing(rt: HostRuntime) -> Result<(), Fail> {
+    let alloc = rt.alloc();
+    let Ok(name) = Name::new(b"A") else {
+        panic!(rt; "no name")
+    };
+    let bench = match bench_of(alloc) {
+        Some(bench) => bench,
+        None => match bench_of(alloc) {
+            Some(bench) => bench,
+            None => panic!(rt; "no bench"),
+        },
+    };
+    let mut seats = match open(alloc, bench, 2) {
+        Ok(seats) => seats,
+        Err((bench, why)) => {
+            assert!(rt; why == OpenRefusal::OutOfMemory);
+            assert_eq!(rt; bench.log_len(), 0);
+            match open(alloc, bench, 2) {
+                Ok(seats) => seats,
+                Err(_) => panic!(rt; "not opened"),
+            }
+        },
+    };
+    let (Some(mut one), Some(mut two)) = (seats.take(), seats.take()) else {
+        panic!(rt; "no seat")
+    };
+    let own = Own { name, event: 0 };
+    for call in [
+        own.new_schedule(),
+        own.add(),
+        own.show(),
+        own.back(),
+        Call::Undo,
+    ] {
+        assert!(rt; is_done_at_last(&rt, &mut one, &mut two, &call));
+    }
+    assert_eq!(rt; two.front(), 4);
     Ok(())
 }
