@@ -39,9 +39,12 @@ first_kept p (x ∷ xs) = elim (cases_Bool (p x)) [
 above_is : (k j : ℕ) → range_contains nat_cmp (Excluded k) Unbounded j ≡ ltb k j
 above_is k j = grind (arith, nat_tests)
 
-pub first_above : (k : ℕ) (xs : List ℕ) → find (λ j. range_contains nat_cmp (Excluded k) Unbounded j) xs ≡ find (λ j. ltb k j) xs
-first_above k [] = refl
-first_above k (x ∷ xs) = rw (above_is k x, first_above k xs) refl
+first_of : (k : ℕ) (xs : List ℕ) → find (λ j. range_contains nat_cmp (Excluded k) Unbounded j) xs ≡ find (λ j. ltb k j) xs
+first_of k [] = refl
+first_of k (x ∷ xs) = rw (above_is k x, first_of k xs) refl
+
+pub first_above : (k x : ℕ) → x ≡ k → (xs : List ℕ) → find (λ j. range_contains nat_cmp (Excluded x) Unbounded j) xs ≡ find (λ j. ltb k j) xs
+first_above k x is xs = ap (λ n. find (λ j. range_contains nat_cmp (Excluded n) Unbounded j) xs) is ∙ first_of k xs
 
 -- what a range of these gives first
 pub taken_first : (p : ℕ → Bool) (xs s t : List ℕ) (r : Option (Bor ℕ)) → s ≡ filter p xs → TakesFirst (λ b. b.now) s r t → option_copied r ≡ find p xs
