@@ -1,6 +1,8 @@
 //! What is printed: replies to calls and refusals, the log, what a trace holds, and candidates for a race.
 #![tactic(auto)]
 
+#[cfg(test)]
+mod answer_tests;
 mod candidate_lines;
 mod causes;
 mod commands;

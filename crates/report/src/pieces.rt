@@ -156,10 +156,10 @@ pub fn append_pieces(out: &mut Vec<u8>, pieces: &[Piece<'_>]) -> Result<(), OutO
     ensures ok { OnOk result (out.new.items ≡ out.old.items ++ pieces_text pieces.now) }
     ensures err { OnErr result (out.new.items ≡ out.old.items) }
 {
-    let start = out.len();
+    let line_start = out.len();
     for piece in pieces {
         if let Err(refused) = append_piece(out, *piece) {
-            out.truncate(start);
+            out.truncate(line_start);
             return Err(refused);
         }
     }
