@@ -8,6 +8,8 @@ mod causes;
 mod commands;
 mod info_lines;
 mod log_lines;
+#[cfg(test)]
+mod log_tests;
 mod pieces;
 mod refusals;
 mod replies;
