@@ -19,6 +19,6 @@ mod tests;
 pub use candidate_lines::candidates;
 pub use info_lines::info;
 pub use log_lines::log;
-pub use pieces::{Piece, append_number, append_pieces};
+pub use pieces::{Piece, append_pieces};
 pub use refusals::refusal;
 pub use replies::reply;

@@ -1,4 +1,4 @@
-//! The pieces of a line: whatever this repository prints is appended here.
+//! The pieces of a line: the one place where numbers, names and lists become bytes.
 ghost use Rattle.std.specs.Prelude.{◌≡◌, ◌++◌, ◌∷◌, OnOk, OnErr, decimal};
 ghost use Rattle.report.specs.Info.{count_line};
 ghost use Rattle.report.specs.Pieces.{piece_bytes, pieces_text, spaced, spaced_names, spaced_pair, spaced_pairs};
@@ -23,7 +23,7 @@ pub enum Piece<'a> {
 }
 
 /// Appends a number. Where memory is refused `out` stays as it was.
-pub fn append_number(out: &mut Vec<u8>, number: u64) -> Result<(), OutOfMemory>
+pub(crate) fn append_number(out: &mut Vec<u8>, number: u64) -> Result<(), OutOfMemory>
     ensures ok { OnOk result (out.new.items ≡ out.old.items ++ decimal number) }
     ensures err { OnErr result (out.new.items ≡ out.old.items) }
 {
