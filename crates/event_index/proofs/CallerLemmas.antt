@@ -11,16 +11,20 @@ use Rattle.rapid_text.specs.Operations.{is_fork, is_write}
 use Rattle.rapid_text.specs.declared.event.Event.{Event}
 use Rattle.rapid_text.specs.declared.event.Op.{Op}
 use Rattle.rapid_text.specs.declared.event.Op.TheVariants.{Read, Write, Acquire, Release, Fork, Join}
+use Rattle.rapid_text.proofs.CallerLemmas.{fork-from_test}
 use Rattle.trace_rules.specs.Rules.{IsDisciplined}
-use Rattle.event_index.specs.Events.{op_at, thread_at, passes_by, is_of_thread, is_write_at, is_fork_at}
+use Rattle.event_index.specs.Events.{op_at, thread_at, is_of_thread, is_write_at, is_fork_at}
 use Rattle.event_index.specs.Relations.{IsConflicting}
 use Rattle.event_index.specs.Lookups.{before, events_of, place_of, place_by, last_writer, last_writer_by, fork_of, or_else, base_of, base_by, section_end, section_of, section_by}
-use Rattle.event_index.proofs.ScanLemmas.{find_first_is, find_last_is, find_last_none}
 use Rattle.event_index.proofs.StepLemmas.{count_before-le}
 pub use Rattle.event_index.proofs.PlaceLemmas.{events_before, length-events_before, events_of-place, place_of-events_of}
 -- the first and the last that passes a test, one event further; how a count and a place go on
-pub use Rattle.event_index.proofs.ScanLemmas.{before_more, filter_more_before, find_first_is, find_last_is, find_last_yes, find_last_no, none_found, find_none}
-pub use Rattle.event_index.proofs.StepLemmas.{passes_here, count_more, place_of-count}
+pub use Rattle.event_index.proofs.ScanLemmas.{before_more, filter_more_before, find_first_is, find_last_is, find_last_none, find_last_yes, find_last_no, none_found, find_none}
+pub use Rattle.event_index.proofs.StepLemmas.{passes_here, passes_event, take_event, count_more, place_of-count}
+-- lists that hold what a function gives for each number
+pub use Rattle.event_index.proofs.TableLemmas.{get_or-IsTable, IsTable-from_get_or, IsTable-nil, IsTable-replicate, IsTable-push, IsTable-set, IsTable-like}
+-- how often a thread holds a lock, one event further
+pub use Rattle.event_index.proofs.HoldLemmas.{takes, frees, takes_is, frees_is, takes_not_thread, frees_not_thread, hold_same, hold_taken, hold_freed}
 pub use Rattle.event_index.proofs.RelationLaws.{Decides-is_clash, Decides-is_apart, Decides-is_conflict, Decides-is_independent}
 
 never : {A : Type 0} (w : ℕ) → None ≡ Some w → A
@@ -33,15 +37,10 @@ pub record IsLastWrite (T : List Event) (x e w : ℕ) : Type 0 where
   pub no_later : (k : ℕ) → w < k → k < e → is_write_at T x k ≡ false
 
 last_writer_by-some : (T : List Event) (e w : ℕ) (o : Option Op) → last_writer_by T e o ≡ Some w → (x : ℕ) × (o ≡ Some (Read x)) × IsLastWrite T x e w
-last_writer_by-some T e w None h = never w h
 last_writer_by-some T e w (Some (Read x)) h =
     let found = find_last_is (is_write_at T x) e w h in
     (x, refl, record { earlier = found.0; writes = found.1; no_later = found.2 })
-last_writer_by-some T e w (Some (Write x)) h = never w h
-last_writer_by-some T e w (Some (Acquire l)) h = never w h
-last_writer_by-some T e w (Some (Release l)) h = never w h
-last_writer_by-some T e w (Some (Fork u)) h = never w h
-last_writer_by-some T e w (Some (Join u)) h = never w h
+last_writer_by-some T e w o h = never w h
 
 -- a last writer is the last write of the variable before its read
 pub last_writer-some : (T : List Event) (e w : ℕ) → last_writer T e ≡ Some w → (x : ℕ) × (op_at T e ≡ Some (Read x)) × IsLastWrite T x e w
@@ -72,17 +71,21 @@ pub base_by-some :
 base_by-some T e b None h = never b h
 base_by-some T e b (Some v) h = (v, refl, or_else-some (find (is_of_thread T v.thread) (reverse (before e))) (fork_of T v.thread) b h)
 
-fork_told : (u : ℕ) (op : Op) → is_fork u op ≡ true → op ≡ Fork u
-fork_told u (Read x) h = absurd (true≢false (sym h))
-fork_told u (Write x) h = absurd (true≢false (sym h))
-fork_told u (Acquire l) h = absurd (true≢false (sym h))
-fork_told u (Release l) h = absurd (true≢false (sym h))
-fork_told u (Fork w) h = ap Fork (eqb-true w u h)
-fork_told u (Join w) h = absurd (true≢false (sym h))
+-- an event that forks the thread, releases the lock, is one of the thread
+fork_found : (T : List Event) (u e : ℕ) → is_fork_at T u e ≡ true → (v : Event) × (slice_get T e ≡ Some v) × (v.op ≡ Fork u)
+fork_found T u e h =
+    let found = passes_event (λ v. is_fork u v.op) T e h in
+    (found.0, found.1, fork-from_test u found.0.op found.2)
 
-fork_found : (u : ℕ) (o : Option Event) → passes_by (λ v. is_fork u v.op) o ≡ true → (v : Event) × (o ≡ Some v) × (v.op ≡ Fork u)
-fork_found u None h = absurd (true≢false (sym h))
-fork_found u (Some v) h = (v, refl, fork_told u v.op h)
+pub is_fork_at-op : (T : List Event) (u e : ℕ) → is_fork_at T u e ≡ true → op_at T e ≡ Some (Fork u)
+is_fork_at-op T u e h =
+    let found = fork_found T u e h in
+    ap (option_map (λ (v : Event). v.op)) found.1 ∙ ap Some found.2
+
+pub is_of_thread-thread : (T : List Event) (t e : ℕ) → is_of_thread T t e ≡ true → thread_at T e ≡ Some t
+is_of_thread-thread T t e h =
+    let found = passes_event (λ v. eqb v.thread t) T e h in
+    ap (option_map (λ (v : Event). v.thread)) found.1 ∙ ap Some (eqb-true found.0.thread t found.2)
 
 -- a base is earlier, in an execution that keeps the rules
 pub base_of-earlier : (T : List Event) → IsDisciplined T → (e b : ℕ) → base_of T e ≡ Some b → b < e
@@ -92,7 +95,7 @@ base_of-earlier T rules e b h =
     elim found.2 [
       | inl before_it ↦ (find_last_is (is_of_thread T v.thread) e b before_it).0
       | inr first ↦
-          let fork = fork_found v.thread (slice_get T b) (fork_of-some T v.thread b first.1).1 in
+          let fork = fork_found T v.thread b (fork_of-some T v.thread b first.1).1 in
           let w = fork.0 in
           elim (cases_order e b) [
             | inl same ↦
@@ -108,14 +111,10 @@ base_of-earlier T rules e b h =
     ]
 
 section_by-some : (T : List Event) (e t j : ℕ) (op : Op) → section_by T e t op ≡ Some j → (e < j) × (j < length T)
-section_by-some T e t j (Read x) h = never j h
-section_by-some T e t j (Write x) h = never j h
 section_by-some T e t j (Acquire l) h =
     let found = find_first_is _ (e + 1) (length T - (e + 1)) j h in
     (omega (arith, found.0), omega (arith, found.0, found.1))
-section_by-some T e t j (Release l) h = never j h
-section_by-some T e t j (Fork u) h = never j h
-section_by-some T e t j (Join u) h = never j h
+section_by-some T e t j op h = never j h
 
 section_of-some : (T : List Event) (e j : ℕ) (o : Option Event) → section_of T e o ≡ Some j → (e < j) × (j < length T)
 section_of-some T e j None h = never j h
@@ -132,10 +131,6 @@ place_by-le T e (Some v) within = count_before-le T e v.thread within
 -- as many events of its thread as stand before an event, at most
 pub place_of-le : (T : List Event) (e : ℕ) → e ≤ length T → place_of T e ≤ e
 place_of-le T e within = place_by-le T e (slice_get T e) within
-
-of_thread_is : (t : ℕ) (o : Option Event) → passes_by (λ v. eqb v.thread t) o ≡ true → option_map (λ (v : Event). v.thread) o ≡ Some t
-of_thread_is t None h = absurd (true≢false (sym h))
-of_thread_is t (Some v) h = ap Some (eqb-true v.thread t h)
 
 -- the events of a thread are events of the trace
 pub events_of-within : (T : List Event) (t : ℕ) → All (λ e. e < length T) (events_of T t)
@@ -159,7 +154,7 @@ events_of-thread T t =
     All-weaker
     (λ e. is_of_thread T t e ≡ true)
     (λ e. thread_at T e ≡ Some t)
-    (λ e h. of_thread_is t (slice_get T e) h)
+    (λ e h. is_of_thread-thread T t e h)
     (events_of T t)
     (filter_passes (is_of_thread T t) (before (length T)))
 
@@ -175,9 +170,7 @@ events_of-length T t =
 
 -- the fork of a thread forks it
 pub fork_of-op : (T : List Event) (u f : ℕ) → fork_of T u ≡ Some f → op_at T f ≡ Some (Fork u)
-fork_of-op T u f is =
-    let fork = fork_found u (slice_get T f) (fork_of-some T u f is).1 in
-    ap (option_map (λ (v : Event). v.op)) fork.1 ∙ ap Some fork.2
+fork_of-op T u f is = is_fork_at-op T u f (fork_of-some T u f is).1
 
 -- a base is an event of the trace, in an execution that keeps the rules
 pub base_of-within : (T : List Event) → IsDisciplined T → (e b : ℕ) → base_of T e ≡ Some b → b < length T

@@ -6,8 +6,9 @@ use Rattle.std.proofs.lemmas.Option.{slice_get-get_or, slice_get_within}
 use Rattle.rapid_text.specs.Operations.{is_acquire, is_release}
 use Rattle.rapid_text.specs.declared.event.Event.{Event}
 use Rattle.rapid_text.specs.declared.event.Op.{Op}
-use Rattle.rapid_text.specs.declared.event.Op.TheVariants.{Read, Write, Acquire, Release, Fork, Join}
+use Rattle.rapid_text.specs.declared.event.Op.TheVariants.{Acquire, Release}
 use Rattle.trace_rules.specs.Rules.{acquire_count, release_count, hold_count, IsDisciplined}
+use Rattle.trace_rules.proofs.CallerLemmas.{acquire-from_test, release-from_test, release_count-le}
 use Rattle.event_index.proofs.StepLemmas.{count_more}
 
 -- whether the event takes the lock for the thread, or lets it go for it
@@ -17,27 +18,11 @@ takes v t l = eqb v.thread t && is_acquire l v.op
 abbrev pub frees : Event → ℕ → ℕ → Bool
 frees v t l = eqb v.thread t && is_release l v.op
 
-acquire_is : (l : ℕ) (op : Op) → is_acquire l op ≡ true → op ≡ Acquire l
-acquire_is l (Read x) h = absurd (true≢false (sym h))
-acquire_is l (Write x) h = absurd (true≢false (sym h))
-acquire_is l (Acquire m) h = ap Acquire (eqb-true m l h)
-acquire_is l (Release m) h = absurd (true≢false (sym h))
-acquire_is l (Fork u) h = absurd (true≢false (sym h))
-acquire_is l (Join u) h = absurd (true≢false (sym h))
-
-release_is : (l : ℕ) (op : Op) → is_release l op ≡ true → op ≡ Release l
-release_is l (Read x) h = absurd (true≢false (sym h))
-release_is l (Write x) h = absurd (true≢false (sym h))
-release_is l (Acquire m) h = absurd (true≢false (sym h))
-release_is l (Release m) h = ap Release (eqb-true m l h)
-release_is l (Fork u) h = absurd (true≢false (sym h))
-release_is l (Join u) h = absurd (true≢false (sym h))
-
 pub takes_is : (v : Event) (t l : ℕ) → takes v t l ≡ true → (v.thread ≡ t) × (v.op ≡ Acquire l)
-takes_is v t l h = let parts = and_parts (eqb v.thread t) (is_acquire l v.op) h in (eqb-true v.thread t parts.0, acquire_is l v.op parts.1)
+takes_is v t l h = let parts = and_parts (eqb v.thread t) (is_acquire l v.op) h in (eqb-true v.thread t parts.0, acquire-from_test l v.op parts.1)
 
 pub frees_is : (v : Event) (t l : ℕ) → frees v t l ≡ true → (v.thread ≡ t) × (v.op ≡ Release l)
-frees_is v t l h = let parts = and_parts (eqb v.thread t) (is_release l v.op) h in (eqb-true v.thread t parts.0, release_is l v.op parts.1)
+frees_is v t l h = let parts = and_parts (eqb v.thread t) (is_release l v.op) h in (eqb-true v.thread t parts.0, release-from_test l v.op parts.1)
 
 pub takes_from : (v : Event) (t l : ℕ) → v.thread ≡ t → v.op ≡ Acquire l → takes v t l ≡ true
 takes_from v t l same op = and_from _ _ (eq-eqb v.thread t same) (ap (is_acquire l) op ∙ eq-eqb l l refl)
@@ -86,24 +71,6 @@ freed_has T rules i t l v at h =
     let mine : 0 < hold_count (take i T) t l = subst (λ (u : ℕ). 0 < hold_count (take i T) u l) is.0 held in
     omega (arith, mine)
 
--- no lock is let go more often than it was taken
-pub freed_le_taken : (T : List Event) → IsDisciplined T → (i t l : ℕ) → i ≤ length T → release_count (take i T) t l ≤ acquire_count (take i T) t l
-freed_le_taken T rules zero t l within = le_refl 0
-freed_le_taken T rules (suc i) t l within =
-    let d : Event = record { thread = 0; op = Read 0 } in
-    let v : Event = get_or T i d in
-    let at : slice_get T i ≡ Some v = slice_get-get_or T i d (omega arith) in
-    let before = freed_le_taken T rules i t l (omega arith) in
-    let taken = taken_more T i t l v at in
-    let freed = freed_more T i t l v at in
-    subst
-    (λ (n : ℕ). release_count (take n T) t l ≤ acquire_count (take n T) t l)
-    (add-one i)
-    (elim (cases_Bool (frees v t l)) [
-      | inl h ↦ omega (arith, before, taken, freed, as_one (frees v t l) h, freed_has T rules i t l v at h)
-      | inr h ↦ omega (arith, before, taken, freed, as_none (frees v t l) h)
-    ])
-
 -- an event that neither takes nor frees the lock for the thread
 pub hold_same : (T : List Event) (i t l : ℕ) (v : Event) → slice_get T i ≡ Some v → takes v t l ≡ false → frees v t l ≡ false → hold_count (take (i + 1) T) t l ≡ hold_count (take i T) t l
 hold_same T i t l v at h k =
@@ -112,14 +79,13 @@ hold_same T i t l v at h k =
 -- one that takes it
 pub hold_taken : (T : List Event) → IsDisciplined T → (i t l : ℕ) (v : Event) → slice_get T i ≡ Some v → takes v t l ≡ true → frees v t l ≡ false → hold_count (take (i + 1) T) t l ≡ hold_count (take i T) t l + 1
 hold_taken T rules i t l v at h k =
-    let within = slice_get_within T i v at in
     omega (
       arith,
       taken_more T i t l v at,
       freed_more T i t l v at,
       as_one (takes v t l) h,
       as_none (frees v t l) k,
-      freed_le_taken T rules i t l (omega arith),
+      release_count-le T rules i t l,
     )
 
 -- one that frees it

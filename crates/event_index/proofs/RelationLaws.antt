@@ -6,6 +6,7 @@ use Rattle.rapid_text.specs.Operations.{is_read, is_write, is_fork, is_join}
 use Rattle.rapid_text.specs.declared.event.Event.{Event}
 use Rattle.rapid_text.specs.declared.event.Op.{Op}
 use Rattle.rapid_text.specs.declared.event.Op.TheVariants.{Read, Write, Acquire, Release, Fork, Join}
+use Rattle.rapid_text.proofs.CallerLemmas.{fork-from_test, join-from_test}
 use Rattle.event_index.specs.Relations.{is_access, is_on_lock, is_on_thread, Clash, IsConflicting, AreApart, IsIndependent, is_clash_of_ops, is_clash, is_tie_of_ops, is_apart, pass_both, is_conflict, is_independent}
 
 -- two operations access variable x, and at least one writes it
@@ -22,20 +23,14 @@ false_no e = absurd (true≢false (sym e))
 clash_found : (a b : Op) → is_clash_of_ops a b ≡ true → (x : ℕ) × ClashOn a b x
 clash_found (Read x) b h = (x, (or_left (eqb x x) false (same x), or_right (is_read x b) (is_write x b) h, h))
 clash_found (Write x) b h = (x, (same x, h, or_left (eqb x x) (is_write x b) (same x)))
-clash_found (Acquire l) b h = false_no h
-clash_found (Release l) b h = false_no h
-clash_found (Fork u) b h = false_no h
-clash_found (Join u) b h = false_no h
+clash_found a b h = false_no h
 
 clash_shown : (a b : Op) (x : ℕ) → ClashOn a b x → is_clash_of_ops a b ≡ true
 clash_shown (Read y) b x h =
     let same_variable : y ≡ x = ⊎_elim (eqb-true y x) false_no (or_cases (eqb y x) false h.0) in
     subst (λ (z : ℕ). is_write z b ≡ true) (sym same_variable) h.2
 clash_shown (Write y) b x h = subst (λ (z : ℕ). is_access z b ≡ true) (sym (eqb-true y x h.0)) h.1
-clash_shown (Acquire l) b x h = false_no h.0
-clash_shown (Release l) b x h = false_no h.0
-clash_shown (Fork u) b x h = false_no h.0
-clash_shown (Join u) b x h = false_no h.0
+clash_shown a b x h = false_no h.0
 
 pub Decides-is_clash : (v w : Event) → Decides (is_clash v w) (Clash v w)
 Decides-is_clash v w = (
@@ -61,21 +56,15 @@ Decides-is_clash v w = (
 tie_from_clash : (a b : Op) → is_clash_of_ops a b ≡ true → is_tie_of_ops a b ≡ true
 tie_from_clash (Read x) b h = h
 tie_from_clash (Write x) b h = h
-tie_from_clash (Acquire l) b h = false_no h
-tie_from_clash (Release l) b h = false_no h
-tie_from_clash (Fork u) b h = false_no h
-tie_from_clash (Join u) b h = false_no h
+tie_from_clash a b h = false_no h
 
 -- what is on one lock is tied
 tie_from_lock : (a b : Op) (l : ℕ) → is_on_lock l a ≡ true → is_on_lock l b ≡ true → is_tie_of_ops a b ≡ true
-tie_from_lock (Read x) b l h k = false_no h
-tie_from_lock (Write x) b l h k = false_no h
 tie_from_lock (Acquire m) b l h k =
     let same_lock : m ≡ l = ⊎_elim (eqb-true m l) false_no (or_cases (eqb m l) false h) in
     subst (λ (z : ℕ). is_on_lock z b ≡ true) (sym same_lock) k
 tie_from_lock (Release m) b l h k = subst (λ (z : ℕ). is_on_lock z b ≡ true) (sym (eqb-true m l h)) k
-tie_from_lock (Fork u) b l h k = false_no h
-tie_from_lock (Join u) b l h k = false_no h
+tie_from_lock a b l h k = false_no h
 
 tie_from_fork : (a b : Op) (u : ℕ) → a ≡ Fork u → b ≡ Join u → is_tie_of_ops a b ≡ true
 tie_from_fork a b u e f = rw (e, f) (same u)
@@ -89,28 +78,11 @@ on_thread_fork op u e = rw e (or_left (eqb u u) false (same u))
 on_thread_join : (op : Op) (u : ℕ) → op ≡ Join u → is_on_thread u op ≡ true
 on_thread_join op u e = rw e (same u)
 
--- the operation that a test of forks tells
-fork_is : (u : ℕ) (op : Op) → is_fork u op ≡ true → op ≡ Fork u
-fork_is u (Read x) h = false_no h
-fork_is u (Write x) h = false_no h
-fork_is u (Acquire l) h = false_no h
-fork_is u (Release l) h = false_no h
-fork_is u (Fork w) h = ap Fork (eqb-true w u h)
-fork_is u (Join w) h = false_no h
-
-join_is : (u : ℕ) (op : Op) → is_join u op ≡ true → op ≡ Join u
-join_is u (Read x) h = false_no h
-join_is u (Write x) h = false_no h
-join_is u (Acquire l) h = false_no h
-join_is u (Release l) h = false_no h
-join_is u (Fork w) h = false_no h
-join_is u (Join w) h = ap Join (eqb-true w u h)
-
 not_on_thread : (u : ℕ) (op : Op) → op ≢ Fork u → op ≢ Join u → is_on_thread u op ≡ false
 not_on_thread u op f j =
     false_from_ne_true
     (is_on_thread u op)
-    (λ h. ⊎_elim (λ e. f (fork_is u op e)) (λ e. j (join_is u op e)) (or_cases (is_fork u op) (is_join u op) h))
+    (λ h. ⊎_elim (λ e. f (fork-from_test u op e)) (λ e. j (join-from_test u op e)) (or_cases (is_fork u op) (is_join u op) h))
 
 -- operations with none of the four ties are not tied
 no_tie :
@@ -126,8 +98,8 @@ no_tie (Write x) b c l f j =
     false_from_ne_true (is_access x b) (λ h. let found = clash_found (Write x) b h in c found.0 found.1)
 no_tie (Acquire m) b c l f j = false_from_ne_true (is_on_lock m b) (l m (or_left (eqb m m) false (same m)))
 no_tie (Release m) b c l f j = false_from_ne_true (is_on_lock m b) (l m (same m))
-no_tie (Fork u) b c l f j = false_from_ne_true (is_join u b) (λ h. f u refl (join_is u b h))
-no_tie (Join u) b c l f j = false_from_ne_true (is_fork u b) (λ h. j u refl (fork_is u b h))
+no_tie (Fork u) b c l f j = false_from_ne_true (is_join u b) (λ h. f u refl (join-from_test u b h))
+no_tie (Join u) b c l f j = false_from_ne_true (is_fork u b) (λ h. j u refl (fork-from_test u b h))
 
 pub apart_from_test : (v w : Event) → is_apart v w ≡ true → AreApart v w
 apart_from_test v w h =

@@ -1,5 +1,5 @@
 -- What each table of the passes becomes with one event more. `T` is the events, `i` the event, `v` what it is.
-use Rattle.std.proofs.Common.{◌≡◌, ◌≢◌, ℕ, ◌+◌, ◌≤◌, ◌⊎◌, Bool, false, cond, eqb, List, [], ◌∷◌, ◌++◌, Option, Some, None, length, set, take, count_by, refl, sym, ap, ◌∙◌, arith, eq-eqb, inl, inr, length-take-le}
+use Rattle.std.proofs.Common.{◌≡◌, ◌≢◌, ℕ, ◌+◌, ◌≤◌, ◌⊎◌, Bool, true, false, cond, eqb, List, [], ◌∷◌, ◌++◌, Option, Some, None, length, set, take, count_by, refl, sym, ap, ◌∙◌, arith, eq-eqb, inl, inr, length-take-le, true≢false}
 use Rattle.std.specs.List.{slice_get}
 use Rattle.std.specs.Option.{option_or, option_map}
 use Rattle.std.proofs.lemmas.Bool.{ne_eqb, cond-true, cond-false}
@@ -22,16 +22,20 @@ option_or-None (Some e) = refl
 
 -- what forks no such thread fails the test
 no_fork : (u : ℕ) (op : Op) → op ≢ Fork u → is_fork u op ≡ false
-no_fork u (Read x) h = refl
-no_fork u (Write x) h = refl
-no_fork u (Acquire l) h = refl
-no_fork u (Release l) h = refl
 no_fork u (Fork w) h = ne_eqb w u (λ e. h (ap Fork e))
-no_fork u (Join w) h = refl
+no_fork u op h = refl
 
 -- a test at an event that is there
 pub passes_here : (test : Event → Bool) (T : List Event) (i : ℕ) (v : Event) → slice_get T i ≡ Some v → passes_at test T i ≡ test v
 passes_here test T i v at = ap (passes_by test) at
+
+passing : (test : Event → Bool) (o : Option Event) → passes_by test o ≡ true → (v : Event) × (o ≡ Some v) × (test v ≡ true)
+passing test None h = absurd (true≢false (sym h))
+passing test (Some v) h = (v, refl, h)
+
+-- an event that passes a test is there, and what is there passes it
+pub passes_event : (test : Event → Bool) (T : List Event) (i : ℕ) → passes_at test T i ≡ true → (v : Event) × (slice_get T i ≡ Some v) × (test v ≡ true)
+passes_event test T i h = passing test (slice_get T i) h
 
 -- the events up to it
 pub take_event : (T : List Event) (i : ℕ) (v : Event) → slice_get T i ≡ Some v → take (i + 1) T ≡ take i T ++ v ∷ []

@@ -4,22 +4,15 @@ use Rattle.rapid_text.specs.declared.event.Event.{Event}
 use Rattle.rapid_text.specs.Recording.{Recording, IsWellFormed}
 use Rattle.trace_rules.specs.Rules.{IsDisciplined}
 use Rattle.event_index.specs.Events.{is_of_thread, is_fork_at}
+pub use Rattle.event_index.specs.Tables.{IsTable}
+pub use Rattle.event_index.specs.Lookups.{count_before}
 use Rattle.event_index.specs.Lookups.{before, events_of, place_of, last_writer, fork_of, base_of, section_end}
 use Rattle.event_index.specs.declared.indexed.Indexed.TheInside.{Inside}
 use Rattle.event_index.specs.declared.tables.Tables.{Tables}
 
--- the table holds what the function gives for each number below n
-pub record IsTable {X : Type 0} (f : ℕ → X) (n : ℕ) (xs : List X) : Type 0 where
-  pub len : length xs ≡ n
-  pub at : (i : ℕ) → i < n → slice_get xs i ≡ Some (f i)
-
 -- the fork of the thread among the first e events
 abbrev pub fork_before : List Event → ℕ → ℕ → Option ℕ
 fork_before T e u = find (is_fork_at T u) (before e)
-
--- how many of the first e events are of the thread
-abbrev pub count_before : List Event → ℕ → ℕ → ℕ
-count_before T e t = count_by (λ v. v.thread == t) (take e T)
 
 -- the last event of the thread among the first e
 abbrev pub last_before : List Event → ℕ → ℕ → Option ℕ

@@ -3,3 +3,4 @@ pub mod Layout
 pub mod Lookups
 pub mod Open
 pub mod Relations
+pub mod Tables

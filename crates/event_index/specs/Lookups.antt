@@ -18,9 +18,13 @@ before e = range_with_len 0 e
 abbrev pub events_of : List Event → ℕ → List ℕ
 events_of T t = filter (is_of_thread T t) (before (length T))
 
+-- how many of the first e events are of the thread
+abbrev pub count_before : List Event → ℕ → ℕ → ℕ
+count_before T e t = count_by (λ v. v.thread == t) (take e T)
+
 abbrev pub place_by : List Event → ℕ → Option Event → ℕ
 place_by T e None = 0
-place_by T e (Some v) = count_by (λ w. w.thread == v.thread) (take e T)
+place_by T e (Some v) = count_before T e v.thread
 
 -- the place of the event in its thread: how many events of the thread stand before it
 abbrev pub place_of : List Event → ℕ → ℕ

@@ -1,7 +1,9 @@
 pub mod Appended
+pub mod CallerLemmas
 pub mod CanonicalLines
 pub mod Cuts
 pub mod FirstByte
+pub mod FirstFound
 pub mod FirstUses
 pub mod Growing
 pub mod LineText

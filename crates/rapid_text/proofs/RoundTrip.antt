@@ -3,13 +3,14 @@ use Rattle.std.proofs.Common.{◌≡◌, ℕ, Bool, true, false, cond, List, [],
 use Rattle.std.specs.List.{slice_split, onto_first, cons_option}
 use Rattle.std.proofs.lemmas.List.Elements.{All-nil, All-cons, All-head, All-tail, All-weaker}
 use Rattle.rapid_text.specs.Canonical.{canonical_text}
-use Rattle.rapid_text.specs.Reading.{is_line_feed, NamedEvent, LineReading, Skipped, Refused, Says, line_reading, event_said, named_events, first_fault, reading_by, reading_of, recording_of}
+use Rattle.rapid_text.specs.Reading.{is_line_feed, NamedEvent, LineReading, Skipped, Refused, Says, line_reading, event_said, named_events, refusals_of, reading_by, reading_of, recording_of}
 use Rattle.rapid_text.specs.Recording.{Recording}
+use Rattle.rapid_text.specs.declared.refusal.TextRefusal.{TextRefusal}
 use Rattle.rapid_text.proofs.Cuts.{Fails}
 use Rattle.rapid_text.proofs.CanonicalLines.{canonical_text-recording_of, slice_split-lines_text, named_events-lines}
 use Rattle.rapid_text.proofs.PrintedLines.{ReadsBack, line_of, IsPrintable, no_feed-line_of, line_reading-line_of}
 use Rattle.rapid_text.proofs.SaidLines.{IsPrintable-said}
-use Rattle.rapid_text.proofs.Turns.{Follow-clean, AreClean-lines, AreClean-first_fault, first_fault-clean}
+use Rattle.rapid_text.proofs.Turns.{Follow-clean, AreClean-lines, AreClean-refusals_of, refusals_of-clean}
 
 -- no byte of the line is a line feed
 abbrev HasNoFeed : List ℕ → Type 0
@@ -51,27 +52,27 @@ named_events-printable (line ∷ lines) clear =
 
 -- a text is read where its lines have no fault
 reading_of-clean : (text : List ℕ) (lines : List (List ℕ)) (events : List NamedEvent)
-    → slice_split is_line_feed text ≡ lines → first_fault lines ≡ None → named_events lines ≡ events
+    → slice_split is_line_feed text ≡ lines → refusals_of lines ≡ [] → named_events lines ≡ events
     → reading_of text ≡ Ok (recording_of events)
 unfolding reading_of
 reading_of-clean text lines events split no_fault events_are =
-    ap (λ (ls : List (List ℕ)). reading_by ls (first_fault ls)) split
+    ap (λ (ls : List (List ℕ)). reading_by ls (refusals_of ls)) split
     ∙ ap (reading_by lines) no_fault
     ∙ ap (λ (es : List NamedEvent). Ok (recording_of es)) events_are
 
-reading_by-Ok : (lines : List (List ℕ)) (fault : Option ℕ) (trace : Recording)
-    → reading_by lines fault ≡ Ok trace → (fault ≡ None) × (trace ≡ recording_of (named_events lines))
-reading_by-Ok lines None trace is = (refl, (cc is))
-reading_by-Ok lines (Some i) trace is = absurd (cc is)
+reading_by-Ok : (lines : List (List ℕ)) (refusals : List TextRefusal) (trace : Recording)
+    → reading_by lines refusals ≡ Ok trace → (refusals ≡ []) × (trace ≡ recording_of (named_events lines))
+reading_by-Ok lines [] trace is = (refl, (cc is))
+reading_by-Ok lines (refusal ∷ later) trace is = absurd (cc is)
 
 -- a text that is read has no fault, and its recording is that of the events that its lines ask for
 reading_of-Ok : (text : List ℕ) (trace : Recording) → reading_of text ≡ Ok trace
-    → (first_fault (slice_split is_line_feed text) ≡ None) × (trace ≡ recording_of (named_events (slice_split is_line_feed text)))
+    → (refusals_of (slice_split is_line_feed text) ≡ []) × (trace ≡ recording_of (named_events (slice_split is_line_feed text)))
 unfolding reading_of
-reading_of-Ok text trace is = reading_by-Ok (slice_split is_line_feed text) (first_fault (slice_split is_line_feed text)) trace is
+reading_of-Ok text trace is = reading_by-Ok (slice_split is_line_feed text) (refusals_of (slice_split is_line_feed text)) trace is
 
 -- the canonical text of the events of lines without fault reads as the same recording
-reading_of-events : (lines : List (List ℕ)) → All HasNoFeed lines → first_fault lines ≡ None
+reading_of-events : (lines : List (List ℕ)) → All HasNoFeed lines → refusals_of lines ≡ []
     → reading_of (canonical_text (recording_of (named_events lines))) ≡ Ok (recording_of (named_events lines))
 reading_of-events lines clear no_fault =
     let events = named_events lines in
@@ -83,8 +84,8 @@ reading_of-events lines clear no_fault =
     All-weaker IsPrintable (λ event. HasNoFeed (line_of event)) no_feed-line_of events printable in
     let split : slice_split is_line_feed text ≡ printed =
     ap (slice_split is_line_feed) (canonical_text-recording_of events) ∙ slice_split-lines_text events unbroken in
-    let follow = Follow-clean [] lines (AreClean-first_fault lines no_fault) in
-    let clean = first_fault-clean printed (AreClean-lines [] events read follow) in
+    let follow = Follow-clean [] lines (AreClean-refusals_of lines no_fault) in
+    let clean = refusals_of-clean printed (AreClean-lines [] events read follow) in
     reading_of-clean text printed events split clean (named_events-lines events read)
 
 -- the canonical text of what was read reads as the same recording

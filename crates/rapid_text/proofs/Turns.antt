@@ -1,11 +1,11 @@
 -- Events that are read one after another within the limits, and lines none of which is refused.
-use Rattle.std.proofs.Common.{◌≡◌, ℕ, ◌+◌, ◌<◌, ◌≤◌, zero, suc, Bool, false, List, [], ◌∷◌, ◌++◌, map, length, take, get_or, position, All, Option, Some, None, is_some, option_to_list, refl, sym, ap, ◌∙◌, subst, arith, inl, inr, append_assoc, append-nil}
-use Rattle.std.specs.List.{position_or_len, range_with_len, cons_option}
-use Rattle.std.proofs.lemmas.Bool.{cases_lt, cond_below, cond_above}
+use Rattle.std.proofs.Common.{◌≡◌, ℕ, ◌+◌, ◌<◌, ◌≤◌, zero, suc, List, [], ◌∷◌, ◌++◌, map, length, take, get_or, All, Option, Some, None, option_to_list, refl, sym, ap, ◌∙◌, subst, arith, append_assoc, append-nil}
+use Rattle.std.specs.Prelude.{option_map}
+use Rattle.std.specs.List.{cons_option}
 use Rattle.std.proofs.lemmas.List.Elements.{All-head, All-tail}
-use Rattle.std.proofs.lemmas.List.FromFn.{length-range_with_len, get_or-range_with_len}
-use Rattle.std.proofs.lemmas.List.Sums.{position_or_len_is, fails_before_first}
-use Rattle.rapid_text.specs.Reading.{NamedEvent, LineReading, Skipped, Refused, Says, line_reading, event_said, named_events, fault_after, fault_at, first_fault}
+use Rattle.std.proofs.lemmas.Option.{none-some}
+use Rattle.rapid_text.specs.Reading.{NamedEvent, LineReading, Skipped, Refused, Says, line_reading, event_said, named_events, fault_after, refusal_at, refusals_of}
+use Rattle.rapid_text.proofs.FirstFound.{nothing_found, none-from_nothing}
 use Rattle.rapid_text.proofs.PrintedLines.{ReadsBack, line_of}
 
 -- each of these events may follow the earlier ones
@@ -64,39 +64,14 @@ AreClean-lines earlier (event ∷ events) read follow (suc i) lt =
     ap (λ (es : List NamedEvent). fault_after es (line_reading (get_or lines i []))) shifted
     ∙ AreClean-lines (earlier ++ event ∷ []) events (All-tail ReadsBack event events read) follow.1 i (omega arith)
 
--- no place passes where none is found
-position-None : (p : ℕ → Bool) (xs : List ℕ) → position p xs ≡ None → length xs ≤ position_or_len p xs
-position-None p xs none =
-    elim (cases_lt (position_or_len p xs) (length xs)) [
-      | inl lt ↦ (let found : Some (position_or_len p xs) ≡ position p xs = cond_below (position_or_len p xs) (length xs) (Some (position_or_len p xs)) None lt in cc)
-      | inr ge ↦ ge
-    ]
+None-from_option_map : {X Y : Type 0} (f : X → Y) (o : Option X) → option_map f o ≡ None → o ≡ None
+None-from_option_map f None none = refl
+None-from_option_map f (Some x) none = absurd (none-some (f x) (sym none))
 
-None-from_is_some : {X : Type 0} (o : Option X) → is_some o ≡ false → o ≡ None
-None-from_is_some None none = refl
-None-from_is_some (Some x) none = cc
+-- lines none of which has a refusal are clean
+pub AreClean-refusals_of : (lines : List (List ℕ)) → refusals_of lines ≡ [] → AreClean [] lines
+AreClean-refusals_of lines none i lt = None-from_option_map _ _ (none-from_nothing (refusal_at lines) 0 (length lines) none i (omega arith) (omega arith))
 
--- lines in which no fault is found are clean
-pub AreClean-first_fault : (lines : List (List ℕ)) → first_fault lines ≡ None → AreClean [] lines
-AreClean-first_fault lines none i lt =
-    let p = λ (k : ℕ). is_some (fault_at lines k) in
-    let places = range_with_len 0 (length lines) in
-    let long : length places ≡ length lines = length-range_with_len 0 (length lines) in
-    let all : length places ≤ position_or_len p places = position-None p places none in
-    let fails : p (get_or places i 0) ≡ false = fails_before_first p places i 0 (omega arith) in
-    let here : get_or places i 0 ≡ 0 + i = get_or-range_with_len 0 (length lines) i 0 lt in
-    let at_i : get_or places i 0 ≡ i = omega arith in
-    None-from_is_some (fault_at lines i) (ap p (sym at_i) ∙ fails)
-
--- and in clean lines none is found
-pub first_fault-clean : (lines : List (List ℕ)) → AreClean [] lines → first_fault lines ≡ None
-first_fault-clean lines clean =
-    let p = λ (k : ℕ). is_some (fault_at lines k) in
-    let places = range_with_len 0 (length lines) in
-    let long : length places ≡ length lines = length-range_with_len 0 (length lines) in
-    let fails : (k : ℕ) → k < length places → p (get_or places k 0) ≡ false = (λ k lt.
-    let here : get_or places k 0 ≡ 0 + k = get_or-range_with_len 0 (length lines) k 0 (omega arith) in
-    let at_k : get_or places k 0 ≡ k = omega arith in
-    ap p at_k ∙ ap is_some (clean k (omega arith))) in
-    let all : position_or_len p places ≡ length places = position_or_len_is p places (length places) 0 (omega arith) fails (λ lt. absurd (omega arith)) in
-    sym (cond_above (position_or_len p places) (length places) (Some (position_or_len p places)) None None (omega arith) refl)
+-- and clean lines have none
+pub refusals_of-clean : (lines : List (List ℕ)) → AreClean [] lines → refusals_of lines ≡ []
+refusals_of-clean lines clean = nothing_found (refusal_at lines) 0 (length lines) (λ k low high. ap (option_map _) (clean k (omega arith)))

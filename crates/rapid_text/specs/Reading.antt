@@ -1,7 +1,7 @@
 -- What a trace text says: its events with names and locations, or its first refused line and cause.
 -- A line has the form that RAPID's README gives, `thread|operation(name)|location`; what is skipped,
 -- refused and left out is this project's own profile of it.
-use Rattle.std.specs.Prelude.{ℕ, ◌+◌, ◌-◌, ◌==◌, nat_eq, nat_lt, nat_le, Bool, true, false, not, ◌||◌, if◌then◌else◌, List, [], ◌∷◌, ◌++◌, map, length, take, drop, filter, filter_map, flat_map, find, position, slice_index_or, Option, Some, None, is_some, unwrap_or, Result, Ok, Err, codes, bytes_eq}
+use Rattle.std.specs.Prelude.{ℕ, ◌+◌, ◌-◌, ◌==◌, nat_eq, nat_lt, nat_le, Bool, true, false, not, ◌||◌, if◌then◌else◌, List, [], ◌∷◌, ◌++◌, map, length, take, drop, filter, filter_map, flat_map, find, position, slice_index_or, Option, Some, None, option_map, unwrap_or, Result, Ok, Err, codes, bytes_eq}
 use Rattle.std.specs.List.{ends_with, prefix_len, suffix_len, list_any, before_first, after_first, before_last, slice_split, range_with_len}
 use Rattle.rapid_text.specs.declared.event.Event.{Event}
 use Rattle.rapid_text.specs.declared.event.Kind.{Kind}
@@ -9,7 +9,7 @@ use Rattle.rapid_text.specs.declared.event.Kind.TheVariants.{Reads, Writes, Acqu
 use Rattle.rapid_text.specs.declared.event.Op.{Op}
 use Rattle.rapid_text.specs.declared.event.Op.TheVariants.{Read, Write, Acquire, Release, Fork, Join}
 use Rattle.rapid_text.specs.declared.refusal.TextCause.{TextCause}
-use Rattle.rapid_text.specs.declared.refusal.TextCause.TheVariants.{NoBar, BadParentheses, UnknownOperation, EmptyName, NameTooLong, LineTooLong, TooManyEvents, TooManyNames, OutOfMemory}
+use Rattle.rapid_text.specs.declared.refusal.TextCause.TheVariants.{NoBar, BadParentheses, UnknownOperation, EmptyName, NameTooLong, LineTooLong, TooManyEvents, TooManyNames}
 use Rattle.rapid_text.specs.declared.refusal.TextRefusal.{TextRefusal}
 use Rattle.rapid_text.specs.Limits.{event_limit, thread_limit, line_limit, name_limit}
 use Rattle.rapid_text.specs.Recording.{Recording}
@@ -200,18 +200,22 @@ fault_after earlier (Says event) =
     then Some TooManyNames
     else None)
 
--- why the line at place i is refused, if it is; the lines before it ask for the events before it
-abbrev pub fault_at : List (List ℕ) → ℕ → Option TextCause
-fault_at lines i = fault_after (named_events (take i lines)) (line_reading (slice_index_or lines i []))
+-- the refusal of the line at place i, if it is refused; the lines before it ask for the events before it,
+-- and lines are counted from 1
+abbrev pub refusal_at : List (List ℕ) → ℕ → Option TextRefusal
+refusal_at lines i =
+    option_map
+    (λ why. record { line = i + 1; why = why })
+    (fault_after (named_events (take i lines)) (line_reading (slice_index_or lines i [])))
 
--- the place of the first line that is refused
-abbrev pub first_fault : List (List ℕ) → Option ℕ
-first_fault lines = position (λ i. is_some (fault_at lines i)) (range_with_len 0 (length lines))
+-- the refusals of all lines that are refused, in the order of the lines
+abbrev pub refusals_of : List (List ℕ) → List TextRefusal
+refusals_of lines = filter_map (refusal_at lines) (range_with_len 0 (length lines))
 
-abbrev pub reading_by : List (List ℕ) → Option ℕ → Result Recording TextRefusal
-reading_by lines None = Ok (recording_of (named_events lines))
-reading_by lines (Some i) = Err (record { line = i + 1; why = unwrap_or (fault_at lines i) OutOfMemory })
+abbrev pub reading_by : List (List ℕ) → List TextRefusal → Result Recording TextRefusal
+reading_by lines [] = Ok (recording_of (named_events lines))
+reading_by lines (first ∷ later) = Err first
 
--- what the text says: its recording, or its first refused line, counted from 1, with its first cause
+-- what the text says: the recording of its lines' events, or the refusal of the first line that is refused
 unfoldable pub reading_of : List ℕ → Result Recording TextRefusal
-reading_of text = let lines = slice_split is_line_feed text in reading_by lines (first_fault lines)
+reading_of text = let lines = slice_split is_line_feed text in reading_by lines (refusals_of lines)

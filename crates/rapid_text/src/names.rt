@@ -41,6 +41,34 @@ impl BuildHasher for TextKeyed {
     }
 }
 
+/// How many names there are with this one.
+pub(crate) fn count_with(names: &Names, name: &[u8]) -> usize
+    requires { length (names_of names.now) < 2 ^ 17 }
+    ensures { result ≡ length (with_name (names_of names.now) name.now) }
+{
+    if names.contains(name) {
+        names.len()
+    } else {
+        names.len() + 1
+    }
+}
+
+/// How many names there are with these two.
+pub(crate) fn count_with_both(names: &Names, first: &[u8], second: &[u8]) -> usize
+    requires { length (names_of names.now) < 2 ^ 17 }
+    ensures { result ≡ length (with_name (with_name (names_of names.now) first.now) second.now) }
+{
+    let with_first = count_with(names, first);
+    if second == first {
+        return with_first;
+    }
+    if names.contains(second) {
+        with_first
+    } else {
+        with_first + 1
+    }
+}
+
 /// The number of the name, which is noted as the last one if it is new.
 pub(crate) fn number(names: &mut Names, alloc: Global, name: &[u8]) -> Result<u32, OutOfMemory>
     requires { length (names_of names.old) < 2 ^ 17 }

@@ -42,18 +42,9 @@ module _ (P : ℕ → Type 0) (end : ℕ) where
       }
 
 linked_named : (r : Recording) (w : Bool) (x : ℕ) (op : Op) → linked_variable w op ≡ Some x → IsNamedOp r op → x < length r.variables
-linked_named r true x (Read y) is named = absurd (none-some x is)
+linked_named r w x (Write y) is named = subst (λ (z : ℕ). z < length r.variables) (same_Some y x is) named
 linked_named r false x (Read y) is named = subst (λ (z : ℕ). z < length r.variables) (same_Some y x is) named
-linked_named r true x (Write y) is named = subst (λ (z : ℕ). z < length r.variables) (same_Some y x is) named
-linked_named r false x (Write y) is named = subst (λ (z : ℕ). z < length r.variables) (same_Some y x is) named
-linked_named r true x (Acquire l) is named = absurd (none-some x is)
-linked_named r false x (Acquire l) is named = absurd (none-some x is)
-linked_named r true x (Release l) is named = absurd (none-some x is)
-linked_named r false x (Release l) is named = absurd (none-some x is)
-linked_named r true x (Fork u) is named = absurd (none-some x is)
-linked_named r false x (Fork u) is named = absurd (none-some x is)
-linked_named r true x (Join u) is named = absurd (none-some x is)
-linked_named r false x (Join u) is named = absurd (none-some x is)
+linked_named r w x op is named = absurd (none-some x is)
 
 -- no event stands in a chain past the end
 pub AreLinks-new : (r : Recording) (w : Bool) (n m : ℕ) → n ≡ length r.events → m ≡ length r.variables * length r.threads → AreLinks r w n (replicate n n) (replicate m n)

@@ -10,8 +10,7 @@ use Rattle.rapid_text.specs.declared.event.Op.{Op}
 use Rattle.rapid_text.specs.declared.event.Op.TheVariants.{Fork, Join}
 use Rattle.trace_rules.specs.Rules.{IsDisciplined}
 use Rattle.event_index.specs.Events.{op_at, thread_at, is_of_thread}
-use Rattle.event_index.proofs.CallerLemmas.{last_writer-earlier}
-use Rattle.event_index.proofs.StepLemmas.{passes_here}
+use Rattle.event_index.proofs.CallerLemmas.{last_writer-earlier, passes_here}
 use Rattle.shb_clocks.specs.HappensBefore.{Edge, in_thread, by_lock, by_fork, by_join, from_fork_to_join, by_writer, IsShbBefore, same, chain}
 
 -- an event of a thread, an event that does something

@@ -34,16 +34,9 @@ access_linked :
     → (is_write y (sought_by w x) || is_write y op) ≡ true → linked_variable w op ≡ Some x
 access_linked true x y (Read z) h k wr = absurd (no_access wr)
 access_linked true x y (Write z) h k wr = ap Some (one_variable x y z (read_is x y h) k)
-access_linked true x y (Acquire l) h k wr = absurd (no_access k)
-access_linked true x y (Release l) h k wr = absurd (no_access k)
-access_linked true x y (Fork u) h k wr = absurd (no_access k)
-access_linked true x y (Join u) h k wr = absurd (no_access k)
 access_linked false x y (Read z) h k wr = ap Some (one_variable x y z h (read_is z y k))
 access_linked false x y (Write z) h k wr = ap Some (one_variable x y z h k)
-access_linked false x y (Acquire l) h k wr = absurd (no_access k)
-access_linked false x y (Release l) h k wr = absurd (no_access k)
-access_linked false x y (Fork u) h k wr = absurd (no_access k)
-access_linked false x y (Join u) h k wr = absurd (no_access k)
+access_linked w x y op h k wr = absurd (no_access k)
 
 self : (x y : ℕ) → x ≡ y → eqb x y ≡ true
 self x y is = eq-eqb x y is
@@ -55,21 +48,13 @@ record Clashes (w : Bool) (x : ℕ) (op : Op) : Type 0 where
   pub writes : (is_write x (sought_by w x) || is_write x op) ≡ true
 
 linked_access : (w : Bool) (x : ℕ) (op : Op) → linked_variable w op ≡ Some x → Clashes w x op
-linked_access true x (Read z) is = absurd (none-some x is)
 linked_access true x (Write z) is =
     record { first = ap (λ b. b || false) (self x x refl); second = self z x (same_Some z x is); writes = self z x (same_Some z x is) }
-linked_access true x (Acquire l) is = absurd (none-some x is)
-linked_access true x (Release l) is = absurd (none-some x is)
-linked_access true x (Fork u) is = absurd (none-some x is)
-linked_access true x (Join u) is = absurd (none-some x is)
 linked_access false x (Read z) is =
     record { first = self x x refl; second = ap (λ b. b || false) (self z x (same_Some z x is)); writes = ap (λ b. b || false) (self x x refl) }
 linked_access false x (Write z) is =
     record { first = self x x refl; second = self z x (same_Some z x is); writes = ap (λ b. b || eqb z x) (self x x refl) }
-linked_access false x (Acquire l) is = absurd (none-some x is)
-linked_access false x (Release l) is = absurd (none-some x is)
-linked_access false x (Fork u) is = absurd (none-some x is)
-linked_access false x (Join u) is = absurd (none-some x is)
+linked_access w x op is = absurd (none-some x is)
 
 -- what is no access has no partners
 pub no_partner : (T : List Event) (a b : ℕ) (v : Event) → slice_get T a ≡ Some v → ((y : ℕ) → is_access y v.op ≡ false) → IsCandidate T a b → ⊥

@@ -5,10 +5,8 @@ use Rattle.std.proofs.lemmas.Bool.{ne_eqb}
 use Rattle.rapid_text.specs.Operations.{is_release}
 use Rattle.rapid_text.specs.declared.event.Event.{Event}
 use Rattle.rapid_text.specs.declared.event.Op.TheVariants.{Release}
-use Rattle.event_index.specs.Layout.{IsTable}
-use Rattle.event_index.proofs.ScanLemmas.{find_last_yes, find_last_no}
-use Rattle.event_index.proofs.StepLemmas.{passes_here}
-use Rattle.event_index.proofs.TableLemmas.{IsTable-set, IsTable-like}
+use Rattle.event_index.specs.Tables.{IsTable}
+use Rattle.event_index.proofs.CallerLemmas.{find_last_yes, find_last_no, passes_here, IsTable-set, IsTable-like}
 use Rattle.shb_clocks.specs.Layout.{is_release_at, last_release}
 
 module _ (T : List Event) (i n : ℕ) (v : Event) (xs : List (Option ℕ)) (at : slice_get T i ≡ Some v) (table : IsTable (last_release T i) n xs) where

@@ -9,39 +9,21 @@ use Rattle.rapid_text.specs.declared.event.Event.{Event}
 use Rattle.rapid_text.specs.declared.event.Op.{Op}
 use Rattle.rapid_text.specs.declared.event.Op.TheVariants.{Read, Write, Acquire, Release, Fork, Join}
 use Rattle.trace_rules.specs.Rules.{IsDisciplined, hold_count}
-use Rattle.trace_rules.proofs.CallerLemmas.{fork-from_test, release-from_test, one_holder}
-use Rattle.event_index.specs.Events.{op_at, thread_at, passes_by, is_of_thread, is_fork_at}
+use Rattle.trace_rules.proofs.CallerLemmas.{release-from_test, one_holder}
+use Rattle.event_index.specs.Events.{op_at, thread_at, is_of_thread, is_fork_at}
 use Rattle.event_index.specs.Lookups.{before, events_of, place_of, fork_of, or_else, base_of, base_by}
-use Rattle.event_index.proofs.CallerLemmas.{base_by-some, fork_of-some, events_of-place, place_of-events_of}
-use Rattle.event_index.proofs.HoldLemmas.{takes, frees, takes_is, takes_not_thread, frees_not_thread, hold_same, hold_freed}
-use Rattle.event_index.proofs.ScanLemmas.{find_last_is, find_last_none, find_none}
-use Rattle.event_index.proofs.StepLemmas.{passes_here}
+use Rattle.event_index.proofs.CallerLemmas.{base_by-some, fork_of-some, events_of-place, place_of-events_of, find_last_is, find_last_none, find_none, passes_here, passes_event, is_fork_at-op, is_of_thread-thread}
+use Rattle.event_index.proofs.CallerLemmas.{takes, frees, takes_is, takes_not_thread, frees_not_thread, hold_same, hold_freed}
 use Rattle.shb_clocks.specs.HappensBefore.{Edge, in_thread, by_lock, by_fork, by_join, from_fork_to_join, by_writer, IsShbBefore, chain}
 use Rattle.shb_clocks.specs.Layout.{is_release_at, last_release, end_of_thread, counterpart_by, counterpart_of}
 use Rattle.shb_clocks.proofs.EdgeLemmas.{thread_event, op_event, thread_here, op_here, is_of_thread-from, along_thread}
 use Rattle.shb_clocks.proofs.PlaceLemmas.{le-from_place_of}
 
--- what an event that passes the test is
-of_thread_is : (T : List Event) (t e : ℕ) (o : Option Event) → slice_get T e ≡ o → passes_by (λ v. eqb v.thread t) o ≡ true → thread_at T e ≡ Some t
-of_thread_is T t e None at h = absurd (true≢false (sym h))
-of_thread_is T t e (Some v) at h = thread_here T e v at ∙ ap Some (eqb-true v.thread t h)
-
-pub is_of_thread-thread : (T : List Event) (t e : ℕ) → is_of_thread T t e ≡ true → thread_at T e ≡ Some t
-is_of_thread-thread T t e h = of_thread_is T t e (slice_get T e) refl h
-
-forks_it : (T : List Event) (u e : ℕ) (o : Option Event) → slice_get T e ≡ o → passes_by (λ v. is_fork u v.op) o ≡ true → op_at T e ≡ Some (Fork u)
-forks_it T u e None at h = absurd (true≢false (sym h))
-forks_it T u e (Some v) at h = op_here T e v at ∙ ap Some (fork-from_test u v.op h)
-
-is_fork_at-op : (T : List Event) (u e : ℕ) → is_fork_at T u e ≡ true → op_at T e ≡ Some (Fork u)
-is_fork_at-op T u e h = forks_it T u e (slice_get T e) refl h
-
-releases_it : (T : List Event) (l e : ℕ) (o : Option Event) → slice_get T e ≡ o → passes_by (λ v. is_release l v.op) o ≡ true → op_at T e ≡ Some (Release l)
-releases_it T l e None at h = absurd (true≢false (sym h))
-releases_it T l e (Some v) at h = op_here T e v at ∙ ap Some (release-from_test l v.op h)
-
+-- an event that passes the test of a release releases the lock
 is_release_at-op : (T : List Event) (l e : ℕ) → is_release_at T l e ≡ true → op_at T e ≡ Some (Release l)
-is_release_at-op T l e h = releases_it T l e (slice_get T e) refl h
+is_release_at-op T l e h =
+    let found = passes_event (λ v. is_release l v.op) T e h in
+    op_here T e found.0 found.1 ∙ ap Some (release-from_test l found.0.op found.2)
 
 is_fork_at-from : (T : List Event) (u e : ℕ) → op_at T e ≡ Some (Fork u) → is_fork_at T u e ≡ true
 is_fork_at-from T u e op =
@@ -164,19 +146,16 @@ end_is T u s (Some k) at is =
     inl (subst (λ (j : ℕ). thread_at T j ≡ Some u) one (place_of-events_of T u (length (events_of T u) - 1) k at).1)
 
 Edge-by : (T : List Event) (e s : ℕ) (o : Option Op) → op_at T e ≡ o → counterpart_by T e o ≡ Some s → Edge T s e
-Edge-by T e s None op is = absurd (none-some s is)
 Edge-by T e s (Some (Read x)) op is = by_writer is
-Edge-by T e s (Some (Write x)) op is = absurd (none-some s is)
 Edge-by T e s (Some (Acquire l)) op is =
     let last = find_last_is (is_release_at T l) e s is in
     by_lock l last.0 (is_release_at-op T l s last.1) op
-Edge-by T e s (Some (Release l)) op is = absurd (none-some s is)
-Edge-by T e s (Some (Fork u)) op is = absurd (none-some s is)
 Edge-by T e s (Some (Join u)) op is =
     elim (end_is T u s (slice_get (events_of T u) (length (events_of T u) - 1)) refl is) [
       | inl of ↦ by_join u of op
       | inr fork ↦ from_fork_to_join u fork op
     ]
+Edge-by T e s o op is = absurd (none-some s is)
 
 -- an edge leads from the counterpart
 pub Edge-counterpart : (T : List Event) (e s : ℕ) → counterpart_of T e ≡ Some s → Edge T s e

@@ -92,6 +92,9 @@ impl Clocks {
         requires trace { self.now ≡ indexed.now }
         ensures first { IfOk result (AreFirstCandidates self.now.events limit) }
     {
+        if limit == 0 {
+            return Ok(Pairs::new(alloc));
+        }
         first_candidates(alloc, self, indexed, limit)
     }
 

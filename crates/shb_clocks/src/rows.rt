@@ -1,6 +1,6 @@
 //! The rows of counts, made in one pass over the events.
 ghost use Rattle.std.specs.Prelude.{◌≡◌, ◌+◌, ◌*◌, ◌<◌, ◌≤◌, length, IfOk, OnOk, IfSome, slice_index};
-ghost use Rattle.event_index.specs.Layout.{IsTable};
+ghost use Rattle.event_index.specs.Tables.{IsTable};
 ghost use Rattle.shb_clocks.specs.Layout.{AreThreads, IsCount, AreCounts, last_release, counterpart_of, count_by};
 
 use crate::events::{event_at, threads_in};

@@ -14,27 +14,12 @@ use Rattle.trace_rules.specs.declared.hold.Hold.{Hold}
 use Rattle.trace_rules.specs.declared.refusal.RuleCause.{RuleCause}
 use Rattle.trace_rules.specs.declared.refusal.RuleCause.TheVariants.{ReleaseNotHeld, AcquireHeld, ForkTwice, ForkLate, OwnThread, AfterJoin}
 use Rattle.trace_rules.specs.declared.refusal.RuleRefusal.{RuleRefusal}
+-- an operation that passes a test is of that kind
+pub use Rattle.rapid_text.proofs.CallerLemmas.{read-from_test, write-from_test, acquire-from_test, release-from_test, fork-from_test, join-from_test}
 use Rattle.trace_rules.proofs.Counts.{is_held_by_another, is_held_by_another-false, hold_count-other}
 use Rattle.trace_rules.proofs.FirstBreach.{HasNoBreach, first_breach-from_first, first_breach-from_none, none-from_first_breach, first-from_first_breach}
 use Rattle.trace_rules.proofs.HoldLemmas.{depth_for-other, hold_count-IsHoldOf, depth-above, IsHoldOf-acquire, IsHoldOf-release, IsHoldOf-last, IsHoldOf-other, IsOpenFor-from_none, owner-from_none}
 use Rattle.trace_rules.proofs.TableLemmas.{take-event, cond-from_none, breach_at-event, breach_of_op-own_fork, breach_of_op-own_join}
-
--- an operation that passes a test is of that kind
-pub fork-from_test : (u : ℕ) (op : Op) → is_fork u op ≡ true → op ≡ Fork u
-fork-from_test u (Fork x) is = ap Fork (eqb-true x u is)
-fork-from_test u op is = absurd (true≢false (sym is))
-
-pub join-from_test : (u : ℕ) (op : Op) → is_join u op ≡ true → op ≡ Join u
-join-from_test u (Join x) is = ap Join (eqb-true x u is)
-join-from_test u op is = absurd (true≢false (sym is))
-
-pub acquire-from_test : (l : ℕ) (op : Op) → is_acquire l op ≡ true → op ≡ Acquire l
-acquire-from_test l (Acquire x) is = ap Acquire (eqb-true x l is)
-acquire-from_test l op is = absurd (true≢false (sym is))
-
-pub release-from_test : (l : ℕ) (op : Op) → is_release l op ≡ true → op ≡ Release l
-release-from_test l (Release x) is = ap Release (eqb-true x l is)
-release-from_test l op is = absurd (true≢false (sym is))
 
 module _ (p : Event → Bool) where
   -- an event that passes stands among the first j where it stands below j
@@ -174,7 +159,7 @@ first_breach-is_first T r is = first-from_first_breach T r is
 
 -- and where an event is the first that breaks a rule, it is the first breach
 pub is_first-first_breach : (T : List Event) (r : RuleRefusal) → IsFirstBreach T r → first_breach T ≡ Some r
-is_first-first_breach T r is = first_breach-from_first T r.event r.why is.within is.breach is.before
+is_first-first_breach T r is = first_breach-from_first T r is
 
 -- past the end nothing is added
 take-suc_past : (T : List Event) (j : ℕ) → slice_get T j ≡ None → take j T ≡ take (suc j) T

@@ -1,6 +1,6 @@
 -- The rules that a recorded execution has to keep. They are this project's own: which recordings a
 -- schedule can be judged on.
-use Rattle.std.specs.Prelude.{◌≡◌, ◌≢◌, ℕ, ◌-◌, ◌<◌, ◌==◌, nat_lt, not, ◌&&◌, ◌||◌, if◌then◌else◌, List, length, take, count_by, position, slice_get, Option, Some, None, is_some, option_and_then, unwrap_or}
+use Rattle.std.specs.Prelude.{◌≡◌, ◌≢◌, ℕ, ◌-◌, ◌<◌, ◌==◌, nat_lt, not, ◌&&◌, ◌||◌, if◌then◌else◌, List, length, take, count_by, filter_map, slice_get, Option, Some, None, option_map, option_and_then}
 use Rattle.std.specs.List.{list_any, range_with_len}
 use Rattle.rapid_text.specs.Operations.{is_acquire, is_release, is_fork, is_join}
 use Rattle.rapid_text.specs.declared.event.Event.{Event}
@@ -74,13 +74,17 @@ pub record IsFirstBreach (T : List Event) (r : RuleRefusal) : Type 0 where
   pub breach : breach_at T r.event ≡ Some r.why
   pub before : (j : ℕ) → j < r.event → breach_at T j ≡ None
 
-abbrev pub breach_by : List Event → Option ℕ → Option RuleRefusal
-breach_by T None = None
-breach_by T (Some i) = Some (record { event = i; why = unwrap_or (breach_at T i) OutOfMemory })
+-- the refusal for the event at place i, if it breaks a rule
+abbrev pub refusal_at : List Event → ℕ → Option RuleRefusal
+refusal_at T i = option_map (λ why. record { event = i; why = why }) (breach_at T i)
 
--- the first event that breaks a rule, and the first rule that it breaks
+-- the refusals for all events that break a rule, in the order of the events
+abbrev pub breaches_of : List Event → List RuleRefusal
+breaches_of T = filter_map (refusal_at T) (range_with_len 0 (length T))
+
+-- the first of them: the first event that breaks a rule, and the first rule that it breaks
 unfoldable pub first_breach : List Event → Option RuleRefusal
-first_breach T = breach_by T (position (λ i. is_some (breach_at T i)) (range_with_len 0 (length T)))
+first_breach T = slice_get (breaches_of T) 0
 
 -- a growth was refused; no event is at fault
 abbrev pub no_memory : RuleRefusal

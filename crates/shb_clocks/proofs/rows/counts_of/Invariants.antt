@@ -1,5 +1,5 @@
 use Rattle.std.proofs.Common.{◌≡◌, ◌*◌, length}
-use Rattle.event_index.specs.Layout.{IsTable}
+use Rattle.event_index.specs.Tables.{IsTable}
 use Rattle.shb_clocks.specs.Layout.{AreCounts, last_release}
 use Rattle.shb_clocks.proofs.rows.counts_of.Given as goal
 

@@ -7,7 +7,7 @@ use Rattle.trace_rules.proofs.check_rules.check.Goals as goal
 pub returns-in-Some-clause-refused : goal.returns-in-Some-clause-refused
 returns-in-Some-clause-refused c =
     let within : c.loop-event.event < length c.args.raw.events = omega (arith, c.loop-event-test.true, c.len-event-end.ensures.len) in
-    inr (first_breach-from_first c.args.raw.events c.loop-event.event c.in-Some.why within (sym c.breach.ensures ∙ c.in-Some.is) c.loop-event.invariant.kept)
+    inr (first_breach-from_first c.args.raw.events _ (record { within = within; breach = sym c.breach.ensures ∙ c.in-Some.is; before = c.loop-event.invariant.kept }))
 
 pub returns-in-Some-clause-undisciplined : goal.returns-in-Some-clause-undisciplined
 returns-in-Some-clause-undisciplined c =
