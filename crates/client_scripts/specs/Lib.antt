@@ -1,0 +1,5 @@
+pub mod FaultTexts
+pub mod Joint
+pub mod Messages
+pub mod Traces
+pub mod Words
