@@ -1,5 +1,5 @@
 //! Reads the call that a script line asks for.
-ghost use Rattle.std.specs.Prelude.{◌≡◌, ◌⊎◌, ℕ, Ok, Err, Some};
+ghost use Rattle.std.specs.Prelude.{◌≡◌, ◌⊎◌, ◌≤◌, ℕ, IfOk, IfSome, Ok, Err, Some};
 ghost use Rattle.inverse_log.specs.declared.call.Call.{Call};
 ghost use Rattle.client_scripts.specs.Scripts.{name_reading, number_reading, numbers_reading, nothing_reading, one_name_reading, name_and_number_reading, branch_reading, propose_reading, arguments_reading, call_reading, client_reading, words_reading, line_reading};
 ghost use Rattle.client_scripts.specs.declared.fault.ScriptCause.TheVariants.{OutOfMemory};
@@ -191,7 +191,8 @@ fn read_call(alloc: Global, words: &mut Words<'_>) -> Result<Call, ScriptCause>
 
 /// The word as a client's number.
 fn read_client(word: &[u8]) -> Result<u32, ScriptCause>
-    ensures { result ≡ client_reading word.now }
+    ensures reading { result ≡ client_reading word.now }
+    ensures within { IfOk result (λ client. (1 ≤ client) × (client ≤ 32)) }
 {
     match number(word) {
         Some(client) if 1 <= client && client <= MAX_CLIENT => Ok(client),
@@ -228,7 +229,8 @@ pub(crate) fn read_line(alloc: Global, raw: &[u8]) -> Result<Option<(u32, Call)>
 
 /// The client that a line names first, where it names one.
 pub(crate) fn first_client(raw: &[u8]) -> Option<u32>
-    ensures { (client : ℕ) → (call : Call) → line_reading raw.now ≡ Ok (Some (client, call)) → result ≡ Some client }
+    ensures first { (client : ℕ) → (call : Call) → line_reading raw.now ≡ Ok (Some (client, call)) → result ≡ Some client }
+    ensures within { IfSome result (λ client. (1 ≤ client) × (client ≤ 32)) }
 {
     let word = Words::of(trim(raw)).next()?;
     read_client(word).ok()

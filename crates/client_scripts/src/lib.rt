@@ -1,6 +1,7 @@
 //! Scripts of clients: their language, and the replay of a script on a trace, from bytes in to bytes out.
 #![tactic(auto)]
 
+mod calls;
 #[cfg(test)]
 mod fakes;
 mod fault;
@@ -8,12 +9,16 @@ mod fault_texts;
 mod joint;
 mod lines;
 mod number;
+mod script;
 mod sink;
 mod source;
 mod unopened;
+mod verb;
 
 pub use fault::{LIMIT, ReadCause, ReadFault, ReplayFault, ScriptCause, ScriptRefusal, Tally};
 pub use fault_texts::fault_text;
+pub use script::{Script, read_script};
 pub use sink::{FromWrite, Sink, write_all};
 pub use source::{Failed, FromRead, Source, read_all};
 pub use unopened::Unopened;
+pub use verb::Verb;

@@ -1,6 +1,6 @@
 //! Reads scripts: lines of a client's number, a command word and its arguments.
-ghost use Rattle.std.specs.Prelude.{◌≡◌, ◌⊎◌, ◌×◌, ◌<◌, ◌≤◌, ◌==◌, not, find, option_map, slice_get, length, IfOk, IfErr, Ok, Err, Some};
-ghost use Rattle.client_scripts.specs.Places.{line_at, IsAsking};
+ghost use Rattle.std.specs.Prelude.{◌≡◌, ◌⊎◌, ◌<◌, ◌≤◌, ◌==◌, not, find, map, All, option_map, slice_get, length, IfOk, IfErr, Ok, Err, Some};
+ghost use Rattle.client_scripts.specs.Places.{line_at, asked_at, refusal_for, AsksAt, IsAsking};
 ghost use Rattle.client_scripts.specs.Scripts.{IsScript, no_memory};
 
 use crate::calls::{first_client, read_line};
@@ -57,6 +57,14 @@ impl Script {
         self.places.len()
     }
 
+    /// The line of a call as it stands in the text.
+    fn raw(&self, at: usize) -> &[u8]
+        requires { at < length self.now }
+        ensures { AsksAt self.now at result.now }
+    {
+        line_from(&self.text, self.places[at].start)
+    }
+
     /// The line of a call, counted from 1 over all lines of the script.
     pub fn line(&self, at: usize) -> u64
         requires { at < length self.now }
@@ -71,7 +79,7 @@ impl Script {
         ensures client { option_map (λ asked. asked.client) (slice_get self.now at) ≡ Some result }
         ensures within { (1 ≤ result) × (result ≤ 32) }
     {
-        first_client(line_from(&self.text, self.places[at].start)).unwrap_or(1)
+        first_client(self.raw(at)).unwrap_or(1)
     }
 
     /// The call itself, made anew. The events of a proposal take memory, and nothing else does.
@@ -79,7 +87,7 @@ impl Script {
         requires { at < length self.now }
         ensures { IfOk result (λ call. option_map (λ asked. asked.call) (slice_get self.now at) ≡ Some call) }
     {
-        match read_line(*self.text.allocator(), line_from(&self.text, self.places[at].start)) {
+        match read_line(*self.text.allocator(), self.raw(at)) {
             Ok(Some((_, call))) => Ok(call),
             _ => Err(OutOfMemory),
         }
@@ -95,6 +103,26 @@ impl Script {
             }
         }
         None
+    }
+}
+
+/// The refusal for want of memory; no line is at fault.
+fn no_script_memory() -> ScriptRefusal
+    ensures { result ≡ no_memory }
+{
+    ScriptRefusal {
+        line: 0,
+        why: ScriptCause::OutOfMemory,
+    }
+}
+
+/// The refusal of a line, or for want of memory.
+fn refusal_at(line: u64, why: ScriptCause) -> ScriptRefusal
+    ensures { result ≡ refusal_for line why }
+{
+    match why {
+        ScriptCause::OutOfMemory => no_script_memory(),
+        _ => ScriptRefusal { line, why },
     }
 }
 

@@ -35,19 +35,32 @@ pub enum Verb {
 pub(crate) fn verb_with(word: &[u8]) -> Option<Verb>
     ensures { result ≡ verb_of word.now }
 {
-    match word {
-        b"new" => Some(Verb::New),
-        b"add" => Some(Verb::Add),
-        b"back" => Some(Verb::Back),
-        b"swap" => Some(Verb::Swap),
-        b"branch" => Some(Verb::Branch),
-        b"drop" => Some(Verb::Drop),
-        b"adopt" => Some(Verb::Adopt),
-        b"undo" => Some(Verb::Undo),
-        b"propose" => Some(Verb::Propose),
-        b"show" => Some(Verb::Show),
-        b"list" => Some(Verb::List),
-        b"races" => Some(Verb::Races),
-        _ => None,
-    }
+    let verb = if word == b"new".as_slice() {
+        Verb::New
+    } else if word == b"add".as_slice() {
+        Verb::Add
+    } else if word == b"back".as_slice() {
+        Verb::Back
+    } else if word == b"swap".as_slice() {
+        Verb::Swap
+    } else if word == b"branch".as_slice() {
+        Verb::Branch
+    } else if word == b"drop".as_slice() {
+        Verb::Drop
+    } else if word == b"adopt".as_slice() {
+        Verb::Adopt
+    } else if word == b"undo".as_slice() {
+        Verb::Undo
+    } else if word == b"propose".as_slice() {
+        Verb::Propose
+    } else if word == b"show".as_slice() {
+        Verb::Show
+    } else if word == b"list".as_slice() {
+        Verb::List
+    } else if word == b"races".as_slice() {
+        Verb::Races
+    } else {
+        return None;
+    };
+    Some(verb)
 }
