@@ -4,5 +4,7 @@ pub mod KnownBytesLemmas
 pub mod LineLemmas
 pub mod NumberLemmas
 pub mod PositionLemmas
+pub mod ReplayLemmas
+pub mod RunLemmas
 pub mod ScriptLemmas
 pub mod WordLemmas

@@ -2,6 +2,8 @@ pub mod FaultTexts
 pub mod Joint
 pub mod Messages
 pub mod Places
+pub mod Replay
 pub mod Scripts
+pub mod Steps
 pub mod Traces
 pub mod Words

@@ -2,10 +2,10 @@
 
 use crate::fault_texts::message_of;
 use crate::source::Failed;
-use rapid_text::{OutOfMemory, TextRefusal};
+use rapid_text::{OutOfMemory, TextCause, TextRefusal};
 use std::alloc::AllocError;
 use thiserror::Error;
-use trace_rules::RuleRefusal;
+use trace_rules::{RuleCause, RuleRefusal, Trace};
 
 /// The most bytes of an input.
 pub const LIMIT: usize = 268_435_456;
@@ -88,6 +88,59 @@ impl From<AllocError> for ReplayFault {
 
     fn from(_error: AllocError) -> ReplayFault {
         ReplayFault::OutOfMemory
+    }
+}
+
+impl From<TextRefusal> for ReplayFault {
+    ghost use Rattle.std.specs.Prelude.{◌≡◌};
+    ghost use Rattle.client_scripts.specs.Steps.{text_fault};
+
+    ghost from_gives = { λ refusal fault. fault ≡ text_fault refusal refusal.why };
+
+    fn from(refusal: TextRefusal) -> ReplayFault {
+        match refusal.why {
+            TextCause::OutOfMemory => ReplayFault::OutOfMemory,
+            _ => ReplayFault::Text(refusal),
+        }
+    }
+}
+
+impl From<RuleRefusal> for ReplayFault {
+    ghost use Rattle.std.specs.Prelude.{◌≡◌};
+    ghost use Rattle.client_scripts.specs.Steps.{rule_fault};
+
+    ghost from_gives = { λ refusal fault. fault ≡ rule_fault refusal refusal.why };
+
+    fn from(refusal: RuleRefusal) -> ReplayFault {
+        match refusal.why {
+            RuleCause::OutOfMemory => ReplayFault::OutOfMemory,
+            _ => ReplayFault::Rule(refusal),
+        }
+    }
+}
+
+impl From<(Trace, OutOfMemory)> for ReplayFault {
+    ghost use Rattle.std.specs.Prelude.{◌≡◌};
+    ghost use Rattle.client_scripts.specs.declared.fault.ReplayFault.TheVariants.{OutOfMemory as NoMemory};
+
+    ghost from_gives = { λ _ fault. fault ≡ NoMemory };
+
+    fn from(_refused: (Trace, OutOfMemory)) -> ReplayFault {
+        ReplayFault::OutOfMemory
+    }
+}
+
+impl From<ScriptRefusal> for ReplayFault {
+    ghost use Rattle.std.specs.Prelude.{◌≡◌};
+    ghost use Rattle.client_scripts.specs.Steps.{script_fault};
+
+    ghost from_gives = { λ refusal fault. fault ≡ script_fault refusal refusal.why };
+
+    fn from(refusal: ScriptRefusal) -> ReplayFault {
+        match refusal.why {
+            ScriptCause::OutOfMemory => ReplayFault::OutOfMemory,
+            _ => ReplayFault::Script(refusal),
+        }
     }
 }
 

@@ -8,7 +8,9 @@ mod fault;
 mod fault_texts;
 mod joint;
 mod lines;
+mod loading;
 mod number;
+mod replaying;
 mod script;
 mod sink;
 mod source;
@@ -17,6 +19,8 @@ mod verb;
 
 pub use fault::{LIMIT, ReadCause, ReadFault, ReplayFault, ScriptCause, ScriptRefusal, Tally};
 pub use fault_texts::fault_text;
+pub use loading::{load, read_input};
+pub use replaying::{replay, replay_joint};
 pub use script::{Script, read_script};
 pub use sink::{FromWrite, Sink, write_all};
 pub use source::{Failed, FromRead, Source, read_all};

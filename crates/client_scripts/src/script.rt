@@ -93,6 +93,17 @@ impl Script {
         }
     }
 
+    /// A call and its client.
+    pub(crate) fn asked(&self, at: usize) -> Result<(u32, Call), OutOfMemory>
+        requires { at < length self.now }
+        ensures asked { IfOk result (λ pair. option_map (λ asked. (asked.client, asked.call)) (slice_get self.now at) ≡ Some pair) }
+        ensures within { IfOk result (λ pair. (1 ≤ pair.0) × (pair.0 ≤ 32)) }
+    {
+        let client = self.client(at);
+        let call = self.call(at)?;
+        Ok((client, call))
+    }
+
     /// The line of the first call of another client, if there is one.
     pub fn stranger(&self, client: u32) -> Option<u64>
         ensures { result ≡ option_map (λ asked. asked.line) (find (λ asked. not (asked.client == client)) self.now) }
