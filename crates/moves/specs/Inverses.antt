@@ -1,5 +1,5 @@
 -- Steps back, and when they may be taken: this project's own.
-use Rattle.std.specs.Prelude.{◌≡◌, ℕ, ◌==◌, List, [], ◌∷◌, ◌++◌, Option, Some, None, length, if◌then◌else◌}
+use Rattle.std.specs.Prelude.{◌≡◌, ℕ, ◌==◌, Bool, true, false, List, [], ◌∷◌, ◌++◌, Option, Some, None, length, if◌then◌else◌}
 use Rattle.schedule.specs.declared.refusal.Disabled.{Disabled}
 use Rattle.schedule.specs.declared.refusal.SwapRefusal.{SwapRefusal}
 use Rattle.schedule.specs.Refusals.{refusal_of}
@@ -46,3 +46,9 @@ CanTurn x step W = (o : Option Row) × (turned step (row_of W x) ≡ Some o) × 
 -- the row of x has gone back one step, and no other row has changed
 abbrev pub IsTurned : List ℕ → Step → Rows → Rows → Type 0
 IsTurned x step W V = (o : Option Row) × (turned step (row_of W x) ≡ Some o) × (V ≡ with_row W x o)
+
+-- whether a row comes or an event is appended
+abbrev pub wants_memory : Step → Bool
+wants_memory (Comes r) = true
+wants_memory (Gains e) = true
+wants_memory step = false

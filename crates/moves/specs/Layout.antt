@@ -21,5 +21,5 @@ pub padded_with-bytes_of : (n : Inside) → IsPadded n → padded_with (bytes_of
 padded_with-bytes_of n is =
     let long : length (take n.len n.padded) ≡ n.len = length-take-le n.len n.padded (omega (arith, is.whole, is.fits)) in
     let whole : take n.len n.padded ++ replicate (64 - length (take n.len n.padded)) 0 ≡ n.padded =
-        ap (λ k. take n.len n.padded ++ replicate (64 - k) 0) long ∙ ap (λ zs. take n.len n.padded ++ zs) (sym is.zeros) ∙ take-append-drop n.len n.padded in
+    ap (λ k. take n.len n.padded ++ replicate (64 - k) 0) long ∙ ap (λ zs. take n.len n.padded ++ zs) (sym is.zeros) ∙ take-append-drop n.len n.padded in
     λ i. record { len = long i; padded = whole i }

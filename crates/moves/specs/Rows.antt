@@ -4,6 +4,7 @@ use Rattle.std.specs.Str.{bytes_eq}
 use Rattle.std.specs.Prelude.{◌≡◌, ◌≢◌, ℕ, List, [], ◌∷◌, Option, Some, None, ◌<◌, All, map, if◌then◌else◌, nat_lt}
 use Rattle.std.specs.Map.{lookup, remove_entry}
 use Rattle.rapid_text.specs.Recording.{Recording}
+use Rattle.schedule.specs.Reordering.{IsCorrectReordering}
 use Rattle.moves.specs.declared.row.Row.{Row}
 
 abbrev pub Rows : Type 0
@@ -44,6 +45,13 @@ Below n W = All (λ (q : List ℕ × Row). age q.1.birth < age n) W
 -- each row's schedule is one of the trace T
 abbrev pub IsOfTrace : Recording → Rows → Type 0
 IsOfTrace T W = All (λ (q : List ℕ × Row). q.1.schedule.trace ≡ T) W
+
+-- the row's schedule is one of the trace T: a correct reordering of it
+abbrev pub IsReordering : Recording → Row → Type 0
+IsReordering T r = (r.schedule.trace ≡ T) × IsCorrectReordering T.events r.schedule.events
+
+abbrev pub AreReorderings : Recording → Rows → Type 0
+AreReorderings T W = All (λ (q : List ℕ × Row). IsReordering T q.1) W
 
 -- the names by rising birth
 abbrev pub names_of : Rows → List (List ℕ)

@@ -2,13 +2,16 @@
 #![tactic(auto)]
 
 mod board;
+mod checks;
 mod command;
+mod effects;
 mod inverse;
 mod listing;
 mod name;
 mod names;
 mod refusal;
 mod row;
+mod turning;
 mod workspace;
 
 pub use board::{Board, Proposal};

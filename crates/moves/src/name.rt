@@ -1,8 +1,9 @@
 //! The name of a schedule, which is copied without memory.
-ghost use Rattle.std.specs.Prelude.{◌≡◌, ◌↔◌, ◌≤◌, true, length, IsOk, IfOk};
+ghost use Rattle.std.specs.Prelude.{◌≡◌, ◌↔◌, ◌≤◌, ◌++◌, ◌-◌, replicate, true, length, IsOk, IfOk};
 ghost use Rattle.std.specs.Cmp.{partial_equiv_from_equiv};
 ghost use Rattle.std.specs.Cmp.Lexicographic.{nat_list_eq_equiv, bytes_decides};
 ghost use Rattle.std.specs.Hash as fed;
+ghost use Rattle.std.specs.List.{list_all};
 ghost use Rattle.std.specs.Str.{bytes_eq};
 ghost use Rattle.std.proofs.Common.{ap};
 ghost use Rattle.moves.specs.Names.{is_name, is_name_byte};
@@ -47,11 +48,9 @@ impl Name {
         if !is_name(bytes) {
             return Err(BadName);
         }
-        let mut padded = [0; 64];
-        padded[..bytes.len()].copy_from_slice(bytes);
         Ok(Name {
             len: bytes.len() as u8,
-            padded,
+            padded: padded(bytes),
         })
     }
 
@@ -93,7 +92,24 @@ impl Hash for Name {
 fn is_name(bytes: &[u8]) -> bool
     ensures { result ≡ is_name bytes.now }
 {
-    !bytes.is_empty() && bytes.len() <= 64 && bytes.iter().all(|byte| is_name_byte(*byte))
+    !bytes.is_empty() && bytes.len() <= 64 && are_name_bytes(bytes)
+}
+
+/// Whether all these bytes may stand in a name.
+fn are_name_bytes(bytes: &[u8]) -> bool
+    ensures { result ≡ list_all is_name_byte bytes.now }
+{
+    bytes.iter().all(|byte| is_name_byte(*byte))
+}
+
+/// The bytes, and then zeros.
+fn padded(bytes: &[u8]) -> [u8; 64]
+    requires { length bytes.now ≤ 64 }
+    ensures { result ≡ bytes.now ++ replicate (64 - length bytes.now) 0 }
+{
+    let mut padded = [0; 64];
+    padded[..bytes.len()].copy_from_slice(bytes);
+    padded
 }
 
 fn is_name_byte(byte: u8) -> bool

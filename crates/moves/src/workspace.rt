@@ -1,9 +1,9 @@
 //! The workspace: named schedules, in the order in which they were made.
-ghost use Rattle.std.specs.Prelude.{◌≡◌, ◌<◌, ℕ, [], length, slice_get, option_map, Some, None, OnOk, OnErr, IfOk, IfErr, IfSome, IfNone};
+ghost use Rattle.std.specs.Prelude.{◌≡◌, ◌<◌, ℕ, [], length, slice_get, option_map, Some, None, false, OnOk, OnErr, IsOk, IfOk, IfErr, IfSome, IfNone};
 ghost use Rattle.moves.specs.declared.row.Row.{Row as RowValue};
 ghost use Rattle.moves.specs.Rows.{Rows, row_of, IsListing, IsOfTrace, Below, names_of};
 ghost use Rattle.moves.specs.Boards.{IsBoardOf};
-ghost use Rattle.moves.specs.Inverses.{CanTurn, IsTurned};
+ghost use Rattle.moves.specs.Inverses.{CanTurn, IsTurned, wants_memory};
 ghost use Rattle.moves.specs.Applied.{IsApplied, IsChecked};
 
 use crate::board::Board;
@@ -14,6 +14,7 @@ use crate::name::Name;
 use crate::names::Names;
 use crate::refusal::MoveRefusal;
 use crate::row::Row;
+use crate::{checks, effects, turning};
 use event_index::Indexed;
 use indexmap::IndexMap;
 use rapid_text::{OutOfMemory, TextKeyed};
@@ -107,7 +108,7 @@ impl Workspace {
         requires { IsOfTrace indexed.now self.now }
         ensures { (n : ℕ) → IsChecked indexed.now board.now n command.now self.now result }
     {
-        Err(MoveRefusal::OutOfMemory)
+        checks::check(&self.rows, indexed, board, command)
     }
 
     /// Applies the command, and gives what takes it back. A row that it makes has this birth.
@@ -123,7 +124,7 @@ impl Workspace {
         requires late { Below birth self.old }
         ensures { IsApplied indexed.now board.now birth command.now self.old self.new result }
     {
-        Err(MoveRefusal::OutOfMemory)
+        effects::effect(&mut self.rows, self.alloc, indexed, board, birth, command)
     }
 
     /// Takes back a command whose written name still has what the command left there. Other rows may have
@@ -138,7 +139,13 @@ impl Workspace {
         ensures ok { OnOk result (IsTurned inverse.name inverse.step self.old self.new) }
         ensures err { OnErr result (self.new ≡ self.old) }
         ensures back { IfErr result (λ refused. refused.0 ≡ inverse) }
+        // It fails only where a row comes or an event is appended.
+        ensures succeeds { wants_memory inverse.step ≡ false → IsOk result }
     {
-        Err((inverse, OutOfMemory))
+        let name = inverse.name;
+        let Err(step) = turning::turn(&mut self.rows, indexed, name, inverse.step) else {
+            return Ok(());
+        };
+        Err((Inverse { name, step }, OutOfMemory))
     }
 }

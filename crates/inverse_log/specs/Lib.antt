@@ -1,0 +1,6 @@
+pub mod Answer
+pub mod Kept
+pub mod Log
+pub mod Next
+pub mod Pairs
+pub mod Touching
