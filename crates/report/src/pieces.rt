@@ -1,26 +1,183 @@
-//! The pieces of a line.
-ghost use Rattle.std.specs.Prelude.{◌≡◌, ◌++◌, OnOk, decimal};
+//! The pieces of a line: the one place where numbers, names and lists become bytes.
+ghost use Rattle.std.specs.Prelude.{◌≡◌, ◌++◌, ◌∷◌, OnOk, OnErr, decimal};
 ghost use Rattle.report.specs.Info.{count_line};
+ghost use Rattle.report.specs.Pieces.{piece_bytes, pieces_text, spaced, spaced_names, spaced_pair, spaced_pairs};
 
 use itoa::Buffer;
+use moves::Name;
 use rapid_text::OutOfMemory;
 
-/// Appends a number.
+/// A piece of a line.
+#[derive(Clone, Copy)]
+pub enum Piece<'a> {
+    /// Bytes as they are: words, or a name.
+    Words(&'a [u8]),
+    /// A number in decimal digits without leading zeros.
+    Number(u64),
+    /// Each of the numbers, with a space before it.
+    Numbers(&'a [u32]),
+    /// Each of the names, with a space before it.
+    Names(&'a [Name]),
+    /// The two numbers of each pair with a hyphen between them, and a space before it.
+    Pairs(&'a [(u32, u32)]),
+}
+
+/// Appends a number. Where memory is refused `out` stays as it was.
 pub(crate) fn append_number(out: &mut Vec<u8>, number: u64) -> Result<(), OutOfMemory>
-    ensures { OnOk result (out.new.items ≡ out.old.items ++ decimal number) }
+    ensures ok { OnOk result (out.new.items ≡ out.old.items ++ decimal number) }
+    ensures err { OnErr result (out.new.items ≡ out.old.items) }
 {
     let mut digits = Buffer::new();
     out.extend_from_slice(digits.format(number).as_bytes())?;
     Ok(())
 }
 
-/// Appends the line of a word and a number.
-pub(crate) fn append_count(out: &mut Vec<u8>, word: &[u8], number: u64) -> Result<(), OutOfMemory>
-    ensures { OnOk result (out.new.items ≡ out.old.items ++ count_line word.now number) }
+/// Appends a space and the number.
+fn append_spaced(out: &mut Vec<u8>, number: u64) -> Result<(), OutOfMemory>
+    ensures ok { OnOk result (out.new.items ≡ out.old.items ++ 32 ∷ decimal number) }
+    ensures err { OnErr result (out.new.items ≡ out.old.items) }
 {
-    out.extend_from_slice(word)?;
+    let start = out.len();
     out.push(b' ')?;
-    append_number(out, number)?;
-    out.push(b'\n')?;
+    if let Err(refused) = append_number(out, number) {
+        out.truncate(start);
+        return Err(refused);
+    }
     Ok(())
+}
+
+/// Appends each number after a space.
+fn append_numbers(out: &mut Vec<u8>, numbers: &[u32]) -> Result<(), OutOfMemory>
+    ensures ok { OnOk result (out.new.items ≡ out.old.items ++ spaced numbers.now) }
+    ensures err { OnErr result (out.new.items ≡ out.old.items) }
+{
+    let start = out.len();
+    for number in numbers {
+        if let Err(refused) = append_spaced(out, u64::from(*number)) {
+            out.truncate(start);
+            return Err(refused);
+        }
+    }
+    Ok(())
+}
+
+/// Appends a space and the name.
+fn append_name(out: &mut Vec<u8>, name: &Name) -> Result<(), OutOfMemory>
+    ensures ok { OnOk result (out.new.items ≡ out.old.items ++ 32 ∷ name.now) }
+    ensures err { OnErr result (out.new.items ≡ out.old.items) }
+{
+    let start = out.len();
+    out.push(b' ')?;
+    if let Err(refused) = out.extend_from_slice(name.bytes()) {
+        out.truncate(start);
+        return Err(OutOfMemory::from(refused));
+    }
+    Ok(())
+}
+
+/// Appends each name after a space.
+fn append_names(out: &mut Vec<u8>, names: &[Name]) -> Result<(), OutOfMemory>
+    ensures ok { OnOk result (out.new.items ≡ out.old.items ++ spaced_names names.now) }
+    ensures err { OnErr result (out.new.items ≡ out.old.items) }
+{
+    let start = out.len();
+    for name in names {
+        if let Err(refused) = append_name(out, name) {
+            out.truncate(start);
+            return Err(refused);
+        }
+    }
+    Ok(())
+}
+
+/// Appends a hyphen and the number.
+fn append_hyphened(out: &mut Vec<u8>, number: u64) -> Result<(), OutOfMemory>
+    ensures ok { OnOk result (out.new.items ≡ out.old.items ++ 45 ∷ decimal number) }
+    ensures err { OnErr result (out.new.items ≡ out.old.items) }
+{
+    let start = out.len();
+    out.push(b'-')?;
+    if let Err(refused) = append_number(out, number) {
+        out.truncate(start);
+        return Err(refused);
+    }
+    Ok(())
+}
+
+/// Appends a space and the two numbers with a hyphen between them.
+fn append_pair(out: &mut Vec<u8>, pair: (u32, u32)) -> Result<(), OutOfMemory>
+    ensures ok { OnOk result (out.new.items ≡ out.old.items ++ spaced_pair pair) }
+    ensures err { OnErr result (out.new.items ≡ out.old.items) }
+{
+    let (first, second) = pair;
+    let start = out.len();
+    append_spaced(out, u64::from(first))?;
+    if let Err(refused) = append_hyphened(out, u64::from(second)) {
+        out.truncate(start);
+        return Err(refused);
+    }
+    Ok(())
+}
+
+/// Appends each pair after a space.
+fn append_pairs(out: &mut Vec<u8>, pairs: &[(u32, u32)]) -> Result<(), OutOfMemory>
+    ensures ok { OnOk result (out.new.items ≡ out.old.items ++ spaced_pairs pairs.now) }
+    ensures err { OnErr result (out.new.items ≡ out.old.items) }
+{
+    let start = out.len();
+    for pair in pairs {
+        if let Err(refused) = append_pair(out, *pair) {
+            out.truncate(start);
+            return Err(refused);
+        }
+    }
+    Ok(())
+}
+
+/// Appends a piece.
+fn append_piece(out: &mut Vec<u8>, piece: Piece<'_>) -> Result<(), OutOfMemory>
+    ensures ok { OnOk result (out.new.items ≡ out.old.items ++ piece_bytes piece.entry) }
+    ensures err { OnErr result (out.new.items ≡ out.old.items) }
+{
+    match piece {
+        Piece::Words(words) => {
+            out.extend_from_slice(words)?;
+            Ok(())
+        }
+        Piece::Number(number) => append_number(out, number),
+        Piece::Numbers(numbers) => append_numbers(out, numbers),
+        Piece::Names(names) => append_names(out, names),
+        Piece::Pairs(pairs) => append_pairs(out, pairs),
+    }
+}
+
+/// Appends all pieces, in order. Where memory is refused `out` stays as it was.
+pub fn append_pieces(out: &mut Vec<u8>, pieces: &[Piece<'_>]) -> Result<(), OutOfMemory>
+    ensures ok { OnOk result (out.new.items ≡ out.old.items ++ pieces_text pieces.now) }
+    ensures err { OnErr result (out.new.items ≡ out.old.items) }
+{
+    let line_start = out.len();
+    for piece in pieces {
+        if let Err(refused) = append_piece(out, *piece) {
+            out.truncate(line_start);
+            return Err(refused);
+        }
+    }
+    Ok(())
+}
+
+/// Appends the line of a word and a number. Where memory is refused `out` stays as it was.
+pub(crate) fn append_count(out: &mut Vec<u8>, word: &[u8], number: u64) -> Result<(), OutOfMemory>
+    ensures ok { OnOk result (out.new.items ≡ out.old.items ++ count_line word.now number) }
+    ensures err { OnErr result (out.new.items ≡ out.old.items) }
+{
+    append_pieces(
+        out,
+        &[
+            Piece::Words(word),
+            Piece::Words(b" "),
+            Piece::Number(number),
+            Piece::Words(b"\n"),
+        ],
+    )
 }

@@ -2,7 +2,7 @@
 use Rattle.std.proofs.Common.{◌++◌, List, ℕ, length, codes, take_all, append_assoc, ap, ◌∙◌, arith}
 use Rattle.report.specs.Candidates.{candidates_text, candidate_lines}
 use Rattle.report.specs.Info.{count_line}
-use Rattle.report.proofs.candidate_lines.append_pairs.Goals as goal
+use Rattle.report.proofs.candidate_lines.append_candidates.Goals as goal
 
 pub returns : goal.returns
 unfolding candidates_text

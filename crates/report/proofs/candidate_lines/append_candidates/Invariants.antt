@@ -2,7 +2,7 @@
 use Rattle.std.proofs.Common.{◌≡◌, ◌++◌, take, length, codes}
 use Rattle.report.specs.Candidates.{candidate_lines}
 use Rattle.report.specs.Info.{count_line}
-use Rattle.report.proofs.candidate_lines.append_pairs.Given as goal
+use Rattle.report.proofs.candidate_lines.append_candidates.Given as goal
 
 abbrev pub invariant-loop-pair : goal.invariant-loop-pair
 invariant-loop-pair l =
