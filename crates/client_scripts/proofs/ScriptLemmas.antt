@@ -67,17 +67,16 @@ left-first text start lines left raw (inr h) e =
       omega (arith, h.0, length-drop start text, next.within, long),
       sym (ap (λ ls. slice_index_or ls 0 []) next.split ∙ same.0),
       ⊎_elim
-      (λ (none : next.others ≡ []). inl (sym same.1 ∙ none))
-      (λ (more : (length next.first + 1 ≤ length (drop start text)) × (next.others ≡ lines_of (drop (length next.first + 1) (drop start text)))).
-      inr
-      (
-        omega (arith, h.0, length-drop start text, more.0, long),
-        sym same.1
-        ∙ more.1
-        ∙ ap lines_of (drop-drop (length next.first + 1) start text)
-        ∙ ap (λ n. lines_of (drop (start + (n + 1)) text)) long,
-      ))
-      next.rest,
+          (λ (none : next.others ≡ []). inl (sym same.1 ∙ none))
+          (λ (more : (length next.first + 1 ≤ length (drop start text)) × (next.others ≡ lines_of (drop (length next.first + 1) (drop start text)))).
+          inr (
+            omega (arith, h.0, length-drop start text, more.0, long),
+            sym same.1
+                ∙ more.1
+                ∙ ap lines_of (drop-drop (length next.first + 1) start text)
+                ∙ ap (λ n. lines_of (drop (start + (n + 1)) text)) long,
+          ))
+          next.rest,
     )
 
 -- The lines before `lines` were read, and ask for the calls of these places.

@@ -129,11 +129,7 @@ fn read_propose(alloc: Global, words: &mut Words<'_>) -> Result<Call, ScriptCaus
 }
 
 /// The arguments of a call of this kind.
-fn read_arguments(
-    alloc: Global,
-    verb: Verb,
-    words: &mut Words<'_>,
-) -> Result<Call, ScriptCause>
+fn read_arguments(alloc: Global, verb: Verb, words: &mut Words<'_>) -> Result<Call, ScriptCause>
     ensures { (result ≡ Err OutOfMemory) ⊎ (result ≡ arguments_reading (Some verb) words.old) }
 {
     match verb {

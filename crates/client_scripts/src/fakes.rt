@@ -1,9 +1,11 @@
-//! A reader and a writer in memory that fail when a test wants them to.
+//! Readers and writers in memory that fail, or are interrupted, when a test wants them to.
 ghost use Rattle.std.specs.Prelude.{◌≡◌, false};
 
 use crate::sink::Sink;
 use crate::source::{Failed, Source};
 use std::alloc::Global;
+use std::io;
+use std::io::ErrorKind;
 
 /// A reader that gives three bytes at a time and fails at one of its reads.
 #[derive(Drop)]
@@ -74,3 +76,54 @@ pub(crate) fn with_room(alloc: Global, room: usize) -> Full
 
 /// More room than any of these tests needs.
 pub(crate) const AMPLE: usize = 100_000;
+
+/// One of std's readers, whose first calls a signal interrupts; it counts all its calls.
+#[derive(Drop)]
+pub(crate) struct InterruptedReader<'a> {
+    pub(crate) left: &'a [u8],
+    pub(crate) interrupts: u32,
+    pub(crate) calls: u32,
+}
+
+impl<'a> io::Read for InterruptedReader<'a> {
+    fn read(&mut self, buf: &mut [u8]) -> io::Result<usize> {
+        self.calls = self.calls.saturating_add(1);
+        if self.interrupts > 0 {
+            self.interrupts -= 1;
+            return Err(io::Error::from(ErrorKind::Interrupted));
+        }
+        let count = self.left.len().min(buf.len());
+        let (front, rest) = self.left.split_at(count);
+        buf[..count].copy_from_slice(front);
+        self.left = rest;
+        Ok(count)
+    }
+}
+
+/// One of std's writers, whose first calls a signal interrupts and whose `flush` may fail.
+#[derive(Drop)]
+pub(crate) struct InterruptedWriter {
+    pub(crate) taken: usize,
+    pub(crate) interrupts: u32,
+    pub(crate) calls: u32,
+    pub(crate) flush_fails: bool,
+}
+
+impl io::Write for InterruptedWriter {
+    fn write(&mut self, buf: &[u8]) -> io::Result<usize> {
+        self.calls = self.calls.saturating_add(1);
+        if self.interrupts > 0 {
+            self.interrupts -= 1;
+            return Err(io::Error::from(ErrorKind::Interrupted));
+        }
+        self.taken = self.taken.saturating_add(buf.len());
+        Ok(buf.len())
+    }
+
+    fn flush(&mut self) -> io::Result<()> {
+        if self.flush_fails {
+            return Err(io::Error::from(ErrorKind::Other));
+        }
+        Ok(())
+    }
+}

@@ -14,6 +14,8 @@ mod replaying;
 mod script;
 mod sink;
 mod source;
+#[cfg(test)]
+mod tests;
 mod unopened;
 mod verb;
 

@@ -46,5 +46,5 @@ returns-in-Ok-clause-replay g c =
       c.in_ok-trace_text.ensures.input.1,
       c.in-Ok.ensures.input.1,
       replayed (of_two first second) c.in_ok-indexed.indexed c.in_ok-trace_text.ensures.input.0 c.in-Ok.ensures.input.0 is old new c.replay_script.result
-      (subst (λ s. IsScriptRun c.in_ok-indexed.indexed s old new c.replay_script.result) c.deref-in-Ok.ensures.value c.replay_script.ensures.run),
+          (subst (λ s. IsScriptRun c.in_ok-indexed.indexed s old new c.replay_script.result) c.deref-in-Ok.ensures.value c.replay_script.ensures.run),
     )

@@ -25,5 +25,5 @@ returns-clause-replay g c =
       text,
       c.in_ok-text.ensures.input.1,
       replayed (of_joint text) c.in_ok-indexed.indexed c.in_ok-text.ensures.input.0 (omega arith) is old new c.replay_script.result
-      (subst (λ s. IsScriptRun c.in_ok-indexed.indexed s old new c.replay_script.result) script c.replay_script.ensures.run),
+          (subst (λ s. IsScriptRun c.in_ok-indexed.indexed s old new c.replay_script.result) script c.replay_script.ensures.run),
     )
