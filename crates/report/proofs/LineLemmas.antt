@@ -1,8 +1,6 @@
--- The lines of one thread more.
+-- Lines that are numbered, and a text in two parts.
 use Rattle.std.proofs.Common.{◌≡◌, ℕ, zero, suc, ◌+◌, List, [], ◌++◌, ap, sym, ◌∙◌, arith, add-one, append-nil, append_assoc}
 use Rattle.std.specs.List.{flat_map, range_with_len}
-use Rattle.rapid_text.specs.Recording.{Recording}
-use Rattle.report.specs.Info.{thread_line, thread_lines}
 
 -- the texts of one number more
 flat_map-suc : (f : ℕ → List ℕ) (a n j : ℕ) → a + n ≡ j
@@ -12,9 +10,10 @@ flat_map-suc f a (suc n) j at =
     ap (λ (later : List ℕ). f a ++ later) (flat_map-suc f (a + 1) n j (omega (arith, at)))
     ∙ sym (append_assoc (f a) (flat_map f (range_with_len (a + 1) n)) (f j))
 
--- the lines of one thread more
-pub thread_lines-more : (r : Recording) (n : ℕ) → thread_lines r (n + 1) ≡ thread_lines r n ++ thread_line r n
-thread_lines-more r n = ap (thread_lines r) (add-one n) ∙ flat_map-suc (thread_line r) 0 n n (omega arith)
+-- the line of one more
+pub lines-more : (f : ℕ → List ℕ) (n : ℕ)
+    → flat_map f (range_with_len 0 (n + 1)) ≡ flat_map f (range_with_len 0 n) ++ f n
+lines-more f n = ap (λ m. flat_map f (range_with_len 0 m)) (add-one n) ∙ flat_map-suc f 0 n n (omega arith)
 
 -- two parts of a text that is empty at first, and is then appended to another
 pub appended-parts : (old empty one both lent new first second : List ℕ)

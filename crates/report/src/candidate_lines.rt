@@ -15,13 +15,13 @@ pub fn candidates(indexed: &Indexed, pairs: &Pairs, out: &mut Vec<u8>) -> Result
     ensures err { OnErr result (out.new.items ≡ out.old.items) }
 {
     let mut text = Vec::new(*out.allocator());
-    append_pairs(&mut text, indexed, pairs.items())?;
+    append_candidates(&mut text, indexed, pairs.items())?;
     out.extend_from_slice(&text)?;
     Ok(())
 }
 
 /// Appends the number of pairs and their lines.
-fn append_pairs(
+fn append_candidates(
     out: &mut Vec<u8>,
     indexed: &Indexed,
     pairs: &[(u32, u32)],
@@ -32,13 +32,13 @@ fn append_pairs(
     append_count(out, b"candidates", pairs.len() as u64)?;
     for pair in pairs {
         let (first, second) = *pair;
-        append_pair(out, indexed, first, second)?;
+        append_candidate(out, indexed, first, second)?;
     }
     Ok(())
 }
 
 /// Appends the line of a pair.
-fn append_pair(
+fn append_candidate(
     out: &mut Vec<u8>,
     indexed: &Indexed,
     first: u32,

@@ -59,6 +59,15 @@ fn append_ended(out: &mut Vec<u8>, pieces: &[Piece<'_>]) -> Result<(), OutOfMemo
     Ok(())
 }
 
+/// Appends the line of a refusal of this number and these words. Where memory is refused `out` stays as it was.
+pub(crate) fn append_words(out: &mut Vec<u8>, why: &[u8]) -> Result<(), OutOfMemory>
+    ensures ok { OnOk result (out.new.items ≡ out.old.items ++ refused_line why.now) }
+    ensures err { OnErr result (out.new.items ≡ out.old.items) }
+{
+    append_refused(out, &[Piece::Words(why)])?;
+    Ok(())
+}
+
 /// Appends the line of a refusal of an event that may not come next.
 pub(crate) fn append_disabled(
     out: &mut Vec<u8>,
@@ -69,9 +78,9 @@ pub(crate) fn append_disabled(
     ensures err { OnErr result (out.new.items ≡ out.old.items) }
 {
     match why {
-        Disabled::NoSuchEvent => append_refused(out, &[Piece::Words(b"46 21 no such event")]),
-        Disabled::NotNext => append_refused(out, &[Piece::Words(b"46 22 not next")]),
-        Disabled::NotForked => append_refused(out, &[Piece::Words(b"46 23 not forked")]),
+        Disabled::NoSuchEvent => append_words(out, b"46 21 no such event"),
+        Disabled::NotNext => append_words(out, b"46 22 not next"),
+        Disabled::NotForked => append_words(out, b"46 23 not forked"),
         Disabled::WrongWriter { needs, has } => {
             append_refused(
                 out,
@@ -92,7 +101,7 @@ pub(crate) fn append_disabled(
                 ],
             )
         }
-        Disabled::JoinEarly => append_refused(out, &[Piece::Words(b"46 26 join early")]),
+        Disabled::JoinEarly => append_words(out, b"46 26 join early"),
     }
 }
 
@@ -102,7 +111,7 @@ pub(crate) fn append_swap(out: &mut Vec<u8>, why: SwapRefusal) -> Result<(), Out
     ensures err { OnErr result (out.new.items ≡ out.old.items) }
 {
     match why {
-        SwapRefusal::NoSuchPair => append_refused(out, &[Piece::Words(b"47 28 no such pair")]),
-        SwapRefusal::Dependent => append_refused(out, &[Piece::Words(b"47 29 dependent")]),
+        SwapRefusal::NoSuchPair => append_words(out, b"47 28 no such pair"),
+        SwapRefusal::Dependent => append_words(out, b"47 29 dependent"),
     }
 }

@@ -1,13 +1,24 @@
-//! What is printed of an accepted execution: how much of what is in it, and its candidates for a race.
+//! What is printed: replies to calls and refusals, the log, what a trace holds, and candidates for a race.
 #![tactic(auto)]
 
+#[cfg(test)]
+mod answer_tests;
 mod candidate_lines;
 mod causes;
+mod commands;
 mod info_lines;
+mod log_lines;
+#[cfg(test)]
+mod log_tests;
 mod pieces;
+mod refusals;
+mod replies;
 #[cfg(test)]
 mod tests;
 
 pub use candidate_lines::candidates;
 pub use info_lines::info;
-pub use pieces::{Piece, append_number, append_pieces};
+pub use log_lines::log;
+pub use pieces::{Piece, append_pieces};
+pub use refusals::refusal;
+pub use replies::reply;

@@ -1,9 +1,10 @@
-//! The pieces of a line: whatever this repository prints is appended here.
+//! The pieces of a line: the one place where numbers, names and lists become bytes.
 ghost use Rattle.std.specs.Prelude.{◌≡◌, ◌++◌, ◌∷◌, OnOk, OnErr, decimal};
 ghost use Rattle.report.specs.Info.{count_line};
-ghost use Rattle.report.specs.Pieces.{piece_bytes, pieces_text, spaced};
+ghost use Rattle.report.specs.Pieces.{piece_bytes, pieces_text, spaced, spaced_names, spaced_pair, spaced_pairs};
 
 use itoa::Buffer;
+use moves::Name;
 use rapid_text::OutOfMemory;
 
 /// A piece of a line.
@@ -15,10 +16,14 @@ pub enum Piece<'a> {
     Number(u64),
     /// Each of the numbers, with a space before it.
     Numbers(&'a [u32]),
+    /// Each of the names, with a space before it.
+    Names(&'a [Name]),
+    /// The two numbers of each pair with a hyphen between them, and a space before it.
+    Pairs(&'a [(u32, u32)]),
 }
 
 /// Appends a number. Where memory is refused `out` stays as it was.
-pub fn append_number(out: &mut Vec<u8>, number: u64) -> Result<(), OutOfMemory>
+pub(crate) fn append_number(out: &mut Vec<u8>, number: u64) -> Result<(), OutOfMemory>
     ensures ok { OnOk result (out.new.items ≡ out.old.items ++ decimal number) }
     ensures err { OnErr result (out.new.items ≡ out.old.items) }
 {
@@ -56,6 +61,79 @@ fn append_numbers(out: &mut Vec<u8>, numbers: &[u32]) -> Result<(), OutOfMemory>
     Ok(())
 }
 
+/// Appends a space and the name.
+fn append_name(out: &mut Vec<u8>, name: &Name) -> Result<(), OutOfMemory>
+    ensures ok { OnOk result (out.new.items ≡ out.old.items ++ 32 ∷ name.now) }
+    ensures err { OnErr result (out.new.items ≡ out.old.items) }
+{
+    let start = out.len();
+    out.push(b' ')?;
+    if let Err(refused) = out.extend_from_slice(name.bytes()) {
+        out.truncate(start);
+        return Err(OutOfMemory::from(refused));
+    }
+    Ok(())
+}
+
+/// Appends each name after a space.
+fn append_names(out: &mut Vec<u8>, names: &[Name]) -> Result<(), OutOfMemory>
+    ensures ok { OnOk result (out.new.items ≡ out.old.items ++ spaced_names names.now) }
+    ensures err { OnErr result (out.new.items ≡ out.old.items) }
+{
+    let start = out.len();
+    for name in names {
+        if let Err(refused) = append_name(out, name) {
+            out.truncate(start);
+            return Err(refused);
+        }
+    }
+    Ok(())
+}
+
+/// Appends a hyphen and the number.
+fn append_hyphened(out: &mut Vec<u8>, number: u64) -> Result<(), OutOfMemory>
+    ensures ok { OnOk result (out.new.items ≡ out.old.items ++ 45 ∷ decimal number) }
+    ensures err { OnErr result (out.new.items ≡ out.old.items) }
+{
+    let start = out.len();
+    out.push(b'-')?;
+    if let Err(refused) = append_number(out, number) {
+        out.truncate(start);
+        return Err(refused);
+    }
+    Ok(())
+}
+
+/// Appends a space and the two numbers with a hyphen between them.
+fn append_pair(out: &mut Vec<u8>, pair: (u32, u32)) -> Result<(), OutOfMemory>
+    ensures ok { OnOk result (out.new.items ≡ out.old.items ++ spaced_pair pair) }
+    ensures err { OnErr result (out.new.items ≡ out.old.items) }
+{
+    let (first, second) = pair;
+    let start = out.len();
+    append_spaced(out, u64::from(first))?;
+    if let Err(refused) = append_hyphened(out, u64::from(second)) {
+        out.truncate(start);
+        return Err(refused);
+    }
+    Ok(())
+}
+
+/// Appends each pair after a space.
+fn append_pairs(out: &mut Vec<u8>, pairs: &[(u32, u32)]) -> Result<(), OutOfMemory>
+    ensures ok { OnOk result (out.new.items ≡ out.old.items ++ spaced_pairs pairs.now) }
+    ensures err { OnErr result (out.new.items ≡ out.old.items) }
+{
+    let start = out.len();
+    for pair in pairs {
+        if let Err(refused) = append_pair(out, *pair) {
+            out.truncate(start);
+            return Err(refused);
+        }
+    }
+    Ok(())
+}
+
 /// Appends a piece.
 fn append_piece(out: &mut Vec<u8>, piece: Piece<'_>) -> Result<(), OutOfMemory>
     ensures ok { OnOk result (out.new.items ≡ out.old.items ++ piece_bytes piece.entry) }
@@ -68,6 +146,8 @@ fn append_piece(out: &mut Vec<u8>, piece: Piece<'_>) -> Result<(), OutOfMemory>
         }
         Piece::Number(number) => append_number(out, number),
         Piece::Numbers(numbers) => append_numbers(out, numbers),
+        Piece::Names(names) => append_names(out, names),
+        Piece::Pairs(pairs) => append_pairs(out, pairs),
     }
 }
 
@@ -76,10 +156,10 @@ pub fn append_pieces(out: &mut Vec<u8>, pieces: &[Piece<'_>]) -> Result<(), OutO
     ensures ok { OnOk result (out.new.items ≡ out.old.items ++ pieces_text pieces.now) }
     ensures err { OnErr result (out.new.items ≡ out.old.items) }
 {
-    let start = out.len();
+    let line_start = out.len();
     for piece in pieces {
         if let Err(refused) = append_piece(out, *piece) {
-            out.truncate(start);
+            out.truncate(line_start);
             return Err(refused);
         }
     }

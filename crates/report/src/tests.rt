@@ -10,7 +10,8 @@ use std::alloc::Global;
 use trace_rules::check;
 
 // Two threads that write one variable after each took and let go one lock.
-const ONE_LOCK: &[u8] = b"T1|w(x)|1\nT1|acq(l)|2\nT1|rel(l)|3\nT2|acq(l)|4\nT2|rel(l)|5\nT2|w(x)|6";
+pub(crate) const ONE_LOCK: &[u8] =
+    b"T1|w(x)|1\nT1|acq(l)|2\nT1|rel(l)|3\nT2|acq(l)|4\nT2|rel(l)|5\nT2|w(x)|6";
 // Two pairs of accesses.
 const TWO_PAIRS: &[u8] = b"T1|w(x)|1\nT2|r(x)|2\nT2|w(z)|3\nT1|w(z)|4";
 // A thread that is forked and joined.
@@ -19,7 +20,7 @@ const FORK_AND_JOIN: &[u8] = b"M|fork(W)|1\nW|w(x)|2\nM|join(W)|3\nM|r(x)|4";
 const NO_EVENTS: &[u8] = b"M|begin(b)|\nM|fork(W)|\n\nM|join(V)|\nM|end|";
 
 // The index of the execution that a text tells.
-fn index_of(alloc: Global, text: &[u8]) -> Option<Indexed> {
+pub(crate) fn index_of(alloc: Global, text: &[u8]) -> Option<Indexed> {
     let raw = parse(alloc, text).ok()?;
     let trace = check(alloc, raw).ok()?;
     Indexed::new(alloc, trace).ok()
@@ -76,7 +77,7 @@ fn no_candidates_of(alloc: Global, text: &[u8]) -> Option<Vec<u8>> {
 }
 
 // Whether this is what was printed.
-fn is_printed(printed: Option<Vec<u8>>, wanted: &[u8]) -> bool {
+pub(crate) fn is_printed(printed: Option<Vec<u8>>, wanted: &[u8]) -> bool {
     match printed {
         Some(out) => out.as_slice() == wanted,
         None => false,

@@ -1,5 +1,5 @@
 -- Two independent neighbours may change places: what stands after them sees no difference.
-use Rattle.std.proofs.Common.{◌≡◌, ◌≢◌, ℕ, zero, suc, ◌+◌, ◌<◌, ◌≤◌, ◌==◌, ◌&&◌, Bool, true, false, cond, List, [], ◌∷◌, ◌++◌, length, take, drop, reverse, get_or, slice_index, find, count_by, Contains, Option, Some, None, slice_get, option_map, sym, refl, ap, ◌∙◌, subst, arith, inl, inr}
+use Rattle.std.proofs.Common.{◌≡◌, ◌≢◌, ◌↔◌, ℕ, zero, suc, ◌+◌, ◌<◌, ◌≤◌, ◌==◌, ◌&&◌, Bool, true, false, cond, List, [], ◌∷◌, ◌++◌, length, take, drop, reverse, get_or, slice_index, find, count_by, Contains, Option, Some, None, IfSome, slice_get, option_map, sym, refl, ap, ◌∙◌, subst, arith, inl, inr}
 use Rattle.std.proofs.lemmas.Bool.{cases_lt, eqb-true, eq-eqb, ne_eqb, false≢true, and_right, or_left, or_right, false_from_ne_true, cond-true, cond-false}
 use Rattle.std.proofs.Math.Bool.{or_comm}
 use Rattle.std.proofs.lemmas.List.{append_assoc, append-nil, take_at, length-append}
@@ -18,6 +18,7 @@ use Rattle.schedule.specs.Locks.{is_acquire_by, is_release_by}
 use Rattle.schedule.specs.Refusals.{next_of}
 use Rattle.schedule.specs.Reordering.{IsCorrectReordering, StandsAfterThread, events_at}
 use Rattle.schedule.specs.Swaps.{exchanged, MayExchange, pair_refusal, swap_refusal}
+use Rattle.schedule.specs.declared.refusal.SwapRefusal.{SwapRefusal}
 use Rattle.schedule.specs.declared.refusal.SwapRefusal.TheVariants.{NoSuchPair, Dependent}
 use Rattle.schedule.proofs.CountLemmas.{count_by-events_at}
 use Rattle.schedule.proofs.EnabledLemmas.{Allows, IsCorrectReordering-take, IsEnabled-allowed, Allows-enabled}
@@ -345,6 +346,22 @@ swap_refusal-within T P i within =
     let lt : i < length P = omega arith in
     ap (λ o. pair_refusal T o (slice_get P (i + 1))) (slice_get-get_or P i 0 lt)
     ∙ ap (pair_refusal T (Some (get_or P i 0))) (slice_get-get_or P (i + 1) 0 within)
+
+pub swap_refusal-pair : (T : List Event) (P : List ℕ) (i a b : ℕ) → slice_get P i ≡ Some a → slice_get P (i + 1) ≡ Some b → swap_refusal T P i ≡ pair_refusal T (Some a) (Some b)
+unfolding swap_refusal
+swap_refusal-pair T P i a b first second =
+    ap (λ o. pair_refusal T o (slice_get P (i + 1))) first ∙ ap (pair_refusal T (Some a)) second
+
+-- the cause of a pair, told by the relation
+pub pair_refusal-told :
+    (T : List Event) (a b : ℕ) (r : Option SwapRefusal)
+    → ((r ≡ None) ↔ IsIndependent T a b) → IfSome r (λ cause. cause ≡ Dependent)
+    → r ≡ pair_refusal T (Some a) (Some b)
+pair_refusal-told T a b None free tied =
+    sym (cond-true (is_independent T a b) None (Some Dependent) ((Decides-is_independent T a b).1 (free.0 refl)))
+pair_refusal-told T a b (Some cause) free tied =
+    ap Some tied
+    ∙ sym (cond-false (is_independent T a b) None (Some Dependent) (false_from_ne_true (is_independent T a b) (λ h. none-some cause (sym (free.1 ((Decides-is_independent T a b).0 h))))))
 
 pub swap_refusal-tied : (T : List Event) (P : List ℕ) (i : ℕ) → i + 1 < length P → ¬ IsIndependent T (slice_index P i) (slice_index P (i + 1)) → swap_refusal T P i ≡ Some Dependent
 swap_refusal-tied T P i within tied =

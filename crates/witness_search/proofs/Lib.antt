@@ -1,6 +1,10 @@
 pub mod CallerLemmas
 pub mod ClosedLemmas
+pub mod FoundLemmas
 pub mod KeptLemmas
+pub mod LeastLemmas
 pub mod ListingLemmas
 pub mod RisingLemmas
 pub mod SliceLemmas
+pub mod StepLemmas
+pub mod WantedLemmas

@@ -1,10 +1,14 @@
 //! Schedules that show a candidate for a race.
 #![tactic(auto)]
 
+mod events;
 mod refusal;
+mod searching;
 mod slicing;
 #[cfg(test)]
 mod tests;
+mod wanting;
 
 pub use refusal::SliceRefusal;
+pub use searching::greedy;
 pub use slicing::slice;

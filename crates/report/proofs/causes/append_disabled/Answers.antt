@@ -1,12 +1,18 @@
--- The pieces of each cause are its words.
+-- Each cause has its words.
 use Rattle.std.proofs.Common.{◌≡◌, ◌++◌, List, ℕ, OnOk, codes, append-nil, subst}
 use Rattle.report.specs.Causes.{event_words, thread_words, refused_line}
 use Rattle.report.proofs.PieceLemmas.{four-pieces}
 use Rattle.report.proofs.causes.append_disabled.Goals as goal
 
+pub returns-in-NoSuchEvent-clause-ok : goal.returns-in-NoSuchEvent-clause-ok
+returns-in-NoSuchEvent-clause-ok c = rw c.in-NoSuchEvent.is c.append_words.ensures.ok
+
+pub returns-in-NotForked-clause-ok : goal.returns-in-NotForked-clause-ok
+returns-in-NotForked-clause-ok c = rw c.in-NotForked.is c.append_words-in-NotForked.ensures.ok
+
 pub returns-in-WrongWriter-clause-ok : goal.returns-in-WrongWriter-clause-ok
 returns-in-WrongWriter-clause-ok c =
-    let call = c.append_refused-in-WrongWriter in
+    let call = c.append_refused in
     let told : List ℕ → Type 0 = λ words. OnOk call.result (call.new.out.items ≡ c.args.out.now.items ++ refused_line words) in
     let needs = c.in-WrongWriter.needs in
     let has = c.in-WrongWriter.has in
@@ -20,4 +26,4 @@ returns-in-LockHeld-clause-ok c =
     rw c.in-LockHeld.is (rw (append-nil words) at named)
 
 pub returns-in-JoinEarly-clause-ok : goal.returns-in-JoinEarly-clause-ok
-returns-in-JoinEarly-clause-ok c = rw c.in-JoinEarly.is c.append_refused-in-JoinEarly.ensures.ok
+returns-in-JoinEarly-clause-ok c = rw c.in-JoinEarly.is c.append_words-in-JoinEarly.ensures.ok

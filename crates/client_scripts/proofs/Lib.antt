@@ -1,0 +1,10 @@
+pub mod FindLemmas
+pub mod JointLemmas
+pub mod KnownBytesLemmas
+pub mod LineLemmas
+pub mod NumberLemmas
+pub mod PositionLemmas
+pub mod ReplayLemmas
+pub mod RunLemmas
+pub mod ScriptLemmas
+pub mod WordLemmas

@@ -1,0 +1,8 @@
+use Rattle.std.proofs.Common.{◌≡◌, length}
+use Rattle.std.specs.Io.KnownBytes.{Keeps}
+use Rattle.client_scripts.proofs.source.read_retrying.Given as goal
+
+-- no interrupted read took anything
+abbrev pub invariant-tries : goal.invariant-tries
+invariant-tries g l =
+    (length l.buf ≡ length l.fn.buf) × Keeps (g.R.Read.remaining l.fn.reader) (g.R.Read.remaining l.reader)

@@ -1,0 +1,9 @@
+pub mod FaultTexts
+pub mod Joint
+pub mod Messages
+pub mod Places
+pub mod Replay
+pub mod Scripts
+pub mod Steps
+pub mod Traces
+pub mod Words

@@ -1,0 +1,60 @@
+-- What the steps of a replay answer. No public clause cites this module.
+use Rattle.std.specs.Prelude.{◌≡◌, ◌⊎◌, ℕ, ◌<◌, List, ◌++◌, length, Option, Result, Ok, Err, Vec, IfSome, ⊤}
+use Rattle.std.specs.Io.KnownBytes.{Appends}
+use Rattle.std.specs.declared.alloc.Global.{Global}
+use Rattle.rapid_text.specs.Recording.{Recording}
+use Rattle.rapid_text.specs.declared.refusal.TextCause.{TextCause}
+use Rattle.rapid_text.specs.declared.refusal.TextCause.TheVariants.{OutOfMemory as NoTextMemory}
+use Rattle.rapid_text.specs.declared.refusal.TextRefusal.{TextRefusal}
+use Rattle.trace_rules.specs.declared.refusal.RuleCause.{RuleCause}
+use Rattle.trace_rules.specs.declared.refusal.RuleCause.TheVariants.{OutOfMemory as NoRuleMemory}
+use Rattle.trace_rules.specs.declared.refusal.RuleRefusal.{RuleRefusal}
+use Rattle.client_scripts.specs.Replay.{AppendsPart, IsShort, script_text, tally_of}
+use Rattle.client_scripts.specs.Scripts.{Asked, IsScript}
+use Rattle.client_scripts.specs.declared.fault.ReadCause.TheVariants.{Device, TooLong}
+use Rattle.client_scripts.specs.declared.fault.ReplayFault.{ReplayFault}
+use Rattle.client_scripts.specs.declared.fault.ReplayFault.TheVariants.{Text, Rule, Script, Read, Write, OutOfMemory}
+use Rattle.client_scripts.specs.declared.fault.ScriptCause.{ScriptCause}
+use Rattle.client_scripts.specs.declared.fault.ScriptCause.TheVariants.{OutOfMemory as NoScriptMemory}
+use Rattle.client_scripts.specs.declared.fault.ScriptRefusal.{ScriptRefusal}
+use Rattle.client_scripts.specs.declared.fault.Tally.{Tally}
+
+-- the fault for a refusal of the text, of the rules, and of the script; want of memory is a fault of its own
+abbrev pub text_fault : TextRefusal → TextCause → ReplayFault
+text_fault refusal NoTextMemory = OutOfMemory
+text_fault refusal why = Text refusal
+
+abbrev pub rule_fault : RuleRefusal → RuleCause → ReplayFault
+rule_fault refusal NoRuleMemory = OutOfMemory
+rule_fault refusal why = Rule refusal
+
+abbrev pub script_fault : ScriptRefusal → ScriptCause → ReplayFault
+script_fault refusal NoScriptMemory = OutOfMemory
+script_fault refusal why = Script refusal
+
+-- an input that was read whole, or why it was not
+abbrev pub IsInput : ℕ → Option (List ℕ) → Result (Vec ℕ Global) ReplayFault → Type 0
+IsInput input rest (Ok bytes) = IsShort bytes.items × IfSome rest (λ told. bytes.items ≡ told)
+IsInput input rest (Err (Read place Device)) = place ≡ input
+IsInput input rest (Err (Read place TooLong)) = (place ≡ input) × IfSome rest (λ told. 268435456 < length told)
+IsInput input rest (Err OutOfMemory) = ⊤
+IsInput input rest (Err fault) = ⊥
+
+-- a line was handed to the writer or is kept back behind what was kept before
+abbrev pub HandsOn : Option (List ℕ) → Option (List ℕ) → List ℕ → List ℕ → List ℕ → Type 0
+HandsOn old new kept kept_now line = (out : List ℕ) × Appends old new out × (out ++ kept_now ≡ kept ++ line)
+
+-- what the calls leave: the whole text and its tally, or a beginning of the text
+abbrev pub IsRun : Recording → List Asked → Option (List ℕ) → Option (List ℕ) → Result Tally ReplayFault → Type 0
+IsRun trace asked old new (Ok tally) =
+    Appends old new (script_text trace asked) × (tally ≡ tally_of trace asked)
+IsRun trace asked old new (Err Write) = AppendsPart old new (script_text trace asked)
+IsRun trace asked old new (Err OutOfMemory) = AppendsPart old new (script_text trace asked)
+IsRun trace asked old new (Err fault) = ⊥
+
+-- the same of a script's text, which is read first
+abbrev pub IsScriptRun : Recording → List ℕ → Option (List ℕ) → Option (List ℕ) → Result Tally ReplayFault → Type 0
+IsScriptRun trace text old new (Err (Script refusal)) = IsScript text (Err refusal) × (new ≡ old)
+IsScriptRun trace text old new (Err OutOfMemory) =
+    (new ≡ old) ⊎ ((asked : List Asked) × IsScript text (Ok asked) × IsRun trace asked old new (Err OutOfMemory))
+IsScriptRun trace text old new result = (asked : List Asked) × IsScript text (Ok asked) × IsRun trace asked old new result

@@ -1,0 +1,23 @@
+-- The words of a line, and which of them are numbers.
+use Rattle.std.specs.Prelude.{ℕ, ◌+◌, ◌-◌, ◌*◌, nat_lt, nat_le, Bool, ◌&&◌, if◌then◌else◌, List, length, filter, fold, Option, Some, None}
+use Rattle.std.specs.List.{list_all, slice_split}
+use Rattle.rapid_text.specs.Reading.{is_blank}
+
+-- the words of a line: what stands between blanks
+abbrev pub words_of : List ℕ → List (List ℕ)
+words_of line = filter (λ word. nat_lt 0 (length word)) (slice_split is_blank line)
+
+-- from `0` to `9`
+abbrev pub is_digit : ℕ → Bool
+is_digit c = nat_le 48 c && nat_le c 57
+
+-- the value of decimal digits, the first one the highest
+abbrev pub value_of : List ℕ → ℕ
+value_of digits = fold (λ value digit. value * 10 + (digit - 48)) 0 digits
+
+-- the number that the word writes, if it writes one of at most 4,294,967,295; it may begin with zeros
+abbrev pub number_of : List ℕ → Option ℕ
+number_of word =
+    if nat_lt 0 (length word) && list_all is_digit word && nat_le (value_of word) 4294967295
+    then Some (value_of word)
+    else None

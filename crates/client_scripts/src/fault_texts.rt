@@ -1,0 +1,138 @@
+//! What is printed of a fault.
+ghost use Rattle.std.specs.Prelude.{◌≡◌, ◌++◌, IfOk, OnOk, OnErr};
+ghost use Rattle.client_scripts.specs.FaultTexts.{fault_words, located_words, text_cause_words, rule_cause_words, script_cause_words};
+ghost use Rattle.client_scripts.specs.Messages.{message_bytes, words_in};
+
+use crate::fault::{ReadCause, ReplayFault, ScriptCause};
+use itoa::Buffer;
+use rapid_text::{OutOfMemory, TextCause};
+use std::fmt;
+use trace_rules::RuleCause;
+
+/// A message in its parts: words alone, or words at a numbered place.
+#[derive(Clone, Copy)]
+pub(crate) enum Message {
+    /// Words alone.
+    Plain(&'static str),
+    /// The kind of the place, its number, and the words.
+    At(&'static str, u64, &'static str),
+}
+
+impl fmt::Display for Message {
+    fn fmt<W: fmt::Write>(&self, f: &mut fmt::Formatter<W>) -> fmt::Result {
+        match self {
+            Message::Plain(words) => write!(f, "{words}"),
+            Message::At(place, number, words) => write!(f, "{place} {number}: {words}"),
+        }
+    }
+}
+
+/// The number and the words of what is wrong with a trace line; None for want of memory.
+fn text_words(why: TextCause) -> Option<&'static str>
+    ensures { words_in result ≡ text_cause_words why }
+{
+    match why {
+        TextCause::NoBar => Some("1 no bar"),
+        TextCause::BadParentheses => Some("2 bad parentheses"),
+        TextCause::UnknownOperation => Some("3 unknown operation"),
+        TextCause::EmptyName => Some("4 empty name"),
+        TextCause::NameTooLong => Some("5 name too long"),
+        TextCause::LineTooLong => Some("6 line too long"),
+        TextCause::TooManyEvents => Some("7 too many events"),
+        TextCause::TooManyNames => Some("8 too many names"),
+        TextCause::OutOfMemory => None,
+    }
+}
+
+/// The number and the words of the rule that an event breaks; None for want of memory.
+fn rule_words(why: RuleCause) -> Option<&'static str>
+    ensures { words_in result ≡ rule_cause_words why }
+{
+    match why {
+        RuleCause::ReleaseNotHeld => Some("11 release not held"),
+        RuleCause::AcquireHeld => Some("12 acquire held"),
+        RuleCause::ForkTwice => Some("13 fork twice"),
+        RuleCause::ForkLate => Some("14 fork late"),
+        RuleCause::OwnThread => Some("15 own thread"),
+        RuleCause::AfterJoin => Some("16 after join"),
+        RuleCause::OutOfMemory => None,
+    }
+}
+
+/// The number and the words of what is wrong with a script line; None for want of memory.
+fn script_words(why: ScriptCause) -> Option<&'static str>
+    ensures { words_in result ≡ script_cause_words why }
+{
+    match why {
+        ScriptCause::BadWord => Some("81 bad word"),
+        ScriptCause::BadNumber => Some("82 bad number"),
+        ScriptCause::BadClient => Some("83 bad client"),
+        ScriptCause::BadName => Some("84 bad name"),
+        ScriptCause::LineTooLong => Some("85 line too long"),
+        ScriptCause::OutOfMemory => None,
+    }
+}
+
+/// The words at their place, or the words for want of memory.
+fn located(place: &'static str, number: u64, words: Option<&'static str>) -> Message
+    ensures { message_bytes result ≡ located_words place.now number (words_in words.entry) }
+{
+    match words {
+        Some(words) => Message::At(place, number, words),
+        None => Message::Plain("out of memory"),
+    }
+}
+
+/// What is printed of a fault.
+pub(crate) fn message_of(fault: &ReplayFault) -> Message
+    ensures { message_bytes result ≡ fault_words fault.now }
+{
+    match *fault {
+        ReplayFault::Text(refusal) => located("trace line", refusal.line, text_words(refusal.why)),
+        ReplayFault::Rule(refusal) => {
+            located(
+                "trace event",
+                u64::from(refusal.event),
+                rule_words(refusal.why),
+            )
+        }
+        ReplayFault::Script(refusal) => {
+            located("script line", refusal.line, script_words(refusal.why))
+        }
+        ReplayFault::Read { input: _, why } => match why {
+            ReadCause::Device => Message::Plain("read failed"),
+            ReadCause::TooLong => Message::Plain("input too long"),
+        },
+        ReplayFault::Write => Message::Plain("write failed"),
+        ReplayFault::OutOfMemory => Message::Plain("out of memory"),
+    }
+}
+
+/// Appends a message, or a part of it where memory is refused.
+fn append_message(out: &mut Vec<u8>, message: Message) -> Result<(), OutOfMemory>
+    ensures { OnOk result (out.new.items ≡ out.old.items ++ message_bytes message) }
+{
+    match message {
+        Message::Plain(words) => out.extend_from_slice(words.as_bytes())?,
+        Message::At(place, number, words) => {
+            let mut digits = Buffer::new();
+            out.extend_from_slice(place.as_bytes())?;
+            out.push(b' ')?;
+            out.extend_from_slice(digits.format(number).as_bytes())?;
+            out.extend_from_slice(b": ")?;
+            out.extend_from_slice(words.as_bytes())?;
+        }
+    }
+    Ok(())
+}
+
+/// Appends the text of a fault, without a line end. Where memory is refused `out` stays as it was.
+pub fn fault_text(fault: &ReplayFault, out: &mut Vec<u8>) -> Result<(), OutOfMemory>
+    ensures ok { OnOk result (out.new.items ≡ out.old.items ++ fault_words fault.now) }
+    ensures err { OnErr result (out.new.items ≡ out.old.items) }
+{
+    let mut text = Vec::new(*out.allocator());
+    append_message(&mut text, message_of(fault))?;
+    out.extend_from_slice(&text)?;
+    Ok(())
+}

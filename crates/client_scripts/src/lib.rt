@@ -1,0 +1,30 @@
+//! Scripts of clients: their language, and the replay of a script on a trace, from bytes in to bytes out.
+#![tactic(auto)]
+
+mod calls;
+#[cfg(test)]
+mod fakes;
+mod fault;
+mod fault_texts;
+mod joint;
+mod lines;
+mod loading;
+mod number;
+mod replaying;
+mod script;
+mod sink;
+mod source;
+#[cfg(test)]
+mod tests;
+mod unopened;
+mod verb;
+
+pub use fault::{LIMIT, ReadCause, ReadFault, ReplayFault, ScriptCause, ScriptRefusal, Tally};
+pub use fault_texts::fault_text;
+pub use loading::{load, read_input};
+pub use replaying::{replay, replay_joint};
+pub use script::{Script, read_script};
+pub use sink::{FromWrite, Sink, write_all};
+pub use source::{Failed, FromRead, Source, read_all};
+pub use unopened::Unopened;
+pub use verb::Verb;

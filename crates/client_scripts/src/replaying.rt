@@ -1,0 +1,200 @@
+//! Replays a script on a trace: reads both, makes the script's calls, and writes the lines of their answers.
+ghost use Rattle.std.specs.Prelude.{◌≡◌, ◌≢◌, ◌⊎◌, ◌++◌, ◌≤◌, ℕ, List, [], true, false, is_err, is_ok, IfErr, IfOk, IfSome, OnOk, OnErr, Err};
+ghost use Rattle.std.specs.Io.KnownBytes.{Appends};
+ghost use Rattle.inverse_log.specs.Answer.{answer_of, log_after};
+ghost use Rattle.client_scripts.specs.Replay.{AppendsPart, IsReplay, answer_text, of_joint, of_two};
+ghost use Rattle.client_scripts.specs.Steps.{HandsOn, IsRun, IsScriptRun};
+ghost use Rattle.client_scripts.specs.declared.fault.ReadCause.{ReadCause};
+ghost use Rattle.client_scripts.specs.declared.fault.ReadCause.TheVariants.{Device};
+ghost use Rattle.client_scripts.specs.declared.fault.ReplayFault.TheVariants.{Write, Read};
+
+use crate::fault::{ReplayFault, Tally};
+use crate::joint::parts_of;
+use crate::loading::{load, read_input};
+use crate::script::{Script, read_script};
+use crate::sink::{Sink, write_all};
+use crate::source::Source;
+use event_index::Indexed;
+use inverse_log::{Bench, Call, Refusal};
+use rapid_text::{OutOfMemory, TextKeyed};
+use std::alloc::Global;
+use std::sync::Arc;
+
+/// How many bytes are kept back before they are written.
+const FULL: usize = 65_536;
+
+/// Makes a call and appends the line of its answer; says whether the answer is a reply.
+fn make_call(
+    bench: &mut Bench,
+    client: u32,
+    call: &Call,
+    out: &mut Vec<u8>,
+) -> Result<bool, OutOfMemory>
+    requires low { 1 ≤ client }
+    requires high { client ≤ 32 }
+    ensures trace { bench.new.trace ≡ bench.old.trace }
+    ensures text { OnOk result
+        (out.new.items ≡ out.old.items ++ answer_text bench.old.trace (answer_of bench.old.trace bench.old.log client call.now)) }
+    ensures accepted { IfOk result (λ accepted. accepted ≡ is_ok (answer_of bench.old.trace bench.old.log client call.now)) }
+    ensures log { OnOk result (bench.new.log ≡ log_after bench.old.trace bench.old.log client call.now) }
+{
+    match bench.call(client, call) {
+        Ok(reply) => {
+            report::reply(&reply, out)?;
+            Ok(true)
+        }
+        Err(Refusal::OutOfMemory) => Err(OutOfMemory),
+        Err(why) => {
+            report::refusal(bench.indexed(), &why, out)?;
+            Ok(false)
+        }
+    }
+}
+
+/// Writes the bytes that were kept back, and keeps none.
+fn write_out<K: Sink>(writer: &mut K, kept: &mut Vec<u8>) -> Result<(), ReplayFault>
+    requires { K.has_failed writer.old ≡ false }
+    ensures ok { OnOk result (Appends (K.taken writer.old) (K.taken writer.new) kept.old.items) }
+    ensures empty { OnOk result (kept.new.items ≡ []) }
+    ensures err { OnErr result (AppendsPart (K.taken writer.old) (K.taken writer.new) kept.old.items) }
+    ensures cause { IfErr result (λ fault. fault ≡ Write) }
+    ensures failed { K.has_failed writer.new ≡ is_err result }
+{
+    if write_all(writer, kept).is_err() {
+        return Err(ReplayFault::Write);
+    }
+    kept.clear();
+    Ok(())
+}
+
+/// Writes the bytes that were kept back once they are many.
+fn write_if_full<K: Sink>(writer: &mut K, kept: &mut Vec<u8>) -> Result<(), ReplayFault>
+    requires { K.has_failed writer.old ≡ false }
+    ensures ok { OnOk result (HandsOn (K.taken writer.old) (K.taken writer.new) kept.old.items kept.new.items []) }
+    ensures err { OnErr result (AppendsPart (K.taken writer.old) (K.taken writer.new) kept.old.items) }
+    ensures cause { IfErr result (λ fault. fault ≡ Write) }
+    ensures failed { K.has_failed writer.new ≡ is_err result }
+{
+    if kept.len() < FULL {
+        return Ok(());
+    }
+    write_out(writer, kept)
+}
+
+/// Makes the calls of a script on a bench with an empty log, and writes the lines of their answers.
+fn run<K: Sink>(
+    alloc: Global,
+    bench: &mut Bench,
+    script: &Script,
+    writer: &mut K,
+) -> Result<Tally, ReplayFault>
+    requires working { K.has_failed writer.old ≡ false }
+    requires fresh { bench.old.log ≡ [] }
+    ensures run { IsRun bench.old.trace script.now (K.taken writer.old) (K.taken writer.new) result }
+    ensures failed { K.has_failed writer.new ≡ true → result ≡ Err Write }
+    ensures write { result ≡ Err Write → K.has_failed writer.new ≡ true }
+{
+    let mut kept = Vec::new(alloc);
+    let mut accepted = 0;
+    for at in 0..script.len() {
+        let (client, call) = script.asked(at)?;
+        let is_reply = make_call(bench, client, &call, &mut kept)?;
+        accepted += u64::from(is_reply);
+        write_if_full(writer, &mut kept)?;
+    }
+    write_out(writer, &mut kept)?;
+    let calls = script.len() as u64;
+    Ok(Tally {
+        calls,
+        accepted,
+        refused: calls - accepted,
+    })
+}
+
+/// A bench of a trace, whose names of schedules are hashed by a key that is made of this text.
+fn open_bench(alloc: Global, indexed: Indexed, text: &[u8]) -> Result<Bench, OutOfMemory>
+    ensures trace { IfOk result (λ bench. bench.trace ≡ indexed) }
+    ensures log { IfOk result (λ bench. bench.log ≡ []) }
+{
+    let shared = Arc::new(alloc, indexed)?;
+    match Bench::keyed(alloc, shared, TextKeyed::of(text)) {
+        Ok(bench) => Ok(bench),
+        Err(_) => Err(OutOfMemory),
+    }
+}
+
+/// Reads a script and makes its calls on a trace.
+fn replay_script<K: Sink>(
+    alloc: Global,
+    indexed: Indexed,
+    text: &[u8],
+    writer: &mut K,
+) -> Result<Tally, ReplayFault>
+    requires { K.has_failed writer.old ≡ false }
+    ensures run { IsScriptRun indexed text.now (K.taken writer.old) (K.taken writer.new) result }
+    ensures failed { K.has_failed writer.new ≡ true → result ≡ Err Write }
+    ensures write { result ≡ Err Write → K.has_failed writer.new ≡ true }
+{
+    let script = read_script(alloc, text)?;
+    let mut bench = open_bench(alloc, indexed, text)?;
+    run(alloc, &mut bench, &script, writer)
+}
+
+/// Reads a trace and a script, each whole; then makes the script's calls on the trace and writes the line of
+/// each answer. The trace is input 1, the script input 2.
+///
+/// Before the faults 91 to 94 nothing is written. At 95 and 96 what was written is a beginning of the text.
+pub fn replay<S: Source, R: Source, K: Sink>(
+    alloc: Global,
+    trace: &mut S,
+    script: &mut R,
+    writer: &mut K,
+) -> Result<Tally, ReplayFault>
+    requires trace { S.has_failed trace.old ≡ false }
+    requires script { R.has_failed script.old ≡ false }
+    requires writer { K.has_failed writer.old ≡ false }
+    // There are texts, those that the readers tell where they tell them, of which this comes.
+    ensures replay { (first : List ℕ) × (second : List ℕ)
+        × IfSome (S.rest trace.old) (λ told. first ≡ told)
+        × IfSome (R.rest script.old) (λ told. second ≡ told)
+        × IsReplay (of_two first second) (K.taken writer.old) (K.taken writer.new) result }
+    // A device is at fault exactly where a read failed, and the writer exactly where a write failed.
+    ensures device { result ≡ Err (Read 1 Device) → S.has_failed trace.new ≡ true }
+    ensures read_failed { S.has_failed trace.new ≡ true → result ≡ Err (Read 1 Device) }
+    ensures script_device { result ≡ Err (Read 2 Device) → R.has_failed script.new ≡ true }
+    ensures script_failed { R.has_failed script.new ≡ true → result ≡ Err (Read 2 Device) }
+    ensures write { result ≡ Err Write → K.has_failed writer.new ≡ true }
+    ensures write_failed { K.has_failed writer.new ≡ true → result ≡ Err Write }
+{
+    let trace_text = read_input(alloc, trace, 1)?;
+    let indexed = load(alloc, &trace_text)?;
+    match read_input(alloc, script, 2) {
+        Ok(script_text) => replay_script(alloc, indexed, &script_text, writer),
+        Err(fault) => Err(fault),
+    }
+}
+
+/// The same of one input, which holds a trace, a line `---` and a script. Without such a line the script is
+/// empty.
+pub fn replay_joint<S: Source, K: Sink>(
+    alloc: Global,
+    reader: &mut S,
+    writer: &mut K,
+) -> Result<Tally, ReplayFault>
+    requires reader { S.has_failed reader.old ≡ false }
+    requires writer { K.has_failed writer.old ≡ false }
+    // There is a text, the one that the reader tells where it tells it, of which this comes.
+    ensures replay { (bytes : List ℕ)
+        × IfSome (S.rest reader.old) (λ told. bytes ≡ told)
+        × IsReplay (of_joint bytes) (K.taken writer.old) (K.taken writer.new) result }
+    ensures input { (why : ReadCause) → result ≢ Err (Read 2 why) }
+    ensures device { result ≡ Err (Read 1 Device) → S.has_failed reader.new ≡ true }
+    ensures read_failed { S.has_failed reader.new ≡ true → result ≡ Err (Read 1 Device) }
+    ensures write { result ≡ Err Write → K.has_failed writer.new ≡ true }
+    ensures write_failed { K.has_failed writer.new ≡ true → result ≡ Err Write }
+{
+    let text = read_input(alloc, reader, 1)?;
+    let (trace, script) = parts_of(&text);
+    let indexed = load(alloc, trace)?;
+    replay_script(alloc, indexed, script, writer)
+}

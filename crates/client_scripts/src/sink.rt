@@ -1,0 +1,117 @@
+//! Where bytes go: a writer whose bytes and failures a contract can name.
+ghost use Rattle.std.specs.Prelude.{◌≡◌, ◌≢◌, ℕ, ◌<◌, ◌≤◌, ◌||◌, length, take, is_err, false, IfOk, IfErr, OnOk, OnErr};
+ghost use Rattle.std.specs.Io.KnownBytes.{Appends, Keeps, WriteAppends};
+ghost use Rattle.std.specs.IoError.{error_kind};
+
+use crate::source::{Failed, MAX_INTERRUPTS};
+use std::io;
+use std::io::ErrorKind;
+use std::marker::Model;
+
+/// A writer. `taken` is the bytes that it has taken, where its type tells them; `has_failed` is whether a
+/// call has failed.
+pub trait Sink {
+    ghost use Rattle.std.specs.Prelude.{Bool, List, ℕ, Option};
+
+    ghost taken: { Self → Option (List ℕ) };
+
+    ghost has_failed: { Self → Bool };
+
+    /// Takes at least one byte from the front of `bytes` and says how many. A call that fails takes none.
+    fn write(&mut self, bytes: &[u8]) -> Result<usize, Failed>
+        requires { 0 < length bytes.now }
+        ensures bound { IfOk result (λ n. (0 < n) × (n ≤ length bytes.now)) }
+        ensures bytes { WriteAppends (taken self.old) (taken self.new) result bytes.now }
+        ensures failed { has_failed self.new ≡ (has_failed self.old || is_err result) };
+}
+
+/// One write, tried again where a signal interrupted it. An interrupted write took nothing.
+fn write_retrying<W: io::Write>(writer: &mut W, bytes: &[u8]) -> io::Result<usize>
+    ensures bound { IfOk result (λ n. n ≤ length bytes.now) }
+    ensures bytes { WriteAppends (W.contents writer.old) (W.contents writer.new) result bytes.now }
+    ensures retried { IfErr result (λ e. error_kind e ≢ ErrorKind.Interrupted) }
+{
+    'tries: for _ in 0..MAX_INTERRUPTS {
+        match writer.write(bytes) {
+            Ok(count) => return Ok(count),
+            Err(error) => {
+                if error.kind() != ErrorKind::Interrupted {
+                    return Err(error);
+                }
+            }
+        }
+    }
+    Err(io::Error::from(ErrorKind::Other))
+}
+
+/// Makes a `Sink` of one of std's writers. A write that takes nothing is a failure.
+#[derive(Drop)]
+pub struct FromWrite<W: io::Write> {
+    writer: W,
+    failed: bool,
+}
+
+impl<W: io::Write> Model for FromWrite<W> {
+    ghost use Rattle.std.specs.Prelude.{Bool, List, ℕ, Option};
+
+    ghost Value = { Option (List ℕ) × Bool };
+
+    ghost view = { λ s. (W.contents s.writer, s.failed) };
+}
+
+impl<W: io::Write> FromWrite<W> {
+    /// A sink that has not failed.
+    pub fn new(writer: W) -> FromWrite<W>
+        ensures { result ≡ (W.contents writer, false) }
+    {
+        FromWrite {
+            writer,
+            failed: false,
+        }
+    }
+
+    /// Hands on what the writer itself keeps back; the bytes that it has taken stay.
+    pub fn flush(&mut self) -> Result<(), Failed>
+        ensures bytes { Keeps self.old.0 self.new.0 }
+        ensures failed { self.new.1 ≡ (self.old.1 || is_err result) }
+    {
+        match self.writer.flush() {
+            Ok(()) => Ok(()),
+            Err(_) => {
+                self.failed = true;
+                Err(Failed)
+            }
+        }
+    }
+}
+
+impl<W: io::Write> Sink for FromWrite<W> {
+    ghost taken = { λ s. s.0 };
+
+    ghost has_failed = { λ s. s.1 };
+
+    fn write(&mut self, bytes: &[u8]) -> Result<usize, Failed> {
+        match write_retrying(&mut self.writer, bytes) {
+            Ok(count) if count > 0 => Ok(count),
+            _ => {
+                self.failed = true;
+                Err(Failed)
+            }
+        }
+    }
+}
+
+/// Writes all bytes. Where the sink fails, it has taken the first of them, and not all.
+pub fn write_all<K: Sink>(sink: &mut K, bytes: &[u8]) -> Result<(), Failed>
+    requires { K.has_failed sink.old ≡ false }
+    ensures ok { OnOk result (Appends (K.taken sink.old) (K.taken sink.new) bytes.now) }
+    ensures err { OnErr result
+        ((n : ℕ) × (n < length bytes.now) × Appends (K.taken sink.old) (K.taken sink.new) (take n bytes.now)) }
+    ensures failed { K.has_failed sink.new ≡ is_err result }
+{
+    let mut at = 0;
+    while at < bytes.len() {
+        at += sink.write(&bytes[at..])?;
+    }
+    Ok(())
+}

@@ -1,0 +1,58 @@
+-- Rising lists of entry numbers, under each name and of each client.
+use Rattle.std.specs.Prelude.{◌≡◌, ◌<◌, ◌≤◌, ◌-◌, ◌++◌, ℕ, List, [], ◌∷◌, Option, None, Some, MatchOption, All, Contains, Bool, nat_eq, bytes_eq, if◌then◌else◌, length, slice_get}
+use Rattle.std.specs.Map.{lookup}
+use Rattle.std.specs.Set.{remove_key}
+use Rattle.moves.specs.declared.command.Command.{Command}
+use Rattle.moves.specs.Commands.{touches}
+
+-- names with the numbers of the entries that touch them
+abbrev pub Lists : Type 0
+Lists = List (List ℕ × List ℕ)
+
+abbrev pub listed : Option (List ℕ) → List ℕ
+listed None = []
+listed (Some xs) = xs
+
+-- the numbers under the name x; a name that has no list has none
+abbrev pub under : Lists → List ℕ → List ℕ
+under T x = listed (lookup (bytes_eq x) T)
+
+-- the numbers of the client c
+abbrev pub of_client : List (List ℕ) → ℕ → List ℕ
+of_client C c = listed (slice_get C c)
+
+-- the numbers without k
+abbrev pub without : ℕ → List ℕ → List ℕ
+without k xs = remove_key (nat_eq k) xs
+
+-- the last number
+abbrev pub last_of : List ℕ → Option ℕ
+last_of xs = slice_get xs (length xs - 1)
+
+-- r is the least number of xs above k, and none where no number is above k
+abbrev pub IsLeastAbove : ℕ → List ℕ → Option ℕ → Type 0
+IsLeastAbove k xs r = MatchOption r (All (λ j. j ≤ k) xs) (λ m. Contains xs m × (k < m) × All (λ j. k < j → m ≤ j) xs)
+
+-- U is T with the number k, at the end, under each name that the command touches
+abbrev pub Pushed : ℕ → Command → Lists → Lists → Type 0
+Pushed k d T U = (x : List ℕ) → under U x ≡ (if touches d x then under T x ++ k ∷ [] else under T x)
+
+-- U is T without the number k under each name that the command touches
+abbrev pub Removed : ℕ → Command → Lists → Lists → Type 0
+Removed k d T U = (x : List ℕ) → under U x ≡ (if touches d x then without k (under T x) else under T x)
+
+-- the same numbers stand under each name
+abbrev pub Same : Lists → Lists → Type 0
+Same T U = (x : List ℕ) → under U x ≡ under T x
+
+-- all numbers are below k
+abbrev pub AllBelow : ℕ → Lists → Type 0
+AllBelow k T = (x : List ℕ) → All (λ j. j < k) (under T x)
+
+-- D is C with the number k at the end of the client's
+abbrev pub Entered : ℕ → ℕ → List (List ℕ) → List (List ℕ) → Type 0
+Entered c k C D = (a : ℕ) → of_client D a ≡ (if nat_eq a c then of_client C a ++ k ∷ [] else of_client C a)
+
+-- D is C without the number k among the client's
+abbrev pub Left : ℕ → ℕ → List (List ℕ) → List (List ℕ) → Type 0
+Left c k C D = (a : ℕ) → of_client D a ≡ (if nat_eq a c then without k (of_client C a) else of_client C a)

@@ -1,0 +1,67 @@
+//! The entries of each client.
+ghost use Rattle.std.specs.Prelude.{◌≡◌, ◌≤◌, ◌<◌, ◌++◌, ◌∷◌, [], ℕ, All, OnOk, OnErr, IfOk};
+ghost use Rattle.dependence.specs.Lists.{of_client, last_of, Entered, Left};
+
+use crate::numbers::Numbers;
+use rapid_text::OutOfMemory;
+use std::alloc::Global;
+use std::marker::Model;
+
+/// The greatest number of a client.
+const MAX_CLIENT: u32 = 32;
+
+/// For each client from 1 to 32 the numbers of its entries.
+#[derive(Drop)]
+pub struct Clients {
+    // a client's list stands at the client's number
+    lists: Vec<Numbers>,
+}
+
+impl Model for Clients {
+    ghost use Rattle.std.specs.Prelude.{◌≡◌, List, ℕ, length};
+
+    ghost Value = { List (List ℕ) };
+
+    ghost view = { λ c. c.lists.items };
+
+    ghost invariant = { λ c. length c.lists.items ≡ 33 };
+}
+
+impl Clients {
+    /// No entries of any client.
+    pub fn empty(alloc: Global) -> Result<Clients, OutOfMemory>
+        ensures { IfOk result (λ t. (c : ℕ) → of_client t c ≡ []) }
+    {
+        let mut lists = Vec::with_capacity(alloc, MAX_CLIENT as usize + 1)?;
+        for _ in 0..=MAX_CLIENT {
+            lists.push_reserved(Numbers::empty(alloc));
+        }
+        Ok(Clients { lists })
+    }
+
+    /// Puts the entry at the end of the client's, or leaves everything as it was.
+    pub fn push(&mut self, client: u32, entry: u64) -> Result<(), OutOfMemory>
+        requires client { client ≤ 32 }
+        requires entry { All (λ k. k < entry) (of_client self.old client) }
+        ensures ok { OnOk result (Entered client entry self.old self.new) }
+        ensures err { OnErr result (self.new ≡ self.old) }
+    {
+        self.lists[client as usize].push(entry)
+    }
+
+    /// Takes the entry away from the client's.
+    pub fn remove(&mut self, client: u32, entry: u64)
+        requires { client ≤ 32 }
+        ensures { Left client entry self.old self.new }
+    {
+        self.lists[client as usize].remove(entry);
+    }
+
+    /// The client's greatest entry.
+    pub fn last(&self, client: u32) -> Option<u64>
+        requires { client ≤ 32 }
+        ensures { result ≡ last_of (of_client self.now client) }
+    {
+        self.lists[client as usize].last()
+    }
+}

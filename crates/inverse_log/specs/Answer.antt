@@ -1,0 +1,99 @@
+-- What a call is answered after a log, and the log after it. All notions here are this project's own. `T` is
+-- the trace, `L` is the log.
+use Rattle.std.specs.Prelude.{◌≡◌, ◌⊎◌, ◌≤◌, ℕ, Bool, true, false, List, [], ◌∷◌, ◌++◌, Option, Some, None, Result, Ok, Err, All, length, nat_lt, if◌then◌else◌}
+use Rattle.rapid_text.specs.Recording.{Recording}
+use Rattle.schedule.specs.Faults.{first_fault}
+use Rattle.schedule.specs.Shows.{does_show}
+use Rattle.moves.specs.declared.refusal.MoveRefusal.{MoveRefusal}
+use Rattle.moves.specs.declared.refusal.MoveRefusal.TheVariants.{NoSuchSchedule}
+use Rattle.moves.specs.Commands.{writes}
+use Rattle.moves.specs.Moves.{made_at}
+use Rattle.moves.specs.declared.row.Row.{Row}
+use Rattle.moves.specs.Rows.{row_of, names_of}
+use Rattle.inverse_log.specs.declared.call.Call.{Call}
+use Rattle.inverse_log.specs.declared.call.Call.TheVariants.{Do, Undo, Propose, Show, List as ListNames, Races}
+use Rattle.inverse_log.specs.declared.entry.Entry.{Entry}
+use Rattle.inverse_log.specs.declared.entry.Entry.TheVariants.{Did, Undid, Proposed}
+use Rattle.inverse_log.specs.declared.refusal.Refusal.{Refusal}
+use Rattle.inverse_log.specs.declared.refusal.Refusal.TheVariants.{Move, NothingToUndo, RestsOn, NotReordering, NotShown, LogFull, OutOfMemory}
+use Rattle.inverse_log.specs.declared.reply.Reply.{Reply}
+use Rattle.inverse_log.specs.declared.reply.Reply.TheVariants.{Done, Undone, Proposed as ProposedAs, Shown, Listing, Shows}
+use Rattle.inverse_log.specs.Log.{Live, client_of, board_of, rows_of, last_live, blocker_of}
+use Rattle.inverse_log.specs.Pairs.{shown_pairs}
+
+-- A call that would add an entry is refused first of all where the log holds 1,000,000.
+abbrev pub limited : List Entry → Result Reply Refusal → Result Reply Refusal
+limited L answer = if nat_lt (length L) 1000000 then answer else Err LogFull
+
+abbrev pub done_or : ℕ → Result (Option Row) MoveRefusal → Result Reply Refusal
+done_or n (Ok o) = Ok (Done n)
+done_or n (Err why) = Err (Move why)
+
+abbrev pub undone_or : ℕ → Live → Option Live → Result Reply Refusal
+undone_or n e None = Ok (Undone n e.number)
+undone_or n e (Some b) = Err (RestsOn b.number (writes e.command))
+
+abbrev pub undo_or : List Entry → Option Live → Result Reply Refusal
+undo_or L None = Err NothingToUndo
+undo_or L (Some e) = undone_or (length L) e (blocker_of L e)
+
+abbrev pub proposed_or : Recording → List Entry → ℕ → ℕ → List ℕ → Option ℕ → Result Reply Refusal
+proposed_or T L a b P None =
+    if does_show T.events P a b then Ok (ProposedAs (length L) (length (board_of T L))) else Err NotShown
+proposed_or T L a b P (Some p) = Err (NotReordering p)
+
+-- a look at a schedule's row
+abbrev pub seen_or : (Row → Reply) → Option Row → Result Reply Refusal
+seen_or look None = Err (Move NoSuchSchedule)
+seen_or look (Some r) = Ok (look r)
+
+-- what the client's call is answered, where there is memory
+abbrev pub answer_of : Recording → List Entry → ℕ → Call → Result Reply Refusal
+answer_of T L c (Do d) = limited L (done_or (length L) (made_at T (board_of T L) (length L) d (rows_of T L)))
+answer_of T L c Undo = limited L (undo_or L (last_live L c))
+answer_of T L c (Propose a b P) = limited L (proposed_or T L a b P (first_fault T.events P))
+answer_of T L c (Show x) = seen_or (λ r. Shown r.schedule.events) (row_of (rows_of T L) x)
+answer_of T L c ListNames = Ok (Listing (names_of (rows_of T L)))
+answer_of T L c (Races x) = seen_or (λ r. Shows (shown_pairs T.events r.schedule.events)) (row_of (rows_of T L) x)
+
+-- the entry that a reply to the call adds to the log, if it adds one
+abbrev pub entry_of : ℕ → Call → Reply → List Entry
+entry_of c (Do d) reply = Did c d ∷ []
+entry_of c Undo (Undone n k) = Undid c k ∷ []
+entry_of c (Propose a b P) reply = Proposed c a b P ∷ []
+entry_of c call reply = []
+
+abbrev pub logged : ℕ → Call → Result Reply Refusal → List Entry
+logged c call (Ok reply) = entry_of c call reply
+logged c call (Err why) = []
+
+-- the log after the client's call
+abbrev pub log_after : Recording → List Entry → ℕ → Call → List Entry
+log_after T L c call = L ++ logged c call (answer_of T L c call)
+
+-- The logs that calls of clients 1 to 32 build from the empty one.
+pub data IsLegal (T : Recording) : List Entry → Type 0 where
+  starts : IsLegal T []
+  goes_on : (L : List Entry) (c : ℕ) (call : Call) → 1 ≤ c → c ≤ 32 → IsLegal T L → IsLegal T (log_after T L c call)
+
+-- whether want of memory may stand in place of the answer: where that is a reply, or a proposal was judged
+abbrev pub may_want : Result Reply Refusal → Bool
+may_want (Ok reply) = true
+may_want (Err (NotReordering p)) = true
+may_want (Err NotShown) = true
+may_want (Err why) = false
+
+-- What a call answers, and the log that it leaves: the answer and the log after it; or want of memory, only
+-- where that may be, and the log as it was. A refused call leaves the log as it was.
+abbrev pub Called : Recording → List Entry → ℕ → Call → Result Reply Refusal → List Entry → Type 0
+Called T L c call (Ok reply) M = (answer_of T L c call ≡ Ok reply) × (M ≡ log_after T L c call)
+Called T L c call (Err OutOfMemory) M = (may_want (answer_of T L c call) ≡ true) × (M ≡ L)
+Called T L c call (Err why) M = (answer_of T L c call ≡ Err why) × (M ≡ L)
+
+-- the log as it was, or with one more entry, which is this client's
+abbrev pub Grown : List Entry → ℕ → List Entry → Type 0
+Grown L c M = (M ≡ L) ⊎ ((e : Entry) × (M ≡ L ++ e ∷ []) × (client_of e ≡ c))
+
+-- all entries are this client's
+abbrev pub IsAlone : ℕ → List Entry → Type 0
+IsAlone c L = All (λ (e : Entry). client_of e ≡ c) L

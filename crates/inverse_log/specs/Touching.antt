@@ -1,0 +1,17 @@
+-- For each name the live commands that touch it, and for each client its live commands, by their numbers.
+use Rattle.std.specs.Prelude.{◌≡◌, ℕ, Bool, List, map, filter}
+use Rattle.moves.specs.Commands.{touches}
+use Rattle.inverse_log.specs.declared.entry.Entry.{Entry}
+use Rattle.inverse_log.specs.Log.{Live, live_of, is_by}
+
+abbrev pub number_of : Live → ℕ
+number_of e = e.number
+
+abbrev pub touches_name : List ℕ → Live → Bool
+touches_name x e = touches e.command x
+
+abbrev pub touching : List Entry → List ℕ → List ℕ
+touching L x = map number_of (filter (touches_name x) (live_of L))
+
+abbrev pub own_live : List Entry → ℕ → List ℕ
+own_live L c = map number_of (filter (is_by c) (live_of L))

@@ -1,0 +1,372 @@
+//! The bench: a workspace and its board, and the log of what clients did to them.
+ghost use Rattle.std.specs.Prelude.{◌≡◌, ◌<◌, ◌≤◌, ◌++◌, ◌∷◌, [], All, length, slice_get, Some, OnOk, OnErr, IfOk, IfErr};
+ghost use Rattle.std.specs.Arc.{arc_value};
+ghost use Rattle.inverse_log.specs.Answer.{Called, IsLegal};
+ghost use Rattle.inverse_log.specs.Kept.{IsUnblocked};
+ghost use Rattle.inverse_log.specs.Headline.{IsFoldOfLive, IsSound};
+ghost use Rattle.inverse_log.specs.Log.{live, board_of, edits_of};
+
+use crate::call::Call;
+use crate::entry::Entry;
+use crate::parts::{
+    add_entry, add_step, apply, command_at, copied, enter, leave, make_room, put_back, take_out,
+    turn_back,
+};
+use crate::races::shown_pairs;
+use crate::refusal::Refusal;
+use crate::reply::Reply;
+use dependence::{Clients, Touches};
+use event_index::Indexed;
+use moves::{Board, Command, Inverse, MoveRefusal, Name, Step, Workspace};
+use rapid_text::{OutOfMemory, TextKeyed};
+use schedule::{ListRefusal, Schedule};
+use std::alloc::Global;
+use std::marker::Model;
+use std::sync::Arc;
+
+/// The most entries of a log.
+const MAX_ENTRIES: u64 = 1_000_000;
+
+/// A workspace that clients 1 to 32 change by commands, and its log. Contracts see its trace and its log, which
+/// determine all else.
+#[derive(Drop)]
+pub struct Bench {
+    alloc: Global,
+    indexed: Arc<Indexed, Global>,
+    workspace: Workspace,
+    board: Board,
+    log: Vec<Entry>,
+    // for each entry what takes it back, where it is a command that was not undone
+    steps: Vec<Option<Step>>,
+    touches: Touches,
+    clients: Clients,
+    edits: u64,
+}
+
+impl Model for Bench {
+    ghost use Rattle.std.specs.Arc.{arc_value};
+    ghost use Rattle.inverse_log.specs.Log.{Benched};
+    ghost use Rattle.inverse_log.specs.Kept.{IsBench};
+
+    ghost Value = { Benched };
+
+    ghost view = { λ b. record { trace = arc_value b.indexed; log = b.log.items } };
+
+    ghost invariant = { λ b.
+        IsBench (arc_value b.indexed) b.log.items b.workspace b.board b.steps.items b.touches b.clients b.edits };
+}
+
+impl Bench {
+    /// The bench of this trace, with no schedule, no proposal and an empty log.
+    pub fn new(
+        alloc: Global,
+        indexed: Arc<Indexed, Global>,
+    ) -> Result<Bench, (Arc<Indexed, Global>, OutOfMemory)>
+        ensures trace { IfOk result (λ b. b.trace ≡ arc_value indexed) }
+        ensures log { IfOk result (λ b. b.log ≡ []) }
+        ensures returned { IfErr result (λ refused. arc_value refused.0 ≡ arc_value indexed) }
+    {
+        Bench::keyed(alloc, indexed, TextKeyed::of(b""))
+    }
+
+    /// The same, with the hashers that are to find the names of schedules.
+    pub fn keyed(
+        alloc: Global,
+        indexed: Arc<Indexed, Global>,
+        hashers: TextKeyed,
+    ) -> Result<Bench, (Arc<Indexed, Global>, OutOfMemory)>
+        ensures trace { IfOk result (λ b. b.trace ≡ arc_value indexed) }
+        ensures log { IfOk result (λ b. b.log ≡ []) }
+        ensures returned { IfErr result (λ refused. arc_value refused.0 ≡ arc_value indexed) }
+    {
+        let _ = indexed.len();
+        let Ok(workspace) = Workspace::keyed(alloc, hashers) else {
+            return Err((indexed, OutOfMemory));
+        };
+        let Ok(touches) = Touches::keyed(alloc, hashers) else {
+            return Err((indexed, OutOfMemory));
+        };
+        let Ok(clients) = Clients::empty(alloc) else {
+            return Err((indexed, OutOfMemory));
+        };
+        Ok(Bench {
+            alloc,
+            indexed,
+            workspace,
+            board: Board::empty(alloc),
+            log: Vec::new(alloc),
+            steps: Vec::new(alloc),
+            touches,
+            clients,
+            edits: 0,
+        })
+    }
+
+    /// The number of entries of the log.
+    pub fn log_len(&self) -> u64
+        ensures len { result ≡ length self.now.log }
+        // The log is one that calls of clients 1 to 32 built from the empty one.
+        ensures legal { IsLegal self.now.trace self.now.log }
+    {
+        self.log.len() as u64
+    }
+
+    /// The entry of this number.
+    pub fn entry(&self, number: u64) -> &Entry
+        requires { number < length self.now.log }
+        ensures { slice_get self.now.log number ≡ Some result.now }
+    {
+        &self.log[number as usize]
+    }
+
+    /// The trace.
+    pub fn indexed(&self) -> &Indexed
+        ensures { result.now ≡ self.now.trace }
+    {
+        &self.indexed
+    }
+
+    /// How often a row was changed, put in, taken out or replaced: once for each command that was applied, and
+    /// once for each that was taken back.
+    pub fn edits(&self) -> u64
+        ensures { result ≡ edits_of self.now.log }
+    {
+        self.edits
+    }
+
+    /// The workspace: what the commands that were not undone make of the empty one, in their order.
+    pub fn workspace(&self) -> &Workspace
+        ensures { IsFoldOfLive self.now.trace self.now.log result.now }
+    {
+        &self.workspace
+    }
+
+    /// The proposals, in the order in which they came.
+    pub fn board(&self) -> &Board
+        ensures board { result.now ≡ board_of self.now.trace self.now.log }
+        ensures sound { All (IsSound self.now.trace) result.now }
+    {
+        &self.board
+    }
+
+    /// Makes a client's call.
+    pub fn call(&mut self, client: u32, call: &Call) -> Result<Reply, Refusal>
+        requires low { 1 ≤ client }
+        requires high { client ≤ 32 }
+        ensures trace { self.new.trace ≡ self.old.trace }
+        ensures call { Called self.old.trace self.old.log client call.now result self.new.log }
+    {
+        match call {
+            Call::Do(command) => self.perform(client, command),
+            Call::Undo => self.undo(client),
+            Call::Propose {
+                first,
+                second,
+                events,
+            } => self.propose(client, *first, *second, events.items()),
+            Call::Show(name) => self.show(client, name),
+            Call::List => self.list(client),
+            Call::Races(name) => self.races(client, name),
+        }
+    }
+
+    fn perform(&mut self, client: u32, command: &Command) -> Result<Reply, Refusal>
+        requires low { 1 ≤ client }
+        requires high { client ≤ 32 }
+        ensures trace { self.new.trace ≡ self.old.trace }
+        ensures call { Called self.old.trace self.old.log client (Call.Do command.now) result self.new.log }
+    {
+        let number = self.log.len() as u64;
+        if number >= MAX_ENTRIES {
+            return Err(Refusal::LogFull);
+        }
+        if let Err(why) = self.workspace.check(&self.indexed, &self.board, command) {
+            return Err(Refusal::Move(why));
+        }
+        let Ok(()) = make_room(&mut self.log, &mut self.steps) else {
+            return Err(Refusal::OutOfMemory);
+        };
+        let Ok(()) = enter(
+            &mut self.touches,
+            &mut self.clients,
+            client,
+            command,
+            number,
+        ) else {
+            return Err(Refusal::OutOfMemory);
+        };
+        let Ok(inverse) = apply(
+            &mut self.workspace,
+            &mut self.edits,
+            &self.indexed,
+            &self.board,
+            number,
+            command,
+        ) else {
+            leave(
+                &mut self.touches,
+                &mut self.clients,
+                client,
+                command,
+                number,
+            );
+            return Err(Refusal::OutOfMemory);
+        };
+        add_step(&mut self.steps, Some(inverse.step));
+        add_entry(
+            &mut self.log,
+            Entry::Did {
+                client,
+                command: *command,
+            },
+        );
+        Ok(Reply::Done(number))
+    }
+
+    fn undo(&mut self, client: u32) -> Result<Reply, Refusal>
+        requires low { 1 ≤ client }
+        requires high { client ≤ 32 }
+        ensures trace { self.new.trace ≡ self.old.trace }
+        ensures call { Called self.old.trace self.old.log client Call.Undo result self.new.log }
+    {
+        let number = self.log.len() as u64;
+        if number >= MAX_ENTRIES {
+            return Err(Refusal::LogFull);
+        }
+        let Some(entry) = self.clients.last(client) else {
+            return Err(Refusal::NothingToUndo);
+        };
+        let Some(command) = command_at(&self.log, entry) else {
+            return Err(Refusal::NothingToUndo);
+        };
+        let name = command.writes();
+        if let Some(blocker) = self.touches.first_after(entry, &name) {
+            return Err(Refusal::RestsOn {
+                entry: blocker,
+                name,
+            });
+        }
+        let Ok(()) = self.take_back(client, entry, &command) else {
+            return Err(Refusal::OutOfMemory);
+        };
+        Ok(Reply::Undone { number, entry })
+    }
+
+    // Takes back a client's live command that nothing blocks.
+    fn take_back(&mut self, client: u32, entry: u64, command: &Command) -> Result<(), OutOfMemory>
+        requires client { client ≤ 32 }
+        requires room { length self.old.log < 1000000 }
+        requires free { IsUnblocked self.old.log (live entry client command.now) }
+        requires legal { IsLegal self.old.trace (self.old.log ++ Entry.Undid client entry ∷ []) }
+        ensures trace { self.new.trace ≡ self.old.trace }
+        ensures ok { OnOk result (self.new.log ≡ self.old.log ++ Entry.Undid client entry ∷ []) }
+        ensures err { OnErr result (self.new.log ≡ self.old.log) }
+    {
+        let Ok(()) = make_room(&mut self.log, &mut self.steps) else {
+            return Err(OutOfMemory);
+        };
+        let Some(step) = take_out(&mut self.steps, entry) else {
+            return Err(OutOfMemory);
+        };
+        let name = command.writes();
+        let inverse = Inverse { name, step };
+        let Err(step) = turn_back(
+            &mut self.workspace,
+            &mut self.edits,
+            &self.indexed,
+            inverse,
+        ) else {
+            leave(&mut self.touches, &mut self.clients, client, command, entry);
+            add_step(&mut self.steps, None);
+            add_entry(&mut self.log, Entry::Undid { client, entry });
+            return Ok(());
+        };
+        put_back(&mut self.steps, entry, step);
+        Err(OutOfMemory)
+    }
+
+    fn propose(
+        &mut self,
+        client: u32,
+        first: u32,
+        second: u32,
+        events: &[u32],
+    ) -> Result<Reply, Refusal>
+        requires low { 1 ≤ client }
+        requires high { client ≤ 32 }
+        ensures trace { self.new.trace ≡ self.old.trace }
+        ensures call { Called self.old.trace self.old.log client (Call.Propose first second events.now) result self.new.log }
+    {
+        let number = self.log.len() as u64;
+        if number >= MAX_ENTRIES {
+            return Err(Refusal::LogFull);
+        }
+        let schedule = match Schedule::from_list(self.alloc, &self.indexed, events) {
+            Ok(schedule) => schedule,
+            Err(ListRefusal::NotReordering { position, cause: _ }) => {
+                return Err(Refusal::NotReordering { position });
+            }
+            Err(ListRefusal::OutOfMemory) => return Err(Refusal::OutOfMemory),
+        };
+        if !schedule.shows(&self.indexed, first, second) {
+            return Err(Refusal::NotShown);
+        }
+        let Ok(events) = copied(self.alloc, events) else {
+            return Err(Refusal::OutOfMemory);
+        };
+        let Ok(()) = make_room(&mut self.log, &mut self.steps) else {
+            return Err(Refusal::OutOfMemory);
+        };
+        let proposal = self.board.len() as u64;
+        let Ok(()) = self.board.push(first, second, schedule) else {
+            return Err(Refusal::OutOfMemory);
+        };
+        add_step(&mut self.steps, None);
+        add_entry(
+            &mut self.log,
+            Entry::Proposed {
+                client,
+                first,
+                second,
+                events,
+            },
+        );
+        Ok(Reply::Proposed { number, proposal })
+    }
+
+    fn show(&self, client: u32, name: &Name) -> Result<Reply, Refusal>
+        ensures { Called self.now.trace self.now.log client (Call.Show name.now) result self.now.log }
+    {
+        let _ = client;
+        let Some(schedule) = self.workspace.get(name) else {
+            return Err(Refusal::Move(MoveRefusal::NoSuchSchedule));
+        };
+        let Ok(events) = copied(self.alloc, schedule.events()) else {
+            return Err(Refusal::OutOfMemory);
+        };
+        Ok(Reply::Shown(events))
+    }
+
+    fn list(&self, client: u32) -> Result<Reply, Refusal>
+        ensures { Called self.now.trace self.now.log client Call.List result self.now.log }
+    {
+        let _ = client;
+        let Ok(names) = self.workspace.names(self.alloc) else {
+            return Err(Refusal::OutOfMemory);
+        };
+        Ok(Reply::Listing(names))
+    }
+
+    fn races(&self, client: u32, name: &Name) -> Result<Reply, Refusal>
+        ensures { Called self.now.trace self.now.log client (Call.Races name.now) result self.now.log }
+    {
+        let _ = client;
+        let Some(schedule) = self.workspace.get(name) else {
+            return Err(Refusal::Move(MoveRefusal::NoSuchSchedule));
+        };
+        let Ok(pairs) = shown_pairs(self.alloc, &self.indexed, schedule) else {
+            return Err(Refusal::OutOfMemory);
+        };
+        Ok(Reply::Shows(pairs))
+    }
+}

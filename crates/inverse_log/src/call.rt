@@ -1,0 +1,28 @@
+//! What a client can ask for.
+
+use event_index::EventList;
+use moves::{Command, Name};
+
+/// A call of one client.
+#[derive(Drop)]
+pub enum Call {
+    /// A command on the named schedules.
+    Do(Command),
+    /// The client's latest command that was not undone is taken back.
+    Undo,
+    /// A list of events that shows the pair `first`, `second` is put on the board.
+    Propose {
+        /// One event of the pair.
+        first: u32,
+        /// The other.
+        second: u32,
+        /// The events, in the order of the proposed reordering.
+        events: EventList,
+    },
+    /// The events of the named schedule.
+    Show(Name),
+    /// The names of all schedules.
+    List,
+    /// The pairs that the named schedule shows.
+    Races(Name),
+}

@@ -1,0 +1,34 @@
+//! What the log remembers.
+
+use event_index::EventList;
+use moves::Command;
+
+/// One entry of the log: an accepted call that changed the workspace or the board.
+#[derive(Drop)]
+pub enum Entry {
+    /// A command was applied.
+    Did {
+        /// Whose it was, 1 to 32.
+        client: u32,
+        /// The command.
+        command: Command,
+    },
+    /// A command was taken back.
+    Undid {
+        /// Who took it back, 1 to 32.
+        client: u32,
+        /// The number of the entry that was undone.
+        entry: u64,
+    },
+    /// A proposal was put on the board.
+    Proposed {
+        /// Whose it was, 1 to 32.
+        client: u32,
+        /// One event of the pair that it shows.
+        first: u32,
+        /// The other.
+        second: u32,
+        /// The proposed list.
+        events: EventList,
+    },
+}

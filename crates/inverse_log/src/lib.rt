@@ -1,0 +1,17 @@
+//! The log of a shared workspace: commands of several clients, proposals, and undo.
+#![tactic(auto)]
+
+mod bench;
+mod call;
+mod entry;
+pub mod headline;
+mod parts;
+mod races;
+mod refusal;
+mod reply;
+
+pub use bench::Bench;
+pub use call::Call;
+pub use entry::Entry;
+pub use refusal::Refusal;
+pub use reply::Reply;

@@ -1,0 +1,15 @@
+-- Lemmas for the crates above.
+-- equality of names, as a test and as a fact
+pub use Rattle.moves.proofs.NameLemmas.{eq-bytes, bytes-true, bytes-false, bytes_tells}
+-- what a name's row is after a change, and that two listings with the same look-ups are equal
+pub use Rattle.moves.proofs.RowLemmas.{with_row-same, with_row-other, listing-with_row, rows_same}
+-- the rows are listed with births below the next one, after each command
+pub use Rattle.moves.proofs.ChainLemmas.{IsPlain, plain_more, plain_step, plain_end, leads_split, leads_join}
+-- a chain of commands and the fold tell the same; another fact at each command; a longer board
+pub use Rattle.moves.proofs.FoldLemmas.{Nothing, fold_from_leads, leads_from_fold, leads_other, leads_longer, leads_once, made_longer, get_longer}
+-- one more command; a command that no later one touches can be taken back
+pub use Rattle.moves.proofs.UndoLemmas.{plain_nil, rises_split, leads_push, IsUndone, undone, row_updated}
+-- what an applied command, a refused one and a step back leave
+pub use Rattle.moves.proofs.TurnLemmas.{applied_parts, refused_same, listing-applied, listing-turned}
+-- commands lead from correct reorderings of the trace to correct reorderings of it
+pub use Rattle.moves.proofs.KeepLemmas.{leads_kept, AreReorderings-nil, IsOfTrace-kept}

@@ -1,0 +1,11 @@
+pub mod BackLemmas
+pub mod CallerLemmas
+pub mod ChainLemmas
+pub mod EffectLemmas
+pub mod FoldLemmas
+pub mod KeepLemmas
+pub mod NameLemmas
+pub mod PlaceLemmas
+pub mod RowLemmas
+pub mod TurnLemmas
+pub mod UndoLemmas

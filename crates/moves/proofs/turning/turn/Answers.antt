@@ -1,0 +1,9 @@
+use Rattle.std.proofs.Common.{◌≡◌, None, rules}
+use Rattle.moves.specs.Rows.{row_of}
+use Rattle.moves.proofs.TurnLemmas.{comes_turned}
+use Rattle.moves.proofs.turning.turn.Goals as goal
+
+pub returns-in-Ok-clause-ok : goal.returns-in-Ok-clause-ok
+returns-in-Ok-clause-ok c =
+    let none : row_of c.args.rows.now.entries c.args.name ≡ None = search rules in
+    comes_turned c.args.rows.now.entries c.put.new.rows.entries c.args.name c.in-Comes.row c.args.step none c.in-Comes.is c.in-Ok.ensures.ok

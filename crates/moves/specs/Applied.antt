@@ -1,0 +1,44 @@
+-- What `apply`, `check` and `take_back` answer.
+use Rattle.std.specs.Prelude.{◌≡◌, ℕ, List, [], ◌∷◌, ◌++◌, Option, Some, None, Result, Ok, Err, IsOk, slice_get}
+use Rattle.rapid_text.specs.Recording.{Recording}
+use Rattle.moves.specs.declared.row.Row.{Row}
+use Rattle.moves.specs.declared.board.Proposal.{Proposal}
+use Rattle.moves.specs.declared.command.Command.{Command}
+use Rattle.moves.specs.declared.inverse.Inverse.{Inverse}
+use Rattle.moves.specs.declared.refusal.MoveRefusal.{MoveRefusal}
+use Rattle.moves.specs.declared.refusal.MoveRefusal.TheVariants.{OutOfMemory}
+use Rattle.moves.specs.Commands.{writes}
+use Rattle.moves.specs.Rows.{Rows, row_of}
+use Rattle.indexmap.specs.Layout.{set_value_at}
+use Rattle.schedule.specs.Refusals.{refusal_of}
+use Rattle.moves.specs.Moves.{made_at, applied, with_events, front}
+use Rattle.moves.specs.Inverses.{Fits, CanTurn, IsTurned}
+
+-- The command is accepted, with an inverse that is the written name's and fits its rows before and after;
+-- or want of memory where it would be accepted; or its first refusal. W are the rows before, V those after.
+abbrev pub IsApplied : Recording → List Proposal → ℕ → Command → Rows → Rows → Result Inverse MoveRefusal → Type 0
+IsApplied T B n d W V (Ok inverse) =
+    (applied T B n d W ≡ Ok V) × (inverse.name ≡ writes d) × Fits inverse.step (row_of W (writes d)) (row_of V (writes d))
+IsApplied T B n d W V (Err OutOfMemory) = IsOk (applied T B n d W) × (V ≡ W)
+IsApplied T B n d W V (Err why) = (applied T B n d W ≡ Err why) × (V ≡ W)
+
+-- the inverse can be taken at the rows V, and leads from there to W and to no other rows
+abbrev pub TakesBack : Inverse → Rows → Rows → Type 0
+TakesBack inverse V W = CanTurn inverse.name inverse.step V × ((U : Rows) → IsTurned inverse.name inverse.step V U → U ≡ W)
+
+-- it would be accepted, or its first refusal
+abbrev pub IsChecked : Recording → List Proposal → ℕ → Command → Rows → Result (Unit {0}) MoveRefusal → Type 0
+IsChecked T B n d W (Ok u) = IsOk (made_at T B n d W)
+IsChecked T B n d W (Err why) = made_at T B n d W ≡ Err why
+
+-- the row of x lies at place i
+abbrev pub IsAt : Rows → ℕ → List ℕ → Type 0
+IsAt W i x = (r : Row) × (slice_get W i ≡ Some (x, r)) × (row_of W x ≡ Some r)
+
+-- The last event of the row r at place i was taken off: the rest may be extended by it again. Or it has none.
+abbrev pub IsTakenOff : Row → Rows → Rows → ℕ → Option ℕ → Type 0
+IsTakenOff r W V i None = (r.schedule.events ≡ []) × (V ≡ W)
+IsTakenOff r W V i (Some e) =
+    (V ≡ set_value_at W i (with_events r (front r.schedule.events)))
+    × (r.schedule.events ≡ front r.schedule.events ++ e ∷ [])
+    × (refusal_of r.schedule.trace.events (front r.schedule.events) e ≡ None)

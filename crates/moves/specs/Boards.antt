@@ -1,0 +1,18 @@
+-- Boards of proposals: this project's own.
+use Rattle.std.specs.Prelude.{◌≡◌, List, All}
+use Rattle.rapid_text.specs.Recording.{Recording}
+use Rattle.schedule.specs.Reordering.{IsCorrectReordering}
+use Rattle.schedule.specs.Shows.{Shows}
+use Rattle.moves.specs.declared.board.Proposal.{Proposal}
+
+-- its schedule shows its pair
+abbrev pub IsShown : Proposal → Type 0
+IsShown p = Shows p.schedule.trace.events p.schedule.events p.first p.second
+
+-- each proposal's schedule is one of the trace T
+abbrev pub IsBoardOf : Recording → List Proposal → Type 0
+IsBoardOf T B = All (λ (p : Proposal). p.schedule.trace ≡ T) B
+
+-- each proposal's list is a correct reordering of the trace T
+abbrev pub AreProposed : Recording → List Proposal → Type 0
+AreProposed T B = All (λ (p : Proposal). IsCorrectReordering T.events p.schedule.events) B

@@ -1,0 +1,35 @@
+-- Commands applied in order, each with the birth that it gives a row that it makes.
+use Rattle.std.specs.Prelude.{◌≡◌, ◌+◌, ◌≤◌, ℕ, List, [], ◌∷◌, Option, Some, None, Ok, fold}
+use Rattle.std.specs.Result.{result_ok}
+use Rattle.rapid_text.specs.Recording.{Recording}
+use Rattle.moves.specs.declared.row.Row.{Row}
+use Rattle.moves.specs.declared.board.Proposal.{Proposal}
+use Rattle.moves.specs.declared.command.Command.{Command}
+use Rattle.moves.specs.Commands.{writes}
+use Rattle.moves.specs.Rows.{Rows, row_of, with_row, age}
+use Rattle.moves.specs.Moves.{made_at, applied}
+
+-- a birth and a command
+abbrev pub Numbered : Type 0
+Numbered = ℕ × Command
+
+-- the rows after one more command, none where it or one before it is refused
+abbrev pub goes_on : Recording → List Proposal → Option Rows → Numbered → Option Rows
+goes_on T B None e = None
+goes_on T B (Some W) e = result_ok (applied T B e.0 e.1 W)
+
+-- the rows after these commands, from no rows on, or none where one is refused
+abbrev pub fold_of : Recording → List Proposal → List Numbered → Option Rows
+fold_of T B E = fold (goes_on T B) (Some []) E
+
+-- From W the commands lead to V, one after another, and R holds of each of them, of the row that it writes
+-- as it was before and of that row as it is after.
+abbrev pub Leads : Recording → List Proposal → (Numbered → Option Row → Option Row → Type 0) → Rows → List Numbered → Rows → Type 0
+Leads T B R W [] V = W ≡ V
+Leads T B R W (e ∷ E) V =
+    (o : Option Row) × (made_at T B e.0 e.1 W ≡ Ok o) × R e (row_of W (writes e.1)) o × Leads T B R (with_row W (writes e.1) o) E V
+
+-- births rise from low on, and stay below high
+abbrev pub Rises : ℕ → List Numbered → ℕ → Type 0
+Rises low [] high = low ≤ high
+Rises low (e ∷ E) high = (low ≤ age e.0) × Rises (age e.0 + 1) E high

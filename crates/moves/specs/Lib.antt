@@ -1,0 +1,9 @@
+pub mod Applied
+pub mod Boards
+pub mod Commands
+pub mod Fold
+pub mod Inverses
+pub mod Layout
+pub mod Moves
+pub mod Names
+pub mod Rows

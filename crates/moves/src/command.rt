@@ -1,0 +1,122 @@
+//! The commands.
+ghost use Rattle.std.specs.Prelude.{◌≡◌, ℕ, List};
+ghost use Rattle.moves.specs.Commands.{writes, reads, target_of, touches, is_touched};
+
+use crate::name::Name;
+
+/// A change of one named schedule.
+#[derive(Clone, Copy)]
+pub enum Command {
+    /// A new schedule with no events.
+    Fresh {
+        /// Its name.
+        name: Name,
+    },
+    /// An event is appended.
+    Add {
+        /// The schedule.
+        name: Name,
+        /// The event's number in the trace, from 0.
+        event: u32,
+    },
+    /// The last event is taken off.
+    Back {
+        /// The schedule.
+        name: Name,
+    },
+    /// Two neighbours change places.
+    Swap {
+        /// The schedule.
+        name: Name,
+        /// The place of the first of the two, from 0.
+        at: u32,
+    },
+    /// A new schedule with the first events of another one.
+    Branch {
+        /// The schedule whose events are copied.
+        name: Name,
+        /// How many of them.
+        length: u32,
+        /// The new schedule's name.
+        to: Name,
+    },
+    /// The schedule goes.
+    Drop {
+        /// The schedule.
+        name: Name,
+    },
+    /// The events of a proposal take the place of the schedule's own.
+    Adopt {
+        /// The schedule.
+        name: Name,
+        /// The proposal's number on the board, from 0.
+        proposal: u32,
+    },
+}
+
+/// The names that a command touches.
+#[derive(Clone, Copy)]
+pub struct Touched {
+    /// The name that the command reads: of a branch its source, else the name that it writes.
+    pub first: Name,
+    /// Of a branch the name of the new schedule.
+    pub second: Option<Name>,
+}
+
+impl Command {
+    /// The name that the command writes: of a branch the new schedule's.
+    pub fn writes(&self) -> Name
+        ensures { result ≡ writes self.now }
+    {
+        match *self {
+            Command::Branch {
+                name: _,
+                length: _,
+                to,
+            } => to,
+            _ => self.reads(),
+        }
+    }
+
+    /// The name that the command reads: of a branch its source, else the name that it writes.
+    pub fn reads(&self) -> Name
+        ensures { result ≡ reads self.now }
+    {
+        match *self {
+            Command::Fresh { name } => name,
+            Command::Add { name, event: _ } => name,
+            Command::Back { name } => name,
+            Command::Swap { name, at: _ } => name,
+            Command::Branch {
+                name,
+                length: _,
+                to: _,
+            } => name,
+            Command::Drop { name } => name,
+            Command::Adopt { name, proposal: _ } => name,
+        }
+    }
+
+    /// The names that the command touches: the one that it writes, and of a branch its source before it.
+    pub fn touches(&self) -> Touched
+        ensures first { result.first ≡ reads self.now }
+        ensures second { result.second ≡ target_of self.now }
+        // A name is touched exactly where it is one of these.
+        ensures exact { (x : List ℕ) → is_touched result x ≡ touches self.now x }
+    {
+        match *self {
+            Command::Branch {
+                name,
+                length: _,
+                to,
+            } => Touched {
+                first: name,
+                second: Some(to),
+            },
+            _ => Touched {
+                first: self.reads(),
+                second: None,
+            },
+        }
+    }
+}

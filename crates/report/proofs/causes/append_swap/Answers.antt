@@ -1,0 +1,8 @@
+-- Each cause has its words.
+use Rattle.report.proofs.causes.append_swap.Goals as goal
+
+pub returns-in-NoSuchPair-clause-ok : goal.returns-in-NoSuchPair-clause-ok
+returns-in-NoSuchPair-clause-ok c = rw c.in-NoSuchPair.is c.append_words.ensures.ok
+
+pub returns-in-Dependent-clause-ok : goal.returns-in-Dependent-clause-ok
+returns-in-Dependent-clause-ok c = rw c.in-Dependent.is c.append_words-in-Dependent.ensures.ok

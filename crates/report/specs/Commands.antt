@@ -1,0 +1,13 @@
+-- What is printed of a command: the line of a script that makes it, without the client.
+use Rattle.std.specs.Prelude.{ℕ, List, ◌++◌, codes, decimal}
+use Rattle.moves.specs.declared.command.Command.{Command}
+use Rattle.moves.specs.declared.command.Command.TheVariants.{Fresh, Add, Back, Swap, Branch, Drop, Adopt}
+
+abbrev pub command_words : Command → List ℕ
+command_words (Fresh name) = codes "new " ++ name
+command_words (Add name event) = codes "add " ++ name ++ codes " " ++ decimal event
+command_words (Back name) = codes "back " ++ name
+command_words (Swap name at) = codes "swap " ++ name ++ codes " " ++ decimal at
+command_words (Branch name length to) = codes "branch " ++ name ++ codes " " ++ decimal length ++ codes " " ++ to
+command_words (Drop name) = codes "drop " ++ name
+command_words (Adopt name proposal) = codes "adopt " ++ name ++ codes " " ++ decimal proposal

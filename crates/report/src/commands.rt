@@ -1,0 +1,79 @@
+//! Prints commands as scripts write them.
+ghost use Rattle.std.specs.Prelude.{◌≡◌, ◌++◌, OnOk, OnErr, codes, decimal};
+ghost use Rattle.report.specs.Commands.{command_words};
+
+use crate::pieces::{Piece, append_pieces};
+use moves::{Command, Name};
+use rapid_text::OutOfMemory;
+
+/// Appends the command's word and its schedule. Where memory is refused `out` stays as it was.
+fn append_named<'a>(out: &mut Vec<u8>, word: &'a [u8], name: &'a Name) -> Result<(), OutOfMemory>
+    ensures ok { OnOk result (out.new.items ≡ out.old.items ++ (word.now ++ name.now)) }
+    ensures err { OnErr result (out.new.items ≡ out.old.items) }
+{
+    append_pieces(out, &[Piece::Words(word), Piece::Words(name.bytes())])?;
+    Ok(())
+}
+
+/// Appends the command's word, its schedule and a number. Where memory is refused `out` stays as it was.
+fn append_numbered<'a>(
+    out: &mut Vec<u8>,
+    word: &'a [u8],
+    name: &'a Name,
+    number: u32,
+) -> Result<(), OutOfMemory>
+    ensures ok { OnOk result (out.new.items ≡ out.old.items ++ (word.now ++ name.now ++ codes " " ++ decimal number)) }
+    ensures err { OnErr result (out.new.items ≡ out.old.items) }
+{
+    append_pieces(
+        out,
+        &[
+            Piece::Words(word),
+            Piece::Words(name.bytes()),
+            Piece::Words(b" "),
+            Piece::Number(u64::from(number)),
+        ],
+    )?;
+    Ok(())
+}
+
+/// Appends the words of a branch. Where memory is refused `out` stays as it was.
+fn append_branch<'a>(
+    out: &mut Vec<u8>,
+    name: &'a Name,
+    length: u32,
+    to: &'a Name,
+) -> Result<(), OutOfMemory>
+    ensures ok { OnOk result (out.new.items ≡ out.old.items ++ (codes "branch " ++ name.now ++ codes " " ++ decimal length ++ codes " " ++ to.now)) }
+    ensures err { OnErr result (out.new.items ≡ out.old.items) }
+{
+    append_pieces(
+        out,
+        &[
+            Piece::Words(b"branch "),
+            Piece::Words(name.bytes()),
+            Piece::Words(b" "),
+            Piece::Number(u64::from(length)),
+            Piece::Words(b" "),
+            Piece::Words(to.bytes()),
+        ],
+    )?;
+    Ok(())
+}
+
+/// Appends the line of a script that makes the command, without the client. Where memory is refused `out`
+/// stays as it was.
+pub(crate) fn append_command(out: &mut Vec<u8>, command: &Command) -> Result<(), OutOfMemory>
+    ensures ok { OnOk result (out.new.items ≡ out.old.items ++ command_words command.now) }
+    ensures err { OnErr result (out.new.items ≡ out.old.items) }
+{
+    match *command {
+        Command::Fresh { name } => append_named(out, b"new ", &name),
+        Command::Add { name, event } => append_numbered(out, b"add ", &name, event),
+        Command::Back { name } => append_named(out, b"back ", &name),
+        Command::Swap { name, at } => append_numbered(out, b"swap ", &name, at),
+        Command::Branch { name, length, to } => append_branch(out, &name, length, &to),
+        Command::Drop { name } => append_named(out, b"drop ", &name),
+        Command::Adopt { name, proposal } => append_numbered(out, b"adopt ", &name, proposal),
+    }
+}

@@ -1,0 +1,160 @@
+//! Prints the log of a bench.
+ghost use Rattle.std.specs.Prelude.{◌≡◌, ◌<◌, ◌++◌, length, OnOk, OnErr, codes, decimal};
+ghost use Rattle.inverse_log.specs.Log.{client_of};
+ghost use Rattle.report.specs.Log.{entry_words, entry_line, line_at, entry_lines, log_text};
+ghost use Rattle.report.specs.Pieces.{spaced};
+
+use crate::commands::append_command;
+use crate::pieces::{Piece, append_count, append_pieces};
+use inverse_log::{Bench, Entry};
+use rapid_text::OutOfMemory;
+
+/// Appends how many entries the log has, and for each its number, its client and what was done, each in a
+/// line. Where memory is refused `out` stays as it was.
+#[tactic(auto, unfolding(crate::specs::Log::log_text))]
+pub fn log(bench: &Bench, out: &mut Vec<u8>) -> Result<(), OutOfMemory>
+    ensures ok { OnOk result (out.new.items ≡ out.old.items ++ log_text bench.now.log) }
+    ensures err { OnErr result (out.new.items ≡ out.old.items) }
+{
+    let start = out.len();
+    append_count(out, b"log", bench.log_len())?;
+    if let Err(refused) = append_entries(out, bench) {
+        out.truncate(start);
+        return Err(refused);
+    }
+    Ok(())
+}
+
+/// Appends the lines of all entries.
+fn append_entries(out: &mut Vec<u8>, bench: &Bench) -> Result<(), OutOfMemory>
+    ensures ok { OnOk result (out.new.items ≡ out.old.items ++ entry_lines bench.now.log (length bench.now.log)) }
+    ensures err { OnErr result (out.new.items ≡ out.old.items) }
+{
+    let start = out.len();
+    for number in 0..bench.log_len() {
+        if let Err(refused) = append_line_at(out, bench, number) {
+            out.truncate(start);
+            return Err(refused);
+        }
+    }
+    Ok(())
+}
+
+/// Appends the line of the entry of this number.
+fn append_line_at(out: &mut Vec<u8>, bench: &Bench, number: u64) -> Result<(), OutOfMemory>
+    requires { number < length bench.now.log }
+    ensures ok { OnOk result (out.new.items ≡ out.old.items ++ line_at bench.now.log number) }
+    ensures err { OnErr result (out.new.items ≡ out.old.items) }
+{
+    append_entry(out, number, bench.entry(number))
+}
+
+/// Appends the line of an entry.
+fn append_entry(out: &mut Vec<u8>, number: u64, entry: &Entry) -> Result<(), OutOfMemory>
+    ensures ok { OnOk result (out.new.items ≡ out.old.items ++ entry_line number entry.now) }
+    ensures err { OnErr result (out.new.items ≡ out.old.items) }
+{
+    let start = out.len();
+    append_head(out, number, client_of(entry))?;
+    if let Err(refused) = append_rest(out, entry) {
+        out.truncate(start);
+        return Err(refused);
+    }
+    Ok(())
+}
+
+/// Whose entry it is.
+fn client_of(entry: &Entry) -> u32
+    ensures { result ≡ client_of entry.now }
+{
+    match *entry {
+        Entry::Did { client, command: _ } => client,
+        Entry::Undid { client, entry: _ } => client,
+        Entry::Proposed {
+            client,
+            first: _,
+            second: _,
+            events: _,
+        } => client,
+    }
+}
+
+/// Appends an entry's number and its client, a space after each.
+fn append_head(out: &mut Vec<u8>, number: u64, client: u32) -> Result<(), OutOfMemory>
+    ensures ok { OnOk result (out.new.items ≡ out.old.items ++ (decimal number ++ codes " " ++ decimal client ++ codes " ")) }
+    ensures err { OnErr result (out.new.items ≡ out.old.items) }
+{
+    append_pieces(
+        out,
+        &[
+            Piece::Number(number),
+            Piece::Words(b" "),
+            Piece::Number(u64::from(client)),
+            Piece::Words(b" "),
+        ],
+    )?;
+    Ok(())
+}
+
+/// Appends what was done, and a line end.
+fn append_rest(out: &mut Vec<u8>, entry: &Entry) -> Result<(), OutOfMemory>
+    ensures ok { OnOk result (out.new.items ≡ out.old.items ++ (entry_words entry.now ++ codes "\n")) }
+    ensures err { OnErr result (out.new.items ≡ out.old.items) }
+{
+    let start = out.len();
+    append_entry_words(out, entry)?;
+    if let Err(refused) = append_pieces(out, &[Piece::Words(b"\n")]) {
+        out.truncate(start);
+        return Err(refused);
+    }
+    Ok(())
+}
+
+/// Appends what was done.
+fn append_entry_words(out: &mut Vec<u8>, entry: &Entry) -> Result<(), OutOfMemory>
+    ensures ok { OnOk result (out.new.items ≡ out.old.items ++ entry_words entry.now) }
+    ensures err { OnErr result (out.new.items ≡ out.old.items) }
+{
+    match entry {
+        Entry::Did { client: _, command } => append_command(out, command),
+        Entry::Undid { client: _, entry } => append_undone(out, *entry),
+        Entry::Proposed {
+            client: _,
+            first,
+            second,
+            events,
+        } => append_proposed(out, *first, *second, events.items()),
+    }
+}
+
+/// Appends the words of an undo.
+fn append_undone(out: &mut Vec<u8>, entry: u64) -> Result<(), OutOfMemory>
+    ensures ok { OnOk result (out.new.items ≡ out.old.items ++ (codes "undo " ++ decimal entry)) }
+    ensures err { OnErr result (out.new.items ≡ out.old.items) }
+{
+    append_pieces(out, &[Piece::Words(b"undo "), Piece::Number(entry)])?;
+    Ok(())
+}
+
+/// Appends the words of a proposal.
+fn append_proposed(
+    out: &mut Vec<u8>,
+    first: u32,
+    second: u32,
+    events: &[u32],
+) -> Result<(), OutOfMemory>
+    ensures ok { OnOk result (out.new.items ≡ out.old.items ++ (codes "propose " ++ decimal first ++ codes " " ++ decimal second ++ spaced events.now)) }
+    ensures err { OnErr result (out.new.items ≡ out.old.items) }
+{
+    append_pieces(
+        out,
+        &[
+            Piece::Words(b"propose "),
+            Piece::Number(u64::from(first)),
+            Piece::Words(b" "),
+            Piece::Number(u64::from(second)),
+            Piece::Numbers(events),
+        ],
+    )?;
+    Ok(())
+}

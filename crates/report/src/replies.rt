@@ -1,0 +1,65 @@
+//! Prints the replies to calls.
+ghost use Rattle.std.specs.Prelude.{◌≡◌, ◌++◌, OnOk, OnErr, codes, decimal};
+ghost use Rattle.report.specs.Pieces.{piece_bytes};
+ghost use Rattle.report.specs.Replies.{reply_text};
+
+use crate::pieces::{Piece, append_pieces};
+use inverse_log::Reply;
+use rapid_text::OutOfMemory;
+
+/// Appends the line of a number and words.
+fn append_done(out: &mut Vec<u8>, number: u64) -> Result<(), OutOfMemory>
+    ensures ok { OnOk result (out.new.items ≡ out.old.items ++ (decimal number ++ codes ": done\n")) }
+    ensures err { OnErr result (out.new.items ≡ out.old.items) }
+{
+    append_pieces(out, &[Piece::Number(number), Piece::Words(b": done\n")])?;
+    Ok(())
+}
+
+/// Appends the line of a number, words and a second number.
+fn append_numbered(
+    out: &mut Vec<u8>,
+    number: u64,
+    words: &[u8],
+    other: u64,
+) -> Result<(), OutOfMemory>
+    ensures ok { OnOk result (out.new.items ≡ out.old.items ++ (decimal number ++ words.now ++ decimal other ++ codes "\n")) }
+    ensures err { OnErr result (out.new.items ≡ out.old.items) }
+{
+    append_pieces(
+        out,
+        &[
+            Piece::Number(number),
+            Piece::Words(words),
+            Piece::Number(other),
+            Piece::Words(b"\n"),
+        ],
+    )?;
+    Ok(())
+}
+
+/// Appends the line of a word and a list.
+fn append_list<'a>(out: &mut Vec<u8>, word: &'a [u8], list: Piece<'a>) -> Result<(), OutOfMemory>
+    ensures ok { OnOk result (out.new.items ≡ out.old.items ++ (word.now ++ piece_bytes list.entry ++ codes "\n")) }
+    ensures err { OnErr result (out.new.items ≡ out.old.items) }
+{
+    append_pieces(out, &[Piece::Words(word), list, Piece::Words(b"\n")])?;
+    Ok(())
+}
+
+/// Appends the line of a reply. Where memory is refused `out` stays as it was.
+pub fn reply(reply: &Reply, out: &mut Vec<u8>) -> Result<(), OutOfMemory>
+    ensures ok { OnOk result (out.new.items ≡ out.old.items ++ reply_text reply.now) }
+    ensures err { OnErr result (out.new.items ≡ out.old.items) }
+{
+    match reply {
+        Reply::Done(number) => append_done(out, *number),
+        Reply::Undone { number, entry } => append_numbered(out, *number, b": undone ", *entry),
+        Reply::Proposed { number, proposal } => {
+            append_numbered(out, *number, b": proposed ", *proposal)
+        }
+        Reply::Shown(events) => append_list(out, b"shown", Piece::Numbers(events.items())),
+        Reply::Listing(names) => append_list(out, b"names", Piece::Names(names.items())),
+        Reply::Shows(pairs) => append_list(out, b"pairs", Piece::Pairs(pairs.items())),
+    }
+}

@@ -1,0 +1,98 @@
+-- What the greedy search knows on its way. No public clause cites this module. `T` is the events of a trace.
+use Rattle.std.specs.Prelude.{◌≡◌, ◌≢◌, ℕ, ◌-◌, ◌<◌, ◌≤◌, ◌⊎◌, ◌↔◌, ◌&&◌, nat_lt, if◌then◌else◌, Bool, true, false, List, length, count_by, slice_get, slice_index, slice_index_or, Option, Some, None, AllPairs, Contains}
+use Rattle.rapid_text.specs.declared.event.Event.{Event}
+use Rattle.rapid_text.specs.declared.event.Op.{Op}
+use Rattle.rapid_text.specs.declared.event.Op.TheVariants.{Join}
+use Rattle.trace_rules.specs.Rules.{IsDisciplined}
+use Rattle.event_index.specs.Events.{op_at, thread_at, is_of_thread}
+use Rattle.event_index.specs.Lookups.{events_of, fork_of, or_else, base_of, last_writer, section_end}
+use Rattle.schedule.specs.Refusals.{is_in}
+use Rattle.schedule.specs.Reordering.{IsPrefix, IsCorrectReordering}
+use Rattle.witness_search.specs.Greedy.{may_take}
+use Rattle.witness_search.specs.Layout.{kept}
+use Rattle.witness_search.specs.Wanted.{IsWanted}
+
+-- the last event of the thread, or else the event that forks it
+abbrev pub end_of : List Event → ℕ → Option ℕ
+end_of T u = or_else (slice_get (events_of T u) (length (events_of T u) - 1)) (fork_of T u)
+
+abbrev pub end_by : List Event → Option Op → Option ℕ
+end_by T (Some (Join u)) = end_of T u
+end_by T op = None
+
+-- the end of the thread that e joins
+abbrev pub joined_end : List Event → ℕ → Option ℕ
+joined_end T e = end_by T (op_at T e)
+
+-- the events that are looked for at e: what else it asks for, these ask for in turn
+abbrev pub IsSought : List Event → ℕ → ℕ → Type 0
+IsSought T e d =
+    (base_of T e ≡ Some d) ⊎ ((last_writer T e ≡ Some d) ⊎ ((section_end T e ≡ Some d) ⊎ (joined_end T e ≡ Some d)))
+
+abbrev pub is_marked : List Bool → ℕ → Bool
+is_marked marks e = slice_index_or marks e false
+
+-- numbers below that of the marks, each once, and the marks of these
+pub record AreFound (P : List ℕ) (marks : List Bool) : Type 0 where
+  pub marked : (e : ℕ) → is_marked marks e ≡ is_in P e
+  pub within : (e : ℕ) → Contains P e → e < length marks
+  pub distinct : AllPairs (λ x y. x ≢ y) P
+
+-- ys goes on from xs with members of Q, and has all of these
+pub record Adds (Q : ℕ → Type 0) (xs ys : List ℕ) : Type 0 where
+  pub begins : IsPrefix xs ys
+  pub has : (e : ℕ) → Q e → Contains ys e
+  pub only : (e : ℕ) → Contains ys e → Contains xs e ⊎ Q e
+
+-- what is looked for at each of the first k events of P is in P
+abbrev pub IsClosedUpTo : List Event → ℕ → List ℕ → Type 0
+IsClosedUpTo T k P = (i d : ℕ) → i < k → IsSought T (slice_index P i) d → Contains P d
+
+-- P has the bases of the pair and otherwise wanted events alone
+pub record IsBegun (T : List Event) (a b : ℕ) (P : List ℕ) : Type 0 where
+  pub first : (e : ℕ) → base_of T a ≡ Some e → Contains P e
+  pub second : (e : ℕ) → base_of T b ≡ Some e → Contains P e
+  pub wanted : (e : ℕ) → Contains P e → IsWanted T a b e
+
+-- the marks are those of the wanted events
+pub record TellWanted (T : List Event) (a b : ℕ) (marks : List Bool) : Type 0 where
+  pub len : length marks ≡ length T
+  pub marked : (e : ℕ) → (is_marked marks e ≡ true) ↔ IsWanted T a b e
+
+-- the marked events, rising
+abbrev pub marked_events : List Event → List Bool → List ℕ
+marked_events T marks = kept (is_marked marks) (length T)
+
+-- whether the search takes e, if it is the least such
+abbrev pub is_step : List Event → ℕ → ℕ → List Bool → List ℕ → ℕ → Bool
+is_step T a b marks P e = is_marked marks e && may_take T a b P e
+
+-- r is the least number of which Q holds, or none where it holds of none
+abbrev pub IsLeastOf : (ℕ → Type 0) → Option ℕ → Type 0
+IsLeastOf Q None = (e : ℕ) → ¬ Q e
+IsLeastOf Q (Some x) = Q x × ((e : ℕ) → Q e → x ≤ e)
+
+-- the lesser of two numbers, or the one that is there
+abbrev pub lesser : Option ℕ → Option ℕ → Option ℕ
+lesser None other = other
+lesser (Some x) None = Some x
+lesser (Some x) (Some y) = if nat_lt y x then Some y else Some x
+
+-- a step by an event of a thread below n
+pub record IsStepBelow (T : List Event) (a b : ℕ) (marks : List Bool) (P : List ℕ) (n e : ℕ) : Type 0 where
+  pub step : is_step T a b marks P e ≡ true
+  pub thread : ℕ
+  pub of_thread : thread_at T e ≡ Some thread
+  pub below : thread < n
+
+-- a step by an event of the thread
+pub record IsStepOf (T : List Event) (a b : ℕ) (marks : List Bool) (P : List ℕ) (t e : ℕ) : Type 0 where
+  pub step : is_step T a b marks P e ≡ true
+  pub of_thread : thread_at T e ≡ Some t
+
+-- P is a correct reordering, and the places tell how many events of each thread are in it
+pub record IsReached (T : List Event) (threads : ℕ) (P places : List ℕ) : Type 0 where
+  pub rules : IsDisciplined T
+  pub reordering : IsCorrectReordering T P
+  pub len : length places ≡ threads
+  pub at : (t : ℕ) → t < threads → slice_index places t ≡ count_by (is_of_thread T t) P

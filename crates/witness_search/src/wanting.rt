@@ -1,0 +1,98 @@
+//! The events that a search wants in its schedule.
+ghost use Rattle.std.specs.Prelude.{◌≡◌, ◌<◌, length, IfOk, OnOk, IfSome, Some};
+ghost use Rattle.witness_search.specs.Searches.{end_of, joined_end, IsSought, AreFound, Adds, TellWanted};
+
+use crate::events::event_at;
+use event_index::Indexed;
+use rapid_text::{Op, OutOfMemory};
+use std::alloc::Global;
+
+// Events that were found, each once.
+#[derive(Drop)]
+pub(crate) struct Wanted {
+    // In the order in which they were found.
+    pub(crate) events: Vec<u32>,
+    // For each event of the trace whether it is among them.
+    pub(crate) marks: Vec<bool>,
+}
+
+/// For each event whether it is wanted for the pair. It takes a step for each event that is, and for what
+/// that event asks for.
+pub(crate) fn wanted_for(
+    alloc: Global,
+    indexed: &Indexed,
+    first: u32,
+    second: u32,
+) -> Result<Vec<bool>, OutOfMemory>
+    requires first { first < length indexed.now.events }
+    requires second { second < length indexed.now.events }
+    ensures { IfOk result (λ marks. TellWanted indexed.now.events first second marks.items) }
+{
+    let mut wanted = Wanted {
+        events: Vec::new(alloc),
+        marks: vec![in alloc; false; indexed.len() as usize]?,
+    };
+    wanted.take_in(indexed.base(first))?;
+    wanted.take_in(indexed.base(second))?;
+    let mut at = 0;
+    while at < wanted.events.len() {
+        let event = wanted.events[at];
+        wanted.take_in_sought(indexed, event)?;
+        at += 1;
+    }
+    Ok(wanted.marks)
+}
+
+impl Wanted {
+    // Takes in the event where there is one, and where it was not found before.
+    fn take_in(&mut self, event: Option<u32>) -> Result<(), OutOfMemory>
+        requires found { AreFound self.old.events.items self.old.marks.items }
+        requires within { IfSome event (λ e. e < length self.old.marks.items) }
+        ensures len { OnOk result (length self.new.marks.items ≡ length self.old.marks.items) }
+        ensures found { OnOk result (AreFound self.new.events.items self.new.marks.items) }
+        ensures adds { OnOk result (Adds (λ e. event ≡ Some e) self.old.events.items self.new.events.items) }
+    {
+        let Some(event) = event else {
+            return Ok(());
+        };
+        if self.marks[event as usize] {
+            return Ok(());
+        }
+        self.events.push(event)?;
+        self.marks[event as usize] = true;
+        Ok(())
+    }
+
+    // Takes in the events that are looked for at this one.
+    fn take_in_sought(&mut self, indexed: &Indexed, event: u32) -> Result<(), OutOfMemory>
+        requires event { event < length indexed.now.events }
+        requires len { length self.old.marks.items ≡ length indexed.now.events }
+        requires found { AreFound self.old.events.items self.old.marks.items }
+        ensures len { OnOk result (length self.new.marks.items ≡ length self.old.marks.items) }
+        ensures found { OnOk result (AreFound self.new.events.items self.new.marks.items) }
+        ensures adds { OnOk result
+            (Adds (IsSought indexed.now.events event) self.old.events.items self.new.events.items) }
+    {
+        self.take_in(indexed.base(event))?;
+        self.take_in(indexed.last_writer(event))?;
+        self.take_in(indexed.section(event))?;
+        self.take_in(joined_end(indexed, event))?;
+        Ok(())
+    }
+}
+
+// The last event of the thread that the event joins, or else the fork of that thread. All other events of
+// the thread, and its fork, are asked for by this one and the bases before it.
+fn joined_end(indexed: &Indexed, event: u32) -> Option<u32>
+    requires { event < length indexed.now.events }
+    ensures end { result ≡ joined_end indexed.now.events event }
+    ensures within { IfSome result (λ e. e < length indexed.now.events) }
+{
+    match event_at(indexed, event).op {
+        Op::Join(thread) => {
+            let last = indexed.thread_events(thread).last().copied();
+            last.or(indexed.fork_of(thread))
+        },
+        _ => None,
+    }
+}
