@@ -2,14 +2,10 @@
 #![tactic(auto)]
 
 mod events;
-#[cfg(test)]
-mod generated_tests;
 mod latest;
 mod reads;
 mod refusal;
 mod refusing;
-#[cfg(test)]
-mod scanning;
 mod schedule;
 mod showing;
 mod swapping;
