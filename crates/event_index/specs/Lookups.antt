@@ -6,7 +6,7 @@ use Rattle.std.specs.List.{range_with_len}
 use Rattle.rapid_text.specs.Operations.{is_release}
 use Rattle.rapid_text.specs.declared.event.Event.{Event}
 use Rattle.rapid_text.specs.declared.event.Op.{Op}
-use Rattle.rapid_text.specs.declared.event.Op.TheVariants.{Read, Write, Acquire, Release, Fork, Join}
+use Rattle.rapid_text.specs.declared.event.Op.TheVariants.{Read, Acquire}
 use Rattle.trace_rules.specs.Rules.{hold_count}
 use Rattle.event_index.specs.Events.{op_at, passes_at, is_of_thread, is_write_at, is_fork_at}
 
@@ -31,13 +31,8 @@ abbrev pub last_write : List Event → ℕ → List ℕ → Option ℕ
 last_write T x es = find (is_write_at T x) (reverse es)
 
 abbrev pub last_writer_by : List Event → ℕ → Option Op → Option ℕ
-last_writer_by T e None = None
 last_writer_by T e (Some (Read x)) = last_write T x (before e)
-last_writer_by T e (Some (Write x)) = None
-last_writer_by T e (Some (Acquire l)) = None
-last_writer_by T e (Some (Release l)) = None
-last_writer_by T e (Some (Fork u)) = None
-last_writer_by T e (Some (Join u)) = None
+last_writer_by T e op = None
 
 -- the write that the read e sees in the trace, or none; none too where e is no read
 abbrev pub last_writer : List Event → ℕ → Option ℕ
@@ -68,12 +63,8 @@ release_after T e t l =
     (range_with_len (e + 1) (length T - (e + 1)))
 
 abbrev pub section_by : List Event → ℕ → ℕ → Op → Option ℕ
-section_by T e t (Read x) = None
-section_by T e t (Write x) = None
 section_by T e t (Acquire l) = release_after T e t l
-section_by T e t (Release l) = None
-section_by T e t (Fork u) = None
-section_by T e t (Join u) = None
+section_by T e t op = None
 
 abbrev pub section_of : List Event → ℕ → Option Event → Option ℕ
 section_of T e None = None

@@ -6,7 +6,7 @@ use Rattle.rapid_text.specs.Operations.{is_release}
 use Rattle.rapid_text.specs.Recording.{Recording}
 use Rattle.rapid_text.specs.declared.event.Event.{Event}
 use Rattle.rapid_text.specs.declared.event.Op.{Op}
-use Rattle.rapid_text.specs.declared.event.Op.TheVariants.{Read, Write, Acquire, Release, Fork, Join}
+use Rattle.rapid_text.specs.declared.event.Op.TheVariants.{Acquire}
 use Rattle.trace_rules.specs.Rules.{hold_count}
 use Rattle.event_index.specs.Events.{passes_at}
 use Rattle.event_index.specs.Layout.{IsTable}
@@ -22,12 +22,8 @@ is_end T e t l j =
     passes_at (λ v. v.thread == t && is_release l v.op) T j && hold_count (take (j + 1) T) t l == hold_count (take e T) t l
 
 abbrev pub end_by : List Event → ℕ → ℕ → ℕ → Op → Option ℕ
-end_by T i e t (Read x) = None
-end_by T i e t (Write x) = None
 end_by T i e t (Acquire l) = find (is_end T e t l) (range_with_len (e + 1) (i - (e + 1)))
-end_by T i e t (Release l) = None
-end_by T i e t (Fork u) = None
-end_by T i e t (Join u) = None
+end_by T i e t op = None
 
 abbrev pub end_of : List Event → ℕ → ℕ → Option Event → Option ℕ
 end_of T i e None = None

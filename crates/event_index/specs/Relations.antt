@@ -54,12 +54,9 @@ pub record IsIndependent (T : List Event) (a b : ℕ) : Type 0 where
 
 -- whether two operations access one variable, and at least one writes it
 abbrev pub is_clash_of_ops : Op → Op → Bool
-is_clash_of_ops (Read x) op = is_write x op
-is_clash_of_ops (Write x) op = is_access x op
-is_clash_of_ops (Acquire l) op = false
-is_clash_of_ops (Release l) op = false
-is_clash_of_ops (Fork u) op = false
-is_clash_of_ops (Join u) op = false
+is_clash_of_ops (Read x) other = is_write x other
+is_clash_of_ops (Write x) other = is_access x other
+is_clash_of_ops op other = false
 
 -- whether two events are a `Clash`
 abbrev pub is_clash : Event → Event → Bool
@@ -71,12 +68,12 @@ is_on_thread u op = is_fork u op || is_join u op
 
 -- whether two operations clash, are on one lock, or are the fork and the join of one thread
 abbrev pub is_tie_of_ops : Op → Op → Bool
-is_tie_of_ops (Read x) op = is_write x op
-is_tie_of_ops (Write x) op = is_access x op
-is_tie_of_ops (Acquire l) op = is_on_lock l op
-is_tie_of_ops (Release l) op = is_on_lock l op
-is_tie_of_ops (Fork u) op = is_join u op
-is_tie_of_ops (Join u) op = is_fork u op
+is_tie_of_ops (Read x) other = is_write x other
+is_tie_of_ops (Write x) other = is_access x other
+is_tie_of_ops (Acquire l) other = is_on_lock l other
+is_tie_of_ops (Release l) other = is_on_lock l other
+is_tie_of_ops (Fork u) other = is_join u other
+is_tie_of_ops (Join u) other = is_fork u other
 
 -- whether two events `AreApart`
 abbrev pub is_apart : Event → Event → Bool
@@ -84,9 +81,8 @@ is_apart v w =
     not (v.thread == w.thread) && not (is_on_thread w.thread v.op) && not (is_on_thread v.thread w.op) && not (is_tie_of_ops v.op w.op)
 
 abbrev pub pass_both : (Event → Event → Bool) → Option Event → Option Event → Bool
-pass_both test None w = false
-pass_both test (Some v) None = false
 pass_both test (Some v) (Some w) = test v w
+pass_both test v w = false
 
 -- whether there are such events, and they conflict
 abbrev pub is_conflict : List Event → ℕ → ℕ → Bool

@@ -126,7 +126,6 @@ impl Indexed {
         requires first { first < length self.now.events }
         requires second { second < length self.now.events }
         ensures conflict { IsTrue result ↔ IsConflicting self.now.events first second }
-        ensures test { result ≡ is_conflict self.now.events first second }
     {
         let raw = self.trace.raw();
         clash(raw.event(first), raw.event(second))
@@ -139,7 +138,6 @@ impl Indexed {
         requires first { first < length self.now.events }
         requires second { second < length self.now.events }
         ensures independent { IsTrue result ↔ IsIndependent self.now.events first second }
-        ensures test { result ≡ is_independent self.now.events first second }
     {
         let raw = self.trace.raw();
         apart(raw.event(first), raw.event(second))

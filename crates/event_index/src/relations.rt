@@ -17,8 +17,8 @@ pub(crate) fn apart(first: Event, second: Event) -> bool
     ensures { result ≡ is_apart first second }
 {
     first.thread != second.thread
-        && !is_of_thread(first.op, second.thread)
-        && !is_of_thread(second.op, first.thread)
+        && !is_on_thread(first.op, second.thread)
+        && !is_on_thread(second.op, first.thread)
         && !ops_tie(first.op, second.op)
 }
 
@@ -37,7 +37,7 @@ fn ops_tie(first: Op, second: Op) -> bool
 {
     match first {
         Op::Read(_) | Op::Write(_) => ops_clash(first, second),
-        Op::Acquire(lock) | Op::Release(lock) => is_of_lock(second, lock),
+        Op::Acquire(lock) | Op::Release(lock) => is_on_lock(second, lock),
         Op::Fork(thread) => joins(second, thread),
         Op::Join(thread) => forks(second, thread),
     }
@@ -58,7 +58,7 @@ fn accesses(op: Op, variable: u32) -> bool
     }
 }
 
-fn is_of_lock(op: Op, lock: u32) -> bool
+fn is_on_lock(op: Op, lock: u32) -> bool
     ensures { result ≡ is_on_lock lock op }
 {
     match op {
@@ -67,7 +67,7 @@ fn is_of_lock(op: Op, lock: u32) -> bool
     }
 }
 
-fn is_of_thread(op: Op, thread: u32) -> bool
+fn is_on_thread(op: Op, thread: u32) -> bool
     ensures { result ≡ is_on_thread thread op }
 {
     match op {

@@ -7,7 +7,7 @@ use Rattle.std.proofs.lemmas.List.Splits.{slice_split_at}
 use Rattle.rapid_text.specs.declared.event.Kind.{Kind}
 use Rattle.rapid_text.specs.declared.event.Kind.TheVariants.{Reads, Writes, Acquires, Releases, Forks, Joins}
 use Rattle.rapid_text.specs.Canonical.{name_at, op_text, event_text, events_text, canonical_text}
-use Rattle.rapid_text.specs.Reading.{number_of, is_line_feed, is_of_variable, is_of_lock, is_of_thread, NamedEvent, event_said, named_events, name_where, thread_uses, variable_uses, lock_uses, numbered_op, numbered, recording_of}
+use Rattle.rapid_text.specs.Reading.{number_of, is_line_feed, names_variable, names_lock, names_thread, NamedEvent, event_said, named_events, name_where, thread_uses, variable_uses, lock_uses, numbered_op, numbered, recording_of}
 use Rattle.rapid_text.specs.Recording.{Recording}
 use Rattle.rapid_text.proofs.Cuts.{Fails}
 use Rattle.rapid_text.proofs.NameNumbers.{has, bytes_eq-refl, name_at-number_of, has-first_uses, uses-each}
@@ -20,9 +20,9 @@ lines_text events = flat_map (λ event. line_of event ++ 10 ∷ []) events
 -- the recording has the names that the event uses
 record IsKnown (r : Recording) (event : NamedEvent) : Type 0 where
   thread : has r.threads event.thread ≡ true
-  of_thread : is_of_thread event.kind ≡ true → has r.threads event.name ≡ true
-  of_variable : is_of_variable event.kind ≡ true → has r.variables event.name ≡ true
-  of_lock : is_of_lock event.kind ≡ true → has r.locks event.name ≡ true
+  of_thread : names_thread event.kind ≡ true → has r.threads event.name ≡ true
+  of_variable : names_variable event.kind ≡ true → has r.variables event.name ≡ true
+  of_lock : names_lock event.kind ≡ true → has r.locks event.name ≡ true
 
 -- a name by its number, between a word with its parenthesis and the other parenthesis
 called : (word : List ℕ) (names : List (List ℕ)) (name : List ℕ) → has names name ≡ true
@@ -31,9 +31,9 @@ called word names name known = ap (λ (xs : List ℕ). word ++ xs ++ codes ")") 
 
 -- an operation by number is printed with its name
 op_text-numbered : (r : Recording) (kind : Kind) (name : List ℕ)
-    → (is_of_thread kind ≡ true → has r.threads name ≡ true)
-    → (is_of_variable kind ≡ true → has r.variables name ≡ true)
-    → (is_of_lock kind ≡ true → has r.locks name ≡ true)
+    → (names_thread kind ≡ true → has r.threads name ≡ true)
+    → (names_variable kind ≡ true → has r.variables name ≡ true)
+    → (names_lock kind ≡ true → has r.locks name ≡ true)
     → op_text r (numbered_op r.threads r.variables r.locks kind name) ≡ op_line kind name
 op_text-numbered r Reads name thread variable lock = called (codes "r(") r.variables name (variable refl)
 op_text-numbered r Writes name thread variable lock = called (codes "w(") r.variables name (variable refl)
@@ -73,16 +73,16 @@ has-name_where false name passes = cc
 -- the recording of events has the names that they use
 IsKnown-recording_of : (events : List NamedEvent) → All (IsKnown (recording_of events)) events
 IsKnown-recording_of events k d lt =
-    let thread_use = λ (event : NamedEvent). event.thread ∷ name_where is_of_thread event in
+    let thread_use = λ (event : NamedEvent). event.thread ∷ name_where names_thread event in
     let of_threads = uses-each thread_use events k d lt in
-    let of_variables = uses-each (name_where is_of_variable) events k d lt in
-    let of_locks = uses-each (name_where is_of_lock) events k d lt in
+    let of_variables = uses-each (name_where names_variable) events k d lt in
+    let of_locks = uses-each (name_where names_lock) events k d lt in
     let event = slice_index_or events k d in
     record {
       thread = has-first_uses (thread_uses events) event.thread (of_threads event.thread (or_left _ _ (bytes_eq-refl event.thread)));
-      of_thread = λ passes. has-first_uses (thread_uses events) event.name (of_threads event.name (or_right _ _ (has-name_where (is_of_thread event.kind) event.name passes)));
-      of_variable = λ passes. has-first_uses (variable_uses events) event.name (of_variables event.name (has-name_where (is_of_variable event.kind) event.name passes));
-      of_lock = λ passes. has-first_uses (lock_uses events) event.name (of_locks event.name (has-name_where (is_of_lock event.kind) event.name passes));
+      of_thread = λ passes. has-first_uses (thread_uses events) event.name (of_threads event.name (or_right _ _ (has-name_where (names_thread event.kind) event.name passes)));
+      of_variable = λ passes. has-first_uses (variable_uses events) event.name (of_variables event.name (has-name_where (names_variable event.kind) event.name passes));
+      of_lock = λ passes. has-first_uses (lock_uses events) event.name (of_locks event.name (has-name_where (names_lock event.kind) event.name passes));
     }
 
 -- the canonical text of the recording of events is their canonical lines

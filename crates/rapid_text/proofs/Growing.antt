@@ -9,7 +9,7 @@ use Rattle.rapid_text.specs.declared.event.Kind.{Kind}
 use Rattle.rapid_text.specs.declared.event.Kind.TheVariants.{Reads, Writes, Acquires, Releases, Forks, Joins}
 use Rattle.rapid_text.specs.declared.event.Op.{Op}
 use Rattle.rapid_text.specs.declared.event.Op.TheVariants.{Read, Write, Acquire, Release, Fork, Join}
-use Rattle.rapid_text.specs.declared.raw_trace.TheConstants.{MAX_EVENTS, MAX_THREADS}
+use Rattle.rapid_text.specs.Limits.{event_limit, thread_limit}
 use Rattle.rapid_text.specs.Growth.{with_name, with_thread, with_operand, with_names, with_event, IsNumber, IsTight}
 use Rattle.rapid_text.specs.Reading.{NamedEvent, number_of, numbered, numbered_op}
 use Rattle.rapid_text.specs.Recording.{Recording, IsNamed, IsNamedOp}
@@ -90,7 +90,7 @@ operand-named r Forks name = number_of-within r.threads name
 operand-named r Joins name = number_of-within r.threads name
 
 -- an event that is no fault keeps a recording within the limits
-pub IsTight-with_event : (r : Recording) (e : NamedEvent) → IsTight r → length r.events < MAX_EVENTS → length (with_names r e).threads ≤ MAX_THREADS → IsTight (with_event r e)
+pub IsTight-with_event : (r : Recording) (e : NamedEvent) → IsTight r → length r.events < event_limit → length (with_names r e).threads ≤ thread_limit → IsTight (with_event r e)
 IsTight-with_event r e tight room few =
     let known : Recording = with_thread r e.thread in
     let s : Recording = with_names r e in

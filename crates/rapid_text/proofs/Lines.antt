@@ -8,7 +8,7 @@ use Rattle.std.proofs.lemmas.List.Elements.{filter_map-append}
 use Rattle.rapid_text.specs.declared.refusal.TextCause.{TextCause}
 use Rattle.rapid_text.specs.declared.refusal.TextCause.TheVariants.{OutOfMemory, TooManyEvents, TooManyNames}
 use Rattle.rapid_text.specs.declared.refusal.TextRefusal.{TextRefusal}
-use Rattle.rapid_text.specs.declared.raw_trace.TheConstants.{MAX_EVENTS, MAX_THREADS}
+use Rattle.rapid_text.specs.Limits.{event_limit, thread_limit}
 use Rattle.rapid_text.specs.Growth.{with_line, line_fault}
 use Rattle.rapid_text.specs.Reading.{NamedEvent, LineReading, Skipped, Refused, Says, event_said, fault_after, fault_at, first_uses, is_line_feed, line_reading, named_events, numbered, reading_by, reading_of, recording_of, thread_uses}
 use Rattle.rapid_text.specs.LinesLeft.{refusal_for}
@@ -56,8 +56,8 @@ fault_after-recording es Skipped known = refl
 fault_after-recording es (Refused why) known = refl
 fault_after-recording es (Says e) known =
     let r : Recording = recording_of es in
-    ap (λ n. if nat_le MAX_EVENTS n then Some TooManyEvents else (if nat_lt MAX_THREADS (length (first_uses (thread_uses (es ++ e ∷ [])))) then Some TooManyNames else None)) (sym (length-map es (numbered r.threads r.variables r.locks)))
-    ∙ ap (λ (ts : List (List ℕ)). if nat_le MAX_EVENTS (length r.events) then Some TooManyEvents else (if nat_lt MAX_THREADS (length ts) then Some TooManyNames else None)) (threads-push es e)
+    ap (λ n. if nat_le event_limit n then Some TooManyEvents else (if nat_lt thread_limit (length (first_uses (thread_uses (es ++ e ∷ [])))) then Some TooManyNames else None)) (sym (length-map es (numbered r.threads r.variables r.locks)))
+    ∙ ap (λ (ts : List (List ℕ)). if nat_le event_limit (length r.events) then Some TooManyEvents else (if nat_lt thread_limit (length ts) then Some TooManyNames else None)) (threads-push es e)
 
 -- the events of one line
 abbrev said : LineReading → List NamedEvent

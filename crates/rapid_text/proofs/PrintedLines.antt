@@ -8,7 +8,7 @@ use Rattle.std.proofs.lemmas.List.Elements.{All-append, All-cons, All-nil}
 use Rattle.std.proofs.lemmas.List.Folds.{list_any-append}
 use Rattle.rapid_text.specs.declared.event.Kind.{Kind}
 use Rattle.rapid_text.specs.declared.event.Kind.TheVariants.{Reads, Writes, Acquires, Releases, Forks, Joins}
-use Rattle.rapid_text.specs.declared.raw_trace.TheConstants.{MAX_LINE, MAX_NAME}
+use Rattle.rapid_text.specs.Limits.{line_limit, name_limit}
 use Rattle.rapid_text.specs.declared.refusal.TextCause.TheVariants.{NoBar, BadParentheses, EmptyName, NameTooLong, LineTooLong}
 use Rattle.rapid_text.specs.Reading.{is_blank, is_line_feed, is_bar, is_open, is_close, trimmed, word_of, kind_of, is_mark, NamedEvent, LineReading, Skipped, Refused, Says, named_reading, operation_reading, fields_reading, line_reading}
 use Rattle.rapid_text.proofs.Cuts.{Fails, fails-each, before_first-at, after_first-at, before_last-push}
@@ -25,7 +25,7 @@ line_of event = event.thread ++ 124 ∷ (op_line event.kind event.name ++ 124 �
 -- what holds of the names that a line can say
 pub record IsName (name : List ℕ) : Type 0 where
   pub some : 0 < length name
-  pub short : length name ≤ MAX_NAME
+  pub short : length name ≤ name_limit
   pub bare : IsBare name
   pub no_bar : All (Fails is_bar) name
   pub no_feed : All (Fails is_line_feed) name
@@ -36,7 +36,7 @@ pub record IsPrintable (event : NamedEvent) : Type 0 where
   pub name : IsName event.name
   pub bare : IsBare event.location
   pub no_feed : All (Fails is_line_feed) event.location
-  pub fits : length (line_of event) ≤ MAX_LINE
+  pub fits : length (line_of event) ≤ line_limit
 
 -- what the canonical line of an event reads as
 abbrev pub ReadsBack : NamedEvent → Type 0
@@ -142,10 +142,10 @@ named_reading-name event thread name =
     let name_some = name.some in
     let some : (m == 0 || n == 0) ≡ false =
     or_from (m == 0) (n == 0) (ne_eqb m 0 (λ e. omega arith)) (ne_eqb n 0 (λ e. omega arith)) in
-    let short : (nat_lt MAX_NAME m || nat_lt MAX_NAME n) ≡ false =
-    or_from (nat_lt MAX_NAME m) (nat_lt MAX_NAME n) (le-ltb MAX_NAME m thread.short) (le-ltb MAX_NAME n name.short) in
+    let short : (nat_lt name_limit m || nat_lt name_limit n) ≡ false =
+    or_from (nat_lt name_limit m) (nat_lt name_limit n) (le-ltb name_limit m thread.short) (le-ltb name_limit n name.short) in
     cond-false (m == 0 || n == 0) (Refused EmptyName) _ some
-    ∙ cond-false (nat_lt MAX_NAME m || nat_lt MAX_NAME n) (Refused NameTooLong) (Says event) short
+    ∙ cond-false (nat_lt name_limit m || nat_lt name_limit n) (Refused NameTooLong) (Says event) short
 
 -- of the word and the name of an operation that is no bare mark
 abbrev word_reading : List ℕ → List ℕ → List ℕ → List ℕ → LineReading
@@ -213,7 +213,7 @@ bare-line_of event ok =
 
 -- of a line without the blanks at its ends
 abbrev bare_reading : List ℕ → LineReading
-bare_reading line = cond (length line == 0) Skipped (cond (nat_lt MAX_LINE (length line)) (Refused LineTooLong) (cond (not (list_any is_bar line)) (Refused NoBar) (fields_reading line)))
+bare_reading line = cond (length line == 0) Skipped (cond (nat_lt line_limit (length line)) (Refused LineTooLong) (cond (not (list_any is_bar line)) (Refused NoBar) (fields_reading line)))
 
 has-bar : (a b : Bool) → (a || (true || b)) ≡ true
 has-bar true b = refl
@@ -228,6 +228,6 @@ line_reading-line_of event ok =
     let bar : list_any is_bar line ≡ true = list_any-append is_bar event.thread (124 ∷ tail) ∙ has-bar (list_any is_bar event.thread) (list_any is_bar tail) in
     ap bare_reading (trimmed-bare line (bare-line_of event ok))
     ∙ cond-false (length line == 0) Skipped _ (ne_eqb (length line) 0 some)
-    ∙ cond-false (nat_lt MAX_LINE (length line)) (Refused LineTooLong) _ (le-ltb MAX_LINE (length line) ok.fits)
+    ∙ cond-false (nat_lt line_limit (length line)) (Refused LineTooLong) _ (le-ltb line_limit (length line) ok.fits)
     ∙ cond-false (not (list_any is_bar line)) (Refused NoBar) (fields_reading line) (ap not bar)
     ∙ fields_reading-line_of event ok

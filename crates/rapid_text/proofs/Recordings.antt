@@ -10,7 +10,7 @@ use Rattle.rapid_text.specs.declared.event.Kind.TheVariants.{Reads, Writes, Acqu
 use Rattle.rapid_text.specs.declared.event.Op.{Op}
 use Rattle.rapid_text.specs.declared.event.Op.TheVariants.{Read, Write, Acquire, Release, Fork, Join}
 use Rattle.rapid_text.specs.Growth.{with_thread, with_operand, with_names, with_event}
-use Rattle.rapid_text.specs.Reading.{NamedEvent, first_uses, name_where, is_of_thread, is_of_variable, is_of_lock, thread_uses, variable_uses, lock_uses, number_of, numbered, numbered_op, recording_of}
+use Rattle.rapid_text.specs.Reading.{NamedEvent, first_uses, name_where, names_thread, names_variable, names_lock, thread_uses, variable_uses, lock_uses, number_of, numbered, numbered_op, recording_of}
 use Rattle.rapid_text.specs.Recording.{Recording}
 use Rattle.rapid_text.proofs.FirstUses.{first_uses-push, KeepsTable, KeepsTable-refl, KeepsTable-trans, KeepsTable-with_name, with_name-noted}
 
@@ -29,7 +29,7 @@ of_uses e t v l ls =
     record { events = e; threads = first_uses t; variables = first_uses v; locks = first_uses l; locations = ls }
 
 -- its tables behind one more operand
-threads_operand : (kind : Kind) (name : List ℕ) (e : List Event) (t v l ls : List (List ℕ)) → first_uses (t ++ cond (is_of_thread kind) (name ∷ []) []) ≡ (with_operand (of_uses e t v l ls) kind name).threads
+threads_operand : (kind : Kind) (name : List ℕ) (e : List Event) (t v l ls : List (List ℕ)) → first_uses (t ++ cond (names_thread kind) (name ∷ []) []) ≡ (with_operand (of_uses e t v l ls) kind name).threads
 threads_operand Reads name e t v l ls = no_use t
 threads_operand Writes name e t v l ls = no_use t
 threads_operand Acquires name e t v l ls = no_use t
@@ -37,7 +37,7 @@ threads_operand Releases name e t v l ls = no_use t
 threads_operand Forks name e t v l ls = first_uses-push t name
 threads_operand Joins name e t v l ls = first_uses-push t name
 
-variables_operand : (kind : Kind) (name : List ℕ) (e : List Event) (t v l ls : List (List ℕ)) → first_uses (v ++ cond (is_of_variable kind) (name ∷ []) []) ≡ (with_operand (of_uses e t v l ls) kind name).variables
+variables_operand : (kind : Kind) (name : List ℕ) (e : List Event) (t v l ls : List (List ℕ)) → first_uses (v ++ cond (names_variable kind) (name ∷ []) []) ≡ (with_operand (of_uses e t v l ls) kind name).variables
 variables_operand Reads name e t v l ls = first_uses-push v name
 variables_operand Writes name e t v l ls = first_uses-push v name
 variables_operand Acquires name e t v l ls = no_use v
@@ -45,7 +45,7 @@ variables_operand Releases name e t v l ls = no_use v
 variables_operand Forks name e t v l ls = no_use v
 variables_operand Joins name e t v l ls = no_use v
 
-locks_operand : (kind : Kind) (name : List ℕ) (e : List Event) (t v l ls : List (List ℕ)) → first_uses (l ++ cond (is_of_lock kind) (name ∷ []) []) ≡ (with_operand (of_uses e t v l ls) kind name).locks
+locks_operand : (kind : Kind) (name : List ℕ) (e : List Event) (t v l ls : List (List ℕ)) → first_uses (l ++ cond (names_lock kind) (name ∷ []) []) ≡ (with_operand (of_uses e t v l ls) kind name).locks
 locks_operand Reads name e t v l ls = no_use l
 locks_operand Writes name e t v l ls = no_use l
 locks_operand Acquires name e t v l ls = first_uses-push l name
@@ -60,19 +60,19 @@ module _ (es : List NamedEvent) (e : NamedEvent) where
 
   pub threads-push : first_uses (thread_uses (es ++ e ∷ [])) ≡ (with_names (recording_of es) e).threads
   threads-push =
-      ap first_uses (flat_map_push (λ (x : NamedEvent). x.thread ∷ name_where is_of_thread x) es e ∙ sym (append_assoc (thread_uses es) (e.thread ∷ []) (name_where is_of_thread e)))
+      ap first_uses (flat_map_push (λ (x : NamedEvent). x.thread ∷ name_where names_thread x) es e ∙ sym (append_assoc (thread_uses es) (e.thread ∷ []) (name_where names_thread e)))
       ∙ threads_operand e.kind e.name (recording_of es).events (thread_uses es ++ e.thread ∷ []) (variable_uses es) (lock_uses es) (recording_of es).locations
       ∙ ap (λ (r : Recording). r.threads) after_thread
 
   pub variables-push : first_uses (variable_uses (es ++ e ∷ [])) ≡ (with_names (recording_of es) e).variables
   variables-push =
-      ap first_uses (flat_map_push (name_where is_of_variable) es e)
+      ap first_uses (flat_map_push (name_where names_variable) es e)
       ∙ variables_operand e.kind e.name (recording_of es).events (thread_uses es ++ e.thread ∷ []) (variable_uses es) (lock_uses es) (recording_of es).locations
       ∙ ap (λ (r : Recording). r.variables) after_thread
 
   pub locks-push : first_uses (lock_uses (es ++ e ∷ [])) ≡ (with_names (recording_of es) e).locks
   locks-push =
-      ap first_uses (flat_map_push (name_where is_of_lock) es e)
+      ap first_uses (flat_map_push (name_where names_lock) es e)
       ∙ locks_operand e.kind e.name (recording_of es).events (thread_uses es ++ e.thread ∷ []) (variable_uses es) (lock_uses es) (recording_of es).locations
       ∙ ap (λ (r : Recording). r.locks) after_thread
 

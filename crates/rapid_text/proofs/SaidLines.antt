@@ -6,7 +6,7 @@ use Rattle.std.proofs.lemmas.Bool.{cases_lt, or_parts, eqb-false, ltb-false, not
 use Rattle.std.proofs.lemmas.List.{length-append}
 use Rattle.std.proofs.lemmas.List.Elements.{All-take, All-drop}
 use Rattle.rapid_text.specs.declared.event.Kind.{Kind}
-use Rattle.rapid_text.specs.declared.raw_trace.TheConstants.{MAX_LINE, MAX_NAME}
+use Rattle.rapid_text.specs.Limits.{line_limit, name_limit}
 use Rattle.rapid_text.specs.declared.refusal.TextCause.{TextCause}
 use Rattle.rapid_text.specs.declared.refusal.TextCause.TheVariants.{NoBar, BadParentheses, UnknownOperation, EmptyName, NameTooLong, LineTooLong}
 use Rattle.rapid_text.specs.Reading.{is_line_feed, is_bar, is_open, is_close, trimmed, word_of, kinds, kind_of, is_mark, NamedEvent, LineReading, Skipped, Refused, Says, named_reading, operation_reading, fields_reading, line_reading}
@@ -34,17 +34,17 @@ record IsMadeOf (thread : List ℕ) (kind : Option Kind) (name location : List �
   location_is : event.location ≡ location
   thread_some : 0 < length thread
   name_some : 0 < length name
-  thread_short : length thread ≤ MAX_NAME
-  name_short : length name ≤ MAX_NAME
+  thread_short : length thread ≤ name_limit
+  name_short : length name ≤ name_limit
 
 named_reading-said : (thread : List ℕ) (kind : Option Kind) (name location : List ℕ) (event : NamedEvent)
     → named_reading thread kind name location ≡ Says event → IsMadeOf thread kind name location event
 named_reading-said thread None name location event is = absurd (Refused≢Says UnknownOperation event is)
 named_reading-said thread (Some kind) name location event is =
     let some = skip-said (length thread == 0 || length name == 0) (Refused EmptyName) _ event (Refused≢Says EmptyName event) is in
-    let short = skip-said (nat_lt MAX_NAME (length thread) || nat_lt MAX_NAME (length name)) (Refused NameTooLong) _ event (Refused≢Says NameTooLong event) some.1 in
+    let short = skip-said (nat_lt name_limit (length thread) || nat_lt name_limit (length name)) (Refused NameTooLong) _ event (Refused≢Says NameTooLong event) some.1 in
     let both_some = or_parts (length thread == 0) (length name == 0) some.0 in
-    let both_short = or_parts (nat_lt MAX_NAME (length thread)) (nat_lt MAX_NAME (length name)) short.0 in
+    let both_short = or_parts (nat_lt name_limit (length thread)) (nat_lt name_limit (length name)) short.0 in
     let thread_some : length thread ≡ 0 → ⊥ = eqb-false (length thread) 0 both_some.0 in
     let name_some : length name ≡ 0 → ⊥ = eqb-false (length name) 0 both_some.1 in
     let same = short.1 in
@@ -55,8 +55,8 @@ named_reading-said thread (Some kind) name location event is =
       location_is = (cc same);
       thread_some = omega arith;
       name_some = omega arith;
-      thread_short = ltb-false MAX_NAME (length thread) both_short.0;
-      name_short = ltb-false MAX_NAME (length name) both_short.1;
+      thread_short = ltb-false name_limit (length thread) both_short.0;
+      name_short = ltb-false name_limit (length name) both_short.1;
     }
 
 -- the word and the name of an operation
@@ -79,13 +79,13 @@ operation_reading-said thread op location event is =
 
 -- a line that says an event is short enough and has a bar
 line_reading-said : (raw : List ℕ) (event : NamedEvent) → line_reading raw ≡ Says event
-    → (length (trimmed raw) ≤ MAX_LINE) × (list_any is_bar (trimmed raw) ≡ true) × (fields_reading (trimmed raw) ≡ Says event)
+    → (length (trimmed raw) ≤ line_limit) × (list_any is_bar (trimmed raw) ≡ true) × (fields_reading (trimmed raw) ≡ Says event)
 line_reading-said raw event is =
     let line = trimmed raw in
     let some = skip-said (length line == 0) Skipped _ event (Skipped≢Says event) is in
-    let short = skip-said (nat_lt MAX_LINE (length line)) (Refused LineTooLong) _ event (Refused≢Says LineTooLong event) some.1 in
+    let short = skip-said (nat_lt line_limit (length line)) (Refused LineTooLong) _ event (Refused≢Says LineTooLong event) some.1 in
     let barred = skip-said (not (list_any is_bar line)) (Refused NoBar) (fields_reading line) event (Refused≢Says NoBar event) short.1 in
-    (ltb-false MAX_LINE (length line) short.0, not-false (list_any is_bar line) barred.0, barred.1)
+    (ltb-false line_limit (length line) short.0, not-false (list_any is_bar line) barred.0, barred.1)
 
 -- the first element passes, or another one is found behind it
 found-passes : {X : Type 0} (p : X → Bool) (b : Bool) (y x : X) (rest : Option X) → p y ≡ b
@@ -130,7 +130,7 @@ All-after_first : (P : ℕ → Type 0) (p : ℕ → Bool) (xs : List ℕ) → Al
 All-after_first P p xs all = All-drop P (position_or_len p xs + 1) xs all
 
 -- a trimmed part in range is a name
-IsName-trimmed : (part : List ℕ) → 0 < length (trimmed part) → length (trimmed part) ≤ MAX_NAME
+IsName-trimmed : (part : List ℕ) → 0 < length (trimmed part) → length (trimmed part) ≤ name_limit
     → All (Fails is_bar) part → All (Fails is_line_feed) part → IsName (trimmed part)
 IsName-trimmed part some short no_bar no_feed =
     record {
@@ -148,12 +148,12 @@ All-name_in P op all =
     All-take P (length rest - suffix_len (λ x. not (is_close x)) rest - 1) rest (All-after_first P is_open op all)
 
 -- the canonical line is no longer than the line that was read, or its location is empty
-fits-line_of : (line : List ℕ) (event : NamedEvent) → length line ≤ MAX_LINE → list_any is_bar line ≡ true
-    → length event.thread ≤ length (before_first is_bar line) → length event.thread ≤ MAX_NAME
-    → length event.name ≤ MAX_NAME
+fits-line_of : (line : List ℕ) (event : NamedEvent) → length line ≤ line_limit → list_any is_bar line ≡ true
+    → length event.thread ≤ length (before_first is_bar line) → length event.thread ≤ name_limit
+    → length event.name ≤ name_limit
     → length (word_of event.kind) + 1 + length event.name + 1 ≤ length (before_first is_bar (after_first is_bar line))
     → length event.location ≤ length (after_first is_bar (after_first is_bar line))
-    → length (line_of event) ≤ MAX_LINE
+    → length (line_of event) ≤ line_limit
 fits-line_of line event short bar thread thread_short name_short op location =
     let rest = after_first is_bar line in
     let whole = length-parts is_bar line (has-first is_bar line bar) in
@@ -165,7 +165,7 @@ fits-line_of line event short bar thread thread_short name_short op location =
     ]
 
 -- of the parts of a line
-IsPrintable-parts : (line : List ℕ) (op : List ℕ) (event : NamedEvent) → length line ≤ MAX_LINE
+IsPrintable-parts : (line : List ℕ) (op : List ℕ) (event : NamedEvent) → length line ≤ line_limit
     → list_any is_bar line ≡ true → All (Fails is_line_feed) line
     → op ≡ trimmed (before_first is_bar (after_first is_bar line)) → list_any is_open op ≡ true
     → IsMadeOf (trimmed (before_first is_bar line)) (kind_of (word_in op)) (name_in op) (trimmed (after_first is_bar (after_first is_bar line))) event

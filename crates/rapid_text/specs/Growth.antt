@@ -6,7 +6,7 @@ use Rattle.rapid_text.specs.declared.event.Kind.{Kind}
 use Rattle.rapid_text.specs.declared.event.Kind.TheVariants.{Reads, Writes, Acquires, Releases, Forks, Joins}
 use Rattle.rapid_text.specs.declared.refusal.TextCause.{TextCause}
 use Rattle.rapid_text.specs.declared.refusal.TextCause.TheVariants.{TooManyEvents, TooManyNames}
-use Rattle.rapid_text.specs.declared.raw_trace.TheConstants.{MAX_EVENTS, MAX_THREADS}
+use Rattle.rapid_text.specs.Limits.{event_limit, thread_limit}
 use Rattle.rapid_text.specs.Reading.{NamedEvent, LineReading, Skipped, Refused, Says, numbered}
 use Rattle.rapid_text.specs.Recording.{Recording, IsNamed}
 
@@ -50,16 +50,15 @@ with_event r e =
 
 -- the recording behind a line that is not refused
 abbrev pub with_line : Recording → LineReading → Recording
-with_line r Skipped = r
-with_line r (Refused why) = r
 with_line r (Says e) = with_event r e
+with_line r line = r
 
 -- why the event is refused behind this recording, if it is
 abbrev pub fault_beyond : Recording → NamedEvent → Option TextCause
 fault_beyond r e =
-    if nat_le MAX_EVENTS (length r.events)
+    if nat_le event_limit (length r.events)
     then Some TooManyEvents
-    else (if nat_lt MAX_THREADS (length (with_names r e).threads) then Some TooManyNames else None)
+    else (if nat_lt thread_limit (length (with_names r e).threads) then Some TooManyNames else None)
 
 -- why the line is refused behind this recording, if it is
 abbrev pub line_fault : Recording → LineReading → Option TextCause
@@ -75,8 +74,8 @@ pub record HasRoom (r : Recording) : Type 0 where
 
 -- A recording within the limits; each variable and each lock has an event of its own.
 pub record IsTight (r : Recording) : Type 0 where
-  pub events : length r.events ≤ MAX_EVENTS
-  pub threads : length r.threads ≤ MAX_THREADS
+  pub events : length r.events ≤ event_limit
+  pub threads : length r.threads ≤ thread_limit
   pub variables : length r.variables ≤ length r.events
   pub locks : length r.locks ≤ length r.events
   pub locations : length r.locations ≡ length r.events

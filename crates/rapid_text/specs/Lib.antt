@@ -1,6 +1,7 @@
 pub mod Canonical
 pub mod Growth
 pub mod Layout
+pub mod Limits
 pub mod LineLayout
 pub mod LinesLeft
 pub mod Operations

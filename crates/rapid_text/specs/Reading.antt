@@ -11,7 +11,7 @@ use Rattle.rapid_text.specs.declared.event.Op.TheVariants.{Read, Write, Acquire,
 use Rattle.rapid_text.specs.declared.refusal.TextCause.{TextCause}
 use Rattle.rapid_text.specs.declared.refusal.TextCause.TheVariants.{NoBar, BadParentheses, UnknownOperation, EmptyName, NameTooLong, LineTooLong, TooManyEvents, TooManyNames, OutOfMemory}
 use Rattle.rapid_text.specs.declared.refusal.TextRefusal.{TextRefusal}
-use Rattle.rapid_text.specs.declared.raw_trace.TheConstants.{MAX_EVENTS, MAX_THREADS, MAX_LINE, MAX_NAME}
+use Rattle.rapid_text.specs.Limits.{event_limit, thread_limit, line_limit, name_limit}
 use Rattle.rapid_text.specs.Recording.{Recording}
 
 -- a space, a tab or a carriage return
@@ -79,7 +79,7 @@ named_reading thread None name location = Refused UnknownOperation
 named_reading thread (Some kind) name location =
     if length thread == 0 || length name == 0
     then Refused EmptyName
-    else (if nat_lt MAX_NAME (length thread) || nat_lt MAX_NAME (length name)
+    else (if nat_lt name_limit (length thread) || nat_lt name_limit (length name)
     then Refused NameTooLong
     else Says (record { thread = thread; kind = kind; name = name; location = location }))
 
@@ -107,15 +107,14 @@ line_reading raw =
     let line = trimmed raw in
     if length line == 0
     then Skipped
-    else (if nat_lt MAX_LINE (length line)
+    else (if nat_lt line_limit (length line)
     then Refused LineTooLong
     else (if not (list_any is_bar line) then Refused NoBar else fields_reading line))
 
 -- the event that a line asks for, if it asks for one
 abbrev pub event_said : LineReading → Option NamedEvent
-event_said Skipped = None
-event_said (Refused why) = None
 event_said (Says event) = Some event
+event_said line = None
 
 -- the events that lines ask for, in order
 abbrev pub named_events : List (List ℕ) → List NamedEvent
@@ -125,39 +124,31 @@ named_events lines = filter_map (λ line. event_said (line_reading line)) lines
 abbrev pub name_where : (Kind → Bool) → NamedEvent → List (List ℕ)
 name_where test event = if test event.kind then event.name ∷ [] else []
 
-abbrev pub is_of_variable : Kind → Bool
-is_of_variable Reads = true
-is_of_variable Writes = true
-is_of_variable Acquires = false
-is_of_variable Releases = false
-is_of_variable Forks = false
-is_of_variable Joins = false
+-- whether the name behind the operation is that of a variable, of a lock, of a thread
+abbrev pub names_variable : Kind → Bool
+names_variable Reads = true
+names_variable Writes = true
+names_variable kind = false
 
-abbrev pub is_of_lock : Kind → Bool
-is_of_lock Reads = false
-is_of_lock Writes = false
-is_of_lock Acquires = true
-is_of_lock Releases = true
-is_of_lock Forks = false
-is_of_lock Joins = false
+abbrev pub names_lock : Kind → Bool
+names_lock Acquires = true
+names_lock Releases = true
+names_lock kind = false
 
-abbrev pub is_of_thread : Kind → Bool
-is_of_thread Reads = false
-is_of_thread Writes = false
-is_of_thread Acquires = false
-is_of_thread Releases = false
-is_of_thread Forks = true
-is_of_thread Joins = true
+abbrev pub names_thread : Kind → Bool
+names_thread Forks = true
+names_thread Joins = true
+names_thread kind = false
 
 -- the uses of threads, variables and locks by name; in a line its thread comes before its operation
 abbrev pub thread_uses : List NamedEvent → List (List ℕ)
-thread_uses events = flat_map (λ event. event.thread ∷ name_where is_of_thread event) events
+thread_uses events = flat_map (λ event. event.thread ∷ name_where names_thread event) events
 
 abbrev pub variable_uses : List NamedEvent → List (List ℕ)
-variable_uses events = flat_map (name_where is_of_variable) events
+variable_uses events = flat_map (name_where names_variable) events
 
 abbrev pub lock_uses : List NamedEvent → List (List ℕ)
-lock_uses events = flat_map (name_where is_of_lock) events
+lock_uses events = flat_map (name_where names_lock) events
 
 -- each name once, in the order of first uses
 abbrev pub first_uses : List (List ℕ) → List (List ℕ)
@@ -203,9 +194,9 @@ abbrev pub fault_after : List NamedEvent → LineReading → Option TextCause
 fault_after earlier Skipped = None
 fault_after earlier (Refused why) = Some why
 fault_after earlier (Says event) =
-    if nat_le MAX_EVENTS (length earlier)
+    if nat_le event_limit (length earlier)
     then Some TooManyEvents
-    else (if nat_lt MAX_THREADS (length (first_uses (thread_uses (earlier ++ event ∷ []))))
+    else (if nat_lt thread_limit (length (first_uses (thread_uses (earlier ++ event ∷ []))))
     then Some TooManyNames
     else None)
 

@@ -3,7 +3,7 @@ use Rattle.std.specs.Prelude.{◌≡◌, ℕ, ◌<◌, ◌≤◌, List, length, 
 use Rattle.rapid_text.specs.declared.event.Event.{Event}
 use Rattle.rapid_text.specs.declared.event.Op.{Op}
 use Rattle.rapid_text.specs.declared.event.Op.TheVariants.{Read, Write, Acquire, Release, Fork, Join}
-use Rattle.rapid_text.specs.declared.raw_trace.TheConstants.{MAX_EVENTS, MAX_THREADS}
+use Rattle.rapid_text.specs.Limits.{event_limit, thread_limit}
 
 -- The events in the order of the recording; the names of threads, variables and locks, each in the
 -- order of their numbers; and for each event its location. Names and locations are bytes.
@@ -29,9 +29,9 @@ IsNamed r e = (e.thread < length r.threads) × IsNamedOp r e.op
 
 -- A recording within this project's limits, in which each number has a name.
 pub record IsWellFormed (r : Recording) : Type 0 where
-  pub events : length r.events ≤ MAX_EVENTS
-  pub threads : length r.threads ≤ MAX_THREADS
-  pub variables : length r.variables ≤ MAX_EVENTS
-  pub locks : length r.locks ≤ MAX_EVENTS
+  pub events : length r.events ≤ event_limit
+  pub threads : length r.threads ≤ thread_limit
+  pub variables : length r.variables ≤ event_limit
+  pub locks : length r.locks ≤ event_limit
   pub locations : length r.locations ≡ length r.events
   pub named : All (IsNamed r) r.events

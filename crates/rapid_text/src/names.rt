@@ -11,8 +11,9 @@ use std::hash::{BuildHasher, DefaultHasher, Hasher};
 pub(crate) type Names = IndexSet<Vec<u8>, TextKeyed>;
 
 /// Makes hashers for tables of names that a stranger chose, keyed by the text in which the names stand:
-/// SipHash-1-3 under a hash of the whole text. So no names can be chosen ahead to collide, since each of
-/// them is a part of what makes the key. Contracts say nothing of the hashes.
+/// SipHash-1-3 under a hash of the whole text. Each name of the text is a part of what makes the key, so
+/// names chosen ahead do not collide; who searches over many texts can still find some that do.
+/// Contracts say nothing of the hashes.
 #[derive(Clone, Copy)]
 pub struct TextKeyed {
     // a hasher that was given the key and nothing else

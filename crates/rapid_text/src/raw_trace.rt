@@ -3,7 +3,7 @@ ghost use Rattle.std.specs.Prelude.{◌≡◌, ◌<◌, ◌≤◌, length, slice
 ghost use Rattle.rapid_text.specs.Recording.{IsWellFormed, IsNamed};
 
 use crate::event::Event;
-use crate::names::Names;
+use crate::names::{Names, TextKeyed};
 use std::marker::Model;
 
 /// The most events of a recording.
@@ -120,5 +120,11 @@ impl RawTrace {
     {
         let span = self.spans[event as usize];
         &self.locations[span.start..span.end]
+    }
+
+    /// The hashers of the text that it was read from, for tables of names that are kept beside it.
+    /// Contracts say nothing of the hashes.
+    pub fn keyed(&self) -> TextKeyed {
+        *self.threads.hasher()
     }
 }

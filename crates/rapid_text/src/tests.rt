@@ -1,9 +1,10 @@
 //! What no clause says: that a text means what the format's worked examples say, and that a call succeeds.
 use crate::{
-    Bytes, Event, Op, OutOfMemory, RawTrace, TextCause, TextRefusal, is_a_blank, parse, trim,
-    trim_start,
+    Bytes, Event, Op, OutOfMemory, RawTrace, TextCause, TextKeyed, TextRefusal, is_a_blank, parse,
+    trim, trim_start,
 };
 use std::alloc::Global;
+use std::hash::{BuildHasher, Hasher};
 
 // The line and the cause for which the text is refused, if it is.
 fn refusal(alloc: Global, text: &[u8]) -> Option<(u64, TextCause)> {
@@ -260,4 +261,16 @@ fn blanks_are_space_tab_and_carriage_return(rt: HostRuntime) {
     assert!(rt; trim_start(b" \t\ra b\r ") == b"a b\r ".as_slice());
     assert!(rt; trim(b"\x0b\x0c").len() == 2);
     assert!(rt; is_a_blank(b'\r') && !is_a_blank(b'\n'));
+}
+
+#[test]
+fn a_trace_keeps_the_hashers_of_its_text(rt: HostRuntime) {
+    let text = b"T1|w(x)|1";
+    let trace = parse(rt.alloc(), text);
+    assert!(rt; trace.is_ok());
+    if let Ok(trace) = trace {
+        let kept = trace.keyed().build_hasher().finish();
+        assert_eq!(rt; kept, TextKeyed::of(text).build_hasher().finish());
+        assert!(rt; kept != TextKeyed::of(b"T1|w(y)|1").build_hasher().finish());
+    }
 }

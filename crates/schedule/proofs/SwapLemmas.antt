@@ -14,7 +14,7 @@ use Rattle.event_index.specs.Events.{op_at, thread_at, passes_by, passes_at, is_
 use Rattle.event_index.specs.Lookups.{events_of, last_write, fork_of}
 use Rattle.event_index.specs.Relations.{is_access, is_on_lock, IsIndependent, is_independent}
 use Rattle.event_index.proofs.CallerLemmas.{fork_of-some, Decides-is_independent}
-use Rattle.schedule.specs.Layout.{is_acquire_by, is_release_by}
+use Rattle.schedule.specs.Locks.{is_acquire_by, is_release_by}
 use Rattle.schedule.specs.Refusals.{next_of}
 use Rattle.schedule.specs.Reordering.{IsCorrectReordering, StandsAfterThread, events_at}
 use Rattle.schedule.specs.Swaps.{exchanged, MayExchange, pair_refusal, swap_refusal}
@@ -68,7 +68,7 @@ Allows-alike T P Q e alike a = record {
 }
 
 -- the front of a correct reordering is one
-front_is : (T : List Event) (P B : List ℕ) → IsCorrectReordering T (P ++ B) → IsCorrectReordering T P
+pub front_is : (T : List Event) (P B : List ℕ) → IsCorrectReordering T (P ++ B) → IsCorrectReordering T P
 front_is T P B is =
     let fits : length P ≤ length (P ++ B) = omega (arith, length-append P B) in
     subst (IsCorrectReordering T) (take_at P B (length P) refl) (IsCorrectReordering-take T (P ++ B) (length P) fits is)
@@ -253,7 +253,7 @@ module _ (T : List Event) (A : List ℕ) (a b : ℕ) (i : IsIndependent T a b) w
   }
 
 -- of two that do not both pass, the last that passes is the same in either order
-last_of_either : (p q : Bool) (a b : ℕ) (rest : Option ℕ) → (p ≡ true → q ≡ true → ⊥) → cond q (Some b) (cond p (Some a) rest) ≡ cond p (Some a) (cond q (Some b) rest)
+pub last_of_either : (p q : Bool) (a b : ℕ) (rest : Option ℕ) → (p ≡ true → q ≡ true → ⊥) → cond q (Some b) (cond p (Some a) rest) ≡ cond p (Some a) (cond q (Some b) rest)
 last_of_either true true a b rest never = absurd (never refl refl)
 last_of_either true false a b rest never = refl
 last_of_either false true a b rest never = refl

@@ -1,6 +1,9 @@
-pub mod Layout
+pub mod Faults
+pub mod Keys
+pub mod Locks
 pub mod Refusals
 pub mod Reordering
 pub mod Scheduled
 pub mod Shows
 pub mod Swaps
+pub mod Tables

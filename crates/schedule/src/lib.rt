@@ -2,14 +2,20 @@
 #![tactic(auto)]
 
 mod events;
+#[cfg(test)]
+mod generated_tests;
+mod latest;
+mod reads;
 mod refusal;
 mod refusing;
-mod reordering;
-mod scans;
+#[cfg(test)]
+mod scanning;
+mod schedule;
 mod showing;
 mod swapping;
+mod tables;
 #[cfg(test)]
 mod tests;
 
-pub use refusal::{Disabled, ExtendRefusal, PrefixRefusal, SwapRefusal};
-pub use reordering::Schedule;
+pub use refusal::{Disabled, ExtendRefusal, ListRefusal, PrefixRefusal, SwapRefusal};
+pub use schedule::Schedule;

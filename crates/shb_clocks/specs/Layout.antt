@@ -4,7 +4,7 @@ use Rattle.rapid_text.specs.Operations.{is_release}
 use Rattle.rapid_text.specs.Recording.{IsWellFormed}
 use Rattle.rapid_text.specs.declared.event.Event.{Event}
 use Rattle.rapid_text.specs.declared.event.Op.{Op}
-use Rattle.rapid_text.specs.declared.event.Op.TheVariants.{Read, Write, Acquire, Release, Fork, Join}
+use Rattle.rapid_text.specs.declared.event.Op.TheVariants.{Read, Acquire, Join}
 use Rattle.trace_rules.specs.Rules.{IsDisciplined}
 use Rattle.event_index.specs.Events.{op_at, thread_at, passes_at}
 use Rattle.event_index.specs.Lookups.{before, events_of, place_of, last_writer, fork_of, or_else}
@@ -46,13 +46,10 @@ abbrev pub end_of_thread : List Event → ℕ → Option ℕ
 end_of_thread T u = or_else (slice_get (events_of T u) (length (events_of T u) - 1)) (fork_of T u)
 
 abbrev pub counterpart_by : List Event → ℕ → Option Op → Option ℕ
-counterpart_by T e None = None
 counterpart_by T e (Some (Read x)) = last_writer T e
-counterpart_by T e (Some (Write x)) = None
 counterpart_by T e (Some (Acquire l)) = last_release T e l
-counterpart_by T e (Some (Release l)) = None
-counterpart_by T e (Some (Fork u)) = None
 counterpart_by T e (Some (Join u)) = end_of_thread T u
+counterpart_by T e op = None
 
 -- the last event that comes before e for what e does: its writer, the last release of its lock, the end
 -- of the thread that it joins

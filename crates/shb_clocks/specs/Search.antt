@@ -4,7 +4,7 @@ use Rattle.std.specs.Prelude.{◌≡◌, ℕ, ◌+◌, ◌*◌, ◌<◌, ◌≤�
 use Rattle.rapid_text.specs.Recording.{Recording}
 use Rattle.rapid_text.specs.declared.event.Event.{Event}
 use Rattle.rapid_text.specs.declared.event.Op.{Op}
-use Rattle.rapid_text.specs.declared.event.Op.TheVariants.{Read, Write, Acquire, Release, Fork, Join}
+use Rattle.rapid_text.specs.declared.event.Op.TheVariants.{Read, Write}
 use Rattle.event_index.specs.Events.{op_at, thread_at}
 use Rattle.shb_clocks.specs.Candidates.{IsApart, IsCandidate, StandsBefore}
 use Rattle.shb_clocks.specs.declared.chains.Chains.{Chains}
@@ -18,13 +18,9 @@ pub record IsFirstFrom (P : ℕ → Type 0) (end from n : ℕ) : Type 0 where
 
 -- the variable that the operation writes, or accesses, where it does
 abbrev pub linked_variable : Bool → Op → Option ℕ
-linked_variable true (Read x) = None
-linked_variable false (Read x) = Some x
 linked_variable writes (Write x) = Some x
-linked_variable writes (Acquire l) = None
-linked_variable writes (Release l) = None
-linked_variable writes (Fork u) = None
-linked_variable writes (Join u) = None
+linked_variable false (Read x) = Some x
+linked_variable writes op = None
 
 -- event e of thread u writes the variable, or accesses it
 pub record IsLinked (T : List Event) (writes : Bool) (x u e : ℕ) : Type 0 where

@@ -1,6 +1,6 @@
 -- What the rules say of a list of events, for the crates above: a list that keeps them has no first
 -- breach and the other way round; what a first breach says; and who holds a lock.
-use Rattle.std.proofs.Common.{◌≡◌, ◌≢◌, ℕ, zero, suc, ◌+◌, ◌-◌, ◌<◌, ◌≤◌, ◌==◌, Bool, true, false, ◌||◌, cond, List, [], ◌∷◌, ◌++◌, take, slice_get, option_and_then, Option, Some, None, refl, sym, ap, ◌∙◌, subst, arith, add-one, lt_irrefl, eq-eqb, ne_eqb, eqb-true, inl, inr}
+use Rattle.std.proofs.Common.{◌≡◌, ◌≢◌, ℕ, zero, suc, ◌+◌, ◌-◌, ◌<◌, ◌≤◌, ◌==◌, Bool, true, false, ◌||◌, cond, List, [], ◌∷◌, ◌++◌, length, take, slice_get, option_and_then, Option, Some, None, refl, sym, ap, ◌∙◌, subst, arith, add-one, lt_irrefl, eq-eqb, ne_eqb, eqb-true, inl, inr}
 use Rattle.std.specs.List.{list_any}
 use Rattle.std.proofs.lemmas.Bool.{cases_Bool, cases_eq, cases_lt, or_left, or_right, or_from, true≢false, false_from_ne_true, eqb-false}
 use Rattle.std.proofs.lemmas.Option.{none-some, same_Some, slice_get_within}
@@ -8,48 +8,33 @@ use Rattle.rapid_text.specs.Operations.{is_acquire, is_release, is_fork, is_join
 use Rattle.rapid_text.specs.declared.event.Event.{Event}
 use Rattle.rapid_text.specs.declared.event.Op.{Op}
 use Rattle.rapid_text.specs.declared.event.Op.TheVariants.{Read, Write, Acquire, Release, Fork, Join}
-use Rattle.trace_rules.specs.Rules.{IsDisciplined, acquire_count, release_count, hold_count, breach_of_op, breach_of, breach_at, first_breach}
+use Rattle.trace_rules.specs.Rules.{IsDisciplined, IsFirstBreach, acquire_count, release_count, hold_count, breach_of_op, breach_of, breach_at, first_breach}
 use Rattle.trace_rules.specs.Tables.{depth_for, IsHoldOf}
 use Rattle.trace_rules.specs.declared.hold.Hold.{Hold}
+use Rattle.trace_rules.specs.declared.refusal.RuleCause.{RuleCause}
 use Rattle.trace_rules.specs.declared.refusal.RuleCause.TheVariants.{ReleaseNotHeld, AcquireHeld, ForkTwice, ForkLate, OwnThread, AfterJoin}
 use Rattle.trace_rules.specs.declared.refusal.RuleRefusal.{RuleRefusal}
 use Rattle.trace_rules.proofs.Counts.{is_held_by_another, is_held_by_another-false, hold_count-other}
-use Rattle.trace_rules.proofs.FirstBreach.{HasNoBreach, IsFirstBreach, first_breach-from_none, none-from_first_breach, first-from_first_breach}
+use Rattle.trace_rules.proofs.FirstBreach.{HasNoBreach, first_breach-from_first, first_breach-from_none, none-from_first_breach, first-from_first_breach}
 use Rattle.trace_rules.proofs.HoldLemmas.{depth_for-other, hold_count-IsHoldOf, depth-above, IsHoldOf-acquire, IsHoldOf-release, IsHoldOf-last, IsHoldOf-other, IsOpenFor-from_none, owner-from_none}
 use Rattle.trace_rules.proofs.TableLemmas.{take-event, cond-from_none, breach_at-event, breach_of_op-own_fork, breach_of_op-own_join}
 
 -- an operation that passes a test is of that kind
 pub fork-from_test : (u : ℕ) (op : Op) → is_fork u op ≡ true → op ≡ Fork u
-fork-from_test u (Read x) is = absurd (true≢false (sym is))
-fork-from_test u (Write x) is = absurd (true≢false (sym is))
-fork-from_test u (Acquire x) is = absurd (true≢false (sym is))
-fork-from_test u (Release x) is = absurd (true≢false (sym is))
 fork-from_test u (Fork x) is = ap Fork (eqb-true x u is)
-fork-from_test u (Join x) is = absurd (true≢false (sym is))
+fork-from_test u op is = absurd (true≢false (sym is))
 
 pub join-from_test : (u : ℕ) (op : Op) → is_join u op ≡ true → op ≡ Join u
-join-from_test u (Read x) is = absurd (true≢false (sym is))
-join-from_test u (Write x) is = absurd (true≢false (sym is))
-join-from_test u (Acquire x) is = absurd (true≢false (sym is))
-join-from_test u (Release x) is = absurd (true≢false (sym is))
-join-from_test u (Fork x) is = absurd (true≢false (sym is))
 join-from_test u (Join x) is = ap Join (eqb-true x u is)
+join-from_test u op is = absurd (true≢false (sym is))
 
 pub acquire-from_test : (l : ℕ) (op : Op) → is_acquire l op ≡ true → op ≡ Acquire l
-acquire-from_test l (Read x) is = absurd (true≢false (sym is))
-acquire-from_test l (Write x) is = absurd (true≢false (sym is))
 acquire-from_test l (Acquire x) is = ap Acquire (eqb-true x l is)
-acquire-from_test l (Release x) is = absurd (true≢false (sym is))
-acquire-from_test l (Fork x) is = absurd (true≢false (sym is))
-acquire-from_test l (Join x) is = absurd (true≢false (sym is))
+acquire-from_test l op is = absurd (true≢false (sym is))
 
 pub release-from_test : (l : ℕ) (op : Op) → is_release l op ≡ true → op ≡ Release l
-release-from_test l (Read x) is = absurd (true≢false (sym is))
-release-from_test l (Write x) is = absurd (true≢false (sym is))
-release-from_test l (Acquire x) is = absurd (true≢false (sym is))
 release-from_test l (Release x) is = ap Release (eqb-true x l is)
-release-from_test l (Fork x) is = absurd (true≢false (sym is))
-release-from_test l (Join x) is = absurd (true≢false (sym is))
+release-from_test l op is = absurd (true≢false (sym is))
 
 module _ (p : Event → Bool) where
   -- an event that passes stands among the first j where it stands below j
@@ -178,9 +163,18 @@ disciplined-no_breach T is = first_breach-from_none T (none-from_IsDisciplined T
 pub no_breach-disciplined : (T : List Event) → first_breach T ≡ None → IsDisciplined T
 no_breach-disciplined T is = IsDisciplined-from_none T (none-from_first_breach T is)
 
+-- a list with a breach does not keep the rules
+pub undisciplined-from_breach : (T : List Event) (j : ℕ) (why : RuleCause) → j < length T → breach_at T j ≡ Some why
+    → ¬ IsDisciplined T
+undisciplined-from_breach T j why within breach is = none-some why (sym (none-from_IsDisciplined T is j within) ∙ breach)
+
 -- a first breach is of an event, is its first breach, and no earlier event has one
 pub first_breach-is_first : (T : List Event) (r : RuleRefusal) → first_breach T ≡ Some r → IsFirstBreach T r
 first_breach-is_first T r is = first-from_first_breach T r is
+
+-- and where an event is the first that breaks a rule, it is the first breach
+pub is_first-first_breach : (T : List Event) (r : RuleRefusal) → IsFirstBreach T r → first_breach T ≡ Some r
+is_first-first_breach T r is = first_breach-from_first T r.event r.why is.within is.breach is.before
 
 -- past the end nothing is added
 take-suc_past : (T : List Event) (j : ℕ) → slice_get T j ≡ None → take j T ≡ take (suc j) T

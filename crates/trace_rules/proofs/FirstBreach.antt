@@ -7,7 +7,7 @@ use Rattle.std.proofs.lemmas.List.Quantifiers.{position-Some}
 use Rattle.std.proofs.lemmas.List.Sums.{position_or_len_is, fails_before_first}
 use Rattle.std.proofs.lemmas.Option.{none-some, same_Some}
 use Rattle.rapid_text.specs.declared.event.Event.{Event}
-use Rattle.trace_rules.specs.Rules.{breach_at, breach_by, first_breach}
+use Rattle.trace_rules.specs.Rules.{IsFirstBreach, breach_at, breach_by, first_breach}
 use Rattle.trace_rules.specs.declared.refusal.RuleCause.{RuleCause}
 use Rattle.trace_rules.specs.declared.refusal.RuleCause.TheVariants.{OutOfMemory}
 use Rattle.trace_rules.specs.declared.refusal.RuleRefusal.{RuleRefusal}
@@ -58,12 +58,6 @@ none_from_test (Some why) is = absurd (true≢false is)
 some_from_test : (o : Option RuleCause) → is_some o ≡ true → o ≡ Some (unwrap_or o OutOfMemory)
 some_from_test None is = absurd (true≢false (sym is))
 some_from_test (Some why) is = refl
-
--- The event of r is the first that breaks a rule, and the rule of r is the first that it breaks.
-pub record IsFirstBreach (T : List Event) (r : RuleRefusal) : Type 0 where
-  pub within : r.event < length T
-  pub breach : breach_at T r.event ≡ Some r.why
-  pub before : (j : ℕ) → j < r.event → breach_at T j ≡ None
 
 -- no event breaks a rule
 abbrev pub HasNoBreach : List Event → Type 0

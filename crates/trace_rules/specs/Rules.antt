@@ -5,7 +5,7 @@ use Rattle.std.specs.List.{list_any, range_with_len}
 use Rattle.rapid_text.specs.Operations.{is_acquire, is_release, is_fork, is_join}
 use Rattle.rapid_text.specs.declared.event.Event.{Event}
 use Rattle.rapid_text.specs.declared.event.Op.{Op}
-use Rattle.rapid_text.specs.declared.event.Op.TheVariants.{Read, Write, Acquire, Release, Fork, Join}
+use Rattle.rapid_text.specs.declared.event.Op.TheVariants.{Acquire, Release, Fork, Join}
 use Rattle.trace_rules.specs.declared.refusal.RuleCause.{RuleCause}
 use Rattle.trace_rules.specs.declared.refusal.RuleCause.TheVariants.{ReleaseNotHeld, AcquireHeld, ForkTwice, ForkLate, OwnThread, AfterJoin, OutOfMemory}
 use Rattle.trace_rules.specs.declared.refusal.RuleRefusal.{RuleRefusal}
@@ -47,8 +47,6 @@ pub record IsDisciplined (T : List Event) : Type 0 where
 
 -- the first rule that the operation of thread t breaks after the events es, but for 16
 abbrev pub breach_of_op : List Event → ℕ → Op → Option RuleCause
-breach_of_op es t (Read x) = None
-breach_of_op es t (Write x) = None
 breach_of_op es t (Acquire l) =
     if list_any (λ e. not (e.thread == t) && nat_lt 0 (hold_count es e.thread l)) es then Some AcquireHeld else None
 breach_of_op es t (Release l) = if hold_count es t l == 0 then Some ReleaseNotHeld else None
@@ -59,6 +57,7 @@ breach_of_op es t (Fork u) =
     then Some ForkTwice
     else (if list_any (λ e. e.thread == u || is_join u e.op) es then Some ForkLate else None))
 breach_of_op es t (Join u) = if u == t then Some OwnThread else None
+breach_of_op es t op = None
 
 -- the first rule that the event breaks after the events es
 abbrev pub breach_of : List Event → Event → Option RuleCause
@@ -68,6 +67,12 @@ breach_of es e =
 -- the first rule that the event at place i breaks
 abbrev pub breach_at : List Event → ℕ → Option RuleCause
 breach_at T i = option_and_then (breach_of (take i T)) (slice_get T i)
+
+-- The event of r is the first that breaks a rule, and the rule of r is the first that it breaks.
+pub record IsFirstBreach (T : List Event) (r : RuleRefusal) : Type 0 where
+  pub within : r.event < length T
+  pub breach : breach_at T r.event ≡ Some r.why
+  pub before : (j : ℕ) → j < r.event → breach_at T j ≡ None
 
 abbrev pub breach_by : List Event → Option ℕ → Option RuleRefusal
 breach_by T None = None

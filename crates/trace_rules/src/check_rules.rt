@@ -1,6 +1,6 @@
 //! Tests a recorded execution against the rules.
 ghost use Rattle.std.specs.Prelude.{◌≡◌, ◌⊎◌, IfOk, IfErr, Some, None};
-ghost use Rattle.trace_rules.specs.Rules.{IsDisciplined, first_breach, no_memory};
+ghost use Rattle.trace_rules.specs.Rules.{IsDisciplined, IsFirstBreach, first_breach, no_memory};
 
 use crate::refusal::{RuleCause, RuleRefusal};
 use crate::state::State;
@@ -13,9 +13,15 @@ use std::alloc::Global;
 /// which may come before a breach is seen.
 pub fn check(alloc: Global, raw: RawTrace) -> Result<Trace, (RawTrace, RuleRefusal)>
     ensures same { IfOk result (λ trace. trace ≡ raw) }
-    ensures disciplined { IfOk result (λ trace. IsDisciplined trace.events) }
-    ensures accepted { IfOk result (λ trace. first_breach trace.events ≡ None) }
     ensures returned { IfErr result (λ refused. refused.0 ≡ raw) }
+    // Exactly the executions that keep the rules are accepted, but for want of memory.
+    ensures disciplined { IfOk result (λ trace. IsDisciplined trace.events) }
+    ensures undisciplined { IfErr result
+        (λ refused. (refused.1 ≡ no_memory) ⊎ ¬ IsDisciplined raw.events) }
+    ensures first { IfErr result
+        (λ refused. (refused.1 ≡ no_memory) ⊎ IsFirstBreach raw.events refused.1) }
+    // The same by the function, for definitions that go on from it.
+    ensures accepted { IfOk result (λ trace. first_breach trace.events ≡ None) }
     ensures refused { IfErr result
         (λ refused. (refused.1 ≡ no_memory) ⊎ (first_breach raw.events ≡ Some refused.1)) }
 {

@@ -1,6 +1,6 @@
 use Rattle.std.proofs.Common.{◌≡◌, ◌<◌, length, None, inr, sym, ◌∙◌, arith, below_more}
 use Rattle.trace_rules.specs.Rules.{breach_at}
-use Rattle.trace_rules.proofs.CallerLemmas.{IsDisciplined-from_none}
+use Rattle.trace_rules.proofs.CallerLemmas.{IsDisciplined-from_none, undisciplined-from_breach}
 use Rattle.trace_rules.proofs.FirstBreach.{HasNoBreach, first_breach-from_first, first_breach-from_none}
 use Rattle.trace_rules.proofs.check_rules.check.Goals as goal
 
@@ -8,6 +8,11 @@ pub returns-in-Some-clause-refused : goal.returns-in-Some-clause-refused
 returns-in-Some-clause-refused c =
     let within : c.loop-event.event < length c.args.raw.events = omega (arith, c.loop-event-test.true, c.len-event-end.ensures.len) in
     inr (first_breach-from_first c.args.raw.events c.loop-event.event c.in-Some.why within (sym c.breach.ensures ∙ c.in-Some.is) c.loop-event.invariant.kept)
+
+pub returns-in-Some-clause-undisciplined : goal.returns-in-Some-clause-undisciplined
+returns-in-Some-clause-undisciplined c =
+    let within : c.loop-event.event < length c.args.raw.events = omega (arith, c.loop-event-test.true, c.len-event-end.ensures.len) in
+    inr (undisciplined-from_breach c.args.raw.events c.loop-event.event c.in-Some.why within (sym c.breach.ensures ∙ c.in-Some.is))
 
 pub loop-event-preserved : goal.loop-event-preserved
 loop-event-preserved c =

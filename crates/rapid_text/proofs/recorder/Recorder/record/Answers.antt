@@ -3,7 +3,7 @@ use Rattle.rapid_text.specs.LineLayout.{named_in}
 use Rattle.rapid_text.specs.Recorded.{recorded}
 use Rattle.rapid_text.specs.Growth.{names_of, with_names, IsTight}
 use Rattle.rapid_text.specs.Recording.{Recording}
-use Rattle.rapid_text.specs.declared.raw_trace.TheConstants.{MAX_EVENTS, MAX_THREADS}
+use Rattle.rapid_text.specs.Limits.{event_limit, thread_limit}
 use Rattle.std.proofs.lemmas.List.{length-map}
 use Rattle.rapid_text.proofs.Growing.{with_event-steps, with_names-steps, IsTight-with_event}
 use Rattle.rapid_text.proofs.recorder.Recorder.record.Goals as goal
@@ -19,8 +19,8 @@ returns-clause-ready c =
     let old = recorded c.args.self.now in
     let said = named_in c.args.fields in
     let noted = with_names-steps old said (names_of c.number.new.names) (recorded c.number_operation.new.self) c.in_ok-thread.ensures.names c.in_ok-op.ensures.names in
-    let room : length old.events < MAX_EVENTS = omega (arith, c.if-len-ge-MAX_EVENTS.false, c.len.ensures, c.args.self.now.events.ok.0) in
-    let few : length (with_names old said).threads ≤ MAX_THREADS =
+    let room : length old.events < event_limit = omega (arith, c.if-len-ge-MAX_EVENTS.false, c.len.ensures, c.args.self.now.events.ok.0) in
+    let few : length (with_names old said).threads ≤ thread_limit =
     omega (arith, c.if-len-gt-MAX_THREADS.false, c.len-2.ensures.len, length-map c.number_operation.new.self.threads.keys (λ name. name.items), ap (λ (q : Recording). length q.threads) noted) in
     record {
       tight = subst IsTight (sym (returns-clause-ok c)) (IsTight-with_event old said c.requires.tight room few);

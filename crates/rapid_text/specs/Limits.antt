@@ -1,0 +1,19 @@
+-- How long a line and a name may be, and how large a recording. The constants of the code are measured
+-- against these numbers.
+use Rattle.std.specs.Prelude.{ℕ}
+
+-- the most events of a recording
+abbrev pub event_limit : ℕ
+event_limit = 65536
+
+-- the most threads of a recording
+abbrev pub thread_limit : ℕ
+thread_limit = 64
+
+-- the most bytes of a line, without the blanks at its ends
+abbrev pub line_limit : ℕ
+line_limit = 4096
+
+-- the most bytes of a name
+abbrev pub name_limit : ℕ
+name_limit = 255

@@ -1,0 +1,285 @@
+//! A schedule: a correct reordering of its trace.
+ghost use Rattle.std.specs.Prelude.{◌≡◌, ℕ, ◌+◌, ◌<◌, ◌≤◌, ◌↔◌, length, take, [], ◌∷◌, ◌++◌, IsOk, IsTrue, IfOk, OnOk, OnErr, IfErr, Err, IfSome, None, Some};
+ghost use Rattle.rapid_text.specs.Recording.{IsWellFormed};
+ghost use Rattle.trace_rules.specs.Rules.{IsDisciplined};
+ghost use Rattle.schedule.specs.Faults.{IsListRefusal};
+ghost use Rattle.schedule.specs.Refusals.{refusal_of, IsRefusalOf, NamesHolder};
+ghost use Rattle.schedule.specs.Reordering.{IsCorrectReordering, IsEnabled};
+ghost use Rattle.schedule.specs.Shows.{Shows, does_show};
+ghost use Rattle.schedule.specs.Tables.{AreTables};
+ghost use Rattle.schedule.specs.Swaps.{exchanged, swap_refusal, MayExchange};
+ghost use Rattle.schedule.specs.declared.refusal.PrefixRefusal.TheVariants.{TooShort};
+ghost use Rattle.schedule.specs.declared.refusal.SwapRefusal.TheVariants.{NoSuchPair};
+
+use crate::refusal::{Disabled, ExtendRefusal, ListRefusal, PrefixRefusal, SwapRefusal};
+use crate::refusing::refusal_of;
+use crate::showing::is_ready;
+use crate::swapping::swap_refusal;
+use crate::tables::{Tables, forget, no_tables, note, tables_of};
+use event_index::Indexed;
+use rapid_text::OutOfMemory;
+use std::alloc::Global;
+use std::marker::Model;
+use std::snapshot::Snapshot;
+
+/// One correct reordering of a trace, or of a part of it.
+#[derive(Drop)]
+pub struct Schedule {
+    trace: Snapshot<Indexed>,
+    events: Vec<u32>,
+    // In a box, since rows of schedules are moved about.
+    tables: Box<Tables>,
+}
+
+impl Model for Schedule {
+    ghost use Rattle.schedule.specs.Scheduled.{Scheduled};
+
+    ghost Value = { Scheduled };
+
+    ghost use Rattle.rapid_text.specs.Recording.{IsWellFormed};
+    ghost use Rattle.trace_rules.specs.Rules.{IsDisciplined};
+    ghost use Rattle.schedule.specs.Reordering.{IsCorrectReordering};
+    ghost use Rattle.schedule.specs.Tables.{AreTables};
+
+    ghost view = { λ s. record {
+      trace = s.trace.value;
+      events = s.events.items;
+    } };
+
+    ghost invariant = { λ s.
+        IsWellFormed s.trace.value × IsDisciplined s.trace.value.events × IsCorrectReordering s.trace.value.events s.events.items × AreTables s.trace.value.events s.events.items s.tables.value };
+}
+
+impl Schedule {
+    /// The events, in the order of the schedule: a correct reordering of the trace.
+    pub fn events(&self) -> &[u32]
+        ensures same { result.now ≡ self.now.events }
+        ensures reordering { IsCorrectReordering self.now.trace.events self.now.events }
+        // No event stands there twice, so they are at most as many as those of the trace.
+        ensures within { length self.now.events ≤ length self.now.trace.events }
+        // The trace is one that was accepted.
+        ensures well_formed { IsWellFormed self.now.trace }
+        ensures disciplined { IsDisciplined self.now.trace.events }
+    {
+        self.events.as_slice()
+    }
+
+    /// The schedule with no events.
+    pub fn empty(alloc: Global, indexed: &Indexed) -> Result<Schedule, OutOfMemory>
+        ensures trace { IfOk result (λ s. s.trace ≡ indexed.now) }
+        ensures events { IfOk result (λ s. s.events ≡ []) }
+    {
+        let _len = indexed.len();
+        let Ok(tables) = Box::new(alloc, no_tables(alloc, indexed)) else {
+            return Err(OutOfMemory);
+        };
+        Ok(Schedule {
+            trace: Snapshot::of(indexed),
+            events: Vec::new(alloc),
+            tables,
+        })
+    }
+
+    /// The schedule of these events. What it takes, besides the list itself, is in the order of their number.
+    pub fn from_reordering(
+        alloc: Global,
+        indexed: &Indexed,
+        events: Vec<u32>,
+    ) -> Result<Schedule, OutOfMemory>
+        requires { IsCorrectReordering indexed.now.events events.items }
+        ensures trace { IfOk result (λ s. s.trace ≡ indexed.now) }
+        ensures events { IfOk result (λ s. s.events ≡ events.items) }
+    {
+        let _len = indexed.len();
+        let Ok(tables) = tables_of(alloc, indexed, &events) else {
+            return Err(OutOfMemory);
+        };
+        Ok(Schedule {
+            trace: Snapshot::of(indexed),
+            events,
+            tables,
+        })
+    }
+
+    /// The schedule of these events where they are a correct reordering; else the first place whose event may
+    /// not come next, and why. Memory may be wanting before that place is reached.
+    pub fn from_list(
+        alloc: Global,
+        indexed: &Indexed,
+        events: &[u32],
+    ) -> Result<Schedule, ListRefusal>
+        ensures trace { IfOk result (λ s. s.trace ≡ indexed.now) }
+        ensures events { IfOk result (λ s. s.events ≡ events.now) }
+        // It is made only of a correct reordering, and refused as none only at the first fault of the list.
+        ensures reordering { OnOk result (IsCorrectReordering indexed.now.events events.now) }
+        ensures refused { IfErr result (IsListRefusal indexed.now.events events.now) }
+    {
+        let Ok(mut schedule) = Schedule::empty(alloc, indexed) else {
+            return Err(ListRefusal::OutOfMemory);
+        };
+        for event in events {
+            let position = schedule.events().len() as u32;
+            match schedule.extend(indexed, *event) {
+                Ok(()) => {},
+                Err(ExtendRefusal::Disabled(cause)) => {
+                    return Err(ListRefusal::NotReordering { position, cause });
+                },
+                Err(ExtendRefusal::OutOfMemory) => return Err(ListRefusal::OutOfMemory),
+            }
+        }
+        Ok(schedule)
+    }
+
+    /// Whether the event may come next, or the first cause why it may not.
+    pub fn enabled(&self, indexed: &Indexed, event: u32) -> Result<(), Disabled>
+        requires { self.now.trace ≡ indexed.now }
+        // It may exactly where the schedule and then the event are a correct reordering.
+        ensures exact { IsOk result ↔ IsEnabled self.now.trace.events self.now.events event }
+        ensures none { OnOk result (refusal_of self.now.trace.events self.now.events event ≡ None) }
+        ensures cause { IfErr result
+            (λ cause. refusal_of self.now.trace.events self.now.events event ≡ Some cause) }
+        // A held lock is told with the one thread that holds it.
+        ensures holder { IfErr result
+            (NamesHolder self.now.trace.events self.now.events event) }
+    {
+        match refusal_of(indexed, &self.tables, &self.events, event) {
+            Some(cause) => Err(cause),
+            None => Ok(()),
+        }
+    }
+
+    /// Appends the event where it may come next.
+    pub fn extend(&mut self, indexed: &Indexed, event: u32) -> Result<(), ExtendRefusal>
+        requires { self.old.trace ≡ indexed.now }
+        ensures trace { self.new.trace ≡ self.old.trace }
+        ensures ok { OnOk result (self.new.events ≡ self.old.events ++ event ∷ []) }
+        ensures err { OnErr result (self.new ≡ self.old) }
+        // The event is appended only where it is enabled, and refused as `enabled` refuses it.
+        ensures enabled { OnOk result (IsEnabled self.old.trace.events self.old.events event) }
+        ensures none { OnOk result (refusal_of self.old.trace.events self.old.events event ≡ None) }
+        ensures refused { IfErr result
+            (IsRefusalOf self.old.trace.events self.old.events event) }
+    {
+        if let Some(cause) = refusal_of(indexed, &self.tables, &self.events, event) {
+            return Err(ExtendRefusal::Disabled(cause));
+        }
+        let Ok(()) = note(&mut self.tables, indexed, &self.events, event) else {
+            return Err(ExtendRefusal::OutOfMemory);
+        };
+        let Ok(()) = self.events.push(event) else {
+            forget(&mut self.tables, indexed, &self.events, event);
+            return Err(ExtendRefusal::OutOfMemory);
+        };
+        Ok(())
+    }
+
+    /// Takes the last event off and gives it, or gives None where the schedule has no events. It takes no
+    /// memory.
+    pub fn retract(&mut self, indexed: &Indexed) -> Option<u32>
+        requires { self.old.trace ≡ indexed.now }
+        ensures trace { self.new.trace ≡ self.old.trace }
+        ensures taken { IfSome result (λ e. self.old.events ≡ self.new.events ++ e ∷ []) }
+        ensures none { result ≡ None → self.new ≡ self.old }
+        ensures empty { (result ≡ None) ↔ (self.old.events ≡ []) }
+    {
+        let Some(event) = self.events.pop() else {
+            return None;
+        };
+        forget(&mut self.tables, indexed, &self.events, event);
+        Some(event)
+    }
+
+    /// Whether the events at this place and the next may change places, or why they may not: what `swap`
+    /// answers there.
+    pub fn exchangeable(&self, indexed: &Indexed, at: u32) -> Result<(), SwapRefusal>
+        requires { self.now.trace ≡ indexed.now }
+        // They may exactly where both are there and they are independent.
+        ensures exact { IsOk result ↔ MayExchange self.now.trace.events self.now.events at }
+        ensures no_pair { (result ≡ Err NoSuchPair) ↔ (length self.now.events ≤ at + 1) }
+        // The same as a function, for definitions that compute with it.
+        ensures none { OnOk result (swap_refusal self.now.trace.events self.now.events at ≡ None) }
+        ensures cause { IfErr result
+            (λ cause. swap_refusal self.now.trace.events self.now.events at ≡ Some cause) }
+    {
+        match swap_refusal(indexed, &self.events, at) {
+            Some(cause) => Err(cause),
+            None => Ok(()),
+        }
+    }
+
+    /// Exchanges the events at this place and the next, where they are independent. It takes no memory.
+    pub fn swap(&mut self, indexed: &Indexed, at: u32) -> Result<(), SwapRefusal>
+        requires { self.old.trace ≡ indexed.now }
+        ensures trace { self.new.trace ≡ self.old.trace }
+        ensures ok { OnOk result (self.new.events ≡ exchanged self.old.events at) }
+        ensures err { OnErr result (self.new ≡ self.old) }
+        // It is refused for the place exactly where no event stands at the next one, and else exactly where
+        // the two events are not independent.
+        ensures exact { IsOk result ↔ MayExchange self.old.trace.events self.old.events at }
+        ensures no_pair { (result ≡ Err NoSuchPair) ↔ (length self.old.events ≤ at + 1) }
+        // The same as a function, for definitions that compute with it.
+        ensures none { OnOk result (swap_refusal self.old.trace.events self.old.events at ≡ None) }
+        ensures cause { IfErr result
+            (λ cause. swap_refusal self.old.trace.events self.old.events at ≡ Some cause) }
+    {
+        if let Some(cause) = swap_refusal(indexed, &self.events, at) {
+            return Err(cause);
+        }
+        let at = at as usize;
+        self.events.swap(at, at + 1);
+        self.tables.shadows.swap(at, at + 1);
+        Ok(())
+    }
+
+    /// A schedule of the same trace with the first `len` events of this one.
+    pub fn prefix(
+        &self,
+        alloc: Global,
+        indexed: &Indexed,
+        len: u32,
+    ) -> Result<Schedule, PrefixRefusal>
+        requires { self.now.trace ≡ indexed.now }
+        ensures trace { IfOk result (λ s. s.trace ≡ self.now.trace) }
+        ensures ok { IfOk result (λ s. s.events ≡ take len self.now.events) }
+        // It is refused for its length exactly where this schedule has fewer events.
+        ensures too_short { (result ≡ Err TooShort) ↔ (length self.now.events < len) }
+    {
+        let len = len as usize;
+        if self.events.len() < len {
+            return Err(PrefixRefusal::TooShort);
+        }
+        let front = &self.events[..len];
+        let Ok(events) = Vec::from_slice(alloc, front) else {
+            return Err(PrefixRefusal::OutOfMemory);
+        };
+        let Ok(tables) = tables_of(alloc, indexed, front) else {
+            return Err(PrefixRefusal::OutOfMemory);
+        };
+        Ok(Schedule {
+            trace: Snapshot::of(indexed),
+            events,
+            tables,
+        })
+    }
+
+    /// Whether the two events conflict and both are ready: not in the schedule, but all earlier events of
+    /// their threads are, and their threads' forks. False also where one of them is no event.
+    pub fn shows(&self, indexed: &Indexed, first: u32, second: u32) -> bool
+        requires { self.now.trace ≡ indexed.now }
+        ensures shows { IsTrue result ↔ Shows self.now.trace.events self.now.events first second }
+        // The same as a test, for definitions that filter by it.
+        ensures test { result ≡ does_show self.now.trace.events self.now.events first second }
+    {
+        if first >= indexed.len() {
+            return false;
+        }
+        if second >= indexed.len() {
+            return false;
+        }
+        if !indexed.conflict(first, second) {
+            return false;
+        }
+        is_ready(indexed, &self.tables, &self.events, first)
+            && is_ready(indexed, &self.tables, &self.events, second)
+    }
+}
