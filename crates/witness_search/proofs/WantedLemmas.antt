@@ -1,6 +1,6 @@
 -- The wanted events: what is looked for at each of them leads to all of them. `T` is the events of an
 -- execution that keeps the rules.
-use Rattle.std.proofs.Common.{◌≡◌, ℕ, zero, suc, ◌+◌, ◌-◌, ◌<◌, ◌≤◌, Bool, List, [], length, get_or, Contains, Option, Some, None, slice_get, sym, refl, ap, ◌∙◌, subst, arith, inl, inr}
+use Rattle.std.proofs.Common.{◌≡◌, ℕ, zero, suc, ◌+◌, ◌-◌, ◌<◌, ◌≤◌, Bool, List, [], length, get_or, Contains, Option, Some, None, option_map, slice_get, sym, refl, ap, ◌∙◌, subst, arith, inl, inr}
 use Rattle.std.proofs.lemmas.Bool.{cases_eq}
 use Rattle.std.proofs.lemmas.List.Elements.{All-get_or, Contains-get_or}
 use Rattle.std.proofs.lemmas.List.{get_or_default}
@@ -10,11 +10,11 @@ use Rattle.rapid_text.specs.declared.event.Op.{Op}
 use Rattle.rapid_text.specs.declared.event.Op.TheVariants.{Read, Write, Acquire, Release, Fork, Join}
 use Rattle.trace_rules.specs.Rules.{IsDisciplined}
 use Rattle.event_index.specs.Events.{op_at, thread_at}
-use Rattle.event_index.specs.Lookups.{events_of, fork_of, or_else, base_of}
+use Rattle.event_index.specs.Lookups.{events_of, fork_of, or_else, base_of, section_by, section_of}
 use Rattle.event_index.proofs.CallerLemmas.{base_of-earlier, base_of-within, last_writer-some, section_end-later, fork_of-some, fork_of-op, events_of-thread}
 use Rattle.shb_clocks.proofs.CallerLemmas.{base-after, base-after_fork, end_of_thread-event, end_of_thread-fork, thread_event, thread_within}
 use Rattle.schedule.proofs.CallerLemmas.{is_in-true, is_in-member}
-use Rattle.witness_search.specs.Searches.{end_of, end_by, IsSought, Adds, AreFound, IsClosedUpTo, IsBegun, TellWanted}
+use Rattle.witness_search.specs.Searches.{end_of, partner_by, IsSought, Adds, AreFound, IsClosedUpTo, IsBegun, TellWanted}
 use Rattle.witness_search.specs.Wanted.{Asks, for_base, for_writer, for_thread, for_fork, for_release, IsWanted, base_of_first, base_of_second, asked_for}
 use Rattle.witness_search.proofs.FoundLemmas.{Contains-prefix, get_or-prefix}
 use Rattle.witness_search.proofs.RisingLemmas.{no_member}
@@ -30,21 +30,32 @@ end_asks T e u d joins (Some x) at is =
     All-get_or (λ m. thread_at T m ≡ Some u) (events_of T u) (length (events_of T u) - 1) 0 within (events_of-thread T u) in
     for_thread u joins (subst (λ (m : ℕ). thread_at T m ≡ Some u) (here ∙ same_Some x d is) of)
 
-by_op : (T : List Event) (e d : ℕ) (o : Option Op) → op_at T e ≡ o → end_by T o ≡ Some d → Asks T e d
+by_op : (T : List Event) (e d : ℕ) (o : Option Op) → op_at T e ≡ o → partner_by T e o ≡ Some d → Asks T e d
 by_op T e d None at is = absurd (none-some d is)
-by_op T e d (Some (Join u)) at is = end_asks T e u d at (slice_get (events_of T u) (length (events_of T u) - 1)) refl is
-by_op T e d (Some (Read x)) at is = absurd (none-some d is)
+by_op T e d (Some (Read x)) at is = for_writer is
 by_op T e d (Some (Write x)) at is = absurd (none-some d is)
-by_op T e d (Some (Acquire l)) at is = absurd (none-some d is)
+by_op T e d (Some (Acquire l)) at is = for_release is
 by_op T e d (Some (Release l)) at is = absurd (none-some d is)
 by_op T e d (Some (Fork u)) at is = absurd (none-some d is)
+by_op T e d (Some (Join u)) at is = end_asks T e u d at (slice_get (events_of T u) (length (events_of T u) - 1)) refl is
 
 -- what is looked for is asked for
 pub Asks-sought : (T : List Event) (e d : ℕ) → IsSought T e d → Asks T e d
 Asks-sought T e d (inl base) = for_base base
-Asks-sought T e d (inr (inl writer)) = for_writer writer
-Asks-sought T e d (inr (inr (inl release))) = for_release release
-Asks-sought T e d (inr (inr (inr joined))) = by_op T e d (op_at T e) refl joined
+Asks-sought T e d (inr partner) = by_op T e d (op_at T e) refl partner
+
+-- only an acquire has a section
+section_by-acquires : (T : List Event) (e t d : ℕ) (op : Op) → section_by T e t op ≡ Some d → (l : ℕ) × (op ≡ Acquire l)
+section_by-acquires T e t d (Acquire l) is = (l, refl)
+section_by-acquires T e t d (Read x) is = absurd (none-some d is)
+section_by-acquires T e t d (Write x) is = absurd (none-some d is)
+section_by-acquires T e t d (Release l) is = absurd (none-some d is)
+section_by-acquires T e t d (Fork u) is = absurd (none-some d is)
+section_by-acquires T e t d (Join u) is = absurd (none-some d is)
+
+section_acquires : (T : List Event) (e d : ℕ) (o : Option Event) → section_of T e o ≡ Some d → (l : ℕ) × (option_map (λ (v : Event). v.op) o ≡ Some (Acquire l))
+section_acquires T e d None is = absurd (none-some d is)
+section_acquires T e d (Some v) is = let found = section_by-acquires T e v.thread d v.op is in (found.0, ap Some found.1)
 
 -- a wanted event is one of the trace
 Asks-within : (T : List Event) → IsDisciplined T → (e d : ℕ) → e < length T → Asks T e d → d < length T
@@ -89,13 +100,14 @@ module _ (T : List Event) (rules : IsDisciplined T) (P : List ℕ) (closed : (e 
       ]
 
   joined_within : (e u s : ℕ) → Contains P e → op_at T e ≡ Some (Join u) → end_of T u ≡ Some s → Contains P s
-  joined_within e u s has joins end = closed e s has (inr (inr (inr (ap (end_by T) joins ∙ end))))
+  joined_within e u s has joins end = closed e s has (inr (ap (partner_by T e) joins ∙ end))
 
   -- a list that is closed under what is looked for is closed under what is asked for
   Contains-asked : (e d : ℕ) → Contains P e → Asks T e d → Contains P d
   Contains-asked e d has (for_base base) = closed e d has (inl base)
-  Contains-asked e d has (for_writer writer) = closed e d has (inr (inl writer))
-  Contains-asked e d has (for_release release) = closed e d has (inr (inr (inl release)))
+  Contains-asked e d has (for_writer writer) = closed e d has (inr (ap (partner_by T e) (last_writer-some T e d writer).1 ∙ writer))
+  Contains-asked e d has (for_release release) =
+      closed e d has (inr (ap (partner_by T e) (section_acquires T e d (slice_get T e) release).1 ∙ release))
   Contains-asked e d has (for_thread u joins of) =
       let end = end_of_thread-event T u d of in
       earlier_within (end.0 + 1) end.0 d u (omega arith) (joined_within e u end.0 has joins end.1) end.2 of end.3

@@ -2,7 +2,7 @@
 use Rattle.std.specs.Prelude.{◌≡◌, ◌≢◌, ℕ, ◌-◌, ◌<◌, ◌≤◌, ◌⊎◌, ◌↔◌, ◌&&◌, nat_lt, if◌then◌else◌, Bool, true, false, List, length, count_by, slice_get, slice_index, slice_index_or, Option, Some, None, AllPairs, Contains}
 use Rattle.rapid_text.specs.declared.event.Event.{Event}
 use Rattle.rapid_text.specs.declared.event.Op.{Op}
-use Rattle.rapid_text.specs.declared.event.Op.TheVariants.{Join}
+use Rattle.rapid_text.specs.declared.event.Op.TheVariants.{Read, Acquire, Join}
 use Rattle.trace_rules.specs.Rules.{IsDisciplined}
 use Rattle.event_index.specs.Events.{op_at, thread_at, is_of_thread}
 use Rattle.event_index.specs.Lookups.{events_of, fork_of, or_else, base_of, last_writer, section_end}
@@ -16,18 +16,19 @@ use Rattle.witness_search.specs.Wanted.{IsWanted}
 abbrev pub end_of : List Event → ℕ → Option ℕ
 end_of T u = or_else (slice_get (events_of T u) (length (events_of T u) - 1)) (fork_of T u)
 
-abbrev pub end_by : List Event → Option Op → Option ℕ
-end_by T (Some (Join u)) = end_of T u
-end_by T op = None
+abbrev pub partner_by : List Event → ℕ → Option Op → Option ℕ
+partner_by T e (Some (Read x)) = last_writer T e
+partner_by T e (Some (Acquire l)) = section_end T e
+partner_by T e (Some (Join u)) = end_of T u
+partner_by T e op = None
 
--- the end of the thread that e joins
-abbrev pub joined_end : List Event → ℕ → Option ℕ
-joined_end T e = end_by T (op_at T e)
+-- what e asks for by what it does: its writer, the end of its section, the end of the thread that it joins
+abbrev pub partner_of : List Event → ℕ → Option ℕ
+partner_of T e = partner_by T e (op_at T e)
 
 -- the events that are looked for at e: what else it asks for, these ask for in turn
 abbrev pub IsSought : List Event → ℕ → ℕ → Type 0
-IsSought T e d =
-    (base_of T e ≡ Some d) ⊎ ((last_writer T e ≡ Some d) ⊎ ((section_end T e ≡ Some d) ⊎ (joined_end T e ≡ Some d)))
+IsSought T e d = (base_of T e ≡ Some d) ⊎ (partner_of T e ≡ Some d)
 
 abbrev pub is_marked : List Bool → ℕ → Bool
 is_marked marks e = slice_index_or marks e false

@@ -1,6 +1,6 @@
 //! The events that a search wants in its schedule.
 ghost use Rattle.std.specs.Prelude.{◌≡◌, ◌<◌, length, IfOk, OnOk, IfSome, Some};
-ghost use Rattle.witness_search.specs.Searches.{end_of, joined_end, IsSought, AreFound, Adds, TellWanted};
+ghost use Rattle.witness_search.specs.Searches.{partner_of, IsSought, AreFound, Adds, TellWanted};
 
 use crate::events::event_at;
 use event_index::Indexed;
@@ -74,25 +74,26 @@ impl Wanted {
             (Adds (IsSought indexed.now.events event) self.old.events.items self.new.events.items) }
     {
         self.take_in(indexed.base(event))?;
-        self.take_in(indexed.last_writer(event))?;
-        self.take_in(indexed.section(event))?;
-        self.take_in(joined_end(indexed, event))?;
+        self.take_in(partner_of(indexed, event))?;
         Ok(())
     }
 }
 
-// The last event of the thread that the event joins, or else the fork of that thread. All other events of
-// the thread, and its fork, are asked for by this one and the bases before it.
-fn joined_end(indexed: &Indexed, event: u32) -> Option<u32>
+// The event that this one asks for by what it does: a read for the write that it sees, an acquire for the
+// release that ends its section, a join for the last event of the thread, or else its fork. The thread's other
+// events, and its fork, are asked for by that one and the bases before it.
+fn partner_of(indexed: &Indexed, event: u32) -> Option<u32>
     requires { event < length indexed.now.events }
-    ensures end { result ≡ joined_end indexed.now.events event }
+    ensures partner { result ≡ partner_of indexed.now.events event }
     ensures within { IfSome result (λ e. e < length indexed.now.events) }
 {
     match event_at(indexed, event).op {
+        Op::Read(_) => indexed.last_writer(event),
+        Op::Acquire(_) => indexed.section(event),
         Op::Join(thread) => {
             let last = indexed.thread_events(thread).last().copied();
             last.or(indexed.fork_of(thread))
         },
-        _ => None,
+        Op::Write(_) | Op::Release(_) | Op::Fork(_) => None,
     }
 }
