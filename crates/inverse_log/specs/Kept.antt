@@ -2,6 +2,7 @@
 -- module. `T` is the trace, `L` is the log.
 use Rattle.std.specs.Prelude.{◌≡◌, ℕ, List, [], ◌∷◌, ◌++◌, Option, Some, None, length, slice_get}
 use Rattle.rapid_text.specs.Recording.{Recording}
+use Rattle.trace_rules.specs.Rules.{IsDisciplined}
 use Rattle.moves.specs.declared.board.Proposal.{Proposal}
 use Rattle.moves.specs.declared.inverse.Step.{Step}
 use Rattle.moves.specs.declared.row.Row.{Row}
@@ -41,3 +42,4 @@ pub record IsBench (T : Recording) (L : List Entry) (W : Rows) (B : List Proposa
   pub listed : IsListed L N C
   pub legal : IsLegal T L
   pub counted : edits ≡ edits_of L
+  pub disciplined : IsDisciplined T.events

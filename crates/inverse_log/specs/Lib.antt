@@ -1,5 +1,7 @@
 pub mod Answer
+pub mod Headline
 pub mod Kept
 pub mod Log
+pub mod Next
 pub mod Pairs
 pub mod Touching

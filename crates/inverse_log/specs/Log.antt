@@ -1,6 +1,6 @@
 -- A log: which of its commands are live, and the board and the rows that it comes to. All notions here are
 -- this project's own. `T` is the trace, `L` is the log; entries are numbered from 0.
-use Rattle.std.specs.Prelude.{◌+◌, ◌==◌, ◌&&◌, ℕ, Bool, true, false, List, [], Option, Some, None, nat_lt, length, slice_get, drop, reverse, find, map, filter, filter_map, count_by, unwrap_or}
+use Rattle.std.specs.Prelude.{◌+◌, ◌==◌, ◌&&◌, ℕ, Bool, true, false, List, [], Option, Some, None, nat_lt, length, slice_get, drop, reverse, find, map, filter, filter_map, unwrap_or}
 use Rattle.std.specs.List.{list_any, range_with_len}
 use Rattle.rapid_text.specs.Recording.{Recording}
 use Rattle.moves.specs.declared.command.Command.{Command}
@@ -98,7 +98,7 @@ is_edit e = true
 
 -- how often a row was changed, put in, taken out or replaced: once for each entry that does or undoes
 abbrev pub edits_of : List Entry → ℕ
-edits_of L = count_by is_edit L
+edits_of L = length (filter is_edit L)
 
 -- the command of an entry that did one
 abbrev pub command_of : Option Entry → Option Command

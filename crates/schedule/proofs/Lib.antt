@@ -1,11 +1,16 @@
 pub mod CallerLemmas
 pub mod CountLemmas
+pub mod DepthLemmas
 pub mod EnabledLemmas
 pub mod ExchangeLemmas
 pub mod FaultLemmas
+pub mod LatestLemmas
 pub mod ListLemmas
 pub mod LockLemmas
 pub mod ShowLemmas
 pub mod SwapLemmas
+pub mod SwapTables
+pub mod TableLemmas
+pub mod TableReads
 pub mod TestLemmas
 pub mod ThreadLemmas

@@ -33,7 +33,7 @@ pub find-reverse_push : (p : ℕ → Bool) (xs : List ℕ) (e : ℕ) → find p 
 find-reverse_push p xs e = ap (find p) (reverse-append xs (e ∷ []))
 
 -- the thread took the lock last, or has released it as often as it took it
-abbrev TookLastOrFree : List Event → ℕ → List ℕ → Type 0
+abbrev pub TookLastOrFree : List Event → ℕ → List ℕ → Type 0
 TookLastOrFree T l P =
     (w : ℕ) → (last_taker T P l ≡ Some w) ⊎ (count_by (is_acquire_by T w l) P ≤ count_by (is_release_by T w l) P)
 
@@ -56,7 +56,7 @@ module _ (T : List Event) (l : ℕ) (xs : List ℕ) (e : ℕ) (v : Event) (found
       ∙ ap (is_acquire l) acquires
       ∙ eq-eqb l l refl
 
-  taker_is : last_taker T (xs ++ e ∷ []) l ≡ Some v.thread
+  pub taker_is : last_taker T (xs ++ e ∷ []) l ≡ Some v.thread
   taker_is =
       ap (option_and_then (thread_at T)) (find-reverse_push (is_acquire_at T l) xs e ∙ cond-true (is_acquire_at T l e) (Some e) (find (is_acquire_at T l) (reverse xs)) takes)
       ∙ ap (option_map (λ x. x.thread)) found
@@ -86,7 +86,7 @@ module _ (T : List Event) (l : ℕ) (xs : List ℕ) (e : ℕ) (v : Event) (found
 
 -- what is no acquire of the lock leaves the last one
 module _ (T : List Event) (l : ℕ) (xs : List ℕ) (e : ℕ) (other : is_acquire_at T l e ≡ false) where
-  taker_stays : last_taker T (xs ++ e ∷ []) l ≡ last_taker T xs l
+  pub taker_stays : last_taker T (xs ++ e ∷ []) l ≡ last_taker T xs l
   taker_stays =
       ap (option_and_then (thread_at T)) (find-reverse_push (is_acquire_at T l) xs e ∙ cond-false (is_acquire_at T l e) (Some e) (find (is_acquire_at T l) (reverse xs)) other)
 
@@ -113,7 +113,7 @@ took_last_step T l xs e so free =
       | inr other ↦ took_last_stays T l xs e other so
     ]
 
-took_last_or_free : (T : List Event) (P : List ℕ) (l : ℕ) → RespectsLocks T P → TookLastOrFree T l P
+pub took_last_or_free : (T : List Event) (P : List ℕ) (l : ℕ) → RespectsLocks T P → TookLastOrFree T l P
 took_last_or_free T P l locks =
     AtEach-grows (TookLastOrFree T l) (FindsLockFree T) P (λ w. inr (omega arith)) (λ xs e so free. took_last_step T l xs e so free) locks
 

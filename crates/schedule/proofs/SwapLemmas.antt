@@ -68,7 +68,7 @@ Allows-alike T P Q e alike a = record {
 }
 
 -- the front of a correct reordering is one
-front_is : (T : List Event) (P B : List ℕ) → IsCorrectReordering T (P ++ B) → IsCorrectReordering T P
+pub front_is : (T : List Event) (P B : List ℕ) → IsCorrectReordering T (P ++ B) → IsCorrectReordering T P
 front_is T P B is =
     let fits : length P ≤ length (P ++ B) = omega (arith, length-append P B) in
     subst (IsCorrectReordering T) (take_at P B (length P) refl) (IsCorrectReordering-take T (P ++ B) (length P) fits is)
@@ -253,7 +253,7 @@ module _ (T : List Event) (A : List ℕ) (a b : ℕ) (i : IsIndependent T a b) w
   }
 
 -- of two that do not both pass, the last that passes is the same in either order
-last_of_either : (p q : Bool) (a b : ℕ) (rest : Option ℕ) → (p ≡ true → q ≡ true → ⊥) → cond q (Some b) (cond p (Some a) rest) ≡ cond p (Some a) (cond q (Some b) rest)
+pub last_of_either : (p q : Bool) (a b : ℕ) (rest : Option ℕ) → (p ≡ true → q ≡ true → ⊥) → cond q (Some b) (cond p (Some a) rest) ≡ cond p (Some a) (cond q (Some b) rest)
 last_of_either true true a b rest never = absurd (never refl refl)
 last_of_either true false a b rest never = refl
 last_of_either false true a b rest never = refl

@@ -1,7 +1,9 @@
 pub mod Faults
+pub mod Keys
 pub mod Locks
 pub mod Refusals
 pub mod Reordering
 pub mod Scheduled
 pub mod Shows
 pub mod Swaps
+pub mod Tables

@@ -1,11 +1,10 @@
 //! Look-ups of events by number that answer also where a trace has no such event.
-ghost use Rattle.std.specs.Prelude.{◌≡◌, slice_get, IfSome};
+ghost use Rattle.std.specs.Prelude.{◌≡◌, ◌<◌, ◌≤◌, length, slice_get, IfSome, Some};
+ghost use Rattle.trace_rules.specs.Rules.{IsDisciplined};
 ghost use Rattle.rapid_text.specs.Recording.{IsNamed};
-ghost use Rattle.event_index.specs.Events.{is_of_thread, is_write_at};
-ghost use Rattle.schedule.specs.Locks.{is_acquire_at, is_acquire_by, is_release_by};
 
 use event_index::Indexed;
-use rapid_text::{Event, Op};
+use rapid_text::Event;
 
 /// The event with this number, or None where the trace has none.
 pub(crate) fn event_at(indexed: &Indexed, event: u32) -> Option<Event>
@@ -19,64 +18,14 @@ pub(crate) fn event_at(indexed: &Indexed, event: u32) -> Option<Event>
     }
 }
 
-/// Whether the event is one of the thread.
-pub(crate) fn is_of_thread(indexed: &Indexed, thread: u32, event: u32) -> bool
-    ensures { result ≡ is_of_thread indexed.now.events thread event }
+/// The event with this number.
+pub(crate) fn event_of(indexed: &Indexed, event: u32) -> Event
+    requires { event < length indexed.now.events }
+    ensures found { slice_get indexed.now.events event ≡ Some result }
+    ensures named { IsNamed indexed.now result }
+    ensures few { length indexed.now.events ≤ 65536 }
+    ensures disciplined { IsDisciplined indexed.now.events }
 {
-    match event_at(indexed, event) {
-        Some(found) => found.thread == thread,
-        None => false,
-    }
-}
-
-/// Whether the event writes the variable.
-pub(crate) fn is_write(indexed: &Indexed, variable: u32, event: u32) -> bool
-    ensures { result ≡ is_write_at indexed.now.events variable event }
-{
-    match event_at(indexed, event) {
-        Some(found) => match found.op {
-            Op::Write(written) => written == variable,
-            _ => false,
-        },
-        None => false,
-    }
-}
-
-/// Whether the event takes the lock.
-pub(crate) fn is_acquire(indexed: &Indexed, lock: u32, event: u32) -> bool
-    ensures { result ≡ is_acquire_at indexed.now.events lock event }
-{
-    match event_at(indexed, event) {
-        Some(found) => match found.op {
-            Op::Acquire(taken) => taken == lock,
-            _ => false,
-        },
-        None => false,
-    }
-}
-
-/// Whether the event takes the lock for the thread.
-pub(crate) fn is_acquire_by(indexed: &Indexed, thread: u32, lock: u32, event: u32) -> bool
-    ensures { result ≡ is_acquire_by indexed.now.events thread lock event }
-{
-    match event_at(indexed, event) {
-        Some(found) => match found.op {
-            Op::Acquire(taken) => found.thread == thread && taken == lock,
-            _ => false,
-        },
-        None => false,
-    }
-}
-
-/// Whether the event lets the lock go for the thread.
-pub(crate) fn is_release_by(indexed: &Indexed, thread: u32, lock: u32, event: u32) -> bool
-    ensures { result ≡ is_release_by indexed.now.events thread lock event }
-{
-    match event_at(indexed, event) {
-        Some(found) => match found.op {
-            Op::Release(freed) => found.thread == thread && freed == lock,
-            _ => false,
-        },
-        None => false,
-    }
+    let _len = indexed.len();
+    indexed.trace().raw().event(event)
 }

@@ -2,12 +2,18 @@
 #![tactic(auto)]
 
 mod events;
+#[cfg(test)]
+mod generated_tests;
+mod latest;
+mod reads;
 mod refusal;
 mod refusing;
-mod scans;
+#[cfg(test)]
+mod scanning;
 mod schedule;
 mod showing;
 mod swapping;
+mod tables;
 #[cfg(test)]
 mod tests;
 

@@ -6,6 +6,7 @@ ghost use Rattle.schedule.specs.Faults.{IsListRefusal};
 ghost use Rattle.schedule.specs.Refusals.{refusal_of, IsRefusalOf, NamesHolder};
 ghost use Rattle.schedule.specs.Reordering.{IsCorrectReordering, IsEnabled};
 ghost use Rattle.schedule.specs.Shows.{Shows, does_show};
+ghost use Rattle.schedule.specs.Tables.{AreTables};
 ghost use Rattle.schedule.specs.Swaps.{exchanged, swap_refusal, MayExchange};
 ghost use Rattle.schedule.specs.declared.refusal.PrefixRefusal.TheVariants.{TooShort};
 ghost use Rattle.schedule.specs.declared.refusal.SwapRefusal.TheVariants.{NoSuchPair};
@@ -14,6 +15,7 @@ use crate::refusal::{Disabled, ExtendRefusal, ListRefusal, PrefixRefusal, SwapRe
 use crate::refusing::refusal_of;
 use crate::showing::is_ready;
 use crate::swapping::swap_refusal;
+use crate::tables::{Tables, forget, no_tables, note, tables_of};
 use event_index::Indexed;
 use rapid_text::OutOfMemory;
 use std::alloc::Global;
@@ -25,6 +27,7 @@ use std::snapshot::Snapshot;
 pub struct Schedule {
     trace: Snapshot<Indexed>,
     events: Vec<u32>,
+    tables: Tables,
 }
 
 impl Model for Schedule {
@@ -35,6 +38,7 @@ impl Model for Schedule {
     ghost use Rattle.rapid_text.specs.Recording.{IsWellFormed};
     ghost use Rattle.trace_rules.specs.Rules.{IsDisciplined};
     ghost use Rattle.schedule.specs.Reordering.{IsCorrectReordering};
+    ghost use Rattle.schedule.specs.Tables.{AreTables};
 
     ghost view = { λ s. record {
       trace = s.trace.value;
@@ -42,7 +46,7 @@ impl Model for Schedule {
     } };
 
     ghost invariant = { λ s.
-        IsWellFormed s.trace.value × IsDisciplined s.trace.value.events × IsCorrectReordering s.trace.value.events s.events.items };
+        IsWellFormed s.trace.value × IsDisciplined s.trace.value.events × IsCorrectReordering s.trace.value.events s.events.items × AreTables s.trace.value.events s.events.items s.tables };
 }
 
 impl Schedule {
@@ -68,6 +72,7 @@ impl Schedule {
         Ok(Schedule {
             trace: Snapshot::of(indexed),
             events: Vec::new(alloc),
+            tables: no_tables(alloc, indexed),
         })
     }
 
@@ -81,11 +86,14 @@ impl Schedule {
         ensures trace { IfOk result (λ s. s.trace ≡ indexed.now) }
         ensures events { IfOk result (λ s. s.events ≡ events.items) }
     {
-        let _ = alloc;
         let _len = indexed.len();
+        let Ok(tables) = tables_of(alloc, indexed, &events) else {
+            return Err(OutOfMemory);
+        };
         Ok(Schedule {
             trace: Snapshot::of(indexed),
             events,
+            tables,
         })
     }
 
@@ -130,7 +138,7 @@ impl Schedule {
         ensures holder { IfErr result
             (NamesHolder self.now.trace.events self.now.events event) }
     {
-        match refusal_of(indexed, &self.events, event) {
+        match refusal_of(indexed, &self.tables, &self.events, event) {
             Some(cause) => Err(cause),
             None => Ok(()),
         }
@@ -148,13 +156,17 @@ impl Schedule {
         ensures refused { IfErr result
             (IsRefusalOf self.old.trace.events self.old.events event) }
     {
-        if let Some(cause) = refusal_of(indexed, &self.events, event) {
+        if let Some(cause) = refusal_of(indexed, &self.tables, &self.events, event) {
             return Err(ExtendRefusal::Disabled(cause));
         }
-        match self.events.push(event) {
-            Ok(()) => Ok(()),
-            Err(_) => Err(ExtendRefusal::OutOfMemory),
-        }
+        let Ok(()) = note(&mut self.tables, indexed, &self.events, event) else {
+            return Err(ExtendRefusal::OutOfMemory);
+        };
+        let Ok(()) = self.events.push(event) else {
+            forget(&mut self.tables, indexed, &self.events, event);
+            return Err(ExtendRefusal::OutOfMemory);
+        };
+        Ok(())
     }
 
     /// Takes the last event off and gives it, or gives None where the schedule has no events. It takes no
@@ -166,8 +178,11 @@ impl Schedule {
         ensures none { result ≡ None → self.new ≡ self.old }
         ensures empty { (result ≡ None) ↔ (self.old.events ≡ []) }
     {
-        let _ = indexed;
-        self.events.pop()
+        let Some(event) = self.events.pop() else {
+            return None;
+        };
+        forget(&mut self.tables, indexed, &self.events, event);
+        Some(event)
     }
 
     /// Whether the events at this place and the next may change places, or why they may not: what `swap`
@@ -208,6 +223,7 @@ impl Schedule {
         }
         let at = at as usize;
         self.events.swap(at, at + 1);
+        self.tables.shadows.swap(at, at + 1);
         Ok(())
     }
 
@@ -228,12 +244,17 @@ impl Schedule {
         if self.events.len() < len {
             return Err(PrefixRefusal::TooShort);
         }
-        let Ok(events) = Vec::from_slice(alloc, &self.events[..len]) else {
+        let front = &self.events[..len];
+        let Ok(events) = Vec::from_slice(alloc, front) else {
+            return Err(PrefixRefusal::OutOfMemory);
+        };
+        let Ok(tables) = tables_of(alloc, indexed, front) else {
             return Err(PrefixRefusal::OutOfMemory);
         };
         Ok(Schedule {
             trace: Snapshot::of(indexed),
             events,
+            tables,
         })
     }
 
@@ -254,6 +275,7 @@ impl Schedule {
         if !indexed.conflict(first, second) {
             return false;
         }
-        is_ready(indexed, &self.events, first) && is_ready(indexed, &self.events, second)
+        is_ready(indexed, &self.tables, &self.events, first)
+            && is_ready(indexed, &self.tables, &self.events, second)
     }
 }

@@ -2,8 +2,17 @@ use Rattle.std.proofs.Common.{◌≡◌, ◌≤◌, length, take, sym, subst, ru
 use Rattle.rapid_text.specs.Recording.{IsWellFormed}
 use Rattle.trace_rules.specs.Rules.{IsDisciplined}
 use Rattle.schedule.specs.Reordering.{IsCorrectReordering}
+use Rattle.schedule.specs.Tables.{AreTables}
 use Rattle.schedule.proofs.CallerLemmas.{IsCorrectReordering-take}
 use Rattle.schedule.proofs.schedule.Schedule.prefix.Goals as goal
+
+pub tables_of-requires : goal.tables_of-requires
+tables_of-requires c =
+    let T = c.args.indexed.now.events in
+    let P = c.deref.result.now in
+    let is : IsCorrectReordering T P = search rules in
+    let fits : c.args.len ≤ length P = search rules in
+    IsCorrectReordering-take T P c.args.len fits is
 
 pub invariant_of-result : goal.invariant_of-result
 invariant_of-result c =
@@ -17,4 +26,6 @@ invariant_of-result c =
       subst IsWellFormed same c.self.invariant.0,
       subst (λ r. IsDisciplined r.events) same c.self.invariant.1,
       subst (λ r. IsCorrectReordering r.events c.in-Ok.events.items) same is,
+      subst (λ r. AreTables r.events c.in-Ok.events.items c.in-Ok-tables_of.tables) (sym c.of.ensures)
+          (subst (λ l. AreTables c.args.indexed.now.events l c.in-Ok-tables_of.tables) (sym c.in-Ok.ensures.items) c.in-Ok-tables_of.ensures),
     )

@@ -1,0 +1,8 @@
+-- A bench by its fields.
+use Rattle.std.specs.Arc.{arc_value}
+use Rattle.inverse_log.specs.declared.bench.Bench.TheInside.{Inside}
+use Rattle.inverse_log.specs.Kept.{IsBench}
+
+-- its invariant
+abbrev pub Keeps : Inside → Type 0
+Keeps s = IsBench (arc_value s.indexed) s.log.items s.workspace s.board s.steps.items s.touches s.clients s.edits

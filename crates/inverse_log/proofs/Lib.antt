@@ -1,0 +1,13 @@
+pub mod CallerLemmas
+pub mod DirectLemmas
+pub mod DoLemmas
+pub mod HeadLemmas
+pub mod Inner
+pub mod KeptLemmas
+pub mod LawLemmas
+pub mod LiveLemmas
+pub mod OtherLemmas
+pub mod PairLemmas
+pub mod SoundLemmas
+pub mod TouchingLemmas
+pub mod UndoneLemmas

@@ -1,0 +1,116 @@
+use Rattle.std.proofs.Common.{◌≡◌, true, ◌<◌, ◌∙◌, ◌++◌, ◌∷◌, [], Ok, Err, ap, subst, refl, arith, length}
+use Rattle.dependence.specs.Lists.{of_client}
+use Rattle.moves.proofs.CallerLemmas.{refused_same}
+use Rattle.inverse_log.specs.declared.call.Call.TheVariants.{Do}
+use Rattle.inverse_log.specs.declared.entry.Entry.TheVariants.{Did}
+use Rattle.inverse_log.specs.declared.refusal.Refusal.TheVariants.{Move}
+use Rattle.inverse_log.specs.declared.reply.Reply.TheVariants.{Done}
+use Rattle.inverse_log.specs.Answer.{may_want, answer_of, log_after}
+use Rattle.inverse_log.specs.Log.{Benched}
+use Rattle.inverse_log.proofs.DoLemmas.{after_ok, bench_same, names_below, clients_below, left_same, of_trace, board_is_of, edits_few, do_refused, do_accepted, do_answer, did_bench}
+use Rattle.inverse_log.proofs.KeptLemmas.{stays_below}
+use Rattle.inverse_log.proofs.bench.Bench.perform.Goals as goal
+
+pub check-requires : goal.check-requires
+check-requires c = of_trace c.self.inside c.self.invariant c.deref.result.now c.deref.ensures
+
+pub returns-in-Err-clause-call : goal.returns-in-Err-clause-call
+returns-in-Err-clause-call c =
+    let s = c.self.inside in
+    let number : c.len-number.result ≡ length s.log.items = omega (arith, c.len-number.ensures) in
+    let room : c.len-number.result < 1000000 = omega arith in (
+      subst (λ (v : Benched). answer_of v.trace v.log c.args.client (Do c.args.command.now) ≡ Err (Move c.in-Err.why)) c.self.view_is
+          (do_refused s c.self.invariant c.deref.result.now c.len-number.result c.args.client c.args.command.now c.in-Err.why c.deref.ensures number room c.in-Err.ensures),
+      refl,
+    )
+
+pub returns-in_default-make_room-clause-call : goal.returns-in_default-make_room-clause-call
+returns-in_default-make_room-clause-call c =
+    let s = c.self.inside in
+    let number : c.len-number.result ≡ length s.log.items = omega (arith, c.len-number.ensures) in
+    let room : c.len-number.result < 1000000 = omega arith in (
+      subst (λ (v : Benched). may_want (answer_of v.trace v.log c.args.client (Do c.args.command.now)) ≡ true) c.self.view_is
+          (do_accepted s c.self.invariant c.deref.result.now c.len-number.result c.args.client c.args.command.now c.deref.ensures number room c.in_default.ensures),
+      c.in_default-make_room.ensures.log ∙ ap (λ (v : Benched). v.log) c.self.view_is,
+    )
+
+pub enter-requires-clause-names : goal.enter-requires-clause-names
+enter-requires-clause-names c = names_below c.self.inside c.self.invariant c.len-number.result (omega (arith, c.len-number.ensures))
+
+pub enter-requires-clause-clients : goal.enter-requires-clause-clients
+enter-requires-clause-clients c = clients_below c.self.inside c.self.invariant c.len-number.result c.args.client (omega (arith, c.len-number.ensures))
+
+pub invariant_of-self-in_default-enter : goal.invariant_of-self-in_default-enter
+invariant_of-self-in_default-enter c =
+    let s = c.self.inside in
+    let same = c.in_default-enter.ensures.err in
+    bench_same s c.self.invariant c.make_room.new.log.items s.workspace c.make_room.new.steps.items c.enter.new.touches c.enter.new.clients s.edits c.in-Ok.ensures.log refl c.in-Ok.ensures.steps same.0 (λ a. ap (λ X. of_client X a) same.1) refl
+
+pub returns-in_default-enter-clause-call : goal.returns-in_default-enter-clause-call
+returns-in_default-enter-clause-call c =
+    let s = c.self.inside in
+    let number : c.len-number.result ≡ length s.log.items = omega (arith, c.len-number.ensures) in
+    let room : c.len-number.result < 1000000 = omega arith in (
+      subst (λ (v : Benched). may_want (answer_of v.trace v.log c.args.client (Do c.args.command.now)) ≡ true) c.self.view_is
+          (do_accepted s c.self.invariant c.deref.result.now c.len-number.result c.args.client c.args.command.now c.deref.ensures number room c.in_default.ensures),
+      c.in-Ok.ensures.log ∙ ap (λ (v : Benched). v.log) c.self.view_is,
+    )
+
+pub apply-requires-clause-of_trace : goal.apply-requires-clause-of_trace
+apply-requires-clause-of_trace c = of_trace c.self.inside c.self.invariant c.deref-2.result.now c.deref-2.ensures
+
+pub apply-requires-clause-board : goal.apply-requires-clause-board
+apply-requires-clause-board c = board_is_of c.self.inside c.self.invariant c.deref-2.result.now c.deref-2.ensures
+
+pub apply-requires-clause-late : goal.apply-requires-clause-late
+apply-requires-clause-late c =
+    let s = c.self.inside in
+    stays_below _ s.log.items s.workspace s.board s.steps.items c.self.invariant.kept c.len-number.result (omega (arith, c.len-number.ensures))
+
+pub apply-requires-clause-few : goal.apply-requires-clause-few
+apply-requires-clause-few c =
+    let s = c.self.inside in
+    let number : c.len-number.result ≡ length s.log.items = omega (arith, c.len-number.ensures) in
+    let room : c.len-number.result < 1000000 = omega arith in
+    edits_few s c.self.invariant c.len-number.result number room
+
+pub invariant_of-self-in_default-apply : goal.invariant_of-self-in_default-apply
+invariant_of-self-in_default-apply c =
+    let s = c.self.inside in
+    let number : c.len-number.result ≡ length s.log.items = omega (arith, c.len-number.ensures) in
+    let entered = c.in-Ok-enter.ensures.ok in
+    let same = left_same s c.self.invariant c.len-number.result c.args.client c.args.command.now c.enter.new.touches c.leave.new.touches c.enter.new.clients c.leave.new.clients number entered.0 entered.1 c.leave.ensures.names c.leave.ensures.clients in
+    let rows = refused_same c.deref-2.result.now s.board c.len-number.result c.args.command.now s.workspace c.apply.new.workspace c.in_default-apply.field-0 c.in_default-apply.ensures.applied in
+    bench_same s c.self.invariant c.make_room.new.log.items c.apply.new.workspace c.make_room.new.steps.items c.leave.new.touches c.leave.new.clients c.apply.new.edits
+    c.in-Ok.ensures.log rows c.in-Ok.ensures.steps same.0 same.1 c.in_default-apply.ensures.same
+
+pub returns-in_default-apply-clause-call : goal.returns-in_default-apply-clause-call
+returns-in_default-apply-clause-call c =
+    let s = c.self.inside in
+    let number : c.len-number.result ≡ length s.log.items = omega (arith, c.len-number.ensures) in
+    let room : c.len-number.result < 1000000 = omega arith in (
+      subst (λ (v : Benched). may_want (answer_of v.trace v.log c.args.client (Do c.args.command.now)) ≡ true) c.self.view_is
+          (do_accepted s c.self.invariant c.deref.result.now c.len-number.result c.args.client c.args.command.now c.deref.ensures number room c.in_default.ensures),
+      c.in-Ok.ensures.log ∙ ap (λ (v : Benched). v.log) c.self.view_is,
+    )
+
+pub invariant_of-self-2 : goal.invariant_of-self-2
+invariant_of-self-2 c =
+    let s = c.self.inside in
+    let number : c.len-number.result ≡ length s.log.items = omega (arith, c.len-number.ensures) in
+    let room : c.len-number.result < 1000000 = omega arith in
+    let entered = c.in-Ok-enter.ensures.ok in
+    did_bench s c.self.invariant c.add_entry.new.log.items c.deref-2.result.now c.len-number.result c.args.client c.args.command.now c.apply.new.workspace c.in-Ok-apply.inverse c.add_step.new.steps.items c.enter.new.touches c.enter.new.clients c.apply.new.edits
+    c.deref-2.ensures number room c.in-Ok-apply.ensures.applied (rw (c.in-Ok.ensures.steps) at c.add_step.ensures) (rw (c.in-Ok.ensures.log) at c.add_entry.ensures) entered.0 entered.1 c.in-Ok-apply.ensures.counted c.requires.low c.requires.high
+
+pub returns-clause-call : goal.returns-clause-call
+returns-clause-call c =
+    let s = c.self.inside in
+    let number : c.len-number.result ≡ length s.log.items = omega (arith, c.len-number.ensures) in
+    let room : c.len-number.result < 1000000 = omega arith in
+    let answer = do_answer s c.self.invariant c.deref-2.result.now c.len-number.result c.args.client c.args.command.now c.apply.new.workspace c.in-Ok-apply.inverse c.deref-2.ensures number room c.in-Ok-apply.ensures.applied in
+    let log : c.add_entry.new.log.items ≡ s.log.items ++ Did c.args.client c.args.command.now ∷ [] = rw (c.in-Ok.ensures.log) at c.add_entry.ensures in (
+      subst (λ (v : Benched). answer_of v.trace v.log c.args.client (Do c.args.command.now) ≡ Ok (Done c.len-number.result)) c.self.view_is answer,
+      subst (λ (v : Benched). c.add_entry.new.log.items ≡ log_after v.trace v.log c.args.client (Do c.args.command.now)) c.self.view_is
+          (after_ok _ s.log.items c.add_entry.new.log.items c.args.client (Do c.args.command.now) (Done c.len-number.result) answer log),
+    )

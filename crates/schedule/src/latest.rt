@@ -1,0 +1,157 @@
+//! The latest event of each variable and lock.
+ghost use Rattle.std.specs.Prelude.{◌≡◌, ◌≤◌, OnOk, OnErr, if◌then◌else◌};
+ghost use Rattle.std.specs.HashMap.{get};
+ghost use Rattle.schedule.specs.Keys.{key_eq};
+ghost use Rattle.schedule.specs.Tables.{event_of, depth_of, covered, lowered, raised, uncovered, stepped, stepped_back, shadow_of_op};
+ghost use Rattle.schedule.specs.declared.latest.Key.{Key};
+
+use rapid_text::Op;
+use std::alloc::AllocError;
+use std::collections::HashMap;
+
+/// What events set: a variable by writes, a lock by acquires.
+#[derive(Clone, Copy, Hash)]
+pub(crate) enum Key {
+    Variable(u32),
+    Lock(u32),
+}
+
+impl PartialEq for Key {
+    ghost use Rattle.std.specs.Cmp.{partial_equiv_from_equiv};
+    ghost use Rattle.schedule.specs.Keys.{key_eq, key_eq_equiv};
+
+    ghost eq = { key_eq };
+
+    ghost laws = { partial_equiv_from_equiv key_eq_equiv };
+
+    fn eq(&self, other: &Key) -> bool {
+        match (*self, *other) {
+            (Key::Variable(one), Key::Variable(other)) | (Key::Lock(one), Key::Lock(other)) => {
+                one == other
+            },
+            _ => false,
+        }
+    }
+}
+
+impl Eq for Key {
+    ghost use Rattle.schedule.specs.Keys.{key_eq_equiv};
+
+    ghost laws = { key_eq_equiv };
+}
+
+/// The last event that set a key, and how much oftener the key was set than freed.
+#[derive(Clone, Copy)]
+pub(crate) struct Latest {
+    pub(crate) event: u32,
+    pub(crate) depth: u32,
+}
+
+/// What is kept of the variables and locks that a list's events set.
+pub(crate) type LatestTable = HashMap<Key, Latest>;
+
+/// The last event that set the key.
+pub(crate) fn latest_event(latest: &LatestTable, key: Key) -> Option<u32>
+    ensures { result ≡ event_of (get key_eq latest.now key) }
+{
+    match latest.get(&key) {
+        Some(kept) => Some(kept.event),
+        None => None,
+    }
+}
+
+/// What the operation will shadow.
+pub(crate) fn shadow_of(latest: &LatestTable, op: Op) -> Option<u32>
+    ensures { result ≡ shadow_of_op (λ q. event_of (get key_eq latest.now q)) op }
+{
+    match op {
+        Op::Write(variable) => latest_event(latest, Key::Variable(variable)),
+        Op::Acquire(lock) => latest_event(latest, Key::Lock(lock)),
+        Op::Read(_) | Op::Release(_) | Op::Fork(_) | Op::Join(_) => None,
+    }
+}
+
+fn cover(latest: &mut LatestTable, key: Key, event: u32) -> Result<(), AllocError>
+    requires { (q : Key) → depth_of (get key_eq latest.old q) ≤ 65536 }
+    ensures ok { OnOk result ((q : Key) → get key_eq latest.new q
+        ≡ (if key_eq key q then covered event (get key_eq latest.old key) else get key_eq latest.old q)) }
+    ensures err { OnErr result ((q : Key) → get key_eq latest.new q ≡ get key_eq latest.old q) }
+{
+    let depth = match latest.get(&key) {
+        Some(kept) => kept.depth,
+        None => 0,
+    };
+    let kept = Latest {
+        event,
+        depth: depth + 1,
+    };
+    let Ok(_) = latest.insert(key, kept) else {
+        return Err(AllocError);
+    };
+    Ok(())
+}
+
+fn lower(latest: &mut LatestTable, key: Key)
+    ensures { (q : Key) → get key_eq latest.new q
+        ≡ (if key_eq key q then lowered (get key_eq latest.old key) else get key_eq latest.old q) }
+{
+    if let Some(kept) = latest.get_mut(&key) {
+        kept.depth = kept.depth.saturating_sub(1);
+    }
+}
+
+fn raise(latest: &mut LatestTable, key: Key)
+    requires { (q : Key) → depth_of (get key_eq latest.old q) ≤ 65536 }
+    ensures { (q : Key) → get key_eq latest.new q
+        ≡ (if key_eq key q then raised (get key_eq latest.old key) else get key_eq latest.old q) }
+{
+    if let Some(kept) = latest.get_mut(&key) {
+        kept.depth += 1;
+    }
+}
+
+fn uncover(latest: &mut LatestTable, key: Key, shadow: Option<u32>)
+    ensures { (q : Key) → get key_eq latest.new q
+        ≡ (if key_eq key q then uncovered shadow (get key_eq latest.old key) else get key_eq latest.old q) }
+{
+    let Some(event) = shadow else {
+        let _ = latest.remove(&key);
+        return;
+    };
+    if let Some(kept) = latest.get_mut(&key) {
+        *kept = Latest {
+            event,
+            depth: kept.depth.saturating_sub(1),
+        };
+    }
+}
+
+/// Sets or frees the key of the operation.
+pub(crate) fn step(latest: &mut LatestTable, op: Op, event: u32) -> Result<(), AllocError>
+    requires { (q : Key) → depth_of (get key_eq latest.old q) ≤ 65536 }
+    ensures ok { OnOk result ((q : Key) → get key_eq latest.new q ≡ stepped op event q (get key_eq latest.old q)) }
+    ensures err { OnErr result ((q : Key) → get key_eq latest.new q ≡ get key_eq latest.old q) }
+{
+    match op {
+        Op::Write(variable) => cover(latest, Key::Variable(variable), event),
+        Op::Acquire(lock) => cover(latest, Key::Lock(lock), event),
+        Op::Release(lock) => {
+            lower(latest, Key::Lock(lock));
+            Ok(())
+        }
+        Op::Read(_) | Op::Fork(_) | Op::Join(_) => Ok(()),
+    }
+}
+
+/// Takes back what the operation did, where it shadows this event.
+pub(crate) fn step_back(latest: &mut LatestTable, op: Op, shadow: Option<u32>)
+    requires { (q : Key) → depth_of (get key_eq latest.old q) ≤ 65536 }
+    ensures { (q : Key) → get key_eq latest.new q ≡ stepped_back op shadow q (get key_eq latest.old q) }
+{
+    match op {
+        Op::Write(variable) => uncover(latest, Key::Variable(variable), shadow),
+        Op::Acquire(lock) => uncover(latest, Key::Lock(lock), shadow),
+        Op::Release(lock) => raise(latest, Key::Lock(lock)),
+        Op::Read(_) | Op::Fork(_) | Op::Join(_) => {}
+    }
+}
