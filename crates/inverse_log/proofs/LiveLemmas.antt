@@ -72,7 +72,7 @@ kept_filter f g q [] all = refl
 kept_filter f g q (k ∷ ks) all =
     cons_kept q (g k) (f k) (filter_map g ks) (filter_map f ks) (All-head (λ k. g k ≡ passed q (f k)) k ks all) (kept_filter f g q ks (All-tail (λ k. g k ≡ passed q (f k)) k ks all))
 
-range_push : (a n b : ℕ) → a + n ≡ b → range_with_len a (suc n) ≡ range_with_len a n ++ b ∷ []
+pub range_push : (a n b : ℕ) → a + n ≡ b → range_with_len a (suc n) ≡ range_with_len a n ++ b ∷ []
 range_push a zero b h = let i : a ≡ b = omega arith in ap (λ x. x ∷ []) i
 range_push a (suc n) b h = ap (λ xs. a ∷ xs) (range_push (a + 1) n b (omega arith))
 

@@ -1,5 +1,5 @@
 -- The other calls: a proposal, and the looks, which change nothing.
-use Rattle.std.proofs.Common.{◌≡◌, false, true, inr, inl, ℕ, ◌<◌, ◌≤◌, List, [], ◌∷◌, ◌++◌, Option, Some, None, Ok, Err, length, filter, sym, ap, ◌∙◌, subst, refl, arith}
+use Rattle.std.proofs.Common.{◌≡◌, false, true, inr, inl, ℕ, Bool, ◌<◌, ◌≤◌, List, [], ◌∷◌, ◌++◌, Option, Some, None, Ok, Err, length, filter, sym, ap, ◌∙◌, subst, refl, arith}
 use Rattle.std.specs.Arc.{arc_value}
 use Rattle.std.specs.Option.{option_map, IfSome}
 use Rattle.std.specs.Str.{bytes_eq}
@@ -49,6 +49,10 @@ may_propose T L a b P None = elim (cases_Bool (does_show T.events P a b)) [ inl 
 seen_row : (look : Row → Reply) (s : Scheduled) (o : Option Row) → option_map (λ (r : Row). r.schedule) o ≡ Some s → (r : Row) × (seen_or look o ≡ Ok (look r)) × (r.schedule ≡ s)
 seen_row look s None h = absurd cc
 seen_row look s (Some r) h = let e : Some r.schedule ≡ Some s = h in (r, refl, cc)
+
+-- what a schedule of these events shows
+pub shown_as : (J : Recording) (s : Scheduled) (P : List ℕ) (x y : ℕ) (r : Bool) → s.trace ≡ J → s.events ≡ P → r ≡ does_show s.trace.events s.events x y → does_show J.events P x y ≡ r
+shown_as J s P x y r trace events test = ap (λ (X : Recording). does_show X.events P x y) (sym trace) ∙ ap (λ Q. does_show s.trace.events Q x y) (sym events) ∙ sym test
 
 module _ (own : Inside) (b : Keeps own) where
   abbrev T : Recording

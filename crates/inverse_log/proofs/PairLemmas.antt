@@ -1,8 +1,9 @@
 -- Only the next events of threads are in pairs that a schedule shows.
-use Rattle.std.proofs.Common.{◌≡◌, ◌≢◌, inl, inr, ℕ, ◌+◌, ◌<◌, Bool, true, false, eqb, cond, ◌&&◌, List, [], ◌∷◌, ◌++◌, Option, Some, None, length, take, filter, map, count_by, get_or, set, slice_get, refl, sym, ap, ◌∙◌, subst, arith, length-set}
+use Rattle.std.proofs.Common.{◌≡◌, ◌≢◌, inl, inr, ℕ, suc, ◌+◌, ◌<◌, Bool, true, false, eqb, cond, ◌&&◌, List, [], ◌∷◌, ◌++◌, Option, Some, None, length, take, filter, map, count_by, get_or, set, slice_get, refl, sym, ap, ◌∙◌, subst, arith, length-set}
 use Rattle.std.proofs.lemmas.Bool.{cases_Bool, and_parts, eq-eqb, eqb-true, false≢true}
 use Rattle.std.proofs.lemmas.Bool.Decides.{eqb_tells}
-use Rattle.std.proofs.lemmas.List.{get_or-set_same, get_or-set_other}
+use Rattle.std.specs.List.{range_with_len}
+use Rattle.std.proofs.lemmas.List.{get_or-set_same, get_or-set_other, append-nil}
 use Rattle.std.proofs.lemmas.List.Elements.{filter-append}
 use Rattle.std.proofs.lemmas.List.Sums.{count_by_more_yes, count_by_more_no}
 use Rattle.rapid_text.specs.declared.event.Event.{Event}
@@ -14,6 +15,22 @@ use Rattle.schedule.specs.Refusals.{same_option, next_of, is_forked}
 use Rattle.schedule.specs.Shows.{ready_by, is_ready, does_show}
 use Rattle.inverse_log.specs.Next.{next_by, is_next, AreCounts}
 use Rattle.inverse_log.specs.Pairs.{pairs_of, shown_pairs}
+use Rattle.inverse_log.proofs.LiveLemmas.{range_push}
+
+-- the numbers below k + 1 that pass a test
+module _ (p : ℕ → Bool) (k : ℕ) where
+  before_more : before (k + 1) ≡ before k ++ k ∷ []
+  before_more = let e : k + 1 ≡ suc k = omega arith in ap (range_with_len 0) e ∙ range_push 0 k k (omega arith)
+
+  pub passed_more : p k ≡ true → filter p (before (k + 1)) ≡ filter p (before k) ++ k ∷ []
+  passed_more h =
+      let one : filter p (k ∷ []) ≡ k ∷ [] = rw h refl in
+      ap (filter p) before_more ∙ filter-append p (before k) (k ∷ []) ∙ ap (λ xs. filter p (before k) ++ xs) one
+
+  pub failed_more : p k ≡ false → filter p (before (k + 1)) ≡ filter p (before k)
+  failed_more h =
+      let none : filter p (k ∷ []) ≡ [] = rw h refl in
+      ap (filter p) before_more ∙ filter-append p (before k) (k ∷ []) ∙ ap (λ xs. filter p (before k) ++ xs) none ∙ append-nil (filter p (before k))
 
 module _ (q : ℕ × ℕ → Bool) (r : ℕ → Bool) (only : (a b : ℕ) → q (a, b) ≡ true → (r a ≡ true) × (r b ≡ true)) where
   fails : (a b : ℕ) → ((r a ≡ true) × (r b ≡ true) → ⊥) → q (a, b) ≡ false

@@ -1,9 +1,10 @@
 //! The bench: a workspace and its board, and the log of what clients did to them.
-ghost use Rattle.std.specs.Prelude.{◌≡◌, ◌<◌, ◌≤◌, ◌++◌, ◌∷◌, [], length, slice_get, Some, OnOk, OnErr, IfOk, IfErr};
+ghost use Rattle.std.specs.Prelude.{◌≡◌, ◌<◌, ◌≤◌, ◌++◌, ◌∷◌, [], All, length, slice_get, Some, OnOk, OnErr, IfOk, IfErr};
 ghost use Rattle.std.specs.Arc.{arc_value};
 ghost use Rattle.inverse_log.specs.Answer.{Called, IsLegal};
 ghost use Rattle.inverse_log.specs.Kept.{IsUnblocked};
-ghost use Rattle.inverse_log.specs.Log.{live, edits_of};
+ghost use Rattle.inverse_log.specs.Headline.{IsFoldOfLive, IsSound};
+ghost use Rattle.inverse_log.specs.Log.{live, board_of, edits_of};
 
 use crate::call::Call;
 use crate::entry::Entry;
@@ -78,6 +79,7 @@ impl Bench {
         ensures log { IfOk result (λ b. b.log ≡ []) }
         ensures returned { IfErr result (λ refused. arc_value refused.0 ≡ arc_value indexed) }
     {
+        let _ = indexed.len();
         let Ok(workspace) = Workspace::keyed(alloc, hashers) else {
             return Err((indexed, OutOfMemory));
         };
@@ -130,6 +132,21 @@ impl Bench {
         ensures { result ≡ edits_of self.now.log }
     {
         self.edits
+    }
+
+    /// The workspace: what the commands that were not undone make of the empty one, in their order.
+    pub fn workspace(&self) -> &Workspace
+        ensures { IsFoldOfLive self.now.trace self.now.log result.now }
+    {
+        &self.workspace
+    }
+
+    /// The proposals, in the order in which they came.
+    pub fn board(&self) -> &Board
+        ensures board { result.now ≡ board_of self.now.trace self.now.log }
+        ensures sound { All (IsSound self.now.trace) result.now }
+    {
+        &self.board
     }
 
     /// Makes a client's call.

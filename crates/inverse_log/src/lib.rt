@@ -4,6 +4,7 @@
 mod bench;
 mod call;
 mod entry;
+pub mod headline;
 mod parts;
 mod races;
 mod refusal;

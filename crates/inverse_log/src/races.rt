@@ -77,6 +77,7 @@ fn count(counts: &mut Vec<u32>, indexed: &Indexed, events: &[u32], at: usize)
 }
 
 // The events that are each the next of their thread after the list, rising.
+#[tactic(auto, using(crate::proofs::PairLemmas::passed_more, crate::proofs::PairLemmas::failed_more))]
 fn next_events(
     alloc: Global,
     indexed: &Indexed,

@@ -1,0 +1,139 @@
+-- The laws of specs/Headline.antt.
+use Rattle.std.proofs.Common.{◌≡◌, ◌≢◌, ◌↔◌, inl, inr, ℕ, zero, suc, ◌+◌, ◌<◌, ◌≤◌, Bool, true, false, ltb, ◌&&◌, List, [], ◌∷◌, ◌++◌, Option, Some, None, Result, Ok, Err, All, Contains, length, find, slice_get, refl, sym, ap, ◌∙◌, subst, arith}
+use Rattle.std.proofs.lemmas.Bool.{cases_Bool, and_parts, and_from, lt-ltb, ltb-true, false≢true}
+use Rattle.std.proofs.lemmas.List.Elements.{All-nil, All-cons, All-head, All-tail, All-weaker}
+use Rattle.rapid_text.specs.Recording.{Recording}
+use Rattle.trace_rules.specs.Rules.{IsDisciplined}
+use Rattle.moves.specs.declared.board.Proposal.{Proposal}
+use Rattle.moves.specs.declared.command.Command.{Command}
+use Rattle.moves.specs.declared.refusal.MoveRefusal.{MoveRefusal}
+use Rattle.moves.specs.declared.row.Row.{Row}
+use Rattle.moves.specs.Commands.{writes, reads, touches}
+use Rattle.moves.specs.Fold.{Rises}
+use Rattle.moves.specs.Moves.{made_at, applied, put_made}
+use Rattle.moves.specs.Rows.{Rows, row_of}
+use Rattle.moves.proofs.CallerLemmas.{applied_parts, made_longer, plain_end, plain_nil, Nothing}
+use Rattle.inverse_log.specs.declared.call.Call.TheVariants.{Undo}
+use Rattle.inverse_log.specs.declared.entry.Entry.{Entry}
+use Rattle.inverse_log.specs.declared.refusal.Refusal.{Refusal}
+use Rattle.inverse_log.specs.declared.refusal.Refusal.TheVariants.{RestsOn}
+use Rattle.inverse_log.specs.declared.reply.Reply.{Reply}
+use Rattle.inverse_log.specs.declared.reply.Reply.TheVariants.{Undone}
+use Rattle.inverse_log.specs.Answer.{answer_of, undo_or, undone_or, IsLegal}
+use Rattle.inverse_log.specs.Headline.{IsFoldOfLive, IsSound, RowsAreTheFold, Blocks, IsLeastBlocker, UndoIsRefusedExactly, UndoDirectlyRestores, OneClientIsNeverBlocked, LongerBoardsAcceptTheSame}
+use Rattle.inverse_log.specs.Log.{Live, steps_of, live_of, board_of, rows_of, last_live, blocks, blocker_of}
+use Rattle.inverse_log.proofs.CallerLemmas.{undo_directly, undo_restores, never_rests}
+use Rattle.inverse_log.proofs.LawLemmas.{legal_has, legal_fold}
+use Rattle.inverse_log.proofs.LiveLemmas.{find_none, rises_live, rises_above}
+use Rattle.inverse_log.proofs.SoundLemmas as sound
+
+pub fold_law : RowsAreTheFold
+fold_law T L rules legal = (
+  record {
+    fold = legal_fold T L legal;
+    listing = (plain_end T (board_of T L) Nothing (steps_of (live_of L)) [] (rows_of T L) 0 (length L) plain_nil (rises_live L) (legal_has T L legal)).listing;
+    reorderings = sound.legal_kept T rules L legal;
+  },
+  boards (board_of T L) (sound.board_of_trace T L) (sound.legal_sound T rules L legal),
+)
+  where
+    boards : (B : List Proposal) → All (λ (p : Proposal). p.schedule.trace ≡ T) B → All (sound.IsSound T rules) B → All (IsSound T) B
+    boards [] of all = All-nil (IsSound T)
+    boards (p ∷ B) of all =
+        let s = All-head (sound.IsSound T rules) p B all in
+        All-cons (IsSound T) p B (record { trace = All-head (λ (p : Proposal). p.schedule.trace ≡ T) p B of; reordering = s.reordering; shows = s.shows })
+        (boards B (All-tail (λ (p : Proposal). p.schedule.trace ≡ T) p B of) (All-tail (sound.IsSound T rules) p B all))
+
+pub directly_law : UndoDirectlyRestores
+directly_law T L M c n d low high legal called room = (undo_directly T L M c n d called room, undo_restores T L M _ c n d low high legal called room refl)
+
+pub alone_law : OneClientIsNeverBlocked
+alone_law T L c k x alone = never_rests T L c alone k x
+
+pub longer_law : LongerBoardsAcceptTheSame
+longer_law T B C n d W V h =
+    let parts = applied_parts T B n d W V h in
+    let o : Option Row = parts.0 in
+    let more : made_at T (B ++ C) n d W ≡ Ok o = made_longer T B C n d (row_of W (writes d)) (row_of W (reads d)) o parts.1 in
+    ap (put_made W (writes d)) more ∙ ap Ok parts.2
+
+-- the first that passes a test, of live commands whose numbers rise, is the least that does
+All-at : (P : Live → Type 0) (E : List Live) (b : Live) → All P E → Contains E b → P b
+All-at P E b all there = subst P there.2 (all there.0 b there.1)
+
+first_least : (q : Live → Bool) (E : List Live) (low high : ℕ) (b : Live) → Rises low (steps_of E) high → find q E ≡ Some b → Contains E b × (q b ≡ true) × All (λ (d : Live). q d ≡ true → b.number ≤ d.number) E
+first_least q [] low high b r h = absurd cc
+first_least q (x ∷ E) low high b r h = elim (cases_Bool (q x)) [
+  | inl t ↦
+      let found : Some x ≡ Some b = rw t at h in
+      let same : x ≡ b = cc in
+      subst (λ (z : Live). Contains (x ∷ E) z × (q z ≡ true) × All (λ (d : Live). q d ≡ true → z.number ≤ d.number) (x ∷ E)) same (
+        (0, omega arith, refl),
+        t,
+        All-cons (λ (d : Live). q d ≡ true → x.number ≤ d.number) x E (λ _. omega arith)
+        (All-weaker (λ (d : Live). x.number + 1 ≤ d.number) (λ (d : Live). q d ≡ true → x.number ≤ d.number) (λ d up _. omega arith) E (rises_above E (x.number + 1) high r.1)),
+      )
+  | inr f ↦
+      let rest = first_least q E (x.number + 1) high b r.1 (rw f at h) in (
+        (suc rest.0.0, omega (arith, rest.0.1), rest.0.2),
+        rest.1,
+        All-cons (λ (d : Live). q d ≡ true → b.number ≤ d.number) x E (λ t. absurd (false≢true (sym f ∙ t))) rest.2,
+      )
+]
+
+module _ (T : Recording) (L : List Entry) (c : ℕ) (e : Live) where
+  told : (b : Live) → blocks e b ≡ true → Blocks e b
+  told b h = let both = and_parts (ltb e.number b.number) (touches b.command (writes e.command)) h in (ltb-true e.number b.number both.0, both.1)
+
+  tells : (b : Live) → Blocks e b → blocks e b ≡ true
+  tells b h = and_from (ltb e.number b.number) (touches b.command (writes e.command)) (lt-ltb e.number b.number h.0) h.1
+
+  rests_to : (k : ℕ) (x : List ℕ) (o : Option Live) → blocker_of L e ≡ o → undone_or (length L) e o ≡ Err (RestsOn k x) → (x ≡ writes e.command) × IsLeastBlocker L e k
+  rests_to k x None is h = absurd cc
+  rests_to k x (Some b) is h =
+      let name : writes e.command ≡ x = cc in
+      let number : b.number ≡ k = cc in
+      let first = first_least (blocks e) (live_of L) 0 (length L) b (rises_live L) is in (
+        sym name,
+        record {
+          blocker = b;
+          number = number;
+          live = first.0;
+          blocks = told b first.1;
+          least = All-weaker (λ (d : Live). blocks e d ≡ true → b.number ≤ d.number) (λ (d : Live). Blocks e d → k ≤ d.number) (λ d up blocked. let low : b.number ≤ d.number = up (tells d blocked) in omega (arith, low, number)) (live_of L) first.2;
+        },
+      )
+
+  rests_from : (k : ℕ) (x : List ℕ) (o : Option Live) → blocker_of L e ≡ o → (x ≡ writes e.command) × IsLeastBlocker L e k → undone_or (length L) e o ≡ Err (RestsOn k x)
+  rests_from k x None is h =
+      let none : blocks e h.1.blocker ≡ false = All-at (λ (d : Live). blocks e d ≡ false) (live_of L) h.1.blocker (find_none (blocks e) (live_of L) is) h.1.live in
+      absurd (false≢true (sym none ∙ tells h.1.blocker h.1.blocks))
+  rests_from k x (Some b) is h =
+      let first = first_least (blocks e) (live_of L) 0 (length L) b (rises_live L) is in
+      let up : b.number ≤ h.1.blocker.number = All-at (λ (d : Live). blocks e d ≡ true → b.number ≤ d.number) (live_of L) h.1.blocker first.2 h.1.live (tells h.1.blocker h.1.blocks) in
+      let down : k ≤ b.number = All-at (λ (d : Live). Blocks e d → k ≤ d.number) (live_of L) b h.1.least first.0 (told b first.1) in
+      let same : b.number ≡ k = omega (arith, up, down, h.1.number) in
+      ap (λ n. Err (RestsOn n (writes e.command))) same ∙ ap (λ y. Err (RestsOn k y)) (sym h.0)
+
+  free_to : (o : Option Live) → blocker_of L e ≡ o → undone_or (length L) e o ≡ Ok (Undone (length L) e.number) → All (λ (b : Live). ¬ Blocks e b) (live_of L)
+  free_to None is h = All-weaker (λ (d : Live). blocks e d ≡ false) (λ (d : Live). ¬ Blocks e d) (λ d none blocked. false≢true (sym none ∙ tells d blocked)) (live_of L) (find_none (blocks e) (live_of L) is)
+  free_to (Some b) is h = absurd cc
+
+  free_from : (o : Option Live) → blocker_of L e ≡ o → All (λ (b : Live). ¬ Blocks e b) (live_of L) → undone_or (length L) e o ≡ Ok (Undone (length L) e.number)
+  free_from None is all = refl
+  free_from (Some b) is all =
+      let first = first_least (blocks e) (live_of L) 0 (length L) b (rises_live L) is in
+      absurd (All-at (λ (d : Live). ¬ Blocks e d) (live_of L) b all first.0 (told b first.1))
+
+pub exact_law : UndoIsRefusedExactly
+exact_law T L c e room last =
+    let answer : answer_of T L c Undo ≡ undone_or (length L) e (blocker_of L e) = rw (lt-ltb (length L) 1000000 room) (ap (undo_or L) last) in (
+      λ k x. (
+        λ h. rests_to T L c e k x (blocker_of L e) refl (sym answer ∙ h),
+        λ h. answer ∙ rests_from T L c e k x (blocker_of L e) refl h,
+      ),
+      (
+        λ h. free_to T L c e (blocker_of L e) refl (sym answer ∙ h),
+        λ h. answer ∙ free_from T L c e (blocker_of L e) refl h,
+      ),
+    )

@@ -1,0 +1,84 @@
+-- What the log promises, in the words of its reader. `T` is the trace, `L` is the log before a call.
+use Rattle.std.specs.Prelude.{◌≡◌, ◌≢◌, ◌↔◌, ℕ, ◌+◌, ◌<◌, ◌≤◌, true, List, [], ◌∷◌, ◌++◌, Option, Some, Ok, Err, All, Contains, length}
+use Rattle.rapid_text.specs.Recording.{Recording}
+use Rattle.trace_rules.specs.Rules.{IsDisciplined}
+use Rattle.schedule.specs.Reordering.{IsCorrectReordering}
+use Rattle.schedule.specs.Shows.{Shows}
+use Rattle.moves.specs.declared.board.Proposal.{Proposal}
+use Rattle.moves.specs.declared.command.Command.{Command}
+use Rattle.moves.specs.Commands.{writes, touches}
+use Rattle.moves.specs.Fold.{fold_of}
+use Rattle.moves.specs.Moves.{applied}
+use Rattle.moves.specs.Rows.{Rows, IsListing, AreReorderings}
+use Rattle.inverse_log.specs.declared.call.Call.TheVariants.{Do, Undo}
+use Rattle.inverse_log.specs.declared.entry.Entry.{Entry}
+use Rattle.inverse_log.specs.declared.refusal.Refusal.TheVariants.{RestsOn}
+use Rattle.inverse_log.specs.declared.reply.Reply.TheVariants.{Done, Undone}
+use Rattle.inverse_log.specs.Answer.{answer_of, log_after, IsLegal, Called, IsAlone}
+use Rattle.inverse_log.specs.Log.{Live, steps_of, live_of, board_of, rows_of, last_live}
+
+-- The rows are what the live commands, in their order, make of the empty workspace; no command is refused
+-- there. Names differ and births rise, and each row's list is a correct reordering of the trace.
+pub record IsFoldOfLive (T : Recording) (L : List Entry) (W : Rows) : Type 0 where
+  pub fold : fold_of T (board_of T L) (steps_of (live_of L)) ≡ Some W
+  pub listing : IsListing W
+  pub reorderings : AreReorderings T W
+
+-- a correct reordering of the trace that shows its pair
+pub record IsSound (T : Recording) (p : Proposal) : Type 0 where
+  pub trace : p.schedule.trace ≡ T
+  pub reordering : IsCorrectReordering T.events p.schedule.events
+  pub shows : Shows T.events p.schedule.events p.first p.second
+
+-- after every legal log there are such rows, and each proposal is sound
+abbrev pub RowsAreTheFold : Type 0
+RowsAreTheFold =
+    (T : Recording) (L : List Entry)
+    → IsDisciplined T.events
+    → IsLegal T L
+    → IsFoldOfLive T L (rows_of T L) × All (IsSound T) (board_of T L)
+
+-- b is later than e, and touches the name that e wrote
+abbrev pub Blocks : Live → Live → Type 0
+Blocks e b = (e.number < b.number) × (touches b.command (writes e.command) ≡ true)
+
+-- the least live command that blocks e has the number k
+pub record IsLeastBlocker (L : List Entry) (e : Live) (k : ℕ) : Type 0 where
+  pub blocker : Live
+  pub number : blocker.number ≡ k
+  pub live : Contains (live_of L) blocker
+  pub blocks : Blocks e blocker
+  pub least : All (λ (b : Live). Blocks e b → k ≤ b.number) (live_of L)
+
+-- An undo takes back the client's greatest live command e. It is refused exactly where a live command blocks
+-- e, and then names the least one and the name that e wrote; else it is accepted, whenever e was made.
+abbrev pub UndoIsRefusedExactly : Type 0
+UndoIsRefusedExactly =
+    (T : Recording) (L : List Entry) (c : ℕ) (e : Live)
+    → length L < 1000000
+    → last_live L c ≡ Some e
+    → ((k : ℕ) (x : List ℕ) → (answer_of T L c Undo ≡ Err (RestsOn k x)) ↔ ((x ≡ writes e.command) × IsLeastBlocker L e k))
+      × ((answer_of T L c Undo ≡ Ok (Undone (length L) e.number)) ↔ All (λ (b : Live). ¬ Blocks e b) (live_of L))
+
+-- An undo directly after its command is answered Undone, where the log has room, and the rows are again those
+-- before the command.
+abbrev pub UndoDirectlyRestores : Type 0
+UndoDirectlyRestores =
+    (T : Recording) (L M : List Entry) (c n : ℕ) (d : Command)
+    → 1 ≤ c → c ≤ 32
+    → IsLegal T L
+    → Called T L c (Do d) (Ok (Done n)) M
+    → n + 1 < 1000000
+    → (answer_of T M c Undo ≡ Ok (Undone (n + 1) n)) × (rows_of T (log_after T M c Undo) ≡ rows_of T L)
+
+-- a client whose entries alone stand in the log is never told that its command rests under another
+abbrev pub OneClientIsNeverBlocked : Type 0
+OneClientIsNeverBlocked =
+    (T : Recording) (L : List Entry) (c k : ℕ) (x : List ℕ) → IsAlone c L → answer_of T L c Undo ≢ Err (RestsOn k x)
+
+-- a board with more proposals accepts what was accepted, with the same rows
+abbrev pub LongerBoardsAcceptTheSame : Type 0
+LongerBoardsAcceptTheSame =
+    (T : Recording) (B C : List Proposal) (n : ℕ) (d : Command) (W V : Rows)
+    → applied T B n d W ≡ Ok V
+    → applied T (B ++ C) n d W ≡ Ok V
