@@ -1,3 +1,4 @@
+pub mod CallerLemmas
 pub mod FindLemmas
 pub mod JointLemmas
 pub mod KnownBytesLemmas

@@ -49,7 +49,7 @@ unread-at input rest (Script refusal) h = absurd h
 unread-at input rest Write h = absurd h
 
 -- a fault of the trace is one of its text or of its rules
-abbrev IsOfTrace : ReplayFault → Type 0
+abbrev pub IsOfTrace : ReplayFault → Type 0
 IsOfTrace (Text refusal) = ⊤
 IsOfTrace (Rule refusal) = ⊤
 IsOfTrace fault = ⊥
@@ -60,7 +60,7 @@ of_breach trace (Some refusal) fault e =
     let same : Rule refusal ≡ fault = cc in
     subst IsOfTrace same tt
 
-of_reading : (reading : Result Recording TextRefusal) (fault : ReplayFault) → trace_read reading ≡ Err fault → IsOfTrace fault
+pub of_reading : (reading : Result Recording TextRefusal) (fault : ReplayFault) → trace_read reading ≡ Err fault → IsOfTrace fault
 of_reading (Ok trace) fault e = of_breach trace (first_breach trace.events) fault e
 of_reading (Err refusal) fault e =
     let same : Text refusal ≡ fault = cc in

@@ -58,6 +58,10 @@ of_two trace script = record { first = trace; second = script; trace = trace; sc
 abbrev pub of_joint : List ℕ → Texts
 of_joint bytes = record { first = bytes; second = []; trace = trace_part bytes; script = script_part bytes }
 
+-- one input, a trace alone
+abbrev pub of_trace : List ℕ → Texts
+of_trace bytes = record { first = bytes; second = []; trace = bytes; script = [] }
+
 -- an input has at most 268,435,456 bytes
 abbrev pub IsShort : List ℕ → Type 0
 IsShort bytes = length bytes ≤ 268435456
