@@ -72,7 +72,7 @@ done_number : (n m : ℕ) (q : Result (Option Row) MoveRefusal) → done_or n q 
 done_number n m (Ok o) h = let e : n ≡ m = cc in sym e
 done_number n m (Err why) h = absurd cc
 
-limited_ok : (L : List Entry) (a : Result Reply Refusal) (reply : Reply) → limited L a ≡ Ok reply → a ≡ Ok reply
+pub limited_ok : (L : List Entry) (a : Result Reply Refusal) (reply : Reply) → limited L a ≡ Ok reply → a ≡ Ok reply
 limited_ok L a reply h = elim (cases_Bool (ltb (length L) 1000000)) [
   | inl t ↦ rw t at h
   | inr f ↦ let e : Err LogFull ≡ Ok reply = rw f at h in absurd cc

@@ -71,7 +71,7 @@ first_least q (x ∷ E) low high b r h = elim (cases_Bool (q x)) [
         (0, omega arith, refl),
         t,
         All-cons (λ (d : Live). q d ≡ true → x.number ≤ d.number) x E (λ _. omega arith)
-        (All-weaker (λ (d : Live). x.number + 1 ≤ d.number) (λ (d : Live). q d ≡ true → x.number ≤ d.number) (λ d up _. omega arith) E (rises_above E (x.number + 1) high r.1)),
+            (All-weaker (λ (d : Live). x.number + 1 ≤ d.number) (λ (d : Live). q d ≡ true → x.number ≤ d.number) (λ d up _. omega arith) E (rises_above E (x.number + 1) high r.1)),
       )
   | inr f ↦
       let rest = first_least q E (x.number + 1) high b r.1 (rw f at h) in (

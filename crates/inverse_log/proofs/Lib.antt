@@ -1,6 +1,7 @@
 pub mod CallerLemmas
 pub mod DirectLemmas
 pub mod DoLemmas
+pub mod EditLemmas
 pub mod HeadLemmas
 pub mod Inner
 pub mod KeptLemmas

@@ -1,5 +1,5 @@
 -- What the log promises, in the words of its reader. `T` is the trace, `L` is the log before a call.
-use Rattle.std.specs.Prelude.{◌≡◌, ◌≢◌, ◌↔◌, ℕ, ◌+◌, ◌<◌, ◌≤◌, true, List, [], ◌∷◌, ◌++◌, Option, Some, Ok, Err, All, Contains, length}
+use Rattle.std.specs.Prelude.{◌≡◌, ◌≢◌, ◌↔◌, ℕ, ◌+◌, ◌<◌, ◌≤◌, true, List, [], ◌∷◌, ◌++◌, Option, Some, Result, Ok, Err, All, Contains, length}
 use Rattle.rapid_text.specs.Recording.{Recording}
 use Rattle.trace_rules.specs.Rules.{IsDisciplined}
 use Rattle.schedule.specs.Reordering.{IsCorrectReordering}
@@ -10,12 +10,15 @@ use Rattle.moves.specs.Commands.{writes, touches}
 use Rattle.moves.specs.Fold.{fold_of}
 use Rattle.moves.specs.Moves.{applied}
 use Rattle.moves.specs.Rows.{Rows, IsListing, AreReorderings}
+use Rattle.inverse_log.specs.declared.call.Call.{Call}
 use Rattle.inverse_log.specs.declared.call.Call.TheVariants.{Do, Undo}
 use Rattle.inverse_log.specs.declared.entry.Entry.{Entry}
+use Rattle.inverse_log.specs.declared.refusal.Refusal.{Refusal}
 use Rattle.inverse_log.specs.declared.refusal.Refusal.TheVariants.{RestsOn}
+use Rattle.inverse_log.specs.declared.reply.Reply.{Reply}
 use Rattle.inverse_log.specs.declared.reply.Reply.TheVariants.{Done, Undone}
 use Rattle.inverse_log.specs.Answer.{answer_of, log_after, IsLegal, Called, IsAlone}
-use Rattle.inverse_log.specs.Log.{Live, steps_of, live_of, board_of, rows_of, last_live}
+use Rattle.inverse_log.specs.Log.{Live, steps_of, live_of, board_of, rows_of, last_live, edits_of}
 
 -- The rows are what the live commands, in their order, make of the empty workspace; no command is refused
 -- there. Names differ and births rise, and each row's list is a correct reordering of the trace.
@@ -58,7 +61,7 @@ UndoIsRefusedExactly =
     → length L < 1000000
     → last_live L c ≡ Some e
     → ((k : ℕ) (x : List ℕ) → (answer_of T L c Undo ≡ Err (RestsOn k x)) ↔ ((x ≡ writes e.command) × IsLeastBlocker L e k))
-      × ((answer_of T L c Undo ≡ Ok (Undone (length L) e.number)) ↔ All (λ (b : Live). ¬ Blocks e b) (live_of L))
+    × ((answer_of T L c Undo ≡ Ok (Undone (length L) e.number)) ↔ All (λ (b : Live). ¬ Blocks e b) (live_of L))
 
 -- An undo directly after its command is answered Undone, where the log has room, and the rows are again those
 -- before the command.
@@ -82,3 +85,16 @@ LongerBoardsAcceptTheSame =
     (T : Recording) (B C : List Proposal) (n : ℕ) (d : Command) (W V : Rows)
     → applied T B n d W ≡ Ok V
     → applied T (B ++ C) n d W ≡ Ok V
+
+-- how many changes of rows a call made, by its result
+abbrev pub changes_of : Result Reply Refusal → ℕ
+changes_of (Ok (Done n)) = 1
+changes_of (Ok (Undone n k)) = 1
+changes_of result = 0
+
+-- the count of changes grows by one at each command that was applied or taken back, and not otherwise
+abbrev pub EditsCountChanges : Type 0
+EditsCountChanges =
+    (T : Recording) (L M : List Entry) (c : ℕ) (call : Call) (r : Result Reply Refusal)
+    → Called T L c call r M
+    → edits_of M ≡ edits_of L + changes_of r

@@ -270,12 +270,8 @@ impl Bench {
         };
         let name = command.writes();
         let inverse = Inverse { name, step };
-        let Err(step) = turn_back(
-            &mut self.workspace,
-            &mut self.edits,
-            &self.indexed,
-            inverse,
-        ) else {
+        let Err(step) = turn_back(&mut self.workspace, &mut self.edits, &self.indexed, inverse)
+        else {
             leave(&mut self.touches, &mut self.clients, client, command, entry);
             add_step(&mut self.steps, None);
             add_entry(&mut self.log, Entry::Undid { client, entry });

@@ -148,14 +148,14 @@ pub(crate) fn leave(
     clients: &mut Clients,
     client: u32,
     command: &Command,
-    entry: u64,
+    undone: u64,
 )
     requires client { client ≤ 32 }
-    ensures names { Removed entry command.now touches.old touches.new }
-    ensures clients { Left client entry clients.old clients.new }
+    ensures names { Removed undone command.now touches.old touches.new }
+    ensures clients { Left client undone clients.old clients.new }
 {
-    touches.remove(entry, command);
-    clients.remove(client, entry);
+    touches.remove(undone, command);
+    clients.remove(client, undone);
 }
 
 /// The command that an entry did.

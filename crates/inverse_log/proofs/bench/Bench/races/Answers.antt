@@ -31,5 +31,5 @@ returns c =
     let s = c.self.inside in
     let v = c.args.self.now in
     let answer = subst (λ (v : Benched). answer_of v.trace v.log c.args.client (Races c.args.name.now) ≡ Ok (Shows c.in-Ok.pairs)) c.self.view_is
-        (races_answer s c.self.invariant c.deref.result.now c.args.client c.args.name.now c.in-Ok.pairs c.in-Some.schedule.now c.deref.ensures c.in-Some.ensures.some c.in-Ok.ensures) in
+    (races_answer s c.self.invariant c.deref.result.now c.args.client c.args.name.now c.in-Ok.pairs c.in-Some.schedule.now c.deref.ensures c.in-Some.ensures.some c.in-Ok.ensures) in
     (answer, after_ok v.trace v.log v.log c.args.client (Races c.args.name.now) (Shows c.in-Ok.pairs) answer (after_none v.log))

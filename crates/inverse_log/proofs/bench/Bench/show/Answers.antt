@@ -28,5 +28,5 @@ returns c =
     let s = c.self.inside in
     let v = c.args.self.now in
     let answer = subst (λ (v : Benched). answer_of v.trace v.log c.args.client (Show c.args.name.now) ≡ Ok (Shown c.in-Ok.events)) c.self.view_is
-        (show_answer s c.self.invariant c.args.client c.args.name.now c.in-Ok.events c.in-Some.schedule.now c.in-Some.ensures.some (c.in-Ok.ensures ∙ c.events.ensures.same)) in
+    (show_answer s c.self.invariant c.args.client c.args.name.now c.in-Ok.events c.in-Some.schedule.now c.in-Some.ensures.some (c.in-Ok.ensures ∙ c.events.ensures.same)) in
     (answer, after_ok v.trace v.log v.log c.args.client (Show c.args.name.now) (Shown c.in-Ok.events) answer (after_none v.log))
