@@ -1,22 +1,22 @@
 -- What the steps of `info` say of the whole.
-use Rattle.std.proofs.Common.{◌≡◌, ℕ, Result, Ok, Err, subst}
-use Rattle.std.specs.Prelude.{IfErr}
-use Rattle.racebench.specs.InfoSteps.{IsPastReading}
-use Rattle.racebench.specs.Outcomes.{NamesInput}
-use Rattle.racebench.specs.declared.fault.ReadCause.{ReadCause}
-use Rattle.racebench.specs.declared.fault.ReplayFault.{ReplayFault}
-use Rattle.racebench.specs.declared.fault.ReplayFault.TheVariants.{Text, Rule, Script, Read, Write, OutOfMemory}
+use Rattle.std.proofs.Common.{◌≡◌, ◌⊎◌, ℕ, List, Option, Err, refl, sym, subst, inl, inr}
+use Rattle.client_scripts.specs.Replay.{IsFault, of_trace}
+use Rattle.client_scripts.specs.declared.fault.ReplayFault.{ReplayFault}
+use Rattle.client_scripts.specs.declared.fault.ReplayFault.TheVariants.{Text, Rule, Script, Read, Write, OutOfMemory}
+use Rattle.racebench.specs.Info.{IsInfo}
+use Rattle.racebench.specs.declared.fault.BenchFault.TheVariants.{Replay}
 
--- once all was read, no reader is at fault
-pub past_reading-not_read : {A : Type 0} (r : Result A ReplayFault) (input : ℕ) (why : ReadCause) → IfErr r IsPastReading → r ≡ Err (Read input why) → ⊥
-past_reading-not_read r input why h e = subst (λ x. IfErr x IsPastReading) e h
+module _ (bytes : List ℕ) (known : Option (List ℕ)) where
+  of_fault : (fault : ReplayFault) → IsFault (of_trace bytes) fault → IsInfo bytes known known (Err (Replay fault))
+  of_fault (Text refusal) h = (h, refl)
+  of_fault (Rule refusal) h = (h, refl)
+  of_fault (Script refusal) h = (h, refl)
+  of_fault (Read input why) h = (h, refl)
+  of_fault Write h = absurd h
+  of_fault OutOfMemory h = absurd h
 
--- and no input is named
-pub past_reading-names : {A : Type 0} (r : Result A ReplayFault) (input : ℕ) → IfErr r IsPastReading → IfErr r (NamesInput input)
-past_reading-names (Ok done) input h = tt
-past_reading-names (Err (Text refusal)) input h = tt
-past_reading-names (Err (Rule refusal)) input h = tt
-past_reading-names (Err (Script refusal)) input h = tt
-past_reading-names (Err (Read place why)) input h = absurd h
-past_reading-names (Err Write) input h = tt
-past_reading-names (Err OutOfMemory) input h = tt
+  -- a fault before anything was written
+  pub before-text : (fault : ReplayFault) → (fault ≡ OutOfMemory) ⊎ IsFault (of_trace bytes) fault → IsInfo bytes known known (Err (Replay fault))
+  before-text fault (inl memory) =
+      subst (λ f. IsInfo bytes known known (Err (Replay f))) (sym memory) refl
+  before-text fault (inr h) = of_fault fault h

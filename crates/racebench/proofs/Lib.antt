@@ -1,11 +1,1 @@
-pub mod DeskLemmas
 pub mod InfoLemmas
-pub mod JointLemmas
-pub mod KnownBytesLemmas
-pub mod LineLemmas
-pub mod LoadingLemmas
-pub mod PositionLemmas
-pub mod ReplayLemmas
-pub mod RunLemmas
-pub mod ScriptLemmas
-pub mod WordLemmas

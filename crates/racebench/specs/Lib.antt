@@ -1,16 +1,1 @@
-pub mod Answers
-pub mod Desk
-pub mod FaultTexts
-pub mod InfoCall
-pub mod InfoSteps
-pub mod Joint
-pub mod Layout
-pub mod Loading
-pub mod Messages
-pub mod Outcomes
-pub mod Replay
-pub mod Replies
-pub mod Scripts
-pub mod Steps
-pub mod Traces
-pub mod Words
+pub mod Info

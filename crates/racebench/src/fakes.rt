@@ -1,39 +1,8 @@
-//! A reader and a writer in memory that fail when a test wants them to.
+//! A writer in memory that fails when a test wants it to.
 ghost use Rattle.std.specs.Prelude.{◌≡◌, false};
 
-use crate::sink::Sink;
-use crate::source::{Failed, Source};
+use client_scripts::{Failed, Sink};
 use std::alloc::Global;
-
-/// A reader that gives three bytes at a time and fails at one of its reads.
-#[derive(Drop)]
-pub(crate) struct Broken<'a> {
-    pub(crate) left: &'a [u8],
-    pub(crate) reads: u32,
-    pub(crate) fails_at: u32,
-    pub(crate) failed: bool,
-}
-
-impl<'a> Source for Broken<'a> {
-    ghost use Rattle.std.specs.Prelude.{Some};
-
-    ghost rest = { λ s. Some s.left.now };
-
-    ghost has_failed = { λ s. s.failed };
-
-    fn read(&mut self, buf: &mut [u8]) -> Result<usize, Failed> {
-        self.reads = self.reads.saturating_add(1);
-        if self.reads == self.fails_at {
-            self.failed = true;
-            return Err(Failed);
-        }
-        let count = self.left.len().min(buf.len()).min(3);
-        let (front, rest) = self.left.split_at(count);
-        buf[..count].copy_from_slice(front);
-        self.left = rest;
-        Ok(count)
-    }
-}
 
 /// A writer that takes a number of bytes and then fails.
 #[derive(Drop)]

@@ -1,11 +1,9 @@
 //! What no clause says of `info`: that ample memory gives an answer, and the worked examples byte by byte.
 
-use crate::fakes::{AMPLE, Broken, Full, with_room};
-use crate::fault::{BenchFault, ReadCause, ReplayFault};
+use crate::fakes::{AMPLE, Full, with_room};
+use crate::fault::BenchFault;
 use crate::info_call::info;
-use crate::message::fault_text;
-use crate::source::FromRead;
-use crate::unopened::Unopened;
+use client_scripts::{FromRead, ReadCause, ReplayFault, Unopened, fault_text};
 use std::alloc::Global;
 use std::test::Fail;
 
@@ -83,23 +81,6 @@ fn device() -> BenchFault {
         input: 1,
         why: ReadCause::Device,
     })
-}
-
-#[test]
-fn info_with_readers_that_fail(rt: HostRuntime) {
-    // 68 bytes are 23 reads of at most three bytes, and one more that finds the end.
-    for fails_at in 1..25 {
-        let mut reader = Broken {
-            left: ONE_LOCK.as_bytes(),
-            reads: 0,
-            fails_at,
-            failed: false,
-        };
-        let mut writer = with_room(rt.alloc(), AMPLE);
-        let outcome = info(rt.alloc(), &mut reader, &mut writer);
-        assert!(rt; outcome == Err(device()));
-        assert_eq!(rt; writer.taken.len(), 0);
-    }
 }
 
 #[test]

@@ -1,38 +1,24 @@
 //! The workbench as a program: replays a script on a trace, or prints what a trace holds.
 #![tactic(auto)]
 
-mod desk;
+ghost use Rattle.std.specs.Prelude.{◌≡◌, false};
+
 #[cfg(test)]
 mod fakes;
 mod fault;
 mod info_call;
 #[cfg(test)]
 mod info_tests;
-mod joint;
-mod lines;
-mod loading;
-mod message;
-mod name;
-mod number;
-mod replay;
-mod replies;
-mod script;
-mod sink;
-mod source;
-#[cfg(test)]
-mod tests;
-mod unopened;
 mod words;
 
-use crate::fault::{BenchFault, ReplayFault};
+use crate::fault::BenchFault;
 use crate::info_call::info;
-use crate::message::fault_text;
-use crate::replay::replay_joint;
-use crate::sink::{FromWrite, write_all};
-use crate::source::FromRead;
-use crate::unopened::Unopened;
 use crate::words::{Task, no_text, task_of};
 use clap::error::{Error, ErrorKind};
+use client_scripts::{
+    FromRead, FromWrite, ReplayFault, Sink, Source, Unopened, fault_text, replay, replay_joint,
+    write_all,
+};
 use std::alloc::AllocError;
 use std::fs::File;
 use std::io;
@@ -112,12 +98,41 @@ fn info_of_file(rt: &HostRuntime, path: &str) -> Result<(), Stop> {
     Ok(())
 }
 
+/// Replays the script in a file on a trace that was opened.
+fn replay_on<S: Source, K: Sink>(
+    rt: &HostRuntime,
+    trace: &mut S,
+    script: &str,
+    writer: &mut K,
+) -> Result<(), ReplayFault>
+    requires trace { S.has_failed trace.old ≡ false }
+    requires writer { K.has_failed writer.old ≡ false }
+{
+    match File::open(rt, script) {
+        Ok(file) => replay(rt.alloc(), trace, &mut FromRead::new(file), writer)?,
+        Err(_) => replay(rt.alloc(), trace, &mut Unopened::new(), writer)?,
+    };
+    Ok(())
+}
+
+/// Replays the script in one file on the trace in another.
+fn replay_files(rt: &HostRuntime, trace: &str, script: &str) -> Result<(), Stop> {
+    let mut writer = FromWrite::new(io::writer(rt));
+    match File::open(rt, trace) {
+        Ok(file) => replay_on(rt, &mut FromRead::new(file), script, &mut writer)?,
+        Err(_) => replay_on(rt, &mut Unopened::new(), script, &mut writer)?,
+    }
+    finish(&mut writer)?;
+    Ok(())
+}
+
 /// Does what the words ask for.
 fn work(rt: &HostRuntime) -> Result<(), Stop> {
     let words = read_words(rt)?;
     match task_of(rt.alloc(), words.as_slice())? {
         Task::Joint => replay_input(rt),
         Task::Info(path) => info_of_file(rt, path),
+        Task::Replay(trace, script) => replay_files(rt, trace, script),
     }
 }
 

@@ -10,43 +10,80 @@ pub(crate) enum Task<'a> {
     Joint,
     /// What the trace in this file holds.
     Info(&'a str),
+    /// The script in the second file, on the trace in the first.
+    Replay(&'a str, &'a str),
 }
 
 const ABOUT: &str = "Checks a recorded execution, finds what may race, builds correct reorderings";
 
-const INFO: &str = "Prints what a trace holds, and which pairs of its accesses may race";
+const INFO: &str = "Prints what a trace holds, and its first 1,000 candidates for races";
 
-const JOINT: &str = "Without a command, standard input holds a trace, a line `---` and a script. The
-answer to each call of the script is printed. For example, of
+const INFO_EXAMPLE: &str =
+    "The file holds a trace alone, without a line `---` and a script. For example
+
+  racebench info trace.std
+
+A candidate is a conflicting pair that the order of the recording leaves open. Where none is
+printed there may still be a race: a schedule can show a pair that is no candidate.";
+
+const REPLAY: &str = "Makes the calls of a script on a trace, and prints the answer to each";
+
+const REPLAY_EXAMPLE: &str = "For example
+
+  racebench replay trace.std script.txt
+
+Each line of the script is the number of a client, from 1 to 32, a command word and its
+arguments, such as `1 new A` or `2 add A 3`. Events of the trace are counted from 0.";
+
+const JOINT: &str =
+    "Without a command, standard input holds a trace, a line `---` and a script. The first word of a
+script line is the number of a client, and events are counted from 0. The answer to each call of
+the script is printed. For example, of
 
   T1|w(x)|1
   T2|w(x)|2
   ---
   1 new A
   1 add A 1
-  1 show A
+  1 races A
 
-the answers are `0: done`, `1: done` and `shown 1`.";
+the answers are `0: done`, `1: done` and `pairs`. The formats of traces and scripts stand in
+docs/FORMATS.md.";
+
+/// A file that the words name.
+fn file<'a>(alloc: Global, name: &'a str, holds: &'a str) -> Arg<'a> {
+    Arg::new(alloc, name).required(true).help(holds)
+}
 
 /// The words that the program takes.
 fn words_taken<'a>(alloc: Global) -> Result<Command<'a>, AllocError> {
-    let trace = Arg::new(alloc, "TRACE")
-        .required(true)
-        .help("A file that holds a trace");
-    let info = Command::new(alloc, "info").about(INFO).arg(trace)?;
+    let info = Command::new(alloc, "info")
+        .about(INFO)
+        .after_help(INFO_EXAMPLE)
+        .arg(file(alloc, "TRACE", "A file that holds a trace"))?;
+    let replay = Command::new(alloc, "replay")
+        .about(REPLAY)
+        .after_help(REPLAY_EXAMPLE)
+        .arg(file(alloc, "TRACE", "A file that holds a trace"))?
+        .arg(file(alloc, "SCRIPT", "A file that holds a script"))?;
     Command::new(alloc, "racebench")
         .bin_name("racebench")?
         .about(ABOUT)
         .after_help(JOINT)
         .disable_help_subcommand(true)
-        .subcommand(info)
+        .subcommand(info)?
+        .subcommand(replay)
 }
 
 /// What the words ask for, of which the first is the program's name; or why they are refused, or help.
 pub(crate) fn task_of<'a>(alloc: Global, words: &'a [String]) -> Result<Task<'a>, Error> {
     let given = words_taken(alloc)?.try_get_matches_from(words)?;
     match given.subcommand() {
-        Some((_, info)) => Ok(Task::Info(info.get_str("TRACE").unwrap_or(""))),
+        Some(("replay", files)) => Ok(Task::Replay(
+            files.get_str("TRACE").unwrap_or(""),
+            files.get_str("SCRIPT").unwrap_or(""),
+        )),
+        Some((_, files)) => Ok(Task::Info(files.get_str("TRACE").unwrap_or(""))),
         None => Ok(Task::Joint),
     }
 }

@@ -1,8 +1,0 @@
-use Rattle.std.proofs.Common.{◌≡◌, ◌+◌, min, take}
-use Rattle.racebench.specs.Words.{value_of}
-use Rattle.racebench.specs.declared.number.TheConstants.{MAX_NUMBER}
-use Rattle.racebench.proofs.number.bounded_value.Given as goal
-
--- the value of the digits so far, where it is not too great
-abbrev pub invariant-loop-digit : goal.invariant-loop-digit
-invariant-loop-digit l = l.value ≡ min (value_of (take l.digit-index l.digits)) (MAX_NUMBER + 1)
