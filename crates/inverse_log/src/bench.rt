@@ -57,7 +57,8 @@ impl Model for Bench {
 }
 
 impl Bench {
-    /// The bench of this trace, with no schedule, no proposal and an empty log.
+    /// The bench of this trace, with no schedule, no proposal and an empty log. The names of schedules are found by
+    /// the hashers of the trace's own text.
     pub fn new(
         alloc: Global,
         indexed: Arc<Indexed, Global>,
@@ -66,7 +67,8 @@ impl Bench {
         ensures log { IfOk result (λ b. b.log ≡ []) }
         ensures returned { IfErr result (λ refused. arc_value refused.0 ≡ arc_value indexed) }
     {
-        Bench::keyed(alloc, indexed, TextKeyed::of(b""))
+        let hashers = indexed.trace().raw().keyed();
+        Bench::keyed(alloc, indexed, hashers)
     }
 
     /// The same, with the hashers that are to find the names of schedules.
