@@ -32,5 +32,4 @@ pub fn longer_boards_accept_the_same()
 /// The count of changes grows by one at each command that was applied or taken back, and not otherwise.
 pub fn edits_count_changes()
     ensures { EditsCountChanges }
-{
-}
+{}

@@ -9,6 +9,8 @@ mod parts;
 mod races;
 mod refusal;
 mod reply;
+#[cfg(test)]
+mod tests;
 
 pub use bench::Bench;
 pub use call::Call;
