@@ -2,10 +2,6 @@
 #![tactic(auto)]
 
 mod events;
-#[cfg(test)]
-mod generated_tests;
-#[cfg(test)]
-mod plain;
 mod refusal;
 mod searching;
 mod slicing;
