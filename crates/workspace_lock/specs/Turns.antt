@@ -148,7 +148,8 @@ pub record Kept (start : Benched) (clients : ℕ) (s : State (Option Benched) Si
   pub each : (j : ℕ) (v : Sight) → get_elem? s.views j ≡ some v → Known start clients serving log v
   pub home : AtHome start.trace log s.homes s.views ⊎ IsOut s.homes s.views
 
--- some moment's log, which begins with what the client had seen and has no other entries of it
+-- What a seat can rely on: the log is legal and begins with the one at the opening, whatever followed is of clients with a
+-- seat, and it begins with what the client had seen and has no other entries of that client.
 pub record Sees (m : Mark) (log : List Entry) : Type 0 where
   pub legal : IsLegal m.start.trace log
   pub past : Past m.start.log m.clients log
@@ -177,14 +178,6 @@ on_turn k turns t log = (solo (saw k log) turns (holds t), (0, Some (bench_of k.
 -- SERVING was read: it is the place's ticket, and the place has the turn and the bench; or nothing has changed
 abbrev pub watched : At → PlaceState → ℕ → PlaceState → Type 0
 watched st m r n = (r ≡ ticket_in m.0.stage → (log : List Entry) × Sees (mark_of m.0) log × (n ≡ on_turn (mark_of m.0) m.0.turns r log)) × (r ≢ ticket_in m.0.stage → n ≡ m)
-
-abbrev pub log_in_slot : Option Benched → List Entry
-log_in_slot (Some w) = w.log
-log_in_slot None = []
-
-abbrev pub log_in : List (ℕ × Option Benched) → List Entry
-log_in [] = []
-log_in (x ∷ xs) = log_in_slot x.1
 
 -- FRONT grew by one, where the log is the one that the call names
 abbrev pub published : List Entry → At → PlaceState → ℕ → PlaceState → Type 0

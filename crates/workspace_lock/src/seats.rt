@@ -1,4 +1,4 @@
-//! All seats of a workspace.
+//! All seats of a shared bench.
 ghost use Rattle.std.specs.Prelude.{◌≡◌, ℕ, ◌+◌, ◌*◌, ◌<◌, ◌≤◌, [], ◌∷◌, ◌++◌, Some, None, length, IfSome, IfNone, true, false, IfErr, IfOk, slice_get, slice_set, OnOk, MatchBool};
 ghost use Rattle.std.specs.Prelude.{vec_capacity, ◌-◌};
 ghost use Rattle.std.specs.Arc.{arc_value};
