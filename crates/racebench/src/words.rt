@@ -44,10 +44,10 @@ the script is printed. For example, of
   T2|w(x)|2
   ---
   1 new A
-  1 add A 1
   1 races A
+  1 add A 1
 
-the answers are `0: done`, `1: done` and `pairs`. The formats of traces and scripts stand in
+the answers are `0: done`, `pairs 0-1` and `1: done`. The formats of traces and scripts stand in
 docs/FORMATS.md.";
 
 /// A file that the words name.
