@@ -93,6 +93,40 @@ def write_traces(folder):
     write_trace(folder, f"many_names_{EVENTS}", named_trace(EVENTS, 64, [f"variable_{i}" for i in range(EVENTS)]))
 
 
+def interleaved(clients, rounds):
+    """Each client makes a schedule of its own, and the clients in turn add to it and take the event off again."""
+    calls = [f"{c} new S{c}" for c in range(1, clients + 1)]
+    for i in range(rounds):
+        word = "add S{0} 0" if i % 2 == 0 else "back S{0}"
+        calls += [f"{c} " + word.format(c) for c in range(1, clients + 1)]
+    return calls
+
+
+def dropped_oldest_first(rows):
+    return [f"1 new S{i}" for i in range(rows)] + [f"1 drop S{i}" for i in range(rows)]
+
+
+def write_scripts(folder):
+    """Scripts on a bench, each at two sizes, so that one sees how the cost grows."""
+    writes = ["T1|w(x)|1"] * EVENTS
+    for events in (EVENTS // 8, EVENTS):
+        grow = ["1 new A"] + [f"1 add A {i}" for i in range(events)]
+        write(folder, f"replay_grow_{events}", writes, grow)
+        write(folder, f"replay_shrink_{events}", writes, grow + ["1 back A"] * events)
+    for entries in (100_000, 1_000_000):
+        write(folder, f"replay_new_and_undo_{entries}", ["T1|w(x)|1"], ["1 new A", "1 undo"] * (entries // 2))
+    for rounds in (300, 3_000):
+        write(folder, f"replay_32_clients_{32 * (rounds + 1)}", ["T1|w(x)|1"], interleaved(32, rounds))
+    for rows in (2_000, 20_000):
+        write(folder, f"replay_drop_oldest_{rows}", ["T1|w(x)|1"], dropped_oldest_first(rows))
+    # a line of a script has at most 65,536 bytes
+    for events in (1_000, 10_000):
+        listed = " ".join(str(i) for i in range(events))
+        trace = [f"T1|w(y{i})|1" for i in range(events)] + ["T1|w(x)|1", "T2|w(x)|1"]
+        calls = ["1 new A", f"1 propose {events} {events + 1} {listed}"] + ["1 adopt A 0", "1 undo"] * 500
+        write(folder, f"replay_adopt_{events}", trace, calls)
+
+
 def main():
     folder = sys.argv[1]
     os.makedirs(folder, exist_ok=True)
@@ -111,8 +145,7 @@ def main():
     write(folder, "skipped_lines", ["T1|begin(b)|1"] * 4_000_000)
     write(folder, "replay_new", ["T1|w(x)|1"], [f"1 new S{i}" for i in range(200_000)])
     write(folder, "replay_show", ["T1|w(x)|1"], ["1 new A", "1 add A 0"] + ["1 show A"] * 400_000)
-    write(folder, "replay_grow_2000", ["T1|w(x)|1"] * 2_000, ["1 new A"] + [f"1 add A {i}" for i in range(2_000)])
-    write(folder, "replay_grow_4000", ["T1|w(x)|1"] * 4_000, ["1 new A"] + [f"1 add A {i}" for i in range(4_000)])
+    write_scripts(folder)
 
 
 main()
