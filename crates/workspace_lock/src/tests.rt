@@ -282,20 +282,30 @@ fn a_seat_that_is_out_keeps_the_seats_open(rt: HostRuntime) -> Result<(), Fail> 
     Ok(())
 }
 
+// Whether the refused call changed nothing, and the other seat is served.
+fn is_as_before<R: Wait>(rt: &R, other: &mut Seat, before: u64) -> bool {
+    if other.front() != before {
+        return false;
+    }
+    let is_refused = other.run(rt, &Call::Undo).is_err();
+    is_refused && other.front() == before
+}
+
 // The call, and if a growth was refused the same again: the first one changed nothing, and the other seat was served
 // meanwhile.
 fn is_done_at_last<R: Wait>(rt: &R, seat: &mut Seat, other: &mut Seat, call: &Call) -> bool {
     let before = other.front();
-    match seat.run(rt, call) {
-        Ok(_) => true,
-        Err(why) => {
-            why == SeatRefusal::Bench(Refusal::OutOfMemory)
-                && other.front() == before
-                && other.run(rt, &Call::Undo).is_err()
-                && other.front() == before
-                && seat.run(rt, call).is_ok()
-        },
+    let Err(why) = seat.run(rt, call) else {
+        return true;
+    };
+    let wanted_memory = why == SeatRefusal::Bench(Refusal::OutOfMemory);
+    if !wanted_memory {
+        return false;
     }
+    if !is_as_before(rt, other, before) {
+        return false;
+    }
+    seat.run(rt, call).is_ok()
 }
 
 // Each of its allocations can be refused in turn, one in a run.
