@@ -3,6 +3,7 @@ pub mod FindLemmas
 pub mod JointLemmas
 pub mod KnownBytesLemmas
 pub mod LineLemmas
+mod LoadingLemmas
 pub mod NumberLemmas
 pub mod PositionLemmas
 pub mod ReplayLemmas

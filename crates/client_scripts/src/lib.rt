@@ -2,8 +2,6 @@
 #![tactic(auto)]
 
 mod calls;
-#[cfg(test)]
-mod fakes;
 mod fault;
 mod fault_texts;
 mod joint;
@@ -14,8 +12,6 @@ mod replaying;
 mod script;
 mod sink;
 mod source;
-#[cfg(test)]
-mod tests;
 mod unopened;
 mod verb;
 

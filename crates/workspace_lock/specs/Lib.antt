@@ -1,5 +1,0 @@
-pub mod Counts
-pub mod Runs
-pub mod Seating
-pub mod Sights
-pub mod Turns
