@@ -1,0 +1,5 @@
+pub mod Counts
+pub mod Runs
+pub mod Seating
+pub mod Sights
+pub mod Turns

@@ -1,0 +1,36 @@
+-- What one call through a seat is, and what several are. This project's own.
+use Rattle.std.specs.Prelude.{◌≡◌, ℕ, ◌+◌, ◌<◌, length, List, [], ◌∷◌, Result, Ok, Err}
+use Rattle.inverse_log.specs.declared.entry.Entry.{Entry}
+use Rattle.inverse_log.specs.declared.call.Call.{Call}
+use Rattle.inverse_log.specs.declared.reply.Reply.{Reply}
+use Rattle.inverse_log.specs.declared.refusal.Refusal.{Refusal}
+use Rattle.inverse_log.specs.Answer.{Called}
+use Rattle.workspace_lock.specs.declared.seat.SeatRefusal.{SeatRefusal}
+use Rattle.workspace_lock.specs.declared.seat.SeatRefusal.TheVariants.{Bench as ByBench, SeatSpent}
+use Rattle.workspace_lock.specs.Turns.{Sees}
+use Rattle.workspace_lock.specs.Seating.{SeatView, mark_in}
+
+-- the call was made at some legal log that the seat sees, with the bench's answer, and the seat has then seen the log
+-- that it left
+abbrev pub RanAt : SeatView → Call → Result Reply Refusal → SeatView → Type 0
+RanAt s call answered n =
+    (s.turns < 4294967295)
+    × ((log : List Entry) × Sees (mark_in s) log × Called s.site.start.trace log s.number call answered n.seen)
+    × (n ≡ record s { turns = s.turns + 1; seen = n.seen })
+
+-- one call: made so, or refused since the seat is spent, which changes nothing
+abbrev pub Ran : SeatView → Call → Result Reply SeatRefusal → SeatView → Type 0
+Ran s call (Ok reply) n = RanAt s call (Ok reply) n
+Ran s call (Err (ByBench refusal)) n = RanAt s call (Err refusal) n
+Ran s call (Err SeatSpent) n = (s.turns ≡ 4294967295) × (n ≡ s)
+
+-- one look at the front: the length of a legal log that begins with all that the seat had seen
+abbrev pub Fronted : SeatView → ℕ → SeatView → Type 0
+Fronted s found n = Sees (mark_in s) n.seen × (found ≡ length n.seen) × (n ≡ record s { seen = n.seen })
+
+-- the calls, one after another, with their answers
+abbrev pub Runs : SeatView → List Call → List (Result Reply SeatRefusal) → SeatView → Type 0
+Runs s [] [] n = n ≡ s
+Runs s [] (a ∷ more) n = ⊥
+Runs s (c ∷ cs) [] n = ⊥
+Runs s (c ∷ cs) (a ∷ more) n = (m : SeatView) × Ran s c a m × Runs m cs more n

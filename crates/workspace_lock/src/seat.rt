@@ -1,0 +1,211 @@
+//! A client's seat, and a call through it.
+ghost use Rattle.std.specs.Prelude.{◌≡◌, ℕ, ◌+◌, ◌*◌, ◌<◌, ◌≤◌, [], ◌∷◌, None, length};
+ghost use Rattle.std.specs.Arc.{arc_value};
+ghost use Rattle.inverse_log.specs.Answer.{IsLegal, Grown};
+ghost use Rattle.workspace_lock.specs.Sights.{idle, holds};
+ghost use Rattle.workspace_lock.specs.Turns.{mark_of, saw, solo, ticket_in};
+ghost use Rattle.workspace_lock.specs.Seating.{mark_in, IsSized, IsResting, IsWaiting, IsBusy, GotTurn, TookBench, Looked, seat_view};
+ghost use Rattle.workspace_lock.specs.Runs.{Ran, Fronted};
+
+use crate::lock::{Draw, Lock, Look, Named, PassOn, Place, Publish, Watch};
+use inverse_log::{Bench, Call, Refusal, Reply};
+use std::alloc::Global;
+use std::marker::{Brand, Model};
+use std::sync::{Arc, Wait};
+use std::thread;
+
+/// Why a call through a seat was refused.
+#[derive(Clone, Copy, PartialEq, Eq)]
+pub enum SeatRefusal {
+    /// 42 to 56: what the bench refused the call for. The seat has had its turn, and has seen the log.
+    Bench(Refusal),
+    /// 73: the seat has made 4,294,967,295 calls. It is as before.
+    SeatSpent,
+}
+
+/// What a call passes while it has its turn. A gate that does not let it pass holds up every later call, of other
+/// seats too.
+pub trait Gate {
+    /// Step 1 is passed when the turn is held, and step 2 after the call was answered, before the turn goes on.
+    fn pass<R: Wait>(&mut self, rt: &R, step: u32);
+}
+
+// A gate that stands open.
+#[derive(Clone, Copy)]
+struct Open;
+
+impl Gate for Open {
+    fn pass<R: Wait>(&mut self, _rt: &R, _step: u32) {}
+}
+
+// Yields the processor until the ticket is served. The load that finds it so takes the bench along.
+fn watch<R: Wait>(rt: &R, lock: &Lock, place: &mut Place, ticket: u64)
+    requires { (place.old.table_id ≡ lock.now.shared.table_id) × IsSized place.old.table_id × IsWaiting ticket place.old.me }
+    ensures { (place.new.table_id ≡ place.old.table_id) × (place.new.id ≡ place.old.id) × GotTurn ticket place.old.me place.new.me }
+{
+    for _ in rt.forever() {
+        if lock.shared.load::<Watch>(place, 1) == ticket {
+            return;
+        }
+        thread::yield_now();
+    }
+    unreachable!()
+}
+
+// Draws a ticket, waits for its turn and takes the bench.
+fn take_bench<R: Wait>(rt: &R, lock: &Lock, place: &mut Place) -> Bench
+    requires { (place.old.table_id ≡ lock.now.shared.table_id) × IsSized place.old.table_id × IsResting place.old.me × (place.old.me.0.turns < 4294967295) }
+    ensures { (place.new.table_id ≡ place.old.table_id) × (place.new.id ≡ place.old.id) × TookBench place.old.me result place.new.me }
+{
+    let ticket = lock.shared.fetch_add::<Draw>(place, 0, 1);
+    watch(rt, lock, place, ticket);
+    lock.shared.exchange(place, 0, None).unwrap()
+}
+
+// FRONT follows the log, which is one entry longer than the place has seen.
+fn publish<N: Named>(lock: &Lock, place: &mut Place, bench: &Bench)
+    requires place { (place.old.table_id ≡ lock.now.shared.table_id) × IsSized place.old.table_id × IsBusy place.old.me }
+    requires log { bench.now.log ≡ N.log }
+    requires bench { IsLegal (mark_of place.old.me.0).start.trace bench.now.log × Grown (mark_of place.old.me.0).seen (mark_of place.old.me.0).number bench.now.log × (length (mark_of place.old.me.0).seen < length bench.now.log) }
+    ensures { (place.new.table_id ≡ place.old.table_id) × (place.new.id ≡ place.old.id) × (place.new.me ≡ (solo (saw (mark_of place.old.me.0) bench.now.log) place.old.me.0.turns (holds (ticket_in place.old.me.0.stage)), (0, None) ∷ [])) }
+{
+    let _ = bench.log_len();
+    lock.shared.fetch_add::<Publish<N>>(place, 2, 1);
+}
+
+// Puts the bench back, publishes what was logged meanwhile, and passes the turn on.
+fn give_back(lock: &Lock, place: &mut Place, bench: Bench, before: u64)
+    requires place { (place.old.table_id ≡ lock.now.shared.table_id) × IsSized place.old.table_id × IsBusy place.old.me }
+    requires bench { IsLegal (mark_of place.old.me.0).start.trace bench.log × Grown (mark_of place.old.me.0).seen (mark_of place.old.me.0).number bench.log × (bench.trace ≡ (mark_of place.old.me.0).start.trace) }
+    requires before { before ≡ length (mark_of place.old.me.0).seen }
+    ensures { (place.new.table_id ≡ place.old.table_id) × (place.new.id ≡ place.old.id) × (place.new.me ≡ (solo (saw (mark_of place.old.me.0) bench.log) place.old.me.0.turns idle, [])) }
+{
+    if before < bench.log_len() {
+        publish::<Brand>(lock, place, &bench);
+    }
+    drop(lock.shared.exchange(place, 0, Some(bench)));
+    lock.shared.fetch_add::<PassOn>(place, 1, 1);
+}
+
+// One load of FRONT.
+fn look(lock: &Lock, place: &mut Place) -> u64
+    requires { (place.old.table_id ≡ lock.now.shared.table_id) × IsSized place.old.table_id × IsResting place.old.me }
+    ensures { (place.new.table_id ≡ place.old.table_id) × (place.new.id ≡ place.old.id) × Looked place.old.me result place.new.me }
+{
+    lock.shared.load::<Look>(place, 2)
+}
+
+/// A client's seat: the one through which its thread calls the shared bench.
+#[derive(Drop)]
+pub struct Seat {
+    lock: Arc<Lock, Global>,
+    place: Place,
+    number: u32,
+    turns: u32,
+}
+
+impl Model for Seat {
+    ghost use Rattle.std.specs.Prelude.{◌≡◌};
+    ghost use Rattle.std.specs.Arc.{arc_value};
+    ghost use Rattle.workspace_lock.specs.Seating.{SeatView, IsSeatOf, seat_view};
+
+    ghost Value = { SeatView };
+
+    ghost view = { λ s. seat_view s.place.table_id s.place.me };
+
+    ghost invariant = { λ s. (s.place.table_id ≡ (arc_value s.lock).shared.table_id) × IsSeatOf s.place.table_id s.place.me s.number s.turns };
+}
+
+impl Seat {
+    /// The client's number, 1 to 32.
+    pub fn number(&self) -> u32
+        ensures { result ≡ self.now.number }
+    {
+        self.number
+    }
+
+    // Its row among the seats.
+    pub(crate) fn row(&self) -> usize
+        ensures { (result + 1 ≡ self.now.number) × (result < self.now.site.clients) }
+    {
+        self.number as usize - 1
+    }
+
+    /// How many calls were made through it.
+    pub fn turns(&self) -> u32
+        ensures { result ≡ self.now.turns }
+    {
+        self.turns
+    }
+
+    // The seat of a place that has made no call.
+    pub(crate) fn at(lock: Arc<Lock, Global>, place: Place, number: u32) -> Seat
+        requires lock { (place.table_id ≡ (arc_value lock).shared.table_id) × IsSized place.table_id }
+        requires number { (0 < number) × (number ≤ 32) × (number ≤ (mark_of place.me.0).clients) }
+        requires place { (place.me ≡ (solo (mark_of place.me.0) 0 idle, [])) × ((mark_of place.me.0).number ≡ number) }
+        ensures { result ≡ seat_view place.table_id place.me }
+    {
+        Seat {
+            lock,
+            place,
+            number,
+            turns: 0,
+        }
+    }
+
+    // The place, for good.
+    pub(crate) fn into_place(self) -> Place
+        ensures { (result.table_id ≡ self.site.table) × IsSized result.table_id × (result.me ≡ (solo (mark_in self) self.turns idle, [])) × (self.turns ≤ 4294967295) }
+    {
+        let Seat {
+            lock: _,
+            place,
+            number: _,
+            turns: _,
+        } = self;
+        place
+    }
+
+    /// Waits for its turn, and makes the call with the seat's number. It never returns where a seat before it never passes
+    /// its turn on.
+    pub fn run<R: Wait>(&mut self, rt: &R, call: &Call) -> Result<Reply, SeatRefusal>
+        ensures run { Ran self.old call.now result self.new }
+        ensures seat { (self.new.site ≡ self.old.site) × (self.new.number ≡ self.old.number) }
+    {
+        self.run_gated(rt, call, &mut Open)
+    }
+
+    /// The same, and the gate is passed while the turn is held: 1 before the call, 2 after it.
+    pub fn run_gated<R: Wait, G: Gate>(
+        &mut self,
+        rt: &R,
+        call: &Call,
+        gate: &mut G,
+    ) -> Result<Reply, SeatRefusal>
+        ensures run { Ran self.old call.now result self.new }
+        ensures seat { (self.new.site ≡ self.old.site) × (self.new.number ≡ self.old.number) }
+    {
+        if self.turns == u32::MAX {
+            return Err(SeatRefusal::SeatSpent);
+        }
+        let mut bench = take_bench(rt, &self.lock, &mut self.place);
+        self.turns += 1;
+        let before = bench.log_len();
+        gate.pass(rt, 1);
+        let answered = bench.call(self.number, call);
+        gate.pass(rt, 2);
+        give_back(&self.lock, &mut self.place, bench, before);
+        match answered {
+            Ok(reply) => Ok(reply),
+            Err(refusal) => Err(SeatRefusal::Bench(refusal)),
+        }
+    }
+
+    /// The length of the log, by one load: it waits for nobody.
+    pub fn front(&mut self) -> u64
+        ensures front { Fronted self.old result self.new }
+        ensures seat { (self.new.site ≡ self.old.site) × (self.new.number ≡ self.old.number) }
+    {
+        look(&self.lock, &mut self.place)
+    }
+}

@@ -1,0 +1,236 @@
+//! All seats of a shared bench.
+ghost use Rattle.std.specs.Prelude.{◌≡◌, ℕ, ◌+◌, ◌*◌, ◌<◌, ◌≤◌, [], ◌∷◌, ◌++◌, Some, None, length, IfSome, IfNone, true, false, IfErr, IfOk, slice_get, slice_set, OnOk, MatchBool};
+ghost use Rattle.std.specs.Prelude.{vec_capacity, ◌-◌};
+ghost use Rattle.std.specs.Arc.{arc_value};
+ghost use Rattle.workspace_lock.specs.Sights.{idle};
+ghost use Rattle.workspace_lock.specs.Turns.{mark_of, saw, solo};
+ghost use Rattle.workspace_lock.specs.Seating.{IsSized, IsEnd, Gathers, mark_in, marks_in, AllSeated, HasAll, TakesFirst, Closes, SeatView, site_at, dealt, fresh_rows, Opened};
+ghost use Rattle.workspace_lock.specs.Counts.{IsBadCount};
+
+use crate::lock::{Deal, Draw, Finish, Gather, Lock, Opening, Place};
+use crate::seat::Seat;
+use atomic_table::{Refused, Table};
+use inverse_log::Bench;
+use std::alloc::{AllocFailed, Global};
+use std::marker::Model;
+use std::snapshot::Snapshot;
+use std::sync::Arc;
+
+// The bench comes out for good, by a place that has all marks: its ticket is served at once.
+fn finish(lock: &Lock, place: &mut Place) -> Bench
+    requires place { (place.old.table_id ≡ lock.now.shared.table_id) × IsSized place.old.table_id × Gathers place.old.me }
+    requires all { (0 < length place.old.me.0.marks) × (length place.old.me.0.marks ≡ lock.now.shared.key.clients) }
+    ensures { IsEnd (mark_of place.old.me.0).start.trace place.old.me.0.marks result }
+{
+    lock.shared.fetch_add::<Draw>(place, 0, 1);
+    lock.shared.load::<Finish>(place, 1);
+    lock.shared.exchange(place, 0, None).unwrap()
+}
+
+// The seat's view goes into the place's.
+fn join_in(lock: &Lock, place: &mut Place, seat: Seat)
+    requires place { (place.old.table_id ≡ lock.now.shared.table_id) × IsSized place.old.table_id × Gathers place.old.me }
+    requires seat { seat.site.table ≡ lock.now.shared.table_id }
+    ensures { (place.new.table_id ≡ place.old.table_id) × Gathers place.new.me × (place.new.me.0.marks ≡ place.old.me.0.marks ++ mark_in seat ∷ []) }
+{
+    let other = seat.into_place();
+    lock.shared.join_seat::<Gather>(place, other);
+}
+
+// All seats that are in go into the place.
+fn gather(lock: &Lock, place: &mut Place, mut rows: Vec<Option<Seat>>)
+    requires place { (place.old.table_id ≡ lock.now.shared.table_id) × IsSized place.old.table_id × Gathers place.old.me }
+    requires rows { AllSeated lock.now.shared.table_id rows.items }
+    requires first { 0 < length place.old.me.0.marks }
+    ensures place { (place.new.table_id ≡ place.old.table_id) × Gathers place.new.me × (mark_of place.new.me.0 ≡ mark_of place.old.me.0) }
+    ensures count { length place.new.me.0.marks ≡ length place.old.me.0.marks + length rows.items }
+    ensures marks { HasAll (place.old.me.0.marks ++ marks_in rows.items) place.new.me.0.marks }
+{
+    while let Some(row) = rows.pop() {
+        let Some(seat) = row else { unreachable!() };
+        join_in(lock, place, seat);
+    }
+}
+
+/// All seats of a shared bench. Those that are in stand in the order of their numbers.
+#[derive(Drop)]
+pub struct Seats {
+    lock: Arc<Lock, Global>,
+    rows: Vec<Option<Seat>>,
+}
+
+/// Why the seats were not closed.
+#[derive(Clone, Copy, PartialEq, Eq)]
+pub enum CloseRefusal {
+    /// 74: a seat is out.
+    NotAll,
+    /// 75: a growth was refused. It is never answered, since closing takes no memory.
+    OutOfMemory,
+}
+
+impl Model for Seats {
+    ghost use Rattle.std.specs.Arc.{arc_value};
+    ghost use Rattle.workspace_lock.specs.Seating.{SeatsView, IsSeatsView, site_at};
+
+    ghost Value = { SeatsView };
+
+    ghost view = { λ s. record { site = site_at (arc_value s.lock).shared.table_id (arc_value s.lock).shared.key.bench.value (arc_value s.lock).shared.key.clients; rows = s.rows.items } };
+
+    ghost invariant = { λ s. IsSeatsView (site_at (arc_value s.lock).shared.table_id (arc_value s.lock).shared.key.bench.value (arc_value s.lock).shared.key.clients) s.rows.items };
+}
+
+// The first row that has a seat.
+fn first_in(rows: &[Option<Seat>]) -> Option<usize>
+    ensures some { IfSome result (λ i. (i < length rows.now) × ((c : SeatView) × (slice_get rows.now i ≡ Some (Some c))) × ((j : ℕ) → j < i → slice_get rows.now j ≡ Some None)) }
+    ensures none { IfNone result ((j : ℕ) → j < length rows.now → slice_get rows.now j ≡ Some None) }
+{
+    for (i, row) in rows.iter().enumerate() {
+        if row.is_some() {
+            return Some(i);
+        }
+    }
+    None
+}
+
+// Whether a row has no seat.
+fn is_one_out(rows: &[Option<Seat>]) -> bool
+    ensures { MatchBool result ((i : ℕ) × (slice_get rows.now i ≡ Some None)) ((i : ℕ) → i < length rows.now → (c : SeatView) × (slice_get rows.now i ≡ Some (Some c))) }
+{
+    for row in rows {
+        if row.is_none() {
+            return true;
+        }
+    }
+    false
+}
+
+impl Seats {
+    /// The seat of the least number that is in.
+    pub fn take(&mut self) -> Option<Seat>
+        ensures some { IfSome result (λ c. TakesFirst self.old c self.new) }
+        ensures none { IfNone result ((self.new ≡ self.old) × ((j : ℕ) → j < length self.old.rows → slice_get self.old.rows j ≡ Some None)) }
+    {
+        let i = first_in(self.rows.as_slice())?;
+        let row = &mut self.rows[i];
+        row.take()
+    }
+
+    /// Takes the seat back. It is handed back where one of its number is in.
+    pub fn give(&mut self, seat: Seat) -> Result<(), Seat>
+        requires { seat.site ≡ self.old.site }
+        ensures ok { OnOk result ((slice_get self.old.rows (seat.number - 1) ≡ Some None) × (self.new ≡ record self.old { rows = slice_set self.old.rows (seat.number - 1) (Some seat) })) }
+        ensures err { IfErr result (λ s. (s ≡ seat) × (self.new ≡ self.old) × ((c : SeatView) × (slice_get self.old.rows (seat.number - 1) ≡ Some (Some c)))) }
+    {
+        let i = seat.row();
+        if self.rows[i].is_some() {
+            return Err(seat);
+        }
+        self.rows[i] = Some(seat);
+        Ok(())
+    }
+
+    /// The bench, once all seats are in; else the seats. It takes no memory and waits for nobody.
+    pub fn close(self) -> Result<Bench, (Seats, CloseRefusal)>
+        ensures ok { IfOk result (λ b. Closes self b × ((i : ℕ) → i < length self.rows → (c : SeatView) × (slice_get self.rows i ≡ Some (Some c)))) }
+        ensures err { IfErr result (λ e. (e.0 ≡ self) × (e.1 ≡ CloseRefusal.NotAll) × ((i : ℕ) × (slice_get self.rows i ≡ Some None))) }
+    {
+        if is_one_out(self.rows.as_slice()) {
+            return Err((self, CloseRefusal::NotAll));
+        }
+        let Seats { lock, mut rows } = self;
+        let Some(Some(first)) = rows.pop() else {
+            unreachable!()
+        };
+        let mut place = first.into_place();
+        gather(&lock, &mut place, rows);
+        Ok(finish(&lock, &mut place))
+    }
+}
+
+/// Why a bench was not shared.
+#[derive(Clone, Copy, PartialEq, Eq)]
+pub enum OpenRefusal {
+    /// 71: the number of clients is not one of 1 to 32.
+    BadCount,
+    /// 72: a growth was refused.
+    OutOfMemory,
+}
+
+// A seat for each client, by the first place, which is spent then.
+fn deal(
+    lock: Arc<Lock, Global>,
+    mut place: Place,
+    mut rows: Vec<Option<Seat>>,
+    clients: u32,
+) -> Result<Seats, (Bench, OpenRefusal)>
+    requires place { (place.table_id ≡ (arc_value lock).shared.table_id) × IsSized place.table_id × (place.me ≡ dealt (arc_value lock).shared.key.bench.value clients 0) }
+    requires clients { (clients ≡ (arc_value lock).shared.key.clients) × (0 < clients) × (clients ≤ 32) }
+    requires rows { (rows.items ≡ []) × (clients ≤ vec_capacity rows) }
+    ensures ok { IfOk result (λ s. Opened (arc_value lock).shared.key.bench.value clients s) }
+    ensures err { IfErr result (λ e. e.0 ≡ (arc_value lock).shared.key.bench.value) }
+    ensures memory { IfErr result (λ e. e.1 ≡ OpenRefusal.OutOfMemory) }
+{
+    for i in 0..clients {
+        let Ok(own) = Arc::try_clone(&lock) else {
+            gather(&lock, &mut place, rows);
+            return Err((finish(&lock, &mut place), OpenRefusal::OutOfMemory));
+        };
+        let other = lock.shared.split_seat::<Deal>(&mut place);
+        rows.push_reserved(Some(Seat::at(own, other, i + 1)));
+    }
+    Ok(Seats { lock, rows })
+}
+
+// The lock goes where all seats can reach it.
+fn share(
+    alloc: Global,
+    table: Lock,
+    mut place: Place,
+    rows: Vec<Option<Seat>>,
+    clients: u32,
+) -> Result<Seats, (Bench, OpenRefusal)>
+    requires place { (place.table_id ≡ table.shared.table_id) × IsSized place.table_id × (place.me ≡ dealt table.shared.key.bench.value clients 0) }
+    requires clients { (clients ≡ table.shared.key.clients) × (0 < clients) × (clients ≤ 32) }
+    requires rows { (rows.items ≡ []) × (clients ≤ vec_capacity rows) }
+    ensures ok { IfOk result (λ s. Opened table.shared.key.bench.value clients s) }
+    ensures err { IfErr result (λ e. e.0 ≡ table.shared.key.bench.value) }
+    ensures memory { IfErr result (λ e. e.1 ≡ OpenRefusal.OutOfMemory) }
+{
+    match Arc::new(alloc, table) {
+        Ok(lock) => deal(lock, place, rows, clients),
+        Err(AllocFailed { value: table }) => {
+            Err((finish(&table, &mut place), OpenRefusal::OutOfMemory))
+        }
+    }
+}
+
+/// Seats for the clients 1 to `clients`, each of which has seen the bench's log.
+pub fn open(alloc: Global, bench: Bench, clients: u32) -> Result<Seats, (Bench, OpenRefusal)>
+    ensures ok { IfOk result (λ s. (0 < clients) × (clients ≤ 32) × Opened bench clients s) }
+    ensures err { IfErr result (λ e. e.0 ≡ bench) }
+    // It is refused for the count exactly where that is bad.
+    ensures count { IfErr result (λ e. IsBadCount clients e.1) }
+{
+    if clients == 0 || clients > 32 {
+        return Err((bench, OpenRefusal::BadCount));
+    }
+    let Ok(rows) = Vec::with_capacity(alloc, clients as usize) else {
+        return Err((bench, OpenRefusal::OutOfMemory));
+    };
+    let Ok(mut slots) = Vec::with_capacity(alloc, 1) else {
+        return Err((bench, OpenRefusal::OutOfMemory));
+    };
+    let opening = Opening {
+        bench: Snapshot::of(&bench),
+        clients,
+    };
+    let length = bench.log_len();
+    slots.push_reserved(Some(bench));
+    match Table::new(alloc, &[0, 0, length], slots, &opening) {
+        Ok((table, place)) => share(alloc, table, place, rows, clients),
+        Err(Refused { mut slots }) => match slots.pop() {
+            Some(Some(bench)) => Err((bench, OpenRefusal::OutOfMemory)),
+            _ => unreachable!(),
+        },
+    }
+}
