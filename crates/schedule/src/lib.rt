@@ -2,7 +2,11 @@
 #![tactic(auto)]
 
 mod events;
+#[cfg(test)]
+mod generated_tests;
 mod latest;
+#[cfg(test)]
+mod plain;
 mod reads;
 mod refusal;
 mod refusing;
