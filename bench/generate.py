@@ -1,12 +1,19 @@
 #!/usr/bin/env python3
 """Writes the inputs of the benchmark into a folder. Everything random comes from one seed, so each run makes the
-same bytes."""
+same bytes. A number behind the folder divides all sizes, to see quickly that everything runs."""
 import os
 import random
 import subprocess
 import sys
 
-EVENTS = 65_536
+DIVISOR = int(sys.argv[2]) if len(sys.argv) > 2 else 1
+
+
+def sized(count):
+    return max(count // DIVISOR, 1)
+
+
+EVENTS = sized(65_536)
 
 
 def locked_trace(events, threads, location, seed):
@@ -106,6 +113,27 @@ def dropped_oldest_first(rows):
     return [f"1 new S{i}" for i in range(rows)] + [f"1 drop S{i}" for i in range(rows)]
 
 
+def write_refused(folder):
+    """Scripts whose last line is refused, so that they are read whole and no call is made: how long the reading takes."""
+    end = ["0 list"]
+    for lines in (sized(400_000), sized(4_000_000)):
+        write(folder, f"read_list_{lines}", ["T1|w(x)|1"], ["1 list"] * lines + end)
+    # a line of a script has at most 65,536 bytes
+    listed = " ".join(str(i) for i in range(10_000))
+    for lines in (sized(200), sized(2_000)):
+        write(folder, f"read_propose_{lines}", ["T1|w(x)|1"], [f"1 propose 0 1 {listed}"] * lines + end)
+
+
+def write_proposals(folder):
+    """Proposals of many events: one that is adopted and taken back again and again, and one made anew each time."""
+    for events in (sized(1_000), sized(10_000)):
+        listed = " ".join(str(i) for i in range(events))
+        trace = [f"T1|w(y{i})|1" for i in range(events)] + ["T1|w(x)|1", "T2|w(x)|1"]
+        propose = f"1 propose {events} {events + 1} {listed}"
+        write(folder, f"replay_adopt_{events}", trace, ["1 new A", propose] + ["1 adopt A 0", "1 undo"] * sized(500))
+        write(folder, f"replay_propose_{events}", trace, [propose] * sized(500))
+
+
 def write_scripts(folder):
     """Scripts on a bench, each at two sizes, so that one sees how the cost grows."""
     writes = ["T1|w(x)|1"] * EVENTS
@@ -113,18 +141,12 @@ def write_scripts(folder):
         grow = ["1 new A"] + [f"1 add A {i}" for i in range(events)]
         write(folder, f"replay_grow_{events}", writes, grow)
         write(folder, f"replay_shrink_{events}", writes, grow + ["1 back A"] * events)
-    for entries in (100_000, 1_000_000):
+    for entries in (sized(100_000), sized(1_000_000)):
         write(folder, f"replay_new_and_undo_{entries}", ["T1|w(x)|1"], ["1 new A", "1 undo"] * (entries // 2))
-    for rounds in (300, 3_000):
+    for rounds in (sized(300), sized(3_000)):
         write(folder, f"replay_32_clients_{32 * (rounds + 1)}", ["T1|w(x)|1"], interleaved(32, rounds))
-    for rows in (2_000, 20_000):
+    for rows in (sized(2_000), sized(20_000)):
         write(folder, f"replay_drop_oldest_{rows}", ["T1|w(x)|1"], dropped_oldest_first(rows))
-    # a line of a script has at most 65,536 bytes
-    for events in (1_000, 10_000):
-        listed = " ".join(str(i) for i in range(events))
-        trace = [f"T1|w(y{i})|1" for i in range(events)] + ["T1|w(x)|1", "T2|w(x)|1"]
-        calls = ["1 new A", f"1 propose {events} {events + 1} {listed}"] + ["1 adopt A 0", "1 undo"] * 500
-        write(folder, f"replay_adopt_{events}", trace, calls)
 
 
 def main():
@@ -136,16 +158,18 @@ def main():
         write(folder, f"locked_{threads}_long", locked_trace(EVENTS, threads, long, 2))
         write(folder, f"ordered_{threads}", ordered_by_a_lock(EVENTS, threads))
         write(folder, f"unordered_{threads}", unordered(EVENTS, threads))
-        write(folder, f"unordered_{threads}_8192", unordered(EVENTS // 8, threads))
-        write(folder, f"ordered_{threads}_8192", ordered_by_a_lock(EVENTS // 8, threads))
-        write(folder, f"locked_{threads}_8192", locked_trace(EVENTS // 8, threads, short, 1))
+        write(folder, f"unordered_{threads}_{EVENTS // 8}", unordered(EVENTS // 8, threads))
+        write(folder, f"ordered_{threads}_{EVENTS // 8}", ordered_by_a_lock(EVENTS // 8, threads))
+        write(folder, f"locked_{threads}_{EVENTS // 8}", locked_trace(EVENTS // 8, threads, short, 1))
     write(folder, "nested", nested(EVENTS))
     write(folder, "many_names", named_trace(EVENTS, 4, [f"variable_{i}" for i in range(EVENTS)]))
     write(folder, "colliding_names", named_trace(EVENTS, 4, colliding_names(folder, EVENTS)))
-    write(folder, "skipped_lines", ["T1|begin(b)|1"] * 4_000_000)
-    write(folder, "replay_new", ["T1|w(x)|1"], [f"1 new S{i}" for i in range(200_000)])
-    write(folder, "replay_show", ["T1|w(x)|1"], ["1 new A", "1 add A 0"] + ["1 show A"] * 400_000)
+    write(folder, "skipped_lines", ["T1|begin(b)|1"] * sized(4_000_000))
+    write(folder, "replay_new", ["T1|w(x)|1"], [f"1 new S{i}" for i in range(sized(200_000))])
+    write(folder, "replay_show", ["T1|w(x)|1"], ["1 new A", "1 add A 0"] + ["1 show A"] * sized(400_000))
     write_scripts(folder)
+    write_proposals(folder)
+    write_refused(folder)
 
 
 main()

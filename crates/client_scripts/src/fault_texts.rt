@@ -4,8 +4,8 @@ ghost use Rattle.client_scripts.specs.FaultTexts.{fault_words, located_words, te
 ghost use Rattle.client_scripts.specs.Messages.{message_bytes, words_in};
 
 use crate::fault::{ReadCause, ReplayFault, ScriptCause};
-use itoa::Buffer;
 use rapid_text::{OutOfMemory, TextCause};
+use report::{Piece, append_pieces};
 use std::fmt;
 use trace_rules::RuleCause;
 
@@ -108,22 +108,24 @@ pub(crate) fn message_of(fault: &ReplayFault) -> Message
     }
 }
 
-/// Appends a message, or a part of it where memory is refused.
+/// Appends a message. Where memory is refused `out` stays as it was.
 fn append_message(out: &mut Vec<u8>, message: Message) -> Result<(), OutOfMemory>
-    ensures { OnOk result (out.new.items ≡ out.old.items ++ message_bytes message) }
+    ensures ok { OnOk result (out.new.items ≡ out.old.items ++ message_bytes message) }
+    ensures err { OnErr result (out.new.items ≡ out.old.items) }
 {
     match message {
-        Message::Plain(words) => out.extend_from_slice(words.as_bytes())?,
-        Message::At(place, number, words) => {
-            let mut digits = Buffer::new();
-            out.extend_from_slice(place.as_bytes())?;
-            out.push(b' ')?;
-            out.extend_from_slice(digits.format(number).as_bytes())?;
-            out.extend_from_slice(b": ")?;
-            out.extend_from_slice(words.as_bytes())?;
-        }
+        Message::Plain(words) => append_pieces(out, &[Piece::Words(words.as_bytes())]),
+        Message::At(place, number, words) => append_pieces(
+            out,
+            &[
+                Piece::Words(place.as_bytes()),
+                Piece::Words(b" "),
+                Piece::Number(number),
+                Piece::Words(b": "),
+                Piece::Words(words.as_bytes()),
+            ],
+        ),
     }
-    Ok(())
 }
 
 /// Appends the text of a fault, without a line end. Where memory is refused `out` stays as it was.
@@ -131,8 +133,5 @@ pub fn fault_text(fault: &ReplayFault, out: &mut Vec<u8>) -> Result<(), OutOfMem
     ensures ok { OnOk result (out.new.items ≡ out.old.items ++ fault_words fault.now) }
     ensures err { OnErr result (out.new.items ≡ out.old.items) }
 {
-    let mut text = Vec::new(*out.allocator());
-    append_message(&mut text, message_of(fault))?;
-    out.extend_from_slice(&text)?;
-    Ok(())
+    append_message(out, message_of(fault))
 }

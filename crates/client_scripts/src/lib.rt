@@ -2,6 +2,8 @@
 #![tactic(auto)]
 
 mod calls;
+#[cfg(test)]
+mod fakes;
 mod fault;
 mod fault_texts;
 mod joint;
@@ -12,6 +14,8 @@ mod replaying;
 mod script;
 mod sink;
 mod source;
+#[cfg(test)]
+mod tests;
 mod unopened;
 mod verb;
 

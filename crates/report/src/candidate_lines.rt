@@ -3,7 +3,7 @@ ghost use Rattle.std.specs.Prelude.{◌≡◌, ◌<◌, ◌++◌, length, All, O
 ghost use Rattle.event_index.specs.Relations.{IsConflicting};
 ghost use Rattle.report.specs.Candidates.{candidates_text, candidate_line, candidate_lines, variable_words};
 
-use crate::pieces::{append_count, append_number};
+use crate::pieces::{Piece, append_count, append_pieces};
 use event_index::{Indexed, Pairs};
 use rapid_text::{Op, OutOfMemory};
 
@@ -47,13 +47,18 @@ fn append_candidate(
     requires { first < length indexed.now.events }
     ensures { OnOk result (out.new.items ≡ out.old.items ++ candidate_line indexed.now (first, second)) }
 {
-    out.extend_from_slice(b"candidate ")?;
-    append_number(out, u64::from(first))?;
-    out.push(b' ')?;
-    append_number(out, u64::from(second))?;
-    out.push(b' ')?;
-    out.extend_from_slice(variable_of(indexed, first))?;
-    out.push(b'\n')?;
+    append_pieces(
+        out,
+        &[
+            Piece::Words(b"candidate "),
+            Piece::Number(u64::from(first)),
+            Piece::Words(b" "),
+            Piece::Number(u64::from(second)),
+            Piece::Words(b" "),
+            Piece::Words(variable_of(indexed, first)),
+            Piece::Words(b"\n"),
+        ],
+    )?;
     Ok(())
 }
 

@@ -3,7 +3,7 @@ ghost use Rattle.std.specs.Prelude.{◌≡◌, ◌<◌, ◌++◌, length, OnOk, 
 ghost use Rattle.rapid_text.specs.Canonical.{name_at};
 ghost use Rattle.report.specs.Info.{info_text, counts_text, thread_line, thread_lines};
 
-use crate::pieces::{append_count, append_number};
+use crate::pieces::{Piece, append_count, append_pieces};
 use event_index::Indexed;
 use rapid_text::OutOfMemory;
 
@@ -47,13 +47,19 @@ fn append_thread(out: &mut Vec<u8>, indexed: &Indexed, thread: u32) -> Result<()
     requires { thread < length indexed.now.threads }
     ensures { OnOk result (out.new.items ≡ out.old.items ++ thread_line indexed.now thread) }
 {
-    out.extend_from_slice(b"thread ")?;
-    append_number(out, u64::from(thread))?;
-    out.push(b' ')?;
-    out.extend_from_slice(name_of(indexed, thread))?;
-    out.push(b' ')?;
-    append_number(out, indexed.thread_events(thread).len() as u64)?;
-    out.push(b'\n')?;
+    let events = indexed.thread_events(thread).len() as u64;
+    append_pieces(
+        out,
+        &[
+            Piece::Words(b"thread "),
+            Piece::Number(u64::from(thread)),
+            Piece::Words(b" "),
+            Piece::Words(name_of(indexed, thread)),
+            Piece::Words(b" "),
+            Piece::Number(events),
+            Piece::Words(b"\n"),
+        ],
+    )?;
     Ok(())
 }
 

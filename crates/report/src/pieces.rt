@@ -23,7 +23,7 @@ pub enum Piece<'a> {
 }
 
 /// Appends a number. Where memory is refused `out` stays as it was.
-pub(crate) fn append_number(out: &mut Vec<u8>, number: u64) -> Result<(), OutOfMemory>
+fn append_number(out: &mut Vec<u8>, number: u64) -> Result<(), OutOfMemory>
     ensures ok { OnOk result (out.new.items ≡ out.old.items ++ decimal number) }
     ensures err { OnErr result (out.new.items ≡ out.old.items) }
 {
