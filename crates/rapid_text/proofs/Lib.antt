@@ -6,6 +6,7 @@ pub mod FirstByte
 pub mod FirstFound
 pub mod FirstUses
 pub mod Growing
+pub mod Guesses
 pub mod LineText
 pub mod Lines
 pub mod NameNumbers

@@ -49,7 +49,7 @@ has-filter p (other ∷ names) name keeps in_names =
     ]
 
 -- the test of two names may be turned round
-differs-turned : (a b : List ℕ) → bytes_eq b a ≡ false → bytes_eq a b ≡ false
+pub differs-turned : (a b : List ℕ) → bytes_eq b a ≡ false → bytes_eq a b ≡ false
 differs-turned a b differs =
     elim (cases_Bool (bytes_eq a b)) [
       | inl same ↦ absurd (false≢true (sym differs ∙ (bytes_decides b a).1 (sym ((bytes_decides a b).0 same))))

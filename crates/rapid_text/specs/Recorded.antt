@@ -13,9 +13,9 @@ abbrev pub recorded : Recorder → Recording
 recorded t =
     record {
       events = t.events.items;
-      threads = names_of t.threads;
-      variables = names_of t.variables;
-      locks = names_of t.locks;
+      threads = names_of t.threads.names;
+      variables = names_of t.variables.names;
+      locks = names_of t.locks.names;
       locations = map (part_at t.locations.items) t.spans.items;
     }
 

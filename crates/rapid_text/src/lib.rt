@@ -12,6 +12,7 @@ mod printing;
 mod printing_tests;
 mod raw_trace;
 mod reading;
+mod recent;
 mod recorder;
 mod refusal;
 #[cfg(test)]

@@ -1,14 +1,65 @@
 //! Numbers names by their first uses.
-ghost use Rattle.std.specs.Prelude.{◌≡◌, ◌<◌, ◌^◌, length, OnOk, IfOk};
+ghost use Rattle.std.specs.Prelude.{◌≡◌, ◌<◌, ◌^◌, [], bytes_eq, length, OnOk, IfOk, IsTrue};
+ghost use Rattle.std.specs.List.{list_any};
 ghost use Rattle.rapid_text.specs.Growth.{names_of, with_name, IsNumber};
 
 use crate::memory::OutOfMemory;
+use crate::recent::{Recent, mix_of};
 use indexmap::IndexSet;
 use std::alloc::Global;
 use std::hash::{BuildHasher, DefaultHasher, Hasher};
 
 /// The names of threads, variables or locks; a name's number is its place.
 pub(crate) type Names = IndexSet<Vec<u8>, TextKeyed>;
+
+/// The names of one kind while a text is read, with guesses at their numbers.
+#[derive(Drop)]
+pub(crate) struct NameTable {
+    pub(crate) names: Names,
+    recent: Recent,
+}
+
+impl NameTable {
+    /// No name was read yet; the names are hashed by these hashers.
+    pub(crate) fn new(alloc: Global, hashers: TextKeyed) -> NameTable
+        ensures { names_of result.names ≡ [] }
+    {
+        NameTable {
+            names: IndexSet::with_hasher(alloc, hashers),
+            recent: Recent::new(),
+        }
+    }
+
+    /// Whether the name is in the table.
+    fn contains(&self, name: &[u8]) -> bool
+        ensures { result ≡ list_any (bytes_eq name.now) (names_of self.now.names) }
+    {
+        if let Some(guess) = self.recent.guess(mix_of(name)) {
+            if is_at(&self.names, guess, name) {
+                return true;
+            }
+        }
+        self.names.contains(name)
+    }
+
+    /// The number of the name, which is noted as the last one if it is new.
+    pub(crate) fn number(&mut self, alloc: Global, name: &[u8]) -> Result<u32, OutOfMemory>
+        requires { length (names_of self.old.names) < 2 ^ 17 }
+        ensures names { OnOk result
+            (names_of self.new.names ≡ with_name (names_of self.old.names) name.now) }
+        ensures number { IfOk result (IsNumber (names_of self.new.names) name.now) }
+    {
+        let mix = mix_of(name);
+        if let Some(guess) = self.recent.guess(mix) {
+            if is_at(&self.names, guess, name) {
+                return Ok(guess);
+            }
+        }
+        let number = number(&mut self.names, alloc, name)?;
+        self.recent.note(mix, number);
+        Ok(number)
+    }
+}
 
 /// Makes hashers for tables of names that a stranger chose, keyed by the text in which the names stand:
 /// SipHash-1-3 under a hash of the whole text. Each name of the text is a part of what makes the key, so
@@ -42,35 +93,46 @@ impl BuildHasher for TextKeyed {
 }
 
 /// How many names there are with this one.
-pub(crate) fn count_with(names: &Names, name: &[u8]) -> usize
-    requires { length (names_of names.now) < 2 ^ 17 }
-    ensures { result ≡ length (with_name (names_of names.now) name.now) }
+pub(crate) fn count_with(table: &NameTable, name: &[u8]) -> usize
+    requires { length (names_of table.now.names) < 2 ^ 17 }
+    ensures { result ≡ length (with_name (names_of table.now.names) name.now) }
 {
-    if names.contains(name) {
-        names.len()
+    if table.contains(name) {
+        table.names.len()
     } else {
-        names.len() + 1
+        table.names.len() + 1
     }
 }
 
 /// How many names there are with these two.
-pub(crate) fn count_with_both(names: &Names, first: &[u8], second: &[u8]) -> usize
-    requires { length (names_of names.now) < 2 ^ 17 }
-    ensures { result ≡ length (with_name (with_name (names_of names.now) first.now) second.now) }
+pub(crate) fn count_with_both(table: &NameTable, first: &[u8], second: &[u8]) -> usize
+    requires { length (names_of table.now.names) < 2 ^ 17 }
+    ensures { result ≡ length (with_name (with_name (names_of table.now.names) first.now) second.now) }
 {
-    let with_first = count_with(names, first);
+    let with_first = count_with(table, first);
     if second == first {
         return with_first;
     }
-    if names.contains(second) {
+    if table.contains(second) {
         with_first
     } else {
         with_first + 1
     }
 }
 
-/// The number of the name, which is noted as the last one if it is new.
-pub(crate) fn number(names: &mut Names, alloc: Global, name: &[u8]) -> Result<u32, OutOfMemory>
+/// Whether the name stands at this place.
+fn is_at(names: &Names, place: u32, name: &[u8]) -> bool
+    ensures { IsTrue result → IsNumber (names_of names.now) name.now place }
+{
+    let place = place as usize;
+    if place >= names.len() {
+        return false;
+    }
+    names[place].as_slice() == name
+}
+
+// The number of the name by its hash; it is noted as the last one if it is new.
+fn number(names: &mut Names, alloc: Global, name: &[u8]) -> Result<u32, OutOfMemory>
     requires { length (names_of names.old) < 2 ^ 17 }
     ensures names { OnOk result (names_of names.new ≡ with_name (names_of names.old) name.now) }
     ensures number { IfOk result (IsNumber (names_of names.new) name.now) }

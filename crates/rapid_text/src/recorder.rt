@@ -10,10 +10,9 @@ ghost use Rattle.rapid_text.specs.Recorded.{recorded, AreParts, IsReady, StopsFo
 use crate::event::{Event, Kind, Op};
 use crate::line::Fields;
 use crate::memory::OutOfMemory;
-use crate::names::{Names, TextKeyed, count_with, count_with_both, number};
+use crate::names::{NameTable, TextKeyed, count_with, count_with_both};
 use crate::raw_trace::{MAX_EVENTS, MAX_THREADS, RawTrace, Span};
 use crate::refusal::TextCause;
-use indexmap::IndexSet;
 use std::alloc::Global;
 
 /// Why an event is not recorded.
@@ -40,9 +39,9 @@ impl From<OutOfMemory> for Stop {
 #[derive(Drop)]
 pub(crate) struct Recorder {
     pub(crate) events: Vec<Event>,
-    pub(crate) threads: Names,
-    pub(crate) variables: Names,
-    pub(crate) locks: Names,
+    pub(crate) threads: NameTable,
+    pub(crate) variables: NameTable,
+    pub(crate) locks: NameTable,
     pub(crate) locations: Vec<u8>,
     pub(crate) spans: Vec<Span>,
     alloc: Global,
@@ -56,9 +55,9 @@ impl Recorder {
     {
         Recorder {
             events: Vec::new(alloc),
-            threads: IndexSet::with_hasher(alloc, hashers),
-            variables: IndexSet::with_hasher(alloc, hashers),
-            locks: IndexSet::with_hasher(alloc, hashers),
+            threads: NameTable::new(alloc, hashers),
+            variables: NameTable::new(alloc, hashers),
+            locks: NameTable::new(alloc, hashers),
             locations: Vec::new(alloc),
             spans: Vec::new(alloc),
             alloc,
@@ -89,7 +88,7 @@ impl Recorder {
             thread_limit
             (length (with_names (recorded self.now) (named_in fields.entry)).threads) }
     {
-        self.threads.len() + 2 > MAX_THREADS && self.threads_with(fields) > MAX_THREADS
+        self.threads.names.len() + 2 > MAX_THREADS && self.threads_with(fields) > MAX_THREADS
     }
 
     /// The operation by number; its name is numbered if it is new.
@@ -108,12 +107,12 @@ impl Recorder {
     {
         let alloc = self.alloc;
         Ok(match kind {
-            Kind::Reads => Op::Read(number(&mut self.variables, alloc, name)?),
-            Kind::Writes => Op::Write(number(&mut self.variables, alloc, name)?),
-            Kind::Acquires => Op::Acquire(number(&mut self.locks, alloc, name)?),
-            Kind::Releases => Op::Release(number(&mut self.locks, alloc, name)?),
-            Kind::Forks => Op::Fork(number(&mut self.threads, alloc, name)?),
-            Kind::Joins => Op::Join(number(&mut self.threads, alloc, name)?),
+            Kind::Reads => Op::Read(self.variables.number(alloc, name)?),
+            Kind::Writes => Op::Write(self.variables.number(alloc, name)?),
+            Kind::Acquires => Op::Acquire(self.locks.number(alloc, name)?),
+            Kind::Releases => Op::Release(self.locks.number(alloc, name)?),
+            Kind::Forks => Op::Fork(self.threads.number(alloc, name)?),
+            Kind::Joins => Op::Join(self.threads.number(alloc, name)?),
         })
     }
 
@@ -151,7 +150,7 @@ impl Recorder {
         if self.is_too_many_for(fields) {
             return Err(Stop::Fault(TextCause::TooManyNames));
         }
-        let thread = number(&mut self.threads, self.alloc, fields.thread)?;
+        let thread = self.threads.number(self.alloc, fields.thread)?;
         let op = self.number_operation(fields.kind, fields.name)?;
         self.put_last(Event { thread, op }, fields.location)?;
         Ok(())
@@ -165,9 +164,9 @@ impl Recorder {
     {
         RawTrace {
             events: self.events,
-            threads: self.threads,
-            variables: self.variables,
-            locks: self.locks,
+            threads: self.threads.names,
+            variables: self.variables.names,
+            locks: self.locks.names,
             locations: self.locations,
             spans: self.spans,
         }

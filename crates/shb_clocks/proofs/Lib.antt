@@ -9,4 +9,5 @@ pub mod PartnerLemmas
 pub mod PlaceLemmas
 pub mod ReadLemmas
 pub mod ReleaseLemmas
+pub mod RowLemmas
 pub mod SourceLemmas

@@ -28,6 +28,10 @@ abbrev pub AreCounts : List Event → ℕ → List ℕ → Type 0
 AreCounts T width counts =
     (e t : ℕ) → t < width → e * width + t < length counts → IsCount T e t (slice_index counts (e * width + t))
 
+-- the counts of each thread, in one row
+abbrev pub IsRow : List Event → ℕ → List ℕ → Type 0
+IsRow T e row = (t : ℕ) → t < length row → IsCount T e t (slice_index row t)
+
 -- what a row counts of the thread; nothing where there is no row
 abbrev pub count_by : List ℕ → ℕ → Option ℕ → ℕ → ℕ
 count_by counts width None t = 0

@@ -1,9 +1,9 @@
 //! The rows of counts, made in one pass over the events.
-ghost use Rattle.std.specs.Prelude.{◌≡◌, ◌+◌, ◌*◌, ◌<◌, ◌≤◌, length, IfOk, OnOk, IfSome, slice_index};
+ghost use Rattle.std.specs.Prelude.{◌≡◌, ◌+◌, ◌*◌, ◌<◌, ◌≤◌, length, IfOk, OnOk, IfSome, slice_index, max, ℕ};
 ghost use Rattle.event_index.specs.Tables.{IsTable};
-ghost use Rattle.shb_clocks.specs.Layout.{AreThreads, IsCount, AreCounts, last_release, counterpart_of, count_by};
+ghost use Rattle.shb_clocks.specs.Layout.{AreThreads, AreCounts, last_release, counterpart_of, count_by, IsRow};
 
-use crate::events::{event_at, threads_in};
+use crate::events::event_at;
 use event_index::Indexed;
 use rapid_text::{Op, OutOfMemory};
 use std::alloc::Global;
@@ -30,10 +30,12 @@ pub(crate) fn counts_of(alloc: Global, indexed: &Indexed) -> Result<Vec<u32>, Ou
 {
     let raw = indexed.trace().raw();
     let mut counts = Vec::with_capacity(alloc, raw.len() as usize * raw.threads() as usize)?;
+    let mut row = vec![in alloc; 0u32; raw.threads() as usize]?;
     let mut releases = vec![in alloc; None; raw.locks() as usize]?;
     for event in 0..raw.len() {
         let counterpart = counterpart_at(&mut releases, indexed, event);
-        push_row(&mut counts, indexed, event, counterpart)?;
+        fill_row(&mut row, counts.as_slice(), indexed, event, counterpart);
+        counts.extend_from_slice(row.as_slice())?;
     }
     Ok(counts)
 }
@@ -62,60 +64,70 @@ fn counterpart_at(releases: &mut Vec<Option<u32>>, indexed: &Indexed, event: u32
     }
 }
 
-// Appends the row of the event, the count of each thread.
-fn push_row(
-    counts: &mut Vec<u32>,
-    indexed: &Indexed,
-    event: u32,
-    counterpart: Option<u32>,
-) -> Result<(), OutOfMemory>
-    requires event { event < length indexed.now.events }
-    requires counterpart { counterpart ≡ counterpart_of indexed.now.events event }
-    requires len { length counts.old.items ≡ event * length indexed.now.threads }
-    requires counts { AreCounts indexed.now.events (length indexed.now.threads) counts.old.items }
-    ensures len { OnOk result (length counts.new.items ≡ (event + 1) * length indexed.now.threads) }
-    ensures counts { OnOk result
-        (AreCounts indexed.now.events (length indexed.now.threads) counts.new.items) }
-{
-    for thread in 0..threads_in(indexed) {
-        let count = count_of(counts.as_slice(), indexed, event, counterpart, thread);
-        counts.push(count)?;
-    }
-    Ok(())
-}
-
-// How many events of the thread come before the event or are it: in its own thread all events up to it, in
-// another those that its base or its counterpart counts.
-fn count_of(
+// Makes the row of the event, the count of each thread: how many of its events come before the event or are
+// it. In its own thread these are all events up to it, in another those that its base or its counterpart counts.
+fn fill_row(
+    row: &mut Vec<u32>,
     counts: &[u32],
     indexed: &Indexed,
     event: u32,
     counterpart: Option<u32>,
-    thread: u32,
-) -> u32
+)
     requires event { event < length indexed.now.events }
     requires counterpart { counterpart ≡ counterpart_of indexed.now.events event }
-    requires thread { thread < length indexed.now.threads }
-    requires len { event * length indexed.now.threads ≤ length counts.now }
+    requires row { length row.old.items ≡ length indexed.now.threads }
+    requires len { length counts.now ≡ event * length indexed.now.threads }
     requires counts { AreCounts indexed.now.events (length indexed.now.threads) counts.now }
-    ensures { IsCount indexed.now.events event thread result }
+    ensures len { length row.new.items ≡ length indexed.now.threads }
+    ensures row { IsRow indexed.now.events event row.new.items }
 {
-    if event_at(indexed, event).thread == thread {
-        return indexed.place(event) + 1;
-    }
-    let width = threads_in(indexed) as usize;
-    let by_base = count_at(counts, width, indexed.base(event), thread);
-    by_base.max(count_at(counts, width, counterpart, thread))
+    let own = event_at(indexed, event).thread as usize;
+    copy_row(row, counts, indexed.base(event));
+    raise_row(row, counts, counterpart);
+    row[own] = indexed.place(event) + 1;
 }
 
-// What the row of the event counts of the thread; nothing where there is no such event.
-fn count_at(counts: &[u32], width: usize, event: Option<u32>, thread: u32) -> u32
-    requires thread { thread < width }
-    requires within { IfSome event (λ e. e * width + thread < length counts.now) }
-    ensures { result ≡ count_by counts.now width event thread }
+// Makes the row that of the event; of nothing where there is no such event.
+fn copy_row(row: &mut Vec<u32>, counts: &[u32], event: Option<u32>)
+    requires within { IfSome event (λ e. (e + 1) * length row.old.items ≤ length counts.now) }
+    ensures len { length row.new.items ≡ length row.old.items }
+    ensures counts { (t : ℕ) → t < length row.old.items
+        → slice_index row.new.items t ≡ count_by counts.now (length row.old.items) event t }
 {
     match event {
-        None => 0,
-        Some(event) => counts[event as usize * width + thread as usize],
+        None => row.fill(0),
+        Some(event) => {
+            let width = row.len();
+            let start = event as usize * width;
+            row.as_mut_slice()
+                .copy_from_slice(&counts[start..start + width]);
+        }
+    }
+}
+
+// Raises each count of the row to that in the row of the event.
+fn raise_row(row: &mut Vec<u32>, counts: &[u32], event: Option<u32>)
+    requires within { IfSome event (λ e. (e + 1) * length row.old.items ≤ length counts.now) }
+    ensures len { length row.new.items ≡ length row.old.items }
+    ensures counts { (t : ℕ) → t < length row.old.items
+        → slice_index row.new.items t
+        ≡ max (slice_index row.old.items t) (count_by counts.now (length row.old.items) event t) }
+{
+    if let Some(event) = event {
+        let width = row.len();
+        let start = event as usize * width;
+        raise(row, &counts[start..start + width]);
+    }
+}
+
+// Raises each number of the row to that of the other.
+fn raise(row: &mut Vec<u32>, other: &[u32])
+    requires { length row.old.items ≡ length other.now }
+    ensures len { length row.new.items ≡ length row.old.items }
+    ensures larger { (t : ℕ) → t < length row.old.items
+        → slice_index row.new.items t ≡ max (slice_index row.old.items t) (slice_index other.now t) }
+{
+    for thread in 0..other.len() {
+        row[thread] = row[thread].max(other[thread]);
     }
 }

@@ -8,12 +8,12 @@ use Rattle.rapid_text.proofs.names.count_with.Goals as goal
 
 pub returns-then-contains : goal.returns-then-contains
 returns-then-contains c =
-    let keys = c.args.names.now.keys in
-    let known = list_any-map items (bytes_eq c.args.name.now) keys ∙ sym c.contains.ensures ∙ c.if-contains.true in
-    omega (arith, c.len.ensures.len, length-map keys items, length-with_known (names_of c.args.names.now) c.args.name.now known)
+    let keys = c.args.table.now.names.keys in
+    let known = sym c.contains.ensures ∙ c.if-contains.true in
+    omega (arith, c.len.ensures.len, length-map keys items, length-with_known (names_of c.args.table.now.names) c.args.name.now known)
 
 pub returns-else-contains : goal.returns-else-contains
 returns-else-contains c =
-    let keys = c.args.names.now.keys in
-    let new = list_any-map items (bytes_eq c.args.name.now) keys ∙ sym c.contains.ensures ∙ c.if-contains.false in
-    omega (arith, c.len-else-contains.ensures.len, length-map keys items, length-with_new (names_of c.args.names.now) c.args.name.now new)
+    let keys = c.args.table.now.names.keys in
+    let new = sym c.contains.ensures ∙ c.if-contains.false in
+    omega (arith, c.len-else-contains.ensures.len, length-map keys items, length-with_new (names_of c.args.table.now.names) c.args.name.now new)

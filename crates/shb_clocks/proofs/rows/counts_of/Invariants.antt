@@ -8,5 +8,6 @@ invariant-loop-event l =
     record {
       len : length l.counts.items ≡ l.event * length l.indexed.threads;
       counts : AreCounts l.indexed.events (length l.indexed.threads) l.counts.items;
+      row : length l.row.items ≡ length l.indexed.threads;
       releases : IsTable (last_release l.indexed.events l.event) (length l.indexed.locks) l.releases.items;
     }

@@ -8,7 +8,7 @@ use Rattle.rapid_text.proofs.recorder.Recorder.record.Goals as goal
 
 pub returns-clause-ok : goal.returns-clause-ok
 returns-clause-ok c =
-    with_event-steps (recorded c.args.self.now) (named_in c.args.fields) (names_of c.number.new.names) c.in_ok-thread.thread c.in_ok-op.op
+    with_event-steps (recorded c.args.self.now) (named_in c.args.fields) (names_of c.number.new.self.names) c.in_ok-thread.thread c.in_ok-op.op
     (recorded c.number_operation.new.self) (recorded c.put_last.new.self)
     c.in_ok-thread.ensures.names c.in_ok-thread.ensures.number c.in_ok-op.ensures.names c.in_ok-op.ensures.number c.in_ok-put_last.ensures.ok
 
