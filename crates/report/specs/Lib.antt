@@ -6,3 +6,4 @@ pub mod Log
 pub mod Pieces
 pub mod Refusals
 pub mod Replies
+pub mod Seats

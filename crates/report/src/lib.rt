@@ -13,6 +13,7 @@ mod log_tests;
 mod pieces;
 mod refusals;
 mod replies;
+mod seats;
 #[cfg(test)]
 mod tests;
 
@@ -22,3 +23,4 @@ pub use log_lines::log;
 pub use pieces::{Piece, append_pieces};
 pub use refusals::refusal;
 pub use replies::reply;
+pub use seats::seat_refusal;

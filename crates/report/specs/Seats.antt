@@ -1,0 +1,11 @@
+-- What is printed of a call through a seat that is refused: what the bench refused it for, or that the seat is spent.
+use Rattle.std.specs.Prelude.{ℕ, List, codes}
+use Rattle.rapid_text.specs.Recording.{Recording}
+use Rattle.workspace_lock.specs.declared.seat.SeatRefusal.{SeatRefusal}
+use Rattle.workspace_lock.specs.declared.seat.SeatRefusal.TheVariants.{Bench as ByBench, SeatSpent}
+use Rattle.report.specs.Causes.{refused_line}
+use Rattle.report.specs.Refusals.{refusal_text}
+
+abbrev pub seat_refusal_text : Recording → SeatRefusal → List ℕ
+seat_refusal_text trace (ByBench why) = refusal_text trace why
+seat_refusal_text trace SeatSpent = refused_line (codes "73 seat spent")

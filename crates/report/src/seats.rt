@@ -1,0 +1,25 @@
+//! Prints why a call through a seat is refused.
+ghost use Rattle.std.specs.Prelude.{◌≡◌, ◌++◌, OnOk, OnErr};
+ghost use Rattle.report.specs.Seats.{seat_refusal_text};
+
+use crate::causes::append_words;
+use crate::refusals::refusal;
+use event_index::Indexed;
+use rapid_text::OutOfMemory;
+use workspace_lock::SeatRefusal;
+
+/// Appends the line of a call through a seat that is refused, of the trace that `indexed` has. Where memory is
+/// refused `out` stays as it was.
+pub fn seat_refusal(
+    indexed: &Indexed,
+    why: &SeatRefusal,
+    out: &mut Vec<u8>,
+) -> Result<(), OutOfMemory>
+    ensures ok { OnOk result (out.new.items ≡ out.old.items ++ seat_refusal_text indexed.now why.now) }
+    ensures err { OnErr result (out.new.items ≡ out.old.items) }
+{
+    match why {
+        SeatRefusal::Bench(why) => refusal(indexed, why, out),
+        SeatRefusal::SeatSpent => append_words(out, b"73 seat spent"),
+    }
+}
