@@ -3,8 +3,12 @@
 
 ghost use Rattle.std.specs.Prelude.{◌≡◌, false};
 
+#[cfg(test)]
+mod fakes;
 mod fault;
 mod info_call;
+#[cfg(test)]
+mod info_tests;
 mod words;
 
 use crate::fault::BenchFault;
