@@ -7,6 +7,8 @@ mod command;
 mod effects;
 mod inverse;
 mod listing;
+#[cfg(test)]
+mod listing_tests;
 mod name;
 mod names;
 mod refusal;
