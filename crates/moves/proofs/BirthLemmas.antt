@@ -1,11 +1,12 @@
 -- Rows that are held in a tree under their births: what a change of the tree makes of the list.
-use Rattle.std.proofs.Common.{◌≡◌, ◌≢◌, inl, inr, ℕ, ◌<◌, Bool, true, false, cond, List, [], ◌∷◌, Option, Some, None, All, refl, sym, ap, ◌∙◌, subst, arith}
+use Rattle.std.proofs.Common.{◌≡◌, ◌≢◌, inl, inr, ℕ, ◌<◌, true, false, cond, List, [], ◌∷◌, Option, Some, None, Result, Ok, Err, All, refl, sym, ap, ◌∙◌, subst, arith}
 use Rattle.std.specs.Ordering.{nat_cmp}
 use Rattle.std.specs.Str.{bytes_eq}
 use Rattle.std.specs.Map.{lookup, values_of, remove_entry, set_value}
 use Rattle.std.specs.BTreeMap.{is_at, insert_entry}
-use Rattle.std.specs.Option.{IfSome, option_map}
-use Rattle.std.proofs.lemmas.Bool.{cases_Bool, cases_lt, lt-ltb, le-ltb, eq-eqb, ne_eqb}
+use Rattle.std.specs.Result.{IsOk, OnOk}
+use Rattle.std.specs.Option.{IfSome, IsSome, option_map}
+use Rattle.std.proofs.lemmas.Bool.{cases_lt, lt-ltb, le-ltb, eq-eqb, ne_eqb}
 use Rattle.std.proofs.lemmas.Bool.Decides.{eqb_tells}
 use Rattle.std.proofs.lemmas.List.Elements.{All-head, All-tail}
 use Rattle.std.proofs.lemmas.Map.Entries.{All-lookup}
@@ -13,7 +14,7 @@ use Rattle.moves.specs.declared.row.Row.{Row}
 use Rattle.moves.specs.Rows.{Rows, row_of, put_in, with_row, IsListing, IsFree}
 use Rattle.moves.specs.Births.{by_birth, born, birth_of, IsHeld}
 use Rattle.moves.specs.Applied.{IsAt}
-use Rattle.moves.proofs.NameLemmas.{bytes_tells, eq-bytes}
+use Rattle.moves.proofs.NameLemmas.{bytes_tells}
 use Rattle.moves.proofs.RowLemmas.{row_here, row_past, removed_same, removed_other, removed_none, put_same, put_other, listing-put, listing-removed, listing-with_row, with_row-same, with_row-other, free_all, free_from_all}
 use Rattle.moves.proofs.ChainLemmas.{others_differ}
 
@@ -113,13 +114,10 @@ row-born (q ∷ W) b p l at = elim (eqb_tells b q.1.birth) [
 free_own : (W : Rows) (x : List ℕ) (r : Row) → IsListing W → row_of W x ≡ Some r → IsFree W x (Some r)
 free_own W x r l at = free_from_all W x r (others_differ W x r l at)
 
--- what a search finds takes its own place
-pub set_same : {K V : Type 0} (test : K → Bool) (es : List (K × V)) (v : V) → lookup test es ≡ Some v → set_value test es v ≡ es
-set_same test [] v at = refl
-set_same test (e ∷ es) v at = elim (cases_Bool (test e.0)) [
-  | inl h ↦ let same : e.1 ≡ v = let here : lookup test (e ∷ es) ≡ Some e.1 = rw h refl in cc in rw h (ap (λ w. (e.0, w) ∷ es) (sym same))
-  | inr h ↦ let there : lookup test es ≡ Some v = rw h at at in rw h (ap (λ fs. e ∷ fs) (set_same test es v there))
-]
+-- what a call ensures where it succeeds
+pub is_done : {A E : Type 0} (r : Result A E) (P : Type 0) → IsOk r → OnOk r P → P
+is_done (Ok a) P ok p = p
+is_done (Err e) P ok p = absurd cc
 
 module _ (N : List (List ℕ × ℕ)) (T : List (ℕ × (List ℕ × Row))) where
   values_as : (W : Rows) → T ≡ by_birth W → values_of T ≡ W
@@ -134,9 +132,6 @@ module _ (N : List (List ℕ × ℕ)) (T : List (ℕ × (List ℕ × Row))) wher
         names = λ x. names x ∙ ap (λ U. birth_of U x) (sym same);
       } in
       (same, held)
-
-pub held_nil : IsHeld [] []
-held_nil = record { listing = tt; tree = refl; names = λ x. refl }
 
 module _ (N : List (List ℕ × ℕ)) (T : List (ℕ × (List ℕ × Row))) (held : IsHeld N T) where
   abbrev W : Rows
@@ -202,3 +197,13 @@ module _ (N : List (List ℕ × ℕ)) (T : List (ℕ × (List ℕ × Row))) (hel
         | inl g ↦ names y ∙ ap (λ t. cond t None (lookup (bytes_eq y) N)) g.0 ∙ sym (ap (option_map (λ (t : Row). t.birth)) (ap (row_of (remove_entry (bytes_eq x) W)) (sym g.1) ∙ removed_same W x held.listing))
         | inr g ↦ names y ∙ ap (λ t. cond t None (lookup (bytes_eq y) N)) g.0 ∙ held.names y ∙ sym (ap (option_map (λ (t : Row). t.birth)) (removed_other W x y (λ e. g.1 (sym e))))
       ])
+
+  pub taken_there : (x : List ℕ) (b : ℕ) (o : Option (List ℕ × Row)) → lookup (bytes_eq x) N ≡ Some b → o ≡ lookup (is_at (nat_cmp b)) T → IsSome o
+  taken_there x b o some is = subst IsSome (sym (is ∙ in_tree b ∙ (found_held x b some).1)) refl
+
+  pub taken_row : (x : List ℕ) (b : ℕ) (p : List ℕ × Row) → lookup (bytes_eq x) N ≡ Some b → lookup (is_at (nat_cmp b)) T ≡ Some p → Some p.1 ≡ row_of W x
+  taken_row x b p some at =
+      let there = found_held x b some in
+      let found : Some (x, there.0) ≡ Some p = sym there.1 ∙ sym (in_tree b) ∙ at in
+      let same : (x, there.0) ≡ p = cc in
+      ap (λ (q : List ℕ × Row). Some q.1) (sym same) ∙ sym there.2

@@ -1,10 +1,8 @@
 -- Each command's effect on a listing is `applied`, and its step back fits.
-use Rattle.std.proofs.Common.{◌≡◌, ℕ, ◌+◌, ◌-◌, ◌<◌, ◌≤◌, false, eqb, List, [], ◌∷◌, ◌++◌, Option, Some, None, Ok, Err, length, slice_get, take, sym, ap, ◌∙◌, subst, arith, refl}
-use Rattle.std.specs.Map.{remove_entry}
+use Rattle.std.proofs.Common.{◌≡◌, ℕ, ◌<◌, ◌≤◌, false, eqb, List, [], ◌∷◌, ◌++◌, Option, Some, None, Ok, Err, length, slice_get, take, sym, ap, ◌∙◌, subst, arith, refl}
 use Rattle.std.specs.Option.{IfSome, option_map}
-use Rattle.std.specs.Result.{IsOk}
 use Rattle.std.specs.Str.{bytes_eq}
-use Rattle.std.proofs.lemmas.Bool.{eq-eqb, ne_eqb, le-leb, lt-leb}
+use Rattle.std.proofs.lemmas.Bool.{ne_eqb, le-leb}
 use Rattle.std.proofs.lemmas.List.{length_push}
 use Rattle.std.proofs.lemmas.Map.Entries.{All-lookup}
 use Rattle.rapid_text.specs.Recording.{Recording}
@@ -18,16 +16,14 @@ use Rattle.schedule.proofs.CallerLemmas.{MayExchange-none, MayExchange-exchanged
 use Rattle.moves.specs.declared.row.Row.{Row}
 use Rattle.moves.specs.declared.board.Proposal.{Proposal}
 use Rattle.moves.specs.declared.command.Command.{Command}
-use Rattle.moves.specs.declared.command.Command.TheVariants.{Fresh, Add, Back, Swap, Branch, Drop, Adopt}
-use Rattle.moves.specs.declared.refusal.MoveRefusal.{MoveRefusal}
+use Rattle.moves.specs.declared.command.Command.TheVariants.{Fresh, Add, Back, Swap, Branch, Adopt}
 use Rattle.moves.specs.declared.refusal.MoveRefusal.TheVariants.{Disabled as DisabledBy, Swap as SwapBy, NothingToRetract, OutOfMemory}
-use Rattle.moves.specs.declared.inverse.Step.{Step}
-use Rattle.moves.specs.declared.inverse.Step.TheVariants.{Goes, Comes, Was, Loses, Gains, Exchanges}
+use Rattle.moves.specs.declared.inverse.Step.TheVariants.{Goes, Was, Loses, Gains, Exchanges}
 use Rattle.moves.specs.declared.inverse.Inverse.{Inverse}
 use Rattle.moves.specs.Rows.{Rows, row_of, put_in, with_row, IsListing, IsFree, IsOfTrace, Below}
 use Rattle.moves.specs.Commands.{writes}
-use Rattle.moves.specs.Moves.{made_at, applied, put_made, with_events, new_row, front, added, swapped, adopted}
-use Rattle.moves.specs.Inverses.{turned, Fits, gained, restored}
+use Rattle.moves.specs.Moves.{made_at, put_made, with_events, new_row, front}
+use Rattle.moves.specs.Inverses.{turned, gained, restored}
 use Rattle.moves.specs.Applied.{IsAt, IsApplied, IsTakenOff}
 use Rattle.moves.proofs.RowLemmas.{removed_none, with_row-same}
 use Rattle.moves.proofs.FrontLemmas.{front_push}
@@ -138,6 +134,9 @@ row_by W x s (Some r) at is = (r, at, cc)
 -- a name's schedule lies in its row
 pub mapped_row : (W : Rows) (x : List ℕ) (s : Scheduled) → option_map (λ (r : Row). r.schedule) (row_of W x) ≡ Some s → (r : Row) × (row_of W x ≡ Some r) × (r.schedule ≡ s)
 mapped_row W x s is = row_by W x s (row_of W x) refl is
+
+pub schedule_trace : (T : Recording) (W : Rows) (x : List ℕ) (s : Scheduled) → IsOfTrace T W → option_map (λ (r : Row). r.schedule) (row_of W x) ≡ Some s → s.trace ≡ T
+schedule_trace T W x s all is = let there = mapped_row W x s is in ap (λ (t : Scheduled). t.trace) (sym there.2) ∙ trace_of T W x there.0 all there.1
 
 proposal_by : (B : List Proposal) (k : ℕ) (s : Scheduled) (o : Option Proposal) → slice_get B k ≡ o → option_map (λ (p : Proposal). p.schedule) o ≡ Some s → (p : Proposal) × (slice_get B k ≡ Some p) × (p.schedule ≡ s)
 proposal_by B k s None at is = absurd cc

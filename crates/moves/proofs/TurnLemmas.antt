@@ -17,7 +17,7 @@ use Rattle.moves.specs.declared.inverse.Inverse.{Inverse}
 use Rattle.moves.specs.Rows.{Rows, row_of, put_in, with_row, IsListing, IsFree, Below}
 use Rattle.moves.specs.Commands.{writes}
 use Rattle.moves.specs.Moves.{made_at, applied, put_made, with_events, front}
-use Rattle.moves.specs.Inverses.{CanTurn, IsTurned, turned, gained, restored}
+use Rattle.moves.specs.Inverses.{CanTurn, IsTurned}
 use Rattle.moves.specs.Applied.{IsAt, IsApplied, IsTakenOff}
 use Rattle.moves.proofs.ChainLemmas.{IsPlain, plain_step}
 use Rattle.moves.proofs.RowLemmas.{listing-with_row, removed_none}

@@ -1,7 +1,6 @@
 //! Whether a command is refused, found out with no memory.
-ghost use Rattle.std.specs.Prelude.{◌≡◌, ℕ, ◌<◌, ◌==◌, [], IfSome, slice_get, length};
-ghost use Rattle.indexmap.specs.IndexMap.{index_map_len};
-ghost use Rattle.moves.specs.Rows.{IsListing, IsOfTrace};
+ghost use Rattle.std.specs.Prelude.{ℕ, []};
+ghost use Rattle.moves.specs.Rows.{IsOfTrace};
 ghost use Rattle.moves.specs.Applied.{IsChecked};
 
 use crate::board::Board;

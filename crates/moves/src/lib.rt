@@ -7,8 +7,6 @@ mod command;
 mod effects;
 mod inverse;
 mod listing;
-#[cfg(test)]
-mod listing_tests;
 mod name;
 mod names;
 mod refusal;

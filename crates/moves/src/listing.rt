@@ -1,12 +1,12 @@
 //! The rows of a workspace: a tree of them by birth, and each name's birth beside it.
-ghost use Rattle.std.specs.Prelude.{◌≡◌, ◌≢◌, ◌<◌, ◌++◌, ◌∷◌, [], ℕ, OnOk, OnErr, IfOk, IfErr, IfSome, IfNone, Some, None, is_some, length, slice_get, option_map};
+ghost use Rattle.std.specs.Prelude.{◌≡◌, ◌≢◌, ◌<◌, ◌++◌, ◌∷◌, [], OnOk, OnErr, IfOk, IfErr, IfSome, IfNone, Some, None, is_some, length, slice_get, option_map};
 ghost use Rattle.std.specs.Map.{remove_entry};
 ghost use Rattle.std.specs.Str.{bytes_eq};
 ghost use Rattle.schedule.specs.Refusals.{refusal_of, IsRefusalOf};
 ghost use Rattle.schedule.specs.Swaps.{exchanged, swap_refusal};
 ghost use Rattle.moves.specs.declared.row.Row.{Row as RowValue};
 ghost use Rattle.moves.specs.Rows.{row_of, put_in, with_row, names_of, IsListing, IsFree, IsOfTrace};
-ghost use Rattle.moves.specs.Moves.{with_events, front};
+ghost use Rattle.moves.specs.Moves.{with_events};
 ghost use Rattle.moves.specs.Births.{born};
 ghost use Rattle.moves.specs.Applied.{IsAt, IsTakenOff};
 
@@ -74,8 +74,8 @@ impl Listing {
         ensures { IfOk result (λ names. names ≡ names_of self.now) }
     {
         let mut names = Names::new(alloc);
-        for (name, _) in self.rows.values() {
-            names.push(*name)?;
+        for pair in self.rows.values() {
+            names.push(pair.0)?;
         }
         Ok(names)
     }
@@ -116,7 +116,8 @@ impl Listing {
         ensures trace { IfSome result (λ s. s.now.trace ≡ indexed.now) }
     {
         let _ = indexed;
-        self.get(name)
+        let schedule = self.get(name)?;
+        Some(schedule)
     }
 
     /// Puts in a row at its place by birth, or gives it back where there is no memory.
@@ -143,9 +144,11 @@ impl Listing {
     pub(crate) fn take(&mut self, name: Name) -> Option<Row>
         ensures row { result ≡ row_of self.old name }
         ensures rows { self.new ≡ remove_entry (bytes_eq name) self.old }
+        ensures gone { row_of self.new name ≡ None }
+        ensures unchanged { IfNone result (self.new ≡ self.old) }
     {
         let birth = self.births.swap_remove(&name)?;
-        let (_, row) = self.rows.remove(&birth)?;
+        let (_, row) = self.rows.remove(&birth).unwrap();
         Some(row)
     }
 

@@ -1,4 +1,4 @@
-use Rattle.std.proofs.Common.{[], subst, sym}
+use Rattle.std.proofs.Common.{[], subst}
 use Rattle.schedule.specs.Refusals.{IsRefusalOf}
 use Rattle.moves.proofs.EffectLemmas.{add_ok, add_refused, add_wanting}
 use Rattle.moves.proofs.effects.add.Goals as goal
