@@ -1,5 +1,5 @@
 -- What an applied command leaves for the next one, and that its inverse takes it back.
-use Rattle.std.proofs.Common.{◌≡◌, ◌≢◌, ℕ, ◌+◌, ◌≤◌, eqb, leb, List, Option, Some, None, Result, Ok, Err, length, slice_get, sym, ap, subst, ◌∙◌, refl, arith}
+use Rattle.std.proofs.Common.{◌≡◌, ◌≢◌, ℕ, ◌+◌, eqb, leb, List, Option, Some, None, Result, Ok, Err, length, slice_get, sym, ap, subst, ◌∙◌, refl, arith}
 use Rattle.std.specs.Map.{remove_entry}
 use Rattle.std.specs.Option.{IfSome}
 use Rattle.std.specs.Result.{IfOk}
@@ -20,7 +20,7 @@ use Rattle.moves.specs.declared.inverse.Step.{Step}
 use Rattle.moves.specs.declared.inverse.Inverse.{Inverse}
 use Rattle.moves.specs.Rows.{Rows, row_of, with_row, IsListing, IsFree, IsOfTrace, Below}
 use Rattle.moves.specs.Commands.{writes, reads}
-use Rattle.moves.specs.Moves.{made, made_at, added, swapped, adopted}
+use Rattle.moves.specs.Moves.{made, added, swapped, adopted}
 use Rattle.moves.specs.Inverses.{turned, CanTurn, IsTurned}
 use Rattle.moves.specs.Applied.{IsApplied, TakesBack}
 use Rattle.moves.proofs.RowLemmas.{All-removed, All-put, with_row-other}

@@ -1,5 +1,5 @@
 -- Each row's schedule stays one of the trace, and a correct reordering.
-use Rattle.std.proofs.Common.{◌≡◌, ℕ, zero, suc, ◌+◌, ◌-◌, ◌≤◌, eqb, leb, true, false, List, [], ◌∷◌, ◌++◌, Option, Some, None, Result, Ok, Err, All, length, take, slice_get, sym, ap, subst, arith, refl}
+use Rattle.std.proofs.Common.{◌≡◌, ℕ, zero, suc, ◌-◌, eqb, leb, List, [], ◌∷◌, Option, Some, None, Result, All, length, slice_get, subst, arith, refl}
 use Rattle.std.specs.Option.{IfSome}
 use Rattle.std.specs.Result.{IfOk}
 use Rattle.std.specs.Str.{bytes_eq}
@@ -23,7 +23,7 @@ use Rattle.moves.specs.declared.refusal.MoveRefusal.{MoveRefusal}
 use Rattle.moves.specs.Rows.{Rows, row_of, with_row, IsOfTrace, AreReorderings, IsReordering}
 use Rattle.moves.specs.Boards.{AreProposed}
 use Rattle.moves.specs.Commands.{writes, reads}
-use Rattle.moves.specs.Moves.{made, made_at, added, swapped, adopted}
+use Rattle.moves.specs.Moves.{made, added, swapped, adopted}
 use Rattle.moves.specs.Fold.{Numbered, Leads}
 use Rattle.moves.proofs.RowLemmas.{All-removed, All-put}
 

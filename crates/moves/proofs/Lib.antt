@@ -1,11 +1,12 @@
 pub mod BackLemmas
+pub mod BirthLemmas
 pub mod CallerLemmas
 pub mod ChainLemmas
 pub mod EffectLemmas
 pub mod FoldLemmas
+pub mod FrontLemmas
 pub mod KeepLemmas
 pub mod NameLemmas
-pub mod PlaceLemmas
 pub mod RowLemmas
 pub mod TurnLemmas
 pub mod UndoLemmas

@@ -40,6 +40,10 @@ other_name x p W none = elim (bytes_tells x p.0) [
   | inr h ↦ h
 ]
 
+pub removed_none : (W : Rows) (x : List ℕ) → row_of W x ≡ None → remove_entry (bytes_eq x) W ≡ W
+removed_none [] x none = refl
+removed_none (p ∷ W) x none = let o = other_name x p W none in rw o.0 (ap (λ V. p ∷ V) (removed_none W x (sym (row_past x p W o.0) ∙ none)))
+
 pub put_same : (W : Rows) (x : List ℕ) (r : Row) → row_of W x ≡ None → row_of (put_in x r W) x ≡ Some r
 put_same [] x r none = row_here x (x, r) [] refl
 put_same (p ∷ W) x r none = elim (cases_Bool (ltb r.birth p.1.birth)) [

@@ -1,7 +1,6 @@
 -- A step back, taken on a listing; the rows are listed after a command and after a step back.
 use Rattle.std.proofs.Common.{◌≡◌, inl, inr, ℕ, eqb, List, [], ◌∷◌, ◌++◌, Option, Some, None, Result, Ok, Err, length, sym, ap, subst, ◌∙◌, refl}
 use Rattle.std.proofs.lemmas.Bool.{cases_Bool}
-use Rattle.indexmap.specs.Layout.{set_value_at}
 use Rattle.rapid_text.specs.Recording.{Recording}
 use Rattle.schedule.specs.Scheduled.{Scheduled}
 use Rattle.schedule.specs.declared.refusal.SwapRefusal.{SwapRefusal}
@@ -18,11 +17,10 @@ use Rattle.moves.specs.declared.inverse.Inverse.{Inverse}
 use Rattle.moves.specs.Rows.{Rows, row_of, put_in, with_row, IsListing, IsFree, Below}
 use Rattle.moves.specs.Commands.{writes}
 use Rattle.moves.specs.Moves.{made_at, applied, put_made, with_events, front}
-use Rattle.moves.specs.Inverses.{CanTurn, IsTurned, turned, gained, restored}
+use Rattle.moves.specs.Inverses.{CanTurn, IsTurned}
 use Rattle.moves.specs.Applied.{IsAt, IsApplied, IsTakenOff}
-use Rattle.moves.proofs.RowLemmas.{listing-with_row}
 use Rattle.moves.proofs.ChainLemmas.{IsPlain, plain_step}
-use Rattle.moves.proofs.EffectLemmas.{replaced, removed_none}
+use Rattle.moves.proofs.RowLemmas.{listing-with_row, removed_none}
 
 pub comes_turned : (W V : Rows) (x : List ℕ) (r : Row) (step : Step) → row_of W x ≡ None → step ≡ Comes r → V ≡ put_in x r W → IsTurned x step W V
 comes_turned W V x r step none s is = (Some r, rw (s, none) refl, is ∙ ap (put_in x r) (sym (removed_none W x none)))
@@ -34,24 +32,24 @@ module _ (W V : Rows) (i : ℕ) (x : List ℕ) (at : IsAt W i x) (l : IsListing 
   abbrev with_list : List ℕ → Scheduled
   with_list Q = record { trace = at.0.schedule.trace; events = Q }
 
-  pub was_turned : (p : Scheduled) (step : Step) → step ≡ Was p → V ≡ set_value_at W i (record { birth = at.0.birth; schedule = p }) → IsTurned x step W V
-  was_turned p step s is = (Some (record { birth = at.0.birth; schedule = p }), rw (s, at.2) refl, replaced W V i x at p l is)
+  pub was_turned : (p : Scheduled) (step : Step) → step ≡ Was p → V ≡ with_row W x (Some (record { birth = at.0.birth; schedule = p })) → IsTurned x step W V
+  was_turned p step s is = (Some (record { birth = at.0.birth; schedule = p }), rw (s, at.2) refl, is)
 
-  pub gains_turned : (e : ℕ) (step : Step) → step ≡ Gains e → refusal_of at.0.schedule.trace.events P e ≡ None → V ≡ set_value_at W i (with_events at.0 (P ++ e ∷ [])) → IsTurned x step W V
-  gains_turned e step s may is = (Some (with_events at.0 (P ++ e ∷ [])), rw (s, at.2, may) refl, replaced W V i x at (with_list (P ++ e ∷ [])) l is)
+  pub gains_turned : (e : ℕ) (step : Step) → step ≡ Gains e → refusal_of at.0.schedule.trace.events P e ≡ None → V ≡ with_row W x (Some (with_events at.0 (P ++ e ∷ []))) → IsTurned x step W V
+  gains_turned e step s may is = (Some (with_events at.0 (P ++ e ∷ [])), rw (s, at.2, may) refl, is)
 
-  pub exchanges_turned : (k : ℕ) (step : Step) → step ≡ Exchanges k → swap_refusal at.0.schedule.trace.events P k ≡ None → V ≡ set_value_at W i (with_events at.0 (exchanged P k)) → IsTurned x step W V
-  exchanges_turned k step s may is = (Some (with_events at.0 (exchanged P k)), rw (s, at.2, may) refl, replaced W V i x at (with_list (exchanged P k)) l is)
+  pub exchanges_turned : (k : ℕ) (step : Step) → step ≡ Exchanges k → swap_refusal at.0.schedule.trace.events P k ≡ None → V ≡ with_row W x (Some (with_events at.0 (exchanged P k))) → IsTurned x step W V
+  exchanges_turned k step s may is = (Some (with_events at.0 (exchanged P k)), rw (s, at.2, may) refl, is)
 
   -- a step that can be taken is not refused
   pub never_tied : (k : ℕ) (why : SwapRefusal) (step : Step) → CanTurn x step W → step ≡ Exchanges k → ¬ (swap_refusal at.0.schedule.trace.events P k ≡ Some why)
   never_tied k why step can s tied = let none : None ≡ Some can.0 = rw (s, at.2, tied) at can.1 in absurd cc
 
-  pub loses_turned : (o : Option ℕ) (step : Step) → CanTurn x step W → step ≡ Loses → IsTakenOff at.0 W V i o → IsTurned x step W V
+  pub loses_turned : (o : Option ℕ) (step : Step) → CanTurn x step W → step ≡ Loses → IsTakenOff x at.0 W V o → IsTurned x step W V
   loses_turned None step can s (empty, same) = let none : None ≡ Some can.0 = rw (s, at.2, ap (λ (Q : List ℕ). eqb (length Q) 0) empty) at can.1 in absurd cc
   loses_turned (Some e) step can s (is, last, may) = elim (cases_Bool (eqb (length P) 0)) [
     | inl h ↦ let none : None ≡ Some can.0 = rw (s, at.2, h) at can.1 in absurd cc
-    | inr h ↦ (Some (with_events at.0 (front P)), rw (s, at.2, h) refl, replaced W V i x at (with_list (front P)) l is)
+    | inr h ↦ (Some (with_events at.0 (front P)), rw (s, at.2, h) refl, is)
   ]
 
 -- the rows are listed after a command

@@ -1,5 +1,5 @@
 -- What `apply`, `check` and `take_back` answer.
-use Rattle.std.specs.Prelude.{◌≡◌, ℕ, List, [], ◌∷◌, ◌++◌, Option, Some, None, Result, Ok, Err, IsOk, slice_get}
+use Rattle.std.specs.Prelude.{◌≡◌, ℕ, List, [], ◌∷◌, ◌++◌, Option, Some, None, Result, Ok, Err, IsOk}
 use Rattle.rapid_text.specs.Recording.{Recording}
 use Rattle.moves.specs.declared.row.Row.{Row}
 use Rattle.moves.specs.declared.board.Proposal.{Proposal}
@@ -8,8 +8,8 @@ use Rattle.moves.specs.declared.inverse.Inverse.{Inverse}
 use Rattle.moves.specs.declared.refusal.MoveRefusal.{MoveRefusal}
 use Rattle.moves.specs.declared.refusal.MoveRefusal.TheVariants.{OutOfMemory}
 use Rattle.moves.specs.Commands.{writes}
-use Rattle.moves.specs.Rows.{Rows, row_of}
-use Rattle.indexmap.specs.Layout.{set_value_at}
+use Rattle.moves.specs.Rows.{Rows, row_of, with_row}
+use Rattle.moves.specs.Births.{born}
 use Rattle.schedule.specs.Refusals.{refusal_of}
 use Rattle.moves.specs.Moves.{made_at, applied, with_events, front}
 use Rattle.moves.specs.Inverses.{Fits, CanTurn, IsTurned}
@@ -31,14 +31,14 @@ abbrev pub IsChecked : Recording → List Proposal → ℕ → Command → Rows 
 IsChecked T B n d W (Ok u) = IsOk (made_at T B n d W)
 IsChecked T B n d W (Err why) = made_at T B n d W ≡ Err why
 
--- the row of x lies at place i
+-- the row of x has the birth b
 abbrev pub IsAt : Rows → ℕ → List ℕ → Type 0
-IsAt W i x = (r : Row) × (slice_get W i ≡ Some (x, r)) × (row_of W x ≡ Some r)
+IsAt W b x = (r : Row) × (born W b ≡ Some (x, r)) × (row_of W x ≡ Some r)
 
--- The last event of the row r at place i was taken off: the rest may be extended by it again. Or it has none.
-abbrev pub IsTakenOff : Row → Rows → Rows → ℕ → Option ℕ → Type 0
-IsTakenOff r W V i None = (r.schedule.events ≡ []) × (V ≡ W)
-IsTakenOff r W V i (Some e) =
-    (V ≡ set_value_at W i (with_events r (front r.schedule.events)))
+-- The last event of x, whose row is r, was taken off: the rest may be extended by it again. Or it has none.
+abbrev pub IsTakenOff : List ℕ → Row → Rows → Rows → Option ℕ → Type 0
+IsTakenOff x r W V None = (r.schedule.events ≡ []) × (V ≡ W)
+IsTakenOff x r W V (Some e) =
+    (V ≡ with_row W x (Some (with_events r (front r.schedule.events))))
     × (r.schedule.events ≡ front r.schedule.events ++ e ∷ [])
     × (refusal_of r.schedule.trace.events (front r.schedule.events) e ≡ None)

@@ -1,4 +1,5 @@
 pub mod Applied
+pub mod Births
 pub mod Boards
 pub mod Commands
 pub mod Fold

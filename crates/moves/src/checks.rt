@@ -1,31 +1,30 @@
 //! Whether a command is refused, found out with no memory.
-ghost use Rattle.std.specs.Prelude.{◌≡◌, ℕ, ◌<◌, ◌==◌, [], IfSome, slice_get, length};
-ghost use Rattle.indexmap.specs.IndexMap.{index_map_len};
-ghost use Rattle.moves.specs.Rows.{IsListing, IsOfTrace};
+ghost use Rattle.std.specs.Prelude.{ℕ, []};
+ghost use Rattle.moves.specs.Rows.{IsOfTrace};
 ghost use Rattle.moves.specs.Applied.{IsChecked};
 
 use crate::board::Board;
 use crate::command::Command;
-use crate::listing::{Listing, schedule_of};
+use crate::listing::Listing;
 use crate::name::Name;
 use crate::refusal::MoveRefusal;
 use event_index::Indexed;
 
 fn check_fresh(rows: &Listing, indexed: &Indexed, name: Name) -> Result<(), MoveRefusal>
-    ensures { (n : ℕ) → IsChecked indexed.now [] n (Command.Fresh name) rows.now.entries result }
+    ensures { (n : ℕ) → IsChecked indexed.now [] n (Command.Fresh name) rows.now result }
 {
     let _ = indexed;
-    if rows.contains_key(&name) {
+    if rows.contains(name) {
         return Err(MoveRefusal::NameTaken);
     }
     Ok(())
 }
 
 fn check_add(rows: &Listing, indexed: &Indexed, name: Name, event: u32) -> Result<(), MoveRefusal>
-    requires { IsOfTrace indexed.now rows.now.entries }
-    ensures { (n : ℕ) → IsChecked indexed.now [] n (Command.Add name event) rows.now.entries result }
+    requires { IsOfTrace indexed.now rows.now }
+    ensures { (n : ℕ) → IsChecked indexed.now [] n (Command.Add name event) rows.now result }
 {
-    let Some(schedule) = schedule_of(rows, indexed, name) else {
+    let Some(schedule) = rows.schedule_of(indexed, name) else {
         return Err(MoveRefusal::NoSuchSchedule);
     };
     let Err(cause) = schedule.enabled(indexed, event) else {
@@ -35,10 +34,10 @@ fn check_add(rows: &Listing, indexed: &Indexed, name: Name, event: u32) -> Resul
 }
 
 fn check_back(rows: &Listing, indexed: &Indexed, name: Name) -> Result<(), MoveRefusal>
-    requires { IsOfTrace indexed.now rows.now.entries }
-    ensures { (n : ℕ) → IsChecked indexed.now [] n (Command.Back name) rows.now.entries result }
+    requires { IsOfTrace indexed.now rows.now }
+    ensures { (n : ℕ) → IsChecked indexed.now [] n (Command.Back name) rows.now result }
 {
-    let Some(schedule) = schedule_of(rows, indexed, name) else {
+    let Some(schedule) = rows.schedule_of(indexed, name) else {
         return Err(MoveRefusal::NoSuchSchedule);
     };
     if schedule.events().len() == 0 {
@@ -48,10 +47,10 @@ fn check_back(rows: &Listing, indexed: &Indexed, name: Name) -> Result<(), MoveR
 }
 
 fn check_swap(rows: &Listing, indexed: &Indexed, name: Name, at: u32) -> Result<(), MoveRefusal>
-    requires { IsOfTrace indexed.now rows.now.entries }
-    ensures { (n : ℕ) → IsChecked indexed.now [] n (Command.Swap name at) rows.now.entries result }
+    requires { IsOfTrace indexed.now rows.now }
+    ensures { (n : ℕ) → IsChecked indexed.now [] n (Command.Swap name at) rows.now result }
 {
-    let Some(schedule) = schedule_of(rows, indexed, name) else {
+    let Some(schedule) = rows.schedule_of(indexed, name) else {
         return Err(MoveRefusal::NoSuchSchedule);
     };
     let Err(cause) = schedule.exchangeable(indexed, at) else {
@@ -67,14 +66,14 @@ fn check_branch(
     length: u32,
     to: Name,
 ) -> Result<(), MoveRefusal>
-    requires { IsOfTrace indexed.now rows.now.entries }
+    requires { IsOfTrace indexed.now rows.now }
     ensures { (n : ℕ)
-        → IsChecked indexed.now [] n (Command.Branch name length to) rows.now.entries result }
+        → IsChecked indexed.now [] n (Command.Branch name length to) rows.now result }
 {
-    let Some(source) = schedule_of(rows, indexed, name) else {
+    let Some(source) = rows.schedule_of(indexed, name) else {
         return Err(MoveRefusal::NoSuchSchedule);
     };
-    if rows.contains_key(&to) {
+    if rows.contains(to) {
         return Err(MoveRefusal::NameTaken);
     }
     if length as usize > source.events().len() {
@@ -84,10 +83,10 @@ fn check_branch(
 }
 
 fn check_drop(rows: &Listing, indexed: &Indexed, name: Name) -> Result<(), MoveRefusal>
-    ensures { (n : ℕ) → IsChecked indexed.now [] n (Command.Drop name) rows.now.entries result }
+    ensures { (n : ℕ) → IsChecked indexed.now [] n (Command.Drop name) rows.now result }
 {
     let _ = indexed;
-    if !rows.contains_key(&name) {
+    if !rows.contains(name) {
         return Err(MoveRefusal::NoSuchSchedule);
     }
     Ok(())
@@ -101,10 +100,10 @@ fn check_adopt(
     proposal: u32,
 ) -> Result<(), MoveRefusal>
     ensures { (n : ℕ)
-        → IsChecked indexed.now board.now n (Command.Adopt name proposal) rows.now.entries result }
+        → IsChecked indexed.now board.now n (Command.Adopt name proposal) rows.now result }
 {
     let _ = indexed;
-    if !rows.contains_key(&name) {
+    if !rows.contains(name) {
         return Err(MoveRefusal::NoSuchSchedule);
     }
     if proposal as usize >= board.len() {
@@ -120,8 +119,8 @@ pub(crate) fn check(
     board: &Board,
     command: &Command,
 ) -> Result<(), MoveRefusal>
-    requires { IsOfTrace indexed.now rows.now.entries }
-    ensures { (n : ℕ) → IsChecked indexed.now board.now n command.now rows.now.entries result }
+    requires { IsOfTrace indexed.now rows.now }
+    ensures { (n : ℕ) → IsChecked indexed.now board.now n command.now rows.now result }
 {
     match *command {
         Command::Fresh { name } => check_fresh(rows, indexed, name),

@@ -8,7 +8,7 @@ ghost use Rattle.moves.specs.Applied.{IsApplied};
 use crate::board::Board;
 use crate::command::Command;
 use crate::inverse::{Inverse, Step};
-use crate::listing::{Listing, find, pop_at, push_at, put_last, replace_at, schedule_of, swap_at};
+use crate::listing::Listing;
 use crate::name::Name;
 use crate::refusal::MoveRefusal;
 use crate::row::Row;
@@ -24,17 +24,17 @@ fn fresh(
     birth: u64,
     name: Name,
 ) -> Result<Inverse, MoveRefusal>
-    requires listing { IsListing rows.old.entries }
-    requires late { Below birth rows.old.entries }
-    ensures { IsApplied indexed.now [] birth (Command.Fresh name) rows.old.entries rows.new.entries result }
+    requires listing { IsListing rows.old }
+    requires late { Below birth rows.old }
+    ensures { IsApplied indexed.now [] birth (Command.Fresh name) rows.old rows.new result }
 {
-    if rows.contains_key(&name) {
+    if rows.contains(name) {
         return Err(MoveRefusal::NameTaken);
     }
     let Ok(schedule) = Schedule::empty(alloc, indexed) else {
         return Err(MoveRefusal::OutOfMemory);
     };
-    let Ok(()) = put_last(rows, name, Row { birth, schedule }) else {
+    let Ok(()) = rows.put(name, Row { birth, schedule }) else {
         return Err(MoveRefusal::OutOfMemory);
     };
     Ok(Inverse {
@@ -50,14 +50,14 @@ fn add(
     name: Name,
     event: u32,
 ) -> Result<Inverse, MoveRefusal>
-    requires listing { IsListing rows.old.entries }
-    requires of_trace { IsOfTrace indexed.now rows.old.entries }
-    ensures { IsApplied indexed.now [] birth (Command.Add name event) rows.old.entries rows.new.entries result }
+    requires listing { IsListing rows.old }
+    requires of_trace { IsOfTrace indexed.now rows.old }
+    ensures { IsApplied indexed.now [] birth (Command.Add name event) rows.old rows.new result }
 {
-    let Some(at) = find(rows, name) else {
+    let Some(at) = rows.find(name) else {
         return Err(MoveRefusal::NoSuchSchedule);
     };
-    let Err(why) = push_at(rows, indexed, at, event) else {
+    let Err(why) = rows.push_at(indexed, at, event) else {
         return Ok(Inverse {
             name,
             step: Step::Loses,
@@ -75,14 +75,14 @@ fn back(
     birth: u64,
     name: Name,
 ) -> Result<Inverse, MoveRefusal>
-    requires listing { IsListing rows.old.entries }
-    requires of_trace { IsOfTrace indexed.now rows.old.entries }
-    ensures { IsApplied indexed.now [] birth (Command.Back name) rows.old.entries rows.new.entries result }
+    requires listing { IsListing rows.old }
+    requires of_trace { IsOfTrace indexed.now rows.old }
+    ensures { IsApplied indexed.now [] birth (Command.Back name) rows.old rows.new result }
 {
-    let Some(at) = find(rows, name) else {
+    let Some(at) = rows.find(name) else {
         return Err(MoveRefusal::NoSuchSchedule);
     };
-    let Some(event) = pop_at(rows, indexed, at) else {
+    let Some(event) = rows.pop_at(indexed, at) else {
         return Err(MoveRefusal::NothingToRetract);
     };
     Ok(Inverse {
@@ -98,14 +98,14 @@ fn swap(
     name: Name,
     place: u32,
 ) -> Result<Inverse, MoveRefusal>
-    requires listing { IsListing rows.old.entries }
-    requires of_trace { IsOfTrace indexed.now rows.old.entries }
-    ensures { IsApplied indexed.now [] birth (Command.Swap name place) rows.old.entries rows.new.entries result }
+    requires listing { IsListing rows.old }
+    requires of_trace { IsOfTrace indexed.now rows.old }
+    ensures { IsApplied indexed.now [] birth (Command.Swap name place) rows.old rows.new result }
 {
-    let Some(at) = find(rows, name) else {
+    let Some(at) = rows.find(name) else {
         return Err(MoveRefusal::NoSuchSchedule);
     };
-    let Err(cause) = swap_at(rows, indexed, at, place) else {
+    let Err(cause) = rows.swap_at(indexed, at, place) else {
         return Ok(Inverse {
             name,
             step: Step::Exchanges(place),
@@ -123,15 +123,15 @@ fn branch(
     len: u32,
     to: Name,
 ) -> Result<Inverse, MoveRefusal>
-    requires listing { IsListing rows.old.entries }
-    requires of_trace { IsOfTrace indexed.now rows.old.entries }
-    requires late { Below birth rows.old.entries }
-    ensures { IsApplied indexed.now [] birth (Command.Branch name len to) rows.old.entries rows.new.entries result }
+    requires listing { IsListing rows.old }
+    requires of_trace { IsOfTrace indexed.now rows.old }
+    requires late { Below birth rows.old }
+    ensures { IsApplied indexed.now [] birth (Command.Branch name len to) rows.old rows.new result }
 {
-    let Some(source) = schedule_of(rows, indexed, name) else {
+    let Some(source) = rows.schedule_of(indexed, name) else {
         return Err(MoveRefusal::NoSuchSchedule);
     };
-    if rows.contains_key(&to) {
+    if rows.contains(to) {
         return Err(MoveRefusal::NameTaken);
     }
     if len as usize > source.events().len() {
@@ -140,7 +140,7 @@ fn branch(
     let Ok(schedule) = source.prefix(alloc, indexed, len) else {
         return Err(MoveRefusal::OutOfMemory);
     };
-    let Ok(()) = put_last(rows, to, Row { birth, schedule }) else {
+    let Ok(()) = rows.put(to, Row { birth, schedule }) else {
         return Err(MoveRefusal::OutOfMemory);
     };
     Ok(Inverse {
@@ -155,10 +155,10 @@ fn drop_row(
     birth: u64,
     name: Name,
 ) -> Result<Inverse, MoveRefusal>
-    requires listing { IsListing rows.old.entries }
-    ensures { IsApplied indexed.now [] birth (Command.Drop name) rows.old.entries rows.new.entries result }
+    requires listing { IsListing rows.old }
+    ensures { IsApplied indexed.now [] birth (Command.Drop name) rows.old rows.new result }
 {
-    let Some(row) = rows.shift_remove(&name) else {
+    let Some(row) = rows.take(name) else {
         return Err(MoveRefusal::NoSuchSchedule);
     };
     Ok(Inverse {
@@ -205,12 +205,12 @@ fn adopt(
     name: Name,
     proposal: u32,
 ) -> Result<Inverse, MoveRefusal>
-    requires listing { IsListing rows.old.entries }
-    requires of_trace { IsOfTrace indexed.now rows.old.entries }
+    requires listing { IsListing rows.old }
+    requires of_trace { IsOfTrace indexed.now rows.old }
     requires board { IsBoardOf indexed.now board.now }
-    ensures { IsApplied indexed.now board.now birth (Command.Adopt name proposal) rows.old.entries rows.new.entries result }
+    ensures { IsApplied indexed.now board.now birth (Command.Adopt name proposal) rows.old rows.new result }
 {
-    let Some(at) = find(rows, name) else {
+    let Some(at) = rows.find(name) else {
         return Err(MoveRefusal::NoSuchSchedule);
     };
     let Some(proposed) = proposed(board, indexed, proposal) else {
@@ -219,7 +219,7 @@ fn adopt(
     let Ok(schedule) = copy_of(proposed, alloc, indexed) else {
         return Err(MoveRefusal::OutOfMemory);
     };
-    let old = replace_at(rows, at, schedule);
+    let old = rows.replace_at(at, schedule);
     Ok(Inverse {
         name,
         step: Step::Was(old),
@@ -235,11 +235,11 @@ pub(crate) fn effect(
     birth: u64,
     command: &Command,
 ) -> Result<Inverse, MoveRefusal>
-    requires listing { IsListing rows.old.entries }
-    requires of_trace { IsOfTrace indexed.now rows.old.entries }
+    requires listing { IsListing rows.old }
+    requires of_trace { IsOfTrace indexed.now rows.old }
     requires board { IsBoardOf indexed.now board.now }
-    requires late { Below birth rows.old.entries }
-    ensures { IsApplied indexed.now board.now birth command.now rows.old.entries rows.new.entries result }
+    requires late { Below birth rows.old }
+    ensures { IsApplied indexed.now board.now birth command.now rows.old rows.new result }
 {
     match *command {
         Command::Fresh { name } => fresh(rows, alloc, indexed, birth, name),

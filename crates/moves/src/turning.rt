@@ -4,7 +4,7 @@ ghost use Rattle.moves.specs.Rows.{row_of, IsListing, IsOfTrace};
 ghost use Rattle.moves.specs.Inverses.{CanTurn, IsTurned, wants_memory};
 
 use crate::inverse::Step;
-use crate::listing::{Listing, find, pop_at, push_at, put, replace_at, swap_at};
+use crate::listing::Listing;
 use crate::name::Name;
 use event_index::Indexed;
 
@@ -15,18 +15,18 @@ pub(crate) fn turn(
     name: Name,
     step: Step,
 ) -> Result<(), Step>
-    requires listing { IsListing rows.old.entries }
-    requires of_trace { IsOfTrace indexed.now rows.old.entries }
-    requires fits { CanTurn name step rows.old.entries }
-    ensures ok { OnOk result (IsTurned name step rows.old.entries rows.new.entries) }
-    ensures err { OnErr result (rows.new.entries ≡ rows.old.entries) }
+    requires listing { IsListing rows.old }
+    requires of_trace { IsOfTrace indexed.now rows.old }
+    requires fits { CanTurn name step rows.old }
+    ensures ok { OnOk result (IsTurned name step rows.old rows.new) }
+    ensures err { OnErr result (rows.new ≡ rows.old) }
     ensures back { IfErr result (λ s. s ≡ step) }
     ensures succeeds { wants_memory step ≡ false → IsOk result }
 {
     match step {
-        Step::Comes(row) => match put(rows, name, row) {
+        Step::Comes(row) => match rows.put(name, row) {
             Ok(()) => Ok(()),
-            Err(failed) => Err(Step::Comes(failed.value.1)),
+            Err(row) => Err(Step::Comes(row)),
         },
         other => turn_at(rows, indexed, name, other),
     }
@@ -34,36 +34,36 @@ pub(crate) fn turn(
 
 /// The same of a step at a row that is there.
 fn turn_at(rows: &mut Listing, indexed: &Indexed, name: Name, step: Step) -> Result<(), Step>
-    requires listing { IsListing rows.old.entries }
-    requires of_trace { IsOfTrace indexed.now rows.old.entries }
-    requires fits { CanTurn name step rows.old.entries }
-    requires there { row_of rows.old.entries name ≢ None }
-    ensures ok { OnOk result (IsTurned name step rows.old.entries rows.new.entries) }
-    ensures err { OnErr result (rows.new.entries ≡ rows.old.entries) }
+    requires listing { IsListing rows.old }
+    requires of_trace { IsOfTrace indexed.now rows.old }
+    requires fits { CanTurn name step rows.old }
+    requires there { row_of rows.old name ≢ None }
+    ensures ok { OnOk result (IsTurned name step rows.old rows.new) }
+    ensures err { OnErr result (rows.new ≡ rows.old) }
     ensures back { IfErr result (λ s. s ≡ step) }
     ensures succeeds { wants_memory step ≡ false → IsOk result }
 {
-    let Some(at) = find(rows, name) else {
+    let Some(birth) = rows.find(name) else {
         return Ok(());
     };
     match step {
         Step::Goes => {
-            rows.shift_remove(&name);
+            rows.take(name);
             Ok(())
         },
         Step::Was(schedule) => {
-            replace_at(rows, at, schedule);
+            rows.replace_at(birth, schedule);
             Ok(())
         },
         Step::Loses => {
-            pop_at(rows, indexed, at);
+            rows.pop_at(indexed, birth);
             Ok(())
         },
-        Step::Gains(event) => match push_at(rows, indexed, at, event) {
+        Step::Gains(event) => match rows.push_at(indexed, birth, event) {
             Ok(()) => Ok(()),
             Err(_) => Err(Step::Gains(event)),
         },
-        Step::Exchanges(place) => match swap_at(rows, indexed, at, place) {
+        Step::Exchanges(place) => match rows.swap_at(indexed, birth, place) {
             Ok(()) => Ok(()),
             Err(_) => Err(Step::Exchanges(place)),
         },

@@ -13,10 +13,8 @@ use crate::listing::Listing;
 use crate::name::Name;
 use crate::names::Names;
 use crate::refusal::MoveRefusal;
-use crate::row::Row;
 use crate::{checks, effects, turning};
 use event_index::Indexed;
-use indexmap::IndexMap;
 use rapid_text::{OutOfMemory, TextKeyed};
 use schedule::Schedule;
 use std::alloc::Global;
@@ -34,9 +32,9 @@ impl Model for Workspace {
 
     ghost Value = { Rows };
 
-    ghost view = { λ w. w.rows.entries };
+    ghost view = { λ w. w.rows };
 
-    ghost invariant = { λ w. IsListing w.rows.entries };
+    ghost invariant = { λ w. IsListing w.rows };
 }
 
 impl Workspace {
@@ -53,7 +51,7 @@ impl Workspace {
     {
         Ok(Workspace {
             alloc,
-            rows: IndexMap::with_hasher(alloc, hashers),
+            rows: Listing::new(alloc, hashers),
         })
     }
 
@@ -72,8 +70,7 @@ impl Workspace {
         ensures { slice_get self.now at
             ≡ Some (result.0, record { birth = result.1; schedule = result.2.now }) }
     {
-        let name = self.rows.keys().as_slice()[at];
-        let row = &self.rows.values().as_slice()[at];
+        let (name, row) = self.rows.row_at(at);
         (name, row.birth, &row.schedule)
     }
 
@@ -83,19 +80,14 @@ impl Workspace {
         ensures some { IfSome result
             (λ s. option_map (λ (r : RowValue). r.schedule) (row_of self.now name.now) ≡ Some s.now) }
     {
-        let row = self.rows.get(name)?;
-        Some(&row.schedule)
+        self.rows.get(*name)
     }
 
     /// The names, by rising birth.
     pub fn names(&self, alloc: Global) -> Result<Names, OutOfMemory>
         ensures { IfOk result (λ names. names ≡ names_of self.now) }
     {
-        let mut names = Names::new(alloc);
-        for name in self.rows.keys() {
-            names.push(*name)?;
-        }
-        Ok(names)
+        self.rows.names(alloc)
     }
 
     /// Whether the command would be accepted, or its first refusal. It takes no memory.

@@ -10,8 +10,8 @@ pub returns : goal.returns
 returns c =
     let at = c.in-Some.ensures.some in
     let T = c.args.indexed.now in
-    let W = c.args.rows.now.entries in
-    let V = c.replace_at-old.new.rows.entries in
+    let W = c.args.rows.now in
+    let V = c.replace_at-old.new.self in
     let B = c.args.board.now in
     let is = rw at.1 at c.replace_at-old.ensures in
     let there = mapped_proposal B c.args.proposal c.in-Some-proposed.proposed.now c.in-Some-proposed.ensures.some in

@@ -5,5 +5,5 @@ use Rattle.moves.proofs.turning.turn.Goals as goal
 
 pub returns-in-Ok-clause-ok : goal.returns-in-Ok-clause-ok
 returns-in-Ok-clause-ok c =
-    let none : row_of c.args.rows.now.entries c.args.name ≡ None = search rules in
-    comes_turned c.args.rows.now.entries c.put.new.rows.entries c.args.name c.in-Comes.row c.args.step none c.in-Comes.is c.in-Ok.ensures.ok
+    let none : row_of c.args.rows.now c.args.name ≡ None = search rules in
+    comes_turned c.args.rows.now c.put.new.self c.args.name c.in-Comes.row c.args.step none c.in-Comes.is c.in-Ok.ensures.ok

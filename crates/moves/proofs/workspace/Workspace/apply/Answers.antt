@@ -5,24 +5,24 @@ use Rattle.moves.proofs.workspace.Workspace.apply.Goals as goal
 
 pub invariant_of-self : goal.invariant_of-self
 invariant_of-self c =
-    let W = c.self.inside.rows.entries in
+    let W = c.self.inside.rows in
     let low : Below c.args.birth W = rw c.self.view_is c.requires.late in
-    listing-applied c.args.indexed.now c.args.board.now c.args.birth c.args.command.now W c.effect.new.rows.entries c.effect.result c.self.invariant low c.effect.ensures
+    listing-applied c.args.indexed.now c.args.board.now c.args.birth c.args.command.now W c.effect.new.rows c.effect.result c.self.invariant low c.effect.ensures
 
 pub returns-clause-back : goal.returns-clause-back
 returns-clause-back c =
-    let W = c.self.inside.rows.entries in
+    let W = c.self.inside.rows in
     let low : Below c.args.birth W = rw c.self.view_is c.requires.late in
-    rw (← c.self.view_is) (taken_back c.args.indexed.now c.args.board.now c.args.birth c.args.command.now W c.effect.new.rows.entries c.effect.result c.self.invariant low c.effect.ensures)
+    rw (← c.self.view_is) (taken_back c.args.indexed.now c.args.board.now c.args.birth c.args.command.now W c.effect.new.rows c.effect.result c.self.invariant low c.effect.ensures)
 
 pub returns-clause-of_trace : goal.returns-clause-of_trace
 returns-clause-of_trace c =
-    let W = c.self.inside.rows.entries in
+    let W = c.self.inside.rows in
     let all : IsOfTrace c.args.indexed.now W = rw c.self.view_is c.requires.of_trace in
-    of_trace-applied c.args.indexed.now c.args.board.now c.args.birth c.args.command.now W c.effect.new.rows.entries c.effect.result all c.effect.ensures
+    of_trace-applied c.args.indexed.now c.args.board.now c.args.birth c.args.command.now W c.effect.new.rows c.effect.result all c.effect.ensures
 
 pub returns-clause-late : goal.returns-clause-late
 returns-clause-late c =
-    let W = c.self.inside.rows.entries in
+    let W = c.self.inside.rows in
     let low : Below c.args.birth W = rw c.self.view_is c.requires.late in
-    below-applied c.args.indexed.now c.args.board.now c.args.birth c.args.command.now W c.effect.new.rows.entries c.effect.result c.self.invariant low c.effect.ensures
+    below-applied c.args.indexed.now c.args.board.now c.args.birth c.args.command.now W c.effect.new.rows c.effect.result c.self.invariant low c.effect.ensures
