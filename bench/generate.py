@@ -109,8 +109,8 @@ def interleaved(clients, rounds):
     return calls
 
 
-def dropped_oldest_first(rows):
-    return [f"1 new S{i}" for i in range(rows)] + [f"1 drop S{i}" for i in range(rows)]
+def dropped(rows, order):
+    return [f"1 new S{i}" for i in range(rows)] + [f"1 drop S{i}" for i in order]
 
 
 def write_refused(folder):
@@ -145,8 +145,10 @@ def write_scripts(folder):
         write(folder, f"replay_new_and_undo_{entries}", ["T1|w(x)|1"], ["1 new A", "1 undo"] * (entries // 2))
     for rounds in (sized(300), sized(3_000)):
         write(folder, f"replay_32_clients_{32 * (rounds + 1)}", ["T1|w(x)|1"], interleaved(32, rounds))
-    for rows in (sized(2_000), sized(20_000)):
-        write(folder, f"replay_drop_oldest_{rows}", ["T1|w(x)|1"], dropped_oldest_first(rows))
+    for rows in (sized(20_000), sized(100_000)):
+        shuffled = random.Random(7).sample(range(rows), rows)
+        write(folder, f"replay_drop_oldest_{rows}", ["T1|w(x)|1"], dropped(rows, range(rows)))
+        write(folder, f"replay_drop_shuffled_{rows}", ["T1|w(x)|1"], dropped(rows, shuffled))
 
 
 def main():
