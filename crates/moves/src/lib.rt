@@ -11,6 +11,8 @@ mod name;
 mod names;
 mod refusal;
 mod row;
+#[cfg(test)]
+mod tests;
 mod turning;
 mod workspace;
 
