@@ -9,4 +9,5 @@ pub mod PositionLemmas
 pub mod ReplayLemmas
 pub mod RunLemmas
 pub mod ScriptLemmas
+pub mod SeatLemmas
 pub mod WordLemmas

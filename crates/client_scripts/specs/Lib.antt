@@ -4,6 +4,7 @@ pub mod Messages
 pub mod Places
 pub mod Replay
 pub mod Scripts
+pub mod Seats
 pub mod Steps
 pub mod Traces
 pub mod Words

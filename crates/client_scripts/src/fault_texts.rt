@@ -60,7 +60,7 @@ fn rule_words(why: RuleCause) -> Option<&'static str>
 }
 
 /// The number and the words of what is wrong with a script line; None for want of memory.
-fn script_words(why: ScriptCause) -> Option<&'static str>
+pub fn script_words(why: ScriptCause) -> Option<&'static str>
     ensures { words_in result ≡ script_cause_words why }
 {
     match why {
