@@ -134,6 +134,20 @@ def write_proposals(folder):
         write(folder, f"replay_propose_{events}", trace, [propose] * sized(500))
 
 
+def write_edits(folder):
+    """The last event of a long schedule taken off and appended again, and two neighbours exchanged again and again, at the
+    end of the schedule and in its middle; and schedules without an event over a trace of as many variables as events."""
+    for events in (EVENTS // 8, EVENTS):
+        trace = [f"T{i % 2}|w(V{i})|1" for i in range(events)]
+        grow = ["1 new A"] + [f"1 add A {i}" for i in range(events)]
+        last = events - 1
+        write(folder, f"replay_retract_{events}", trace, grow + ["1 back A", f"1 add A {last}"] * sized(50_000))
+        write(folder, f"replay_swap_at_the_end_{events}", trace, grow + [f"1 swap A {last - 1}"] * sized(100_000))
+        write(folder, f"replay_swap_in_the_middle_{events}", trace, grow + [f"1 swap A {events // 2}"] * sized(100_000))
+    for rows in (EVENTS, sized(500_000)):
+        write(folder, f"replay_empty_rows_{rows}", [f"T1|w(V{i})|1" for i in range(EVENTS)], [f"1 new S{i}" for i in range(rows)])
+
+
 def write_scripts(folder):
     """Scripts on a bench, each at two sizes, so that one sees how the cost grows."""
     writes = ["T1|w(x)|1"] * EVENTS
@@ -141,6 +155,7 @@ def write_scripts(folder):
         grow = ["1 new A"] + [f"1 add A {i}" for i in range(events)]
         write(folder, f"replay_grow_{events}", writes, grow)
         write(folder, f"replay_shrink_{events}", writes, grow + ["1 back A"] * events)
+    write_edits(folder)
     for entries in (sized(100_000), sized(1_000_000)):
         write(folder, f"replay_new_and_undo_{entries}", ["T1|w(x)|1"], ["1 new A", "1 undo"] * (entries // 2))
     for rounds in (sized(300), sized(3_000)):

@@ -2,6 +2,10 @@
 #![tactic(auto)]
 
 mod events;
+#[cfg(test)]
+mod generated_tests;
+#[cfg(test)]
+mod plain;
 mod refusal;
 mod searching;
 mod slicing;

@@ -1,0 +1,203 @@
+//! Slices and greedy searches on generated traces, against a plain program, and as lists of schedules.
+ghost use Rattle.std.specs.Prelude.{◌≡◌};
+
+use crate::plain::{greedy_from, is_conflict, is_enabled, slice_of, slice_refusal};
+use crate::tests::index_of;
+use crate::{greedy, slice};
+use event_index::Indexed;
+use schedule::Schedule;
+use shb_clocks::Clocks;
+use std::alloc::Global;
+
+// What a generated trace is put together of: a line is kept where the rules accept it.
+const LINES: [&[u8]; 26] = [
+    b"A|w(x)|\n",
+    b"A|r(x)|\n",
+    b"A|w(y)|\n",
+    b"A|acq(l)|\n",
+    b"A|rel(l)|\n",
+    b"A|acq(m)|\n",
+    b"A|rel(m)|\n",
+    b"A|fork(B)|\n",
+    b"A|fork(C)|\n",
+    b"A|join(C)|\n",
+    b"B|w(x)|\n",
+    b"B|r(x)|\n",
+    b"B|r(y)|\n",
+    b"B|acq(l)|\n",
+    b"B|rel(l)|\n",
+    b"B|acq(l)|\n",
+    b"B|rel(l)|\n",
+    b"B|fork(C)|\n",
+    b"B|join(C)|\n",
+    b"C|w(x)|\n",
+    b"C|w(y)|\n",
+    b"C|acq(m)|\n",
+    b"C|rel(m)|\n",
+    b"A|join(D)|\n",
+    b"B|fork(D)|\n",
+    b"D|w(y)|\n",
+];
+
+// Numbers by chance: a linear congruential generator.
+#[derive(Drop)]
+struct Chance {
+    state: u32,
+}
+
+impl Chance {
+    // A number below the bound, or 0 where the bound is 0.
+    fn below(&mut self, bound: u32) -> u32 {
+        self.state = self.state.wrapping_mul(1_103_515_245).wrapping_add(12_345);
+        if bound == 0 {
+            0
+        } else {
+            self.state / 65_536 % bound
+        }
+    }
+}
+
+// A trace of lines that are taken by chance.
+fn generated(alloc: Global, chance: &mut Chance, tries: u32) -> Option<Indexed> {
+    let mut text = Vec::new(alloc);
+    for _try in 0..tries {
+        let len = text.len();
+        let Some(line) = LINES.get(chance.below(26) as usize) else {
+            return None;
+        };
+        text.extend_from_slice(*line).ok()?;
+        if index_of(alloc, text.as_slice()).is_none() {
+            text.truncate(len);
+        }
+    }
+    index_of(alloc, text.as_slice())
+}
+
+// A correct reordering to start from: events taken by chance, where they may come next.
+fn start_of(alloc: Global, indexed: &Indexed, chance: &mut Chance, tries: u32) -> Option<Vec<u32>> {
+    let mut list = Vec::new(alloc);
+    for _try in 0..tries {
+        let event = chance.below(indexed.len());
+        if is_enabled(indexed, list.as_slice(), event) {
+            list.push(event).ok()?;
+        }
+    }
+    Some(list)
+}
+
+// Whether the list makes a schedule, and that shows the pair.
+fn is_witness(alloc: Global, indexed: &Indexed, list: &[u32], first: u32, second: u32) -> bool {
+    match Schedule::from_list(alloc, indexed, list) {
+        Ok(schedule) => schedule.shows(indexed, first, second),
+        Err(_) => false,
+    }
+}
+
+// Whether the pair has a slice, where all agrees with the plain program.
+fn agrees_on_slice(
+    alloc: Global,
+    indexed: &Indexed,
+    clocks: &Clocks,
+    first: u32,
+    second: u32,
+) -> Option<bool>
+    requires { clocks.now ≡ indexed.now }
+{
+    let list = slice_of(alloc, indexed, first, second)?;
+    let refusal = slice_refusal(indexed, list.as_slice(), first, second);
+    match slice(alloc, indexed, clocks, first, second) {
+        Ok(found) => {
+            let same = refusal.is_none() && found.items() == list.as_slice();
+            if same && is_witness(alloc, indexed, found.items(), first, second) {
+                Some(true)
+            } else {
+                None
+            }
+        },
+        Err(cause) => if refusal == Some(cause) {
+            Some(false)
+        } else {
+            None
+        },
+    }
+}
+
+// Whether the greedy search finds a list, where it agrees with the plain program.
+fn agrees_on_greedy(
+    alloc: Global,
+    indexed: &Indexed,
+    start: &[u32],
+    pair: (u32, u32),
+    budget: u32,
+) -> Option<bool> {
+    let (first, second) = pair;
+    let schedule = Schedule::from_list(alloc, indexed, start).ok()?;
+    let found = greedy(alloc, indexed, &schedule, first, second, budget).ok()?;
+    match (
+        found,
+        greedy_from(alloc, indexed, start, first, second, budget)?,
+    ) {
+        (None, None) => Some(false),
+        (Some(found), Some(list)) => {
+            let same = found.items() == list.as_slice();
+            if same && is_witness(alloc, indexed, found.items(), first, second) {
+                Some(true)
+            } else {
+                None
+            }
+        },
+        _ => None,
+    }
+}
+
+// An event by chance, or the number after the last, but most often an event that conflicts with this one.
+fn partner_of(indexed: &Indexed, event: u32, chance: &mut Chance) -> u32 {
+    let mut picked = chance.below(indexed.len().saturating_add(1));
+    for other in 0..indexed.len() {
+        if is_conflict(indexed, event, other) && chance.below(2) == 0 {
+            picked = other;
+        }
+    }
+    picked
+}
+
+// How many slices and how many lists of greedy searches pairs of one generated trace have, where all agree.
+fn agreed(alloc: Global, seed: u32) -> Option<(u32, u32)> {
+    let mut chance = Chance { state: seed };
+    let indexed = generated(alloc, &mut chance, 34)?;
+    let clocks = Clocks::new(alloc, &indexed).ok()?;
+    let start = start_of(alloc, &indexed, &mut chance, 6)?;
+    let mut slices = 0u32;
+    let mut lists = 0u32;
+    for first in 0..indexed.len() {
+        let second = partner_of(&indexed, first, &mut chance);
+        if agrees_on_slice(alloc, &indexed, &clocks, first, second)? {
+            slices = slices.saturating_add(1);
+        }
+        let pair = (first, second);
+        let budget = chance.below(12);
+        if agrees_on_greedy(alloc, &indexed, &[], pair, budget)? {
+            lists = lists.saturating_add(1);
+        }
+        if agrees_on_greedy(alloc, &indexed, start.as_slice(), pair, budget)? {
+            lists = lists.saturating_add(1);
+        }
+    }
+    Some((slices, lists))
+}
+
+#[test]
+fn searches_agree_with_the_plain_program(rt: HostRuntime) {
+    let mut slices = 0u32;
+    let mut lists = 0u32;
+    for seed in 0..200 {
+        let counts = agreed(rt.alloc(), seed);
+        assert!(rt; counts.is_some(), "seed {seed}");
+        let (more_slices, more_lists) = counts.unwrap_or((0, 0));
+        slices = slices.saturating_add(more_slices);
+        lists = lists.saturating_add(more_lists);
+    }
+    // Not all pairs are refused, and not all searches fail.
+    assert!(rt; slices > 400, "{slices} slices");
+    assert!(rt; lists > 400, "{lists} lists");
+}
