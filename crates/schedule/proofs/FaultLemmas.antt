@@ -6,7 +6,7 @@ use Rattle.std.proofs.lemmas.List.{take_more, take-take, take_all, length-take-l
 use Rattle.std.proofs.lemmas.Option.{none-some}
 use Rattle.rapid_text.specs.declared.event.Event.{Event}
 use Rattle.trace_rules.specs.Rules.{IsDisciplined}
-use Rattle.event_index.proofs.ScanLemmas.{find_none, none_found, find_first_is}
+use Rattle.event_index.proofs.CallerLemmas.{find_none, none_found, find_first_is}
 use Rattle.schedule.specs.Faults.{IsFirstFault, refusal_at, first_fault}
 use Rattle.schedule.specs.Reordering.{IsCorrectReordering, IsEnabled}
 use Rattle.schedule.specs.declared.refusal.Disabled.{Disabled}

@@ -12,9 +12,9 @@ use Rattle.std.proofs.Math.Seq.{take-append-add}
 use Rattle.rapid_text.specs.Operations.{is_read, is_write, is_acquire, is_release}
 use Rattle.rapid_text.specs.declared.event.Event.{Event}
 use Rattle.event_index.specs.Events.{passes_by, is_of_thread}
-use Rattle.event_index.specs.Layout.{IsTable}
+use Rattle.event_index.specs.Tables.{IsTable}
 use Rattle.event_index.specs.Relations.{IsIndependent}
-use Rattle.event_index.proofs.TableLemmas.{get_or-IsTable, IsTable-set}
+use Rattle.event_index.proofs.CallerLemmas.{get_or-IsTable, IsTable-set}
 use Rattle.schedule.specs.Swaps.{exchanged, MayExchange}
 use Rattle.schedule.specs.Keys.{key_eq}
 use Rattle.schedule.specs.Tables.{AreTables, sets_op, sets, frees, last_set, latest_by, latest_of, shadow_of, shadow_at, shadow_by}

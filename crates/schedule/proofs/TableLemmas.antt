@@ -7,8 +7,8 @@ use Rattle.std.proofs.lemmas.List.Sums.{count_by-le-length}
 use Rattle.rapid_text.specs.declared.event.Event.{Event}
 use Rattle.trace_rules.specs.Rules.{IsDisciplined}
 use Rattle.event_index.specs.Events.{passes_by, is_of_thread}
-use Rattle.event_index.specs.Layout.{IsTable}
-use Rattle.event_index.proofs.TableLemmas.{get_or-IsTable, IsTable-from_get_or, IsTable-push, IsTable-like}
+use Rattle.event_index.specs.Tables.{IsTable}
+use Rattle.event_index.proofs.CallerLemmas.{get_or-IsTable, IsTable-from_get_or, IsTable-push, IsTable-like}
 use Rattle.schedule.specs.Reordering.{IsCorrectReordering, IsEnabled}
 use Rattle.schedule.specs.Keys.{key_eq}
 use Rattle.schedule.specs.Tables.{AreTables, latest_of, last_set, shadow_of, shadow_at, shadow_of_op, event_of, depth_of, stepped, stepped_back, sets, frees}

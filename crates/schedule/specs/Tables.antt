@@ -7,7 +7,7 @@ use Rattle.rapid_text.specs.declared.event.Event.{Event}
 use Rattle.rapid_text.specs.declared.event.Op.{Op}
 use Rattle.rapid_text.specs.declared.event.Op.TheVariants.{Write, Acquire, Release}
 use Rattle.event_index.specs.Events.{passes_at, is_of_thread}
-use Rattle.event_index.specs.Layout.{IsTable}
+use Rattle.event_index.specs.Tables.{IsTable}
 use Rattle.schedule.specs.Keys.{key_eq}
 use Rattle.schedule.specs.declared.latest.Key.{Key}
 use Rattle.schedule.specs.declared.latest.Key.TheVariants.{Variable, Lock}

@@ -1,7 +1,7 @@
 use Rattle.std.proofs.Common.{[], slice_index_or, ap, sym, subst}
 use Rattle.std.specs.Map.{lookup}
-use Rattle.event_index.specs.Layout.{IsTable}
-use Rattle.event_index.proofs.TableLemmas.{IsTable-nil}
+use Rattle.event_index.specs.Tables.{IsTable}
+use Rattle.event_index.proofs.CallerLemmas.{IsTable-nil}
 use Rattle.schedule.specs.Keys.{key_eq}
 use Rattle.schedule.specs.Tables.{shadow_of}
 use Rattle.schedule.proofs.tables.no_tables.Goals as goal

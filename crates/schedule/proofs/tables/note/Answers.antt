@@ -1,6 +1,6 @@
 use Rattle.std.proofs.Common.{◌≡◌, ◌≤◌, ◌++◌, ◌∷◌, [], ◌-◌, length, take, refl, ap, sym, subst, ◌∙◌, arith, rules}
 use Rattle.std.proofs.lemmas.List.{length_push, take_at}
-use Rattle.event_index.specs.Layout.{IsTable}
+use Rattle.event_index.specs.Tables.{IsTable}
 use Rattle.schedule.specs.Reordering.{IsCorrectReordering}
 use Rattle.schedule.specs.Tables.{shadow_of}
 use Rattle.schedule.proofs.CallerLemmas.{IsCorrectReordering-length}
