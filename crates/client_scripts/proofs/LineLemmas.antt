@@ -3,7 +3,7 @@ use Rattle.std.proofs.Common.{◌≡◌, ℕ, zero, suc, ◌+◌, ◌<◌, Bool,
 use Rattle.std.specs.List.{slice_split, position_or_len, join_with_byte}
 use denote.Ref.{Bor}
 use Rattle.std.specs.Prelude.{unwrap_or}
-use Rattle.rapid_text.specs.LinesLeft.{lines_left}
+use Rattle.client_scripts.specs.LinesLeft.{lines_left}
 use Rattle.std.proofs.lemmas.Bool.{cases_Bool}
 use Rattle.std.proofs.lemmas.List.Sums.{position_or_len_is}
 use Rattle.std.proofs.lemmas.List.Splits.{slice_split_first, slice_split_none, join_with_byte-slice_split}

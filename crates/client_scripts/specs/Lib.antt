@@ -1,5 +1,6 @@
 pub mod FaultTexts
 pub mod Joint
+pub mod LinesLeft
 pub mod Messages
 pub mod Places
 pub mod Replay

@@ -71,7 +71,7 @@ pub(crate) struct Lines<'a> {
 
 impl<'a> Model for Lines<'a> {
     ghost use Rattle.std.specs.Prelude.{List, ℕ};
-    ghost use Rattle.rapid_text.specs.LinesLeft.{lines_left};
+    ghost use Rattle.client_scripts.specs.LinesLeft.{lines_left};
 
     ghost Value = { List (List ℕ) };
 

@@ -2,7 +2,7 @@ use Rattle.std.proofs.Common.{◌+◌, ◌∷◌, take, sym, ap, ◌∙◌}
 use Rattle.std.specs.List.{slice_split}
 use Rattle.std.proofs.lemmas.List.{take_rest}
 use Rattle.rapid_text.specs.Reading.{is_line_feed}
-use Rattle.rapid_text.specs.LinesLeft.{lines_left}
+use Rattle.client_scripts.specs.LinesLeft.{lines_left}
 use Rattle.client_scripts.proofs.LineLemmas.{cut_at_some, cut_at_none}
 use Rattle.client_scripts.proofs.lines.Lines.next.Goals as goal
 
