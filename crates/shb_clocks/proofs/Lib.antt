@@ -11,3 +11,4 @@ pub mod ReadLemmas
 pub mod ReleaseLemmas
 pub mod RowLemmas
 pub mod SourceLemmas
+pub mod SpotLemmas

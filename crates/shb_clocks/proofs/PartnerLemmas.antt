@@ -67,11 +67,11 @@ no_partner T a b v at none cand =
 pub candidate_within : (T : List Event) (a b : ℕ) → IsCandidate T a b → b < length T
 candidate_within T a b cand = slice_get_within T b cand.conflict.w cand.conflict.second
 
-module _ (T : List Event) (w : Bool) (a x : ℕ) (op : op_at T a ≡ Some (sought_by w x)) where
-  -- a partner stands in a chain of its thread
-  pub IsLinked-partner : (u b : ℕ) → IsPartner T a u b → IsLinked T w x u b
-  IsLinked-partner u b h =
-      let f = h.0.conflict in
+module _ (T : List Event) (w : Bool) (spots : List ℕ) (a x : ℕ) (op : op_at T a ≡ Some (sought_by w x)) where
+  -- a partner stands in a chain
+  pub IsLinked-candidate : (b : ℕ) → IsCandidate T a b → IsLinked T w spots x (get_or spots b 0) b
+  IsLinked-candidate b h =
+      let f = h.conflict in
       let v = op_event T a (sought_by w x) op in
       let is : f.v ≡ v.0 = same_Some f.v v.0 (sym f.first ∙ v.1) in
       let does : f.v.op ≡ sought_by w x = ap (λ (d : Event). d.op) is ∙ v.2 in
@@ -79,15 +79,17 @@ module _ (T : List Event) (w : Bool) (a x : ℕ) (op : op_at T a ≡ Some (sough
       record {
         v = f.w;
         found = f.second;
-        thread = one_thread T b f.w.thread u (thread_here T b f.w f.second) h.1;
-        variable =
-            access_linked w x y f.w.op (ap (is_access y) (sym does) ∙ f.clash.first) f.clash.second
+        variable = access_linked w x y f.w.op (ap (is_access y) (sym does) ∙ f.clash.first) f.clash.second
             (ap (λ o. is_write y o || is_write y f.w.op) (sym does) ∙ f.clash.writes);
+        spot = refl;
       }
 
-  -- and what stands there in another thread conflicts
-  IsConflicting-linked : (u b : ℕ) → IsLinked T w x u b → thread_at T a ≢ Some u → IsConflicting T a b
-  IsConflicting-linked u b l other =
+  pub IsLinked-partner : (i b : ℕ) → IsPartner T spots a i b → IsLinked T w spots x i b
+  IsLinked-partner i b h = let linked = IsLinked-candidate b h.0 in record { v = linked.v; found = linked.found; variable = linked.variable; spot = h.1 }
+
+  -- and what stands there, of another thread, conflicts
+  IsConflicting-linked : (i b : ℕ) (l : IsLinked T w spots x i b) → thread_at T a ≢ Some l.v.thread → IsConflicting T a b
+  IsConflicting-linked i b l other =
       let v = op_event T a (sought_by w x) op in
       let clashes = linked_access w x l.v.op l.variable in
       record {
@@ -96,7 +98,7 @@ module _ (T : List Event) (w : Bool) (a x : ℕ) (op : op_at T a ≡ Some (sough
         first = v.1;
         second = l.found;
         clash = record {
-          threads = λ is. other (thread_here T a v.0 v.1 ∙ ap Some (is ∙ l.thread));
+          threads = λ is. other (thread_here T a v.0 v.1 ∙ ap Some is);
           variable = x;
           first = ap (is_access x) v.2 ∙ clashes.first;
           second = clashes.second;
@@ -104,8 +106,8 @@ module _ (T : List Event) (w : Bool) (a x : ℕ) (op : op_at T a ≡ Some (sough
         };
       }
 
-linked_thread : (T : List Event) (w : Bool) (x u e : ℕ) → IsLinked T w x u e → thread_at T e ≡ Some u
-linked_thread T w x u e l = thread_here T e l.v l.found ∙ ap Some l.thread
+linked_thread : (T : List Event) (w : Bool) (spots : List ℕ) (x i e : ℕ) (l : IsLinked T w spots x i e) → thread_at T e ≡ Some l.v.thread
+linked_thread T w spots x i e l = thread_here T e l.v l.found
 
 -- where SHB keeps a before the base of an event, it does so for all later events of the thread
 pub IsApart-earlier : (T : List Event) (a h b u : ℕ) → thread_at T h ≡ Some u → thread_at T b ≡ Some u → h ≤ b → IsApart T a b → IsApart T a h
@@ -126,56 +128,59 @@ own_apart T a h u of also early apart =
     let next = base-after T h v.0 v.1 a early (of ∙ ap Some (sym v.2)) in
     apart next.0 next.1 (along_thread T a a next.0 v.0.thread (same a refl) (of ∙ ap Some (sym v.2)) next.2 next.3)
 
--- the head of a chain, kept or not, tells the first partner in its thread
+-- the head of a chain, kept or not, tells the first partner in its chain
 pub IsFirstFrom-kept :
-    (T : List Event) (w : Bool) (a x u from head n : ℕ) → op_at T a ≡ Some (sought_by w x) → a < from
-    → IsFirstFrom (IsLinked T w x u) (length T) from head → IsKept T a head n
-    → IsFirstFrom (IsPartner T a u) (length T) from n
-IsFirstFrom-kept T w a x u from head n op early first (inl kept) =
+    (T : List Event) (w : Bool) (spots : List ℕ) (a x i from head n : ℕ) → op_at T a ≡ Some (sought_by w x) → a < from
+    → ((e f : ℕ) (l : IsLinked T w spots x i e) (m : IsLinked T w spots x i f) → l.v.thread ≡ m.v.thread)
+    → IsFirstFrom (IsLinked T w spots x i) (length T) from head → IsKept T a head n
+    → IsFirstFrom (IsPartner T spots a i) (length T) from n
+IsFirstFrom-kept T w spots a x i from head n op early alone first (inl kept) =
     let linked = first.here kept.1 in
-    let of = linked_thread T w x u head linked in
+    let of = linked_thread T w spots x i head linked in
     let later : a < head = omega (arith, first.low) in
-    let partner : IsPartner T a u head = (
+    let partner : IsPartner T spots a i head = (
       record {
-        conflict = IsConflicting-linked T w a x op u head linked (λ own. own_apart T a head u own of later kept.2);
+        conflict = IsConflicting-linked T w spots a x op i head linked (λ own. own_apart T a head linked.v.thread own of later kept.2);
         earlier = later;
         apart = kept.2;
       },
-      of,
+      linked.spot,
     ) in
     rw kept.0 (record {
       low = first.low;
       high = first.high;
-      skipped = λ e low high p. first.skipped e low high (IsLinked-partner T w a x op u e p);
+      skipped = λ e low high p. first.skipped e low high (IsLinked-partner T w spots a x op i e p);
       here = λ _. partner;
     })
-IsFirstFrom-kept T w a x u from head n op early first (inr none) =
+IsFirstFrom-kept T w spots a x i from head n op early alone first (inr none) =
     rw none.0 (record {
       low = omega (arith, first.low, first.high);
       high = omega arith;
       skipped = λ e low high p.
-          let linked = IsLinked-partner T w a x op u e p in
+          let linked = IsLinked-partner T w spots a x op i e p in
           elim (cases_lt e head) [
             | inl before ↦ first.skipped e low before linked
             | inr after ↦
                 let inside : head < length T = omega arith in
-                none.1 inside (IsApart-earlier T a head e u (linked_thread T w x u head (first.here inside)) p.1 after p.0.apart)
+                let begins = first.here inside in
+                let also : thread_at T e ≡ Some begins.v.thread = linked_thread T w spots x i e linked ∙ ap Some (alone e head linked begins) in
+                none.1 inside (IsApart-earlier T a head e begins.v.thread (linked_thread T w spots x i head begins) also after p.0.apart)
           ];
       here = λ lt. absurd (omega arith);
     })
 
-module _ (T : List Event) (k a from : ℕ) (partners : List ℕ) (are : ArePartners T k a from partners) (threads : (e t : ℕ) → thread_at T e ≡ Some t → t < k) (inside : from ≤ length T) where
+module _ (T : List Event) (spots : List ℕ) (a from : ℕ) (partners : List ℕ) (are : ArePartners T spots a from partners) (inside : from ≤ length T) where
   -- the least of the first partners is the first partner of all
   pub IsFirstFrom-least :
-      (m : ℕ) → ((u : ℕ) → u < length partners → m ≤ get_or partners u 0)
-      → (m ≡ length T) ⊎ ((u : ℕ) × (u < length partners) × (get_or partners u 0 ≡ m))
+      (m : ℕ) → ((i : ℕ) → i < length partners → m ≤ get_or partners i 0)
+      → (m ≡ length T) ⊎ ((i : ℕ) × (i < length partners) × (get_or partners i 0 ≡ m))
       → IsFirstFrom (IsCandidate T a) (length T) from m
   IsFirstFrom-least m lowest found =
       let bounds : (from ≤ m) × (m ≤ length T) × (m < length T → IsCandidate T a m) =
       elim found [
         | inl end ↦ (omega arith, omega arith, λ lt. absurd (omega arith))
         | inr at ↦
-            let first = are.at at.0 (omega (arith, at.1, are.len)) in (
+            let first = are.at at.0 at.1 in (
               omega (arith, first.low, at.2),
               omega (arith, first.high, at.2),
               λ lt. subst (IsCandidate T a) at.2 (first.here (omega (arith, at.2))).0,
@@ -186,38 +191,38 @@ module _ (T : List Event) (k a from : ℕ) (partners : List ℕ) (are : ArePartn
         low = bounds.0;
         high = bounds.1;
         skipped = λ e low high cand.
-            let w = cand.conflict.w in
-            let of = thread_here T e w cand.conflict.second in
-            let low_t : w.thread < k = threads e w.thread of in
-            let bound : m ≤ get_or partners w.thread 0 = lowest w.thread (omega (arith, are.len)) in
-            (are.at w.thread low_t).skipped e low (omega arith) (cand, of);
+            let i = get_or spots e 0 in
+            let low_i : i < length partners = are.within e cand in
+            let bound : m ≤ get_or partners i 0 = lowest i low_i in
+            (are.at i low_i).skipped e low (omega arith) (cand, refl);
         here = bounds.2;
       }
 
-  -- once it is listed, the next partner of its thread takes its place
+  -- once it is listed, the next partner of its chain takes its place
   pub ArePartners-next :
-      (b t n : ℕ) → IsFirstFrom (IsCandidate T a) (length T) from b → b < length T → thread_at T b ≡ Some t
-      → IsFirstFrom (IsPartner T a t) (length T) (b + 1) n → ArePartners T k a (b + 1) (set partners t n)
-  ArePartners-next b t n first below of next =
+      (b i n : ℕ) → IsFirstFrom (IsCandidate T a) (length T) from b → b < length T → get_or spots b 0 ≡ i
+      → IsFirstFrom (IsPartner T spots a i) (length T) (b + 1) n → ArePartners T spots a (b + 1) (set partners i n)
+  ArePartners-next b i n first below of next =
       record {
-        len = length-set partners t n ∙ are.len;
-        at = λ u low.
-            elim (cases_eq u t) [
-              | inl is ↦ rw (is, get_or-set_same partners t n 0 (omega (arith, are.len, is, low))) next
+        within = λ e cand. omega (arith, length-set partners i n, are.within e cand);
+        at = λ j low.
+            let old : j < length partners = omega (arith, length-set partners i n) in
+            elim (cases_eq j i) [
+              | inl is ↦ rw (is, get_or-set_same partners i n 0 (omega (arith, is, old))) next
               | inr other ↦
-                  let f = are.at u low in
-                  let past : b < get_or partners u 0 =
-                  elim (cases_lt b (get_or partners u 0)) [
+                  let f = are.at j old in
+                  let past : b < get_or partners j 0 =
+                  elim (cases_lt b (get_or partners j 0)) [
                     | inl less ↦ less
                     | inr le ↦
                         let p = f.here (omega arith) in
-                        elim (cases_eq (get_or partners u 0) b) [
-                          | inl one ↦ absurd (other (one_thread T b u t (subst (λ (e : ℕ). thread_at T e ≡ Some u) one p.1) of))
-                          | inr less ↦ absurd (first.skipped (get_or partners u 0) f.low (omega arith) p.0)
+                        elim (cases_eq (get_or partners j 0) b) [
+                          | inl one ↦ absurd (other (sym p.1 ∙ ap (λ (e : ℕ). get_or spots e 0) one ∙ of))
+                          | inr less ↦ absurd (first.skipped (get_or partners j 0) f.low (omega arith) p.0)
                         ]
                   ]
                   in
-                  rw (get_or-set_other partners t u n 0 other) (record {
+                  rw (get_or-set_other partners i j n 0 other) (record {
                     low = omega arith;
                     high = f.high;
                     skipped = λ e low high. f.skipped e (omega (arith, first.low)) high;

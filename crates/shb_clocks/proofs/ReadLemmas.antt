@@ -1,4 +1,5 @@
 -- What is read in the tables of clocks, by what they are of. No public clause cites this module.
+use Rattle.std.specs.List.{slice_get}
 use Rattle.std.proofs.Common.{◌≡◌, ℕ, ◌+◌, ◌*◌, ◌<◌, ◌↔◌, true, leb, List, length, Some, get_or, sym, ap, ◌∙◌, subst, arith}
 use Rattle.std.proofs.lemmas.Bool.{leb-true, le-leb}
 use Rattle.std.proofs.lemmas.List.{get_or_read}
@@ -12,14 +13,17 @@ use Rattle.shb_clocks.specs.HappensBefore.{IsShbBefore}
 use Rattle.shb_clocks.specs.Layout.{IsCount, AreThreads, AreCounts}
 use Rattle.shb_clocks.proofs.EdgeLemmas.{thread_event}
 
--- the thread of an event has a name
+-- the numbers in an event have names
+pub event_named : (r : Recording) → IsWellFormed r → (e : ℕ) (v : Event) → slice_get r.events e ≡ Some v → IsNamed r v
+event_named r well e v at =
+    let named : IsNamed r (get_or r.events e v) = All-get_or (IsNamed r) r.events e v (slice_get_within r.events e v at) well.named in
+    subst (IsNamed r) (get_or_from_slice_get r.events e v v at) named
+
+-- and so has its thread
 pub thread_named : (r : Recording) → IsWellFormed r → (e t : ℕ) → thread_at r.events e ≡ Some t → t < length r.threads
 thread_named r well e t of =
     let v = thread_event r.events e t of in
-    let within = slice_get_within r.events e v.0 v.1 in
-    let named : IsNamed r (get_or r.events e v.0) = All-get_or (IsNamed r) r.events e v.0 within well.named in
-    let is : get_or r.events e v.0 ≡ v.0 = get_or_from_slice_get r.events e v.0 v.0 v.1 in
-    subst (λ (u : ℕ). u < length r.threads) (ap (λ (w : Event). w.thread) is ∙ v.2) named.0
+    subst (λ (u : ℕ). u < length r.threads) v.2 (event_named r well e v.0 v.1).0
 
 module _
     (r q : Recording) (threads counts : List ℕ) (width : ℕ) (same : r ≡ q) (well : IsWellFormed r)

@@ -2,3 +2,4 @@ pub mod Candidates
 pub mod HappensBefore
 pub mod Layout
 pub mod Search
+pub mod Spots

@@ -8,7 +8,7 @@ ghost use Rattle.shb_clocks.specs.Search.{sought_by, IsSought, IsKept, AreChains
 
 use crate::chains::Chains;
 use crate::clocks::Clocks;
-use crate::events::{event_at, threads_in};
+use crate::events::event_at;
 use event_index::{Indexed, Pairs};
 use rapid_text::{Op, OutOfMemory};
 use std::alloc::Global;
@@ -25,7 +25,7 @@ pub(crate) fn first_candidates(
 {
     let mut accesses = Chains::new(alloc, indexed, false)?;
     let mut writes = Chains::new(alloc, indexed, true)?;
-    let mut partners = vec![in alloc; 0u32; threads_in(indexed) as usize]?;
+    let mut partners = Vec::new(alloc);
     let mut pairs = Pairs::new(alloc);
     for first in 0..indexed.len() {
         if pairs.items().len() >= limit as usize {
@@ -35,7 +35,7 @@ pub(crate) fn first_candidates(
         writes.pass(indexed, first);
         let op = event_at(indexed, first).op;
         if let Some((chains, variable)) = sought(op, &accesses, &writes) {
-            seek(&mut partners, clocks, indexed, chains, first, variable);
+            seek(&mut partners, clocks, indexed, chains, first, variable)?;
             list(
                 &mut pairs,
                 &mut partners,
@@ -66,7 +66,7 @@ fn sought<'a>(op: Op, accesses: &'a Chains, writes: &'a Chains) -> Option<(&'a C
     }
 }
 
-// Finds the first partner of the event in each thread.
+// Finds the first partner of the event in each chain of its variable.
 fn seek(
     partners: &mut Vec<u32>,
     clocks: &Clocks,
@@ -74,19 +74,23 @@ fn seek(
     chains: &Chains,
     first: u32,
     variable: u32,
-)
+) -> Result<(), OutOfMemory>
     requires trace { clocks.now ≡ indexed.now }
     requires first { first < length indexed.now.events }
     requires sought { op_at indexed.now.events first ≡ Some (sought_by chains.now.writes variable) }
     requires variable { variable < length indexed.now.variables }
     requires chains { AreChains indexed.now (first + 1) chains.now }
-    requires len { length partners.old.items ≡ length indexed.now.threads }
-    ensures { ArePartners indexed.now.events (length indexed.now.threads) first (first + 1) partners.new.items }
+    ensures { OnOk result
+        (ArePartners indexed.now.events chains.now.spots.items first (first + 1) partners.new.items) }
 {
-    for thread in 0..chains.width {
-        let head = chains.heads[variable as usize * chains.width + thread];
-        partners[thread] = kept(clocks, indexed, first, head);
+    partners.clear();
+    let start = chains.starts[variable as usize] as usize;
+    let end = chains.starts[variable as usize + 1] as usize;
+    for spot in 0..end - start {
+        let head = chains.heads[start + spot];
+        partners.push(kept(clocks, indexed, first, head))?;
     }
+    Ok(())
 }
 
 // Lists the event with its partners, the least first, up to the limit.
@@ -103,11 +107,10 @@ fn list(
     requires first { first < length indexed.now.events }
     requires sought { IsSought indexed.now.events first chains.now.writes }
     requires chains { AreChains indexed.now (first + 1) chains.now }
-    requires partners { ArePartners indexed.now.events (length indexed.now.threads) first (first + 1) partners.old.items }
+    requires partners { ArePartners indexed.now.events chains.now.spots.items first (first + 1) partners.old.items }
     requires listed { AreListed indexed.now.events first 0 pairs.old }
     requires limit { length pairs.old ≤ limit }
-    ensures listed { OnOk result (AreFirstBelow indexed.now.events limit (first + 1) pairs.new) }
-    ensures len { OnOk result (length partners.new.items ≡ length indexed.now.threads) }
+    ensures { OnOk result (AreFirstBelow indexed.now.events limit (first + 1) pairs.new) }
 {
     let end = indexed.len();
     for _listed in pairs.items().len()..limit as usize {
@@ -116,13 +119,13 @@ fn list(
             return Ok(());
         }
         pairs.push((first, second))?;
-        let thread = event_at(indexed, second).thread as usize;
-        partners[thread] = kept(clocks, indexed, first, chains.next[second as usize]);
+        let spot = chains.spots[second as usize] as usize;
+        partners[spot] = kept(clocks, indexed, first, chains.next[second as usize]);
     }
     Ok(())
 }
 
-// The least of the partners, or the end where there are no threads.
+// The least of the partners, or the end where there are none.
 fn least(partners: &[u32], end: u32) -> u32
     ensures lowest { (u : ℕ) → u < length partners.now → result ≤ slice_index partners.now u }
     ensures found { (result ≡ end)

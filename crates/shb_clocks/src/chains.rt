@@ -1,18 +1,22 @@
 //! The accesses of each variable by each thread, as chains.
-ghost use Rattle.std.specs.Prelude.{◌≡◌, ◌+◌, ◌*◌, ◌<◌, length, IfOk, Some, slice_index};
-ghost use Rattle.shb_clocks.specs.Search.{linked_variable, IsFirstFrom, IsLinked, AreChains};
+ghost use Rattle.std.specs.Prelude.{◌≡◌, ◌+◌, ◌<◌, length, IfOk, slice_index};
+ghost use Rattle.shb_clocks.specs.Search.{AreChains};
 
-use crate::events::{event_at, threads_in};
+use crate::events::event_at;
+use crate::spots::{Spots, linked_variable, starts_of};
 use event_index::Indexed;
-use rapid_text::{Op, OutOfMemory};
+use rapid_text::OutOfMemory;
 use std::alloc::Global;
 
-/// For each variable and thread the accesses of the one by the other, or the writes alone, each with the
-/// next; and the first from some event on. Where there is none, the number of events stands.
+/// For each variable and each thread that accesses it the accesses of the one by the other, or the writes alone,
+/// each with the next; and the first from some event on. Where there is none, the number of events stands.
 #[derive(Drop)]
 pub(crate) struct Chains {
     pub(crate) writes: bool,
-    pub(crate) width: usize,
+    // For each event the spot of its chain among those of its variable.
+    pub(crate) spots: Vec<u32>,
+    // For each variable where its chains begin; one more at the end.
+    pub(crate) starts: Vec<u32>,
     pub(crate) next: Vec<u32>,
     pub(crate) heads: Vec<u32>,
 }
@@ -24,13 +28,16 @@ impl Chains {
         ensures writes { IfOk result (λ chains. chains.writes ≡ writes) }
     {
         let len = indexed.len();
-        let width = threads_in(indexed) as usize;
         let variables = indexed.trace().raw().variables() as usize;
+        let made = Spots::new(alloc, indexed, writes)?;
+        let starts = starts_of(alloc, made.counts.as_slice())?;
+        let chain_count = starts[variables] as usize;
         let mut chains = Chains {
             writes,
-            width,
+            spots: made.spots,
+            starts,
             next: vec![in alloc; len; len as usize]?,
-            heads: vec![in alloc; len; variables * width]?,
+            heads: vec![in alloc; len; chain_count]?,
         };
         for done in 0..len {
             chains.link(indexed, len - 1 - done);
@@ -38,7 +45,7 @@ impl Chains {
         Ok(chains)
     }
 
-    // Takes the event into the chains of the events after it.
+    // Takes the event into the chain of the events after it.
     fn link(&mut self, indexed: &Indexed, event: u32)
         requires event { event < length indexed.now.events }
         requires chains { AreChains indexed.now (event + 1) self.old }
@@ -47,7 +54,7 @@ impl Chains {
     {
         let found = event_at(indexed, event);
         if let Some(variable) = linked_variable(self.writes, found.op) {
-            let slot = variable as usize * self.width + found.thread as usize;
+            let slot = self.slot(variable, event);
             self.next[event as usize] = self.heads[slot];
             self.heads[slot] = event;
         }
@@ -62,19 +69,17 @@ impl Chains {
     {
         let found = event_at(indexed, event);
         if let Some(variable) = linked_variable(self.writes, found.op) {
-            let slot = variable as usize * self.width + found.thread as usize;
+            let slot = self.slot(variable, event);
             self.heads[slot] = self.next[event as usize];
         }
     }
-}
 
-// The variable that the operation writes, or accesses, where it does.
-fn linked_variable(writes: bool, op: Op) -> Option<u32>
-    ensures { result ≡ linked_variable writes op }
-{
-    match op {
-        Op::Read(variable) => if writes { None } else { Some(variable) },
-        Op::Write(variable) => Some(variable),
-        Op::Acquire(_) | Op::Release(_) | Op::Fork(_) | Op::Join(_) => None,
+    // Where the head of the event's chain stands, for an event that accesses the variable.
+    fn slot(&self, variable: u32, event: u32) -> usize
+        requires variable { variable < length self.now.starts.items }
+        requires event { event < length self.now.spots.items }
+        ensures { result ≡ slice_index self.now.starts.items variable + slice_index self.now.spots.items event }
+    {
+        self.starts[variable as usize] as usize + self.spots[event as usize] as usize
     }
 }

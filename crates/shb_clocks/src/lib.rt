@@ -8,6 +8,7 @@ mod events;
 #[cfg(test)]
 mod generated_tests;
 mod rows;
+mod spots;
 #[cfg(test)]
 mod tests;
 

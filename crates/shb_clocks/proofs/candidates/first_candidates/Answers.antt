@@ -2,7 +2,7 @@ use Rattle.std.proofs.Common.{arith, ◌<◌, ◌≤◌, length, ◌∙◌}
 use Rattle.shb_clocks.proofs.ListedLemmas.{AreListed-room, AreFirstCandidates-full, AreFirstCandidates-all, AreFirstBelow-none}
 use Rattle.shb_clocks.proofs.PartnerLemmas.{no_partner}
 use Rattle.shb_clocks.proofs.candidates.first_candidates.Goals as goal
-use Rattle.shb_clocks.proofs.candidates.first_candidates.Goals.{in-Some+in_ok-list, in_default}
+use Rattle.shb_clocks.proofs.candidates.first_candidates.Goals.{in-Some+in_ok-seek+in_ok-list, in_default}
 
 pub returns-then-items-limit : goal.returns-then-items-limit
 returns-then-items-limit c =
@@ -21,14 +21,13 @@ loop-first-preserved c =
     let of_accesses = c.pass.ensures.writes ∙ i.of_accesses in
     let of_writes = c.pass-in-loop-first.ensures.writes ∙ i.of_writes in
     elim c.match-sought.branch [
-      | in-Some+in_ok-list w ↦
+      | in-Some+in_ok-seek+in_ok-list w ↦
           record {
             accesses = c.pass.ensures.chains;
             of_accesses = of_accesses;
             writes = c.pass-in-loop-first.ensures.chains;
             of_writes = of_writes;
-            partners = rw w.partners-is w.in_ok-list.ensures.len;
-            listed = rw w.pairs-is w.in_ok-list.ensures.listed;
+            listed = rw w.pairs-is w.in_ok-list.ensures;
           }
       | in_default w ↦
           record {
@@ -36,7 +35,6 @@ loop-first-preserved c =
             of_accesses = of_accesses;
             writes = c.pass-in-loop-first.ensures.chains;
             of_writes = of_writes;
-            partners = rw w.partners-is i.partners;
             listed = rw w.pairs-is (AreFirstBelow-none c.args.indexed.now.events c.loop-first.first c.args.limit c.loop-first.pairs i.listed room (λ b. no_partner c.args.indexed.now.events c.loop-first.first b c.event_at-op.result c.event_at-op.ensures.found (c.sought.ensures.none w.in_default.is)));
           }
     ]

@@ -1,13 +1,10 @@
-use Rattle.std.proofs.Common.{◌≡◌, ◌+◌, ◌<◌, ◌≤◌, ◌⊎◌, ℕ, List, Some, length, get_or, arith, inl, inr, subst, ap, ◌∙◌}
-use Rattle.std.proofs.lemmas.List.{length_push}
-use Rattle.event_index.specs.Events.{thread_at}
+use Rattle.std.proofs.Common.{◌≡◌, ◌+◌, ◌<◌, ◌≤◌, ◌⊎◌, ℕ, List, Some, length, get_or, arith, inl, inr, subst, sym, ap, ◌∙◌}
+use Rattle.std.proofs.lemmas.List.{length_push, get_or_read}
 use Rattle.shb_clocks.specs.Candidates.{IsCandidate}
 use Rattle.shb_clocks.specs.Search.{IsFirstFrom}
 use Rattle.shb_clocks.proofs.ChainLemmas.{next_read}
-use Rattle.shb_clocks.proofs.EdgeLemmas.{thread_here}
 use Rattle.shb_clocks.proofs.ListedLemmas.{AreListed-push, AreListed-next}
 use Rattle.shb_clocks.proofs.PartnerLemmas.{IsFirstFrom-kept, IsFirstFrom-least, IsLinked-partner, ArePartners-next}
-use Rattle.shb_clocks.proofs.ReadLemmas.{thread_named}
 use Rattle.shb_clocks.proofs.candidates.list.Goals as goal
 
 -- what the least of a list is, told of a list that is the same
@@ -18,12 +15,12 @@ found_of : (xs ys : List ℕ) (m e n : ℕ) → xs ≡ ys → e ≡ n → (m ≡
 found_of xs ys m e n is end (inl at_end) = inl (at_end ∙ end)
 found_of xs ys m e n is end (inr h) = inr (subst (λ (zs : List ℕ). (u : ℕ) × (u < length zs) × (get_or zs u 0 ≡ m)) is h)
 
-pub returns-then-second-end-clause-listed : goal.returns-then-second-end-clause-listed
-returns-then-second-end-clause-listed c =
+pub returns-then-second-end : goal.returns-then-second-end
+returns-then-second-end c =
     let r = c.args.indexed.now in
     let i = c.loop-listed.invariant in
     let least = c.least-second.ensures in
-    let first = IsFirstFrom-least r.events (length r.threads) c.args.first i.from c.loop-listed.partners.items i.partners (thread_named r c.len-end.ensures.well_formed) i.inside c.least-second.result (lowest_of _ _ _ c.as_slice.ensures.value least.lowest) (found_of _ _ _ _ _ c.as_slice.ensures.value c.len-end.ensures.len least.found) in
+    let first = IsFirstFrom-least r.events c.args.chains.now.spots.items c.args.first i.from c.loop-listed.partners.items i.partners i.inside c.least-second.result (lowest_of _ _ _ c.as_slice.ensures.value least.lowest) (found_of _ _ _ _ _ c.as_slice.ensures.value c.len-end.ensures.len least.found) in
     let none : IsFirstFrom (IsCandidate r.events c.args.first) (length r.events) i.from (length r.events) = subst (IsFirstFrom (IsCandidate r.events c.args.first) (length r.events) i.from) (c.if-second-end.true ∙ c.len-end.ensures.len) first in
     (omega (arith, i.len), inl (AreListed-next r.events c.args.first i.from c.loop-listed.pairs i.listed none))
 
@@ -36,21 +33,21 @@ loop-listed-preserved c =
     let b = c.least-second.result in
     let a = c.args.first in
     let s = c.args.chains.now in
-    let t = c.event_at-thread.result.thread in
-    let threads = thread_named r c.len-end.ensures.well_formed in
-    let first : IsFirstFrom (IsCandidate T a) (length T) i.from b = IsFirstFrom-least T (length r.threads) a i.from c.loop-listed.partners.items i.partners threads i.inside b (lowest_of _ _ _ c.as_slice.ensures.value least.lowest) (found_of _ _ _ _ _ c.as_slice.ensures.value c.len-end.ensures.len least.found) in
+    let spots = s.spots.items in
+    let at = c.index.result.now in
+    let first : IsFirstFrom (IsCandidate T a) (length T) i.from b = IsFirstFrom-least T spots a i.from c.loop-listed.partners.items i.partners i.inside b (lowest_of _ _ _ c.as_slice.ensures.value least.lowest) (found_of _ _ _ _ _ c.as_slice.ensures.value c.len-end.ensures.len least.found) in
     let below : b < length T = omega (arith, first.high, c.len-end.ensures.len, c.if-second-end.false) in
-    let of : thread_at T b ≡ Some t = thread_here T b c.event_at-thread.result c.event_at-thread.ensures.found in
+    let spot : at ≡ get_or spots b 0 = get_or_read spots b at (omega (arith, c.requires.chains.spots.spots_len)) c.index.ensures 0 in
     let x = c.requires.sought.0 in
     let op = c.requires.sought.1 in
-    let linked = IsLinked-partner T s.writes a x op t b (first.here below, of) in
-    let head = next_read r s.writes (a + 1) s.next.items s.heads.items c.requires.chains.links x t b c.index.result.now (omega (arith, first.low, i.later)) linked c.index.ensures in
-    let next = IsFirstFrom-kept T s.writes a x t (b + 1) c.index.result.now c.kept.result op (omega (arith, first.low, i.later)) head c.kept.ensures in
+    let linked = IsLinked-partner T s.writes spots a x op at b (first.here below, sym spot) in
+    let head = next_read r s.writes (a + 1) spots s.starts.items s.next.items s.heads.items c.requires.chains.links x at b c.index-in-loop-listed.result.now (omega (arith, first.low, i.later)) linked c.index-in-loop-listed.ensures in
+    let next = IsFirstFrom-kept T s.writes spots a x at (b + 1) c.index-in-loop-listed.result.now c.kept.result op (omega (arith, first.low, i.later)) (λ e f l m. c.requires.chains.spots.alone x at e f l m) head c.kept.ensures in
     record {
       len = ap length c.in_ok-push.ensures.ok ∙ length_push c.loop-listed.pairs (a, b) ∙ ap (λ (n : ℕ). n + 1) i.len;
       from = b + 1;
       later = omega (arith, first.low, i.later);
       inside = omega arith;
-      partners = ArePartners-next T (length r.threads) a i.from c.loop-listed.partners.items i.partners threads i.inside b t c.kept.result first below of next;
+      partners = ArePartners-next T spots a i.from c.loop-listed.partners.items i.partners i.inside b at c.kept.result first below (sym spot) next;
       listed = rw c.in_ok-push.ensures.ok (AreListed-push T a i.from c.loop-listed.pairs i.listed b first below);
     }
