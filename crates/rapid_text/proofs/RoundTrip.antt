@@ -1,5 +1,5 @@
 -- The round trip: the canonical text of what was read reads as the same recording.
-use Rattle.std.proofs.Common.{◌≡◌, ℕ, Bool, true, false, cond, List, [], ◌∷◌, ◌++◌, map, All, Option, Some, None, Ok, refl, sym, ap, ◌∙◌, subst}
+use Rattle.std.proofs.Common.{◌≡◌, ℕ, Bool, true, false, cond, List, [], ◌∷◌, ◌++◌, map, All, Ok, refl, sym, ap, ◌∙◌, subst}
 use Rattle.std.specs.List.{slice_split, onto_first, cons_option}
 use Rattle.std.proofs.lemmas.List.Elements.{All-nil, All-cons, All-head, All-tail, All-weaker}
 use Rattle.rapid_text.specs.Canonical.{canonical_text}

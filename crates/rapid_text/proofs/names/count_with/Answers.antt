@@ -1,9 +1,7 @@
-use Rattle.std.proofs.Common.{sym, ap, ◌∙◌, arith}
-use Rattle.std.specs.Prelude.{bytes_eq}
+use Rattle.std.proofs.Common.{sym, ◌∙◌, arith}
 use Rattle.std.proofs.lemmas.List.{length-map}
 use Rattle.rapid_text.specs.Growth.{names_of}
 use Rattle.rapid_text.proofs.Numbering.{items, length-with_known, length-with_new}
-use Rattle.rapid_text.proofs.Positions.{list_any-map}
 use Rattle.rapid_text.proofs.names.count_with.Goals as goal
 
 pub returns-then-contains : goal.returns-then-contains

@@ -1,9 +1,7 @@
 use Rattle.std.proofs.Common.{sym, ap, ◌∙◌, ◌+◌}
-use Rattle.std.specs.Prelude.{bytes_eq}
 use Rattle.std.specs.Cmp.Lexicographic.{bytes_decides}
 use Rattle.rapid_text.specs.Growth.{names_of}
-use Rattle.rapid_text.proofs.Numbering.{items, length-with_same, length-with_second_known, length-with_second_new}
-use Rattle.rapid_text.proofs.Positions.{list_any-map}
+use Rattle.rapid_text.proofs.Numbering.{length-with_same, length-with_second_known, length-with_second_new}
 use Rattle.rapid_text.proofs.names.count_with_both.Goals as goal
 
 pub returns-then-eq : goal.returns-then-eq
