@@ -52,7 +52,7 @@ fn indexed_of(alloc: Global, text: &[u8]) -> Option<Indexed> {
     Indexed::new(alloc, trace).ok()
 }
 
-fn bench_of(alloc: Global, text: &[u8]) -> Option<Bench> {
+pub(crate) fn bench_of(alloc: Global, text: &[u8]) -> Option<Bench> {
     let shared = Arc::new(alloc, indexed_of(alloc, text)?).ok()?;
     Bench::new(alloc, shared).ok()
 }
@@ -61,7 +61,7 @@ fn name_of(byte: u8) -> Option<Name> {
     Name::new(&[byte]).ok()
 }
 
-fn list_of(alloc: Global, events: &[u32]) -> Option<EventList> {
+pub(crate) fn list_of(alloc: Global, events: &[u32]) -> Option<EventList> {
     let mut list = EventList::new(alloc);
     for event in events {
         list.push(*event).ok()?;
@@ -135,7 +135,7 @@ fn number_of_move(refusal: MoveRefusal) -> u32 {
     }
 }
 
-fn number_of(refusal: &Refusal) -> u32 {
+pub(crate) fn number_of(refusal: &Refusal) -> u32 {
     match refusal {
         Refusal::Move(why) => number_of_move(*why),
         Refusal::NothingToUndo => 51,

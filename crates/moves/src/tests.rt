@@ -28,7 +28,7 @@ const COME_AND_GO: &[u8] =
 const IS_ADOPTED: &[u8] =
     b"nA done A\nnB done AB\naA0 done AB 0\npC1 42\npA1 44\npA0 undone AB 0\npA0 done AB 34";
 
-fn indexed_of(alloc: Global, text: &[u8]) -> Option<Indexed> {
+pub(crate) fn indexed_of(alloc: Global, text: &[u8]) -> Option<Indexed> {
     let raw = parse(alloc, text).ok()?;
     let trace = check(alloc, raw).ok()?;
     Indexed::new(alloc, trace).ok()
@@ -53,7 +53,7 @@ fn board_of(
     Some(board)
 }
 
-fn name_of(byte: u8) -> Option<Name> {
+pub(crate) fn name_of(byte: u8) -> Option<Name> {
     Name::new(&[byte]).ok()
 }
 
@@ -62,7 +62,7 @@ fn digit(byte: u8) -> u32 {
 }
 
 // The command of a short word: what is done, to which schedule, with which number.
-fn command_of(word: &[u8]) -> Option<Command> {
+pub(crate) fn command_of(word: &[u8]) -> Option<Command> {
     match *word {
         [b'n', name] => Some(Command::Fresh {
             name: name_of(name)?,
