@@ -1,11 +1,11 @@
 -- The chains of accesses, one event further, and laid out in a row.
-use Rattle.std.proofs.Common.{◌≡◌, ◌≢◌, ℕ, ◌+◌, ◌-◌, ◌*◌, ◌<◌, ◌≤◌, ◌⊎◌, Bool, List, Some, None, length, get_or, set, replicate, take, sum, refl, sym, ap, ◌∙◌, subst, arith, inl, inr, le_refl, take_all, length-set, get_or-set_same, get_or-set_other}
+use Rattle.std.proofs.Common.{◌≡◌, ℕ, ◌+◌, ◌-◌, ◌<◌, ◌≤◌, ◌⊎◌, Bool, List, Some, None, length, get_or, set, take, sum, refl, sym, ap, ◌∙◌, subst, arith, inl, inr, le_refl, take_all, length-set, get_or-set_same, get_or-set_other}
 use Rattle.std.specs.List.{slice_get}
 use Rattle.std.proofs.lemmas.Bool.{cases_eq}
 use Rattle.std.proofs.lemmas.List.{get_or_read, take-take}
 use Rattle.std.proofs.lemmas.List.Sums.{sum_by_more, sum_by-set, sum_by-take-le}
 use Rattle.std.proofs.lemmas.Option.{none-some, same_Some, slice_get_within}
-use Rattle.rapid_text.specs.Recording.{Recording, IsNamed, IsWellFormed}
+use Rattle.rapid_text.specs.Recording.{Recording, IsWellFormed}
 use Rattle.rapid_text.specs.declared.event.Event.{Event}
 use Rattle.event_index.specs.Lookups.{events_of, place_of}
 use Rattle.event_index.specs.Layout.{IsTable, start_of}

@@ -1,7 +1,6 @@
 use Rattle.std.proofs.Common.{◌≡◌, ◌<◌, ℕ, List, length, get_or, Some, sym, ◌∙◌, subst, arith}
 use Rattle.std.specs.List.{slice_get}
 use Rattle.std.proofs.lemmas.Option.{slice_get-get_or}
-use Rattle.rapid_text.specs.Limits.{event_limit}
 use Rattle.event_index.specs.Lookups.{events_of}
 use Rattle.event_index.proofs.CallerLemmas.{place_of-events_of}
 use Rattle.shb_clocks.proofs.ChainLemmas.{linked_named}
