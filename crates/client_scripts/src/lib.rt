@@ -12,6 +12,8 @@ mod loading;
 mod number;
 mod replaying;
 mod script;
+#[cfg(test)]
+mod seat_tests;
 mod seats;
 mod sink;
 mod source;

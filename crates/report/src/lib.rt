@@ -13,6 +13,8 @@ mod log_tests;
 mod pieces;
 mod refusals;
 mod replies;
+#[cfg(test)]
+mod seat_tests;
 mod seats;
 #[cfg(test)]
 mod tests;

@@ -73,7 +73,7 @@ fn publish<N: Named>(lock: &Lock, place: &mut Place, bench: &Bench)
     lock.shared.fetch_add::<Publish<N>>(place, 2, 1);
 }
 
-// Puts the bench back, publishes what was logged meanwhile, and passes the turn on.
+// Publishes what was logged, puts the bench back, and passes the turn on.
 fn give_back(lock: &Lock, place: &mut Place, bench: Bench, before: u64)
     requires place { (place.old.table_id ≡ lock.now.shared.table_id) × IsSized place.old.table_id × IsBusy place.old.me }
     requires bench { IsLegal (mark_of place.old.me.0).start.trace bench.log × Grown (mark_of place.old.me.0).seen (mark_of place.old.me.0).number bench.log × (bench.trace ≡ (mark_of place.old.me.0).start.trace) }

@@ -4,7 +4,7 @@ ghost use Rattle.std.specs.Prelude.{◌≡◌};
 
 use crate::{CloseRefusal, OpenRefusal, Seat, SeatRefusal, Seats, open};
 use event_index::Indexed;
-use inverse_log::{Bench, Call, Refusal};
+use inverse_log::{Bench, Call, Refusal, Reply};
 use moves::{Command, Name};
 use rapid_text::parse;
 use std::alloc::Global;
@@ -65,6 +65,17 @@ impl Own {
             _ => Call::Undo,
         }
     }
+
+    // The new schedule, and then its event added and taken off in turn, by the call's number.
+    pub(crate) fn call_in_turn(&self, number: u32) -> Call {
+        if number == 0 {
+            self.new_schedule()
+        } else if number % 2 == 1 {
+            self.add()
+        } else {
+            self.back()
+        }
+    }
 }
 
 // A call through the seat was accepted.
@@ -72,6 +83,16 @@ pub(crate) fn is_done<R: Wait>(rt: &R, seat: &mut Seat, call: &Call) -> bool
     ensures { seat.new.site ≡ seat.old.site }
 {
     seat.run(rt, call).is_ok()
+}
+
+// Whether the schedule is shown with its event alone.
+pub(crate) fn shows_its_event<R: Wait>(rt: &R, seat: &mut Seat, own: &Own) -> bool
+    ensures { seat.new.site ≡ seat.old.site }
+{
+    match seat.run(rt, &own.show()) {
+        Ok(Reply::Shown(events)) => events.items() == [own.event].as_slice(),
+        _ => false,
+    }
 }
 
 #[test]

@@ -3,8 +3,8 @@
 //! thread builds with the same calls.
 ghost use Rattle.std.specs.Prelude.{◌≡◌};
 
-use crate::judging::{has_numbers, is_replayed};
-use crate::tests::{Own, bench_of, is_done, seats_of};
+use crate::judging::{calls_in_turn, has_numbers, is_replayed};
+use crate::tests::{Own, bench_of, is_done, seats_of, shows_its_event};
 use crate::{Gate, Seat};
 use inverse_log::{Call, Reply};
 use moves::{Command, Name};
@@ -65,6 +65,57 @@ fn log_of_two_threads_is_one_that_a_single_thread_builds(rt: HostRuntime) -> Res
     assert!(rt; has_numbers(&bench, 1, of_one.as_slice()));
     assert!(rt; has_numbers(&bench, 2, of_two.as_slice()));
     assert!(rt; is_replayed(fresh, &bench));
+    Ok(())
+}
+
+// A thousand calls on a schedule that only this client changes. Whether all were accepted, and the schedule then shows
+// what the client did last.
+fn thousand_calls<R: Wait>(rt: &R, mut seat: Seat, own: Own) -> (Seat, bool)
+    ensures { result.0.site ≡ seat.site }
+{
+    let mut are_done = true;
+    for number in 0..1000u32 {
+        let call = own.call_in_turn(number);
+        are_done = is_done(rt, &mut seat, &call) && are_done;
+    }
+    let is_shown = shows_its_event(rt, &mut seat, &own);
+    (seat, are_done && is_shown)
+}
+
+#[test]
+fn each_of_two_threads_has_its_thousand_calls_in_order(rt: HostRuntime) -> Result<(), Fail> {
+    let (Ok(left), Ok(right), Some(mut seats)) = (
+        Name::new(b"S1"),
+        Name::new(b"S2"),
+        seats_of(rt.alloc(), 2),
+    ) else {
+        panic!(rt; "not opened")
+    };
+    let (Some(one), Some(two)) = (seats.take(), seats.take()) else {
+        panic!(rt; "no seat")
+    };
+    let first = Own {
+        name: left,
+        event: 0,
+    };
+    let second = Own {
+        name: right,
+        event: 3,
+    };
+    let ((one, are_first_done), (two, are_second_done)) = thread::join(
+        &rt,
+        || thousand_calls(&rt, one, first),
+        || thousand_calls(&rt, two, second),
+    );
+    assert!(rt; are_first_done && are_second_done);
+    let _ = seats.give(one);
+    let _ = seats.give(two);
+    let Ok(bench) = seats.close() else {
+        panic!(rt; "not closed")
+    };
+    assert_eq!(rt; bench.log_len(), 2000);
+    assert_eq!(rt; calls_in_turn(&bench, 1, &first), Some(1000));
+    assert_eq!(rt; calls_in_turn(&bench, 2, &second), Some(1000));
     Ok(())
 }
 
