@@ -40,14 +40,16 @@ impl Model for Workspace {
 impl Workspace {
     /// The workspace with no schedule. It takes no memory: `alloc` is kept for later.
     pub fn empty(alloc: Global) -> Result<Workspace, OutOfMemory>
-        ensures { IfOk result (λ w. w ≡ []) }
+        ensures ok { IfOk result (λ w. w ≡ []) }
+        ensures succeeds { IsOk result }
     {
         Workspace::keyed(alloc, TextKeyed::of(b""))
     }
 
     /// The same, with hashers for the names under a key of the caller's.
     pub fn keyed(alloc: Global, hashers: TextKeyed) -> Result<Workspace, OutOfMemory>
-        ensures { IfOk result (λ w. w ≡ []) }
+        ensures ok { IfOk result (λ w. w ≡ []) }
+        ensures succeeds { IsOk result }
     {
         Ok(Workspace {
             alloc,
