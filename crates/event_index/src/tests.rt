@@ -1,9 +1,9 @@
 //! What no clause says: that `Indexed::new` succeeds where there is memory, and that the look-ups answer
 //! the worked examples, read from their texts.
 use crate::{EventList, Indexed, Pairs};
-use rapid_text::parse;
+use rapid_text::{RawTrace, parse};
 use std::alloc::Global;
-use trace_rules::check;
+use trace_rules::{Trace, check};
 
 const ONE_LOCK: &[u8] = b"T1|w(x)|1\nT1|acq(l)|2\nT1|rel(l)|3\nT2|acq(l)|4\nT2|rel(l)|5\nT2|w(x)|6";
 
@@ -14,86 +14,130 @@ const FORK_AFTER_WRITE: &[u8] = b"M|w(x)|1\nM|fork(W)|2\nW|r(x)|3";
 const TWO_LOCKS: &[u8] =
     b"A|acq(l)|\nA|acq(m)|\nA|acq(l)|\nA|rel(m)|\nA|rel(l)|\nA|rel(l)|\nB|acq(l)|\nA|acq(m)|";
 
-// The index of the execution that a text tells.
+// The execution that a text tells. Each call stands in a function of its own, so that no proof carries along what
+// another call promises; and each answer is taken apart by a `match`, since `ok` has the check prove at length how
+// what is left over is dropped.
+fn raw_of(alloc: Global, text: &[u8]) -> Option<RawTrace> {
+    match parse(alloc, text) {
+        Ok(raw) => Some(raw),
+        Err(_) => None,
+    }
+}
+
+fn trace_of(alloc: Global, raw: RawTrace) -> Option<Trace> {
+    match check(alloc, raw) {
+        Ok(trace) => Some(trace),
+        Err(_) => None,
+    }
+}
+
 fn index_of(alloc: Global, text: &[u8]) -> Option<Indexed> {
-    let raw = parse(alloc, text).ok()?;
-    let trace = check(alloc, raw).ok()?;
-    Indexed::new(alloc, trace).ok()
+    let trace = trace_of(alloc, raw_of(alloc, text)?)?;
+    match Indexed::new(alloc, trace) {
+        Ok(indexed) => Some(indexed),
+        Err(_) => None,
+    }
 }
 
 const THREADS_IN_TURN: &[u8] = b"A|w(x)|\nB|w(x)|\nC|w(x)|\nA|w(x)|\nC|w(x)|\nA|join(D)|";
 
 const TAKEN_TWICE: &[u8] = b"T1|acq(l)|\nT1|acq(l)|\nT1|rel(l)|\nT1|rel(l)|";
 
-// Each answers None where the text is refused or the number is out of range.
-fn place_of(alloc: Global, text: &[u8], event: u32) -> Option<u32> {
-    let index = index_of(alloc, text)?;
-    if event >= index.len() {
-        return None;
+// Each look-up answers None where the text is refused or the number is out of range. What asks the index only borrows it.
+fn place_in(index: &Indexed, event: u32) -> Option<u32> {
+    if event < index.len() {
+        Some(index.place(event))
+    } else {
+        None
     }
-    Some(index.place(event))
+}
+
+fn writer_in(index: &Indexed, event: u32) -> Option<Option<u32>> {
+    if event < index.len() {
+        Some(index.last_writer(event))
+    } else {
+        None
+    }
+}
+
+fn base_in(index: &Indexed, event: u32) -> Option<Option<u32>> {
+    if event < index.len() {
+        Some(index.base(event))
+    } else {
+        None
+    }
+}
+
+fn section_in(index: &Indexed, event: u32) -> Option<Option<u32>> {
+    if event < index.len() {
+        Some(index.section(event))
+    } else {
+        None
+    }
+}
+
+fn fork_in(index: &Indexed, thread: u32) -> Option<Option<u32>> {
+    if thread < index.trace().raw().threads() {
+        Some(index.fork_of(thread))
+    } else {
+        None
+    }
+}
+
+fn has_events(index: &Indexed, thread: u32, wanted: &[u32]) -> Option<bool> {
+    if thread < index.trace().raw().threads() {
+        Some(index.thread_events(thread) == wanted)
+    } else {
+        None
+    }
+}
+
+fn has_conflict(index: &Indexed, first: u32, second: u32) -> Option<bool> {
+    if first < index.len() && second < index.len() {
+        Some(index.conflict(first, second))
+    } else {
+        None
+    }
+}
+
+fn has_independent(index: &Indexed, first: u32, second: u32) -> Option<bool> {
+    if first < index.len() && second < index.len() {
+        Some(index.independent(first, second))
+    } else {
+        None
+    }
+}
+
+fn place_of(alloc: Global, text: &[u8], event: u32) -> Option<u32> {
+    place_in(&index_of(alloc, text)?, event)
 }
 
 fn writer_of(alloc: Global, text: &[u8], event: u32) -> Option<Option<u32>> {
-    let index = index_of(alloc, text)?;
-    if event >= index.len() {
-        return None;
-    }
-    Some(index.last_writer(event))
+    writer_in(&index_of(alloc, text)?, event)
 }
 
 fn base_of(alloc: Global, text: &[u8], event: u32) -> Option<Option<u32>> {
-    let index = index_of(alloc, text)?;
-    if event >= index.len() {
-        return None;
-    }
-    Some(index.base(event))
+    base_in(&index_of(alloc, text)?, event)
 }
 
 fn section_of(alloc: Global, text: &[u8], event: u32) -> Option<Option<u32>> {
-    let index = index_of(alloc, text)?;
-    if event >= index.len() {
-        return None;
-    }
-    Some(index.section(event))
+    section_in(&index_of(alloc, text)?, event)
 }
 
 fn fork_of(alloc: Global, text: &[u8], thread: u32) -> Option<Option<u32>> {
-    let index = index_of(alloc, text)?;
-    if thread >= index.trace().raw().threads() {
-        return None;
-    }
-    Some(index.fork_of(thread))
+    fork_in(&index_of(alloc, text)?, thread)
 }
 
 fn are_events_of(alloc: Global, text: &[u8], thread: u32, wanted: &[u32]) -> Option<bool> {
-    let index = index_of(alloc, text)?;
-    if thread >= index.trace().raw().threads() {
-        return None;
-    }
-    Some(index.thread_events(thread) == wanted)
+    has_events(&index_of(alloc, text)?, thread, wanted)
 }
 
 fn are_in_conflict(alloc: Global, text: &[u8], first: u32, second: u32) -> Option<bool> {
-    let index = index_of(alloc, text)?;
-    if first >= index.len() {
-        return None;
-    }
-    if second >= index.len() {
-        return None;
-    }
-    Some(index.conflict(first, second))
+    has_conflict(&index_of(alloc, text)?, first, second)
 }
 
 fn are_independent(alloc: Global, text: &[u8], first: u32, second: u32) -> Option<bool> {
-    let index = index_of(alloc, text)?;
-    if first >= index.len() {
-        return None;
-    }
-    if second >= index.len() {
-        return None;
-    }
-    Some(index.independent(first, second))
+    has_independent(&index_of(alloc, text)?, first, second)
 }
 
 #[test]

@@ -2,15 +2,9 @@
 #![tactic(auto)]
 
 mod events;
-#[cfg(test)]
-mod generated_tests;
-#[cfg(test)]
-mod plain;
 mod refusal;
 mod searching;
 mod slicing;
-#[cfg(test)]
-mod tests;
 mod wanting;
 
 pub use refusal::SliceRefusal;

@@ -2,10 +2,11 @@
 //! over the list.
 ghost use Rattle.std.specs.Prelude.{◌≡◌, IfSome};
 
-use crate::plain::{does_show, first_fault, refusal_of, swap_refusal};
-use crate::tests::indexed_of;
-use crate::{ExtendRefusal, ListRefusal, Schedule};
+use crate::fixtures::{Chance, indexed_of};
+use crate::schedule_plain::{does_show, first_fault, refusal_of, swap_refusal};
+use crate::schedule_tests::empty_of;
 use event_index::Indexed;
+use schedule::{ExtendRefusal, ListRefusal, Schedule};
 use std::alloc::Global;
 
 // What a generated trace is put together of: a line is kept where the rules accept it.
@@ -35,24 +36,6 @@ const LINES: [&[u8]; 24] = [
     b"C|acq(m)|\n",
     b"C|rel(m)|\n",
 ];
-
-// Numbers by chance: a linear congruential generator.
-#[derive(Drop)]
-struct Chance {
-    state: u32,
-}
-
-impl Chance {
-    // A number below the bound, or 0 where the bound is 0.
-    fn below(&mut self, bound: u32) -> u32 {
-        self.state = self.state.wrapping_mul(1_103_515_245).wrapping_add(12_345);
-        if bound == 0 {
-            0
-        } else {
-            self.state / 65_536 % bound
-        }
-    }
-}
 
 // A trace of lines that are taken by chance.
 fn generated(alloc: Global, chance: &mut Chance, tries: u32) -> Option<Indexed> {
@@ -267,25 +250,36 @@ fn are_judged(
     Some(true)
 }
 
-// How many edits of schedules of one generated trace changed them, where all agreed.
-fn agreed(alloc: Global, seed: u32) -> Option<u32> {
-    let mut chance = Chance { state: seed };
-    let indexed = generated(alloc, &mut chance, 40)?;
-    let mut schedule = Schedule::empty(alloc, &indexed).ok()?;
-    let mut events = Vec::new(alloc);
-    let taken = edits(
-        alloc,
-        &mut schedule,
-        &indexed,
-        &mut chance,
-        &mut events,
-        120,
-    )?;
-    if are_judged(alloc, &indexed, &mut chance, events.as_slice())? {
+// How many edits changed the schedule, where all agreed, and the list that is left was judged as by the plain program.
+fn agreed_from(
+    alloc: Global,
+    schedule: &mut Schedule,
+    indexed: &Indexed,
+    chance: &mut Chance,
+    events: &mut Vec<u32>,
+) -> Option<u32>
+    requires { schedule.old.trace ≡ indexed.now }
+    ensures { schedule.new.trace ≡ schedule.old.trace }
+{
+    let taken = edits(alloc, schedule, indexed, chance, events, 120)?;
+    if are_judged(alloc, indexed, chance, events.as_slice())? {
         Some(taken)
     } else {
         None
     }
+}
+
+fn agreed_on(alloc: Global, indexed: &Indexed, chance: &mut Chance) -> Option<u32> {
+    let mut schedule = empty_of(alloc, indexed)?;
+    let mut events = Vec::new(alloc);
+    agreed_from(alloc, &mut schedule, indexed, chance, &mut events)
+}
+
+// The same of one generated trace.
+fn agreed(alloc: Global, seed: u32) -> Option<u32> {
+    let mut chance = Chance { state: seed };
+    let indexed = generated(alloc, &mut chance, 40)?;
+    agreed_on(alloc, &indexed, &mut chance)
 }
 
 #[test]

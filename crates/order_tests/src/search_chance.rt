@@ -1,13 +1,14 @@
 //! Slices and greedy searches on generated traces, against a plain program, and as lists of schedules.
 ghost use Rattle.std.specs.Prelude.{◌≡◌};
 
-use crate::plain::{greedy_from, is_conflict, is_enabled, slice_of, slice_refusal};
-use crate::tests::index_of;
-use crate::{greedy, slice};
-use event_index::Indexed;
+use crate::fixtures::{Chance, indexed_of};
+use crate::search_plain::{greedy_from, is_conflict, is_enabled, slice_of, slice_refusal};
+use crate::search_tests::{clocks_of, start_of};
+use event_index::{EventList, Indexed};
 use schedule::Schedule;
 use shb_clocks::Clocks;
 use std::alloc::Global;
+use witness_search::{greedy, slice};
 
 // What a generated trace is put together of: a line is kept where the rules accept it.
 const LINES: [&[u8]; 26] = [
@@ -39,24 +40,6 @@ const LINES: [&[u8]; 26] = [
     b"D|w(y)|\n",
 ];
 
-// Numbers by chance: a linear congruential generator.
-#[derive(Drop)]
-struct Chance {
-    state: u32,
-}
-
-impl Chance {
-    // A number below the bound, or 0 where the bound is 0.
-    fn below(&mut self, bound: u32) -> u32 {
-        self.state = self.state.wrapping_mul(1_103_515_245).wrapping_add(12_345);
-        if bound == 0 {
-            0
-        } else {
-            self.state / 65_536 % bound
-        }
-    }
-}
-
 // A trace of lines that are taken by chance.
 fn generated(alloc: Global, chance: &mut Chance, tries: u32) -> Option<Indexed> {
     let mut text = Vec::new(alloc);
@@ -66,15 +49,15 @@ fn generated(alloc: Global, chance: &mut Chance, tries: u32) -> Option<Indexed> 
             return None;
         };
         text.extend_from_slice(*line).ok()?;
-        if index_of(alloc, text.as_slice()).is_none() {
+        if indexed_of(alloc, text.as_slice()).is_none() {
             text.truncate(len);
         }
     }
-    index_of(alloc, text.as_slice())
+    indexed_of(alloc, text.as_slice())
 }
 
 // A correct reordering to start from: events taken by chance, where they may come next.
-fn start_of(alloc: Global, indexed: &Indexed, chance: &mut Chance, tries: u32) -> Option<Vec<u32>> {
+fn listed(alloc: Global, indexed: &Indexed, chance: &mut Chance, tries: u32) -> Option<Vec<u32>> {
     let mut list = Vec::new(alloc);
     for _try in 0..tries {
         let event = chance.below(indexed.len());
@@ -122,6 +105,38 @@ fn agrees_on_slice(
     }
 }
 
+// What the search finds; None where memory is wanting.
+fn found_by(
+    alloc: Global,
+    indexed: &Indexed,
+    schedule: &Schedule,
+    pair: (u32, u32),
+    budget: u32,
+) -> Option<Option<EventList>>
+    requires { schedule.now.trace ≡ indexed.now }
+{
+    match greedy(alloc, indexed, schedule, pair.0, pair.1, budget) {
+        Ok(found) => Some(found),
+        Err(_) => None,
+    }
+}
+
+// Whether this is the list of the plain program, and a schedule that shows the pair.
+fn is_wanted(
+    alloc: Global,
+    indexed: &Indexed,
+    found: &[u32],
+    wanted: &Option<Vec<u32>>,
+    pair: (u32, u32),
+) -> bool {
+    match wanted {
+        Some(list) => {
+            found == list.as_slice() && is_witness(alloc, indexed, found, pair.0, pair.1)
+        },
+        None => false,
+    }
+}
+
 // Whether the greedy search finds a list, where it agrees with the plain program.
 fn agrees_on_greedy(
     alloc: Global,
@@ -131,22 +146,15 @@ fn agrees_on_greedy(
     budget: u32,
 ) -> Option<bool> {
     let (first, second) = pair;
-    let schedule = Schedule::from_list(alloc, indexed, start).ok()?;
-    let found = greedy(alloc, indexed, &schedule, first, second, budget).ok()?;
-    match (
-        found,
-        greedy_from(alloc, indexed, start, first, second, budget)?,
-    ) {
-        (None, None) => Some(false),
-        (Some(found), Some(list)) => {
-            let same = found.items() == list.as_slice();
-            if same && is_witness(alloc, indexed, found.items(), first, second) {
-                Some(true)
-            } else {
-                None
-            }
+    let schedule = start_of(alloc, indexed, start)?;
+    let wanted = greedy_from(alloc, indexed, start, first, second, budget)?;
+    match found_by(alloc, indexed, &schedule, pair, budget)? {
+        None => if wanted.is_none() { Some(false) } else { None },
+        Some(found) => if is_wanted(alloc, indexed, found.items(), &wanted, pair) {
+            Some(true)
+        } else {
+            None
         },
-        _ => None,
     }
 }
 
@@ -161,29 +169,58 @@ fn partner_of(indexed: &Indexed, event: u32, chance: &mut Chance) -> u32 {
     picked
 }
 
-// How many slices and how many lists of greedy searches pairs of one generated trace have, where all agree.
-fn agreed(alloc: Global, seed: u32) -> Option<(u32, u32)> {
-    let mut chance = Chance { state: seed };
-    let indexed = generated(alloc, &mut chance, 34)?;
-    let clocks = Clocks::new(alloc, &indexed).ok()?;
-    let start = start_of(alloc, &indexed, &mut chance, 6)?;
+// How many slices and how many lists of greedy searches the pairs have, where all agree.
+fn counted(
+    alloc: Global,
+    indexed: &Indexed,
+    clocks: &Clocks,
+    start: &[u32],
+    chance: &mut Chance,
+) -> Option<(u32, u32)>
+    requires { clocks.now ≡ indexed.now }
+{
     let mut slices = 0u32;
     let mut lists = 0u32;
     for first in 0..indexed.len() {
-        let second = partner_of(&indexed, first, &mut chance);
-        if agrees_on_slice(alloc, &indexed, &clocks, first, second)? {
+        let second = partner_of(indexed, first, chance);
+        if agrees_on_slice(alloc, indexed, clocks, first, second)? {
             slices = slices.saturating_add(1);
         }
         let pair = (first, second);
         let budget = chance.below(12);
-        if agrees_on_greedy(alloc, &indexed, &[], pair, budget)? {
+        if agrees_on_greedy(alloc, indexed, &[], pair, budget)? {
             lists = lists.saturating_add(1);
         }
-        if agrees_on_greedy(alloc, &indexed, start.as_slice(), pair, budget)? {
+        if agrees_on_greedy(alloc, indexed, start, pair, budget)? {
             lists = lists.saturating_add(1);
         }
     }
     Some((slices, lists))
+}
+
+fn counted_from(
+    alloc: Global,
+    indexed: &Indexed,
+    clocks: &Clocks,
+    chance: &mut Chance,
+) -> Option<(u32, u32)>
+    requires { clocks.now ≡ indexed.now }
+{
+    let start = listed(alloc, indexed, chance, 6)?;
+    counted(alloc, indexed, clocks, start.as_slice(), chance)
+}
+
+fn counted_on(alloc: Global, indexed: &Indexed, chance: &mut Chance) -> Option<(u32, u32)> {
+    let clocks = clocks_of(alloc, indexed)?;
+    counted_from(alloc, indexed, &clocks, chance)
+}
+
+// The same of one generated trace. Each of these functions owns one thing: a proof goes through what is dropped at each
+// way out of a function.
+fn agreed(alloc: Global, seed: u32) -> Option<(u32, u32)> {
+    let mut chance = Chance { state: seed };
+    let indexed = generated(alloc, &mut chance, 34)?;
+    counted_on(alloc, &indexed, &mut chance)
 }
 
 #[test]

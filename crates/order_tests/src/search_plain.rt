@@ -1,10 +1,10 @@
 //! A plain program that answers as `slice` and `greedy` do, from the words of their definitions, event by
 //! event, with no table and no clock. It judges them in the tests.
 
-use crate::SliceRefusal;
 use event_index::Indexed;
 use rapid_text::{Event, Op};
 use std::alloc::Global;
+use witness_search::SliceRefusal;
 
 fn event_of(indexed: &Indexed, event: u32) -> Option<Event> {
     if event < indexed.len() {

@@ -1,8 +1,8 @@
 //! A plain program that answers as a schedule does, from the words of the definitions, by going over the list and
 //! the trace. It judges the schedules in the tests.
-use crate::{Disabled, SwapRefusal};
 use event_index::Indexed;
 use rapid_text::{Event, Op};
+use schedule::{Disabled, SwapRefusal};
 
 fn event_of(indexed: &Indexed, event: u32) -> Option<Event> {
     if event < indexed.len() {

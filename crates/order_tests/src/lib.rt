@@ -1,0 +1,18 @@
+//! Tests of schedules and of the search for witnesses, in a crate over theirs: with tests in it a crate would be proved
+//! twice, and the tests with its types seen from inside.
+#![tactic(auto)]
+
+#[cfg(test)]
+mod fixtures;
+#[cfg(test)]
+mod schedule_chance;
+#[cfg(test)]
+mod schedule_plain;
+#[cfg(test)]
+mod schedule_tests;
+#[cfg(test)]
+mod search_chance;
+#[cfg(test)]
+mod search_plain;
+#[cfg(test)]
+mod search_tests;
