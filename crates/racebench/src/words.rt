@@ -14,7 +14,8 @@ pub(crate) enum Task<'a> {
     Replay(&'a str, &'a str),
 }
 
-const ABOUT: &str = "Checks a recorded execution, finds what may race, builds correct reorderings";
+const ABOUT: &str =
+    "Checks a recorded execution, lists candidates for races, builds correct reorderings";
 
 const INFO: &str = "Prints what a trace holds, and its first 1,000 candidates for races";
 
