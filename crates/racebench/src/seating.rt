@@ -107,6 +107,25 @@ fn append_client(
     )
 }
 
+/// The same where all before went well.
+fn append_next(
+    out: &mut Vec<u8>,
+    so_far: Result<(), OutOfMemory>,
+    client: u32,
+    lines: Result<Vec<u8>, OutOfMemory>,
+) -> Result<(), OutOfMemory> {
+    so_far?;
+    append_client(out, client, lines)
+}
+
+/// Puts a seat back.
+fn give_back(seats: &mut Seats, seat: Seat)
+    requires { seat.site ≡ seats.old.site }
+    ensures { seats.new.site ≡ seats.old.site }
+{
+    let _ = seats.give(seat);
+}
+
 /// Joins all threads, puts their seats back, and appends what each was told while memory lasts.
 fn join_all<R: Threads>(
     rt: &R,
@@ -119,11 +138,8 @@ fn join_all<R: Threads>(
     let mut outcome = Ok(());
     for thread in running {
         let (seat, lines) = thread.join(rt);
-        let client = seat.number();
-        let _ = seats.give(seat);
-        if outcome.is_ok() {
-            outcome = append_client(out, client, lines);
-        }
+        outcome = append_next(out, outcome, seat.number(), lines);
+        give_back(seats, seat);
     }
     outcome
 }
