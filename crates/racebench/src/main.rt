@@ -148,7 +148,7 @@ fn inputs_at(rt: &HostRuntime, paths: &[&str]) -> Result<Vec<Input>, AllocError>
 }
 
 /// Runs the scripts in files on the trace in another, each in a thread of its own.
-fn threads_on_files<R: Threads + Wait + Clone + Send + Drop + 'static>(
+fn threads_on_files<R: Threads + Wait + Sync>(
     rt: &HostRuntime,
     starts: &R,
     trace: &str,
@@ -171,10 +171,7 @@ fn threads_on_files<R: Threads + Wait + Clone + Send + Drop + 'static>(
 }
 
 /// Does what the words ask for. What starts threads is passed beside the rest, since it is given to `main` alone.
-fn work<R: Threads + Wait + Clone + Send + Drop + 'static>(
-    rt: &HostRuntime,
-    starts: &R,
-) -> Result<(), Stop> {
+fn work<R: Threads + Wait + Sync>(rt: &HostRuntime, starts: &R) -> Result<(), Stop> {
     let words = read_words(rt)?;
     match task_of(rt.alloc(), words.as_slice())? {
         Task::Joint => replay_input(rt),

@@ -1,5 +1,6 @@
 //! Runs scripts at once, each in a thread of its own, through the seats of one bench.
-ghost use Rattle.std.specs.Prelude.{◌≡◌, ◌+◌, ◌≤◌, ◌<◌, All, vec_capacity, vec_len, IfOk};
+ghost use Rattle.std.specs.Prelude.{◌≡◌, ◌≤◌, ◌<◌, All, vec_len, IfOk};
+ghost use Rattle.workspace_lock.specs.Seating.{Site};
 
 use crate::fault::BenchFault;
 use client_scripts::{Script, run_seat};
@@ -7,26 +8,17 @@ use event_index::Indexed;
 use inverse_log::Bench;
 use rapid_text::{OutOfMemory, TextKeyed};
 use report::{Piece, append_pieces};
-use std::alloc::Global;
-use std::snapshot::Snapshot;
+use std::alloc::{AllocError, Global};
 use std::sync::{Arc, Wait};
 use std::thread;
-use std::thread::{Promise, PromisedHandle, Threads};
+use std::thread::Threads;
 use workspace_lock::{Seat, Seats, open};
+
+/// What a thread is given: a seat, and the script whose calls it makes there.
+type Job = (Seat, Script);
 
 /// What a thread gives back: its seat, and the lines of its answers where there was memory for each.
 type Told = (Seat, Result<Vec<u8>, OutOfMemory>);
-
-/// The promise that the seat which comes back is the one that went.
-#[derive(Drop)]
-pub(crate) struct SameSeat(Snapshot<Seat>);
-
-impl Promise<Told> for SameSeat {
-    ghost kept_by = { λ p r. (r.0.site ≡ p.0.value.site) × (r.0.number ≡ p.0.value.number) };
-}
-
-/// A thread that runs a script.
-type Running = PromisedHandle<Told, SameSeat>;
 
 /// Makes the calls of a script through the seat.
 fn run_script<R: Wait>(
@@ -45,48 +37,39 @@ fn run_script<R: Wait>(
     }
 }
 
-/// Starts the thread of a script.
-fn start<R: Threads + Wait + Clone + Send + Drop + 'static>(
+/// Makes the calls of each script through its seat, each in a thread of its own where one can be made. Their order is
+/// that of the jobs.
+fn run_all<R: Threads + Wait + Sync>(
     rt: &R,
     alloc: Global,
-    indexed: &Arc<Indexed, Global>,
-    seat: Seat,
-    script: Script,
-) -> Result<Running, BenchFault>
-    ensures { IfOk result (λ h. (h.promise.0.value.site ≡ seat.site) × (h.promise.0.value.number ≡ seat.number)) }
+    indexed: &Indexed,
+    jobs: Vec<Job>,
+) -> Result<Vec<Told>, AllocError>
+    ensures { IfOk result
+        (λ told. (s : Site) → All (λ job. job.0.site ≡ s) jobs.items → All (λ t. t.0.site ≡ s) told.items) }
 {
-    let theirs = rt.clone()?;
-    let indexed = Arc::try_clone(indexed)?;
-    let promise = SameSeat(Snapshot::of(&seat));
-    match thread::spawn_with(rt, promise, move || {
-        run_script(&theirs, alloc, &indexed, seat, &script)
-    }) {
-        Ok(running) => Ok(running),
-        Err(_) => Err(BenchFault::NoThread),
-    }
+    let run = |job: Job| -> Told
+        ensures { result.0.site ≡ job.0.site }
+    {
+        let (seat, script) = job;
+        run_script(rt, alloc, indexed, seat, &script)
+    };
+    thread::map_vec(rt, jobs, &run)
 }
 
-/// Starts a thread for each script, up to the first that can't be started.
-fn start_all<R: Threads + Wait + Clone + Send + Drop + 'static>(
-    rt: &R,
-    alloc: Global,
-    indexed: &Arc<Indexed, Global>,
-    seats: &mut Seats,
-    scripts: Vec<Script>,
-    running: &mut Vec<Running>,
-) -> Result<(), BenchFault>
-    requires room { vec_len running.old + vec_len scripts ≤ vec_capacity running.old }
-    requires site { All (λ thread. thread.promise.0.value.site ≡ seats.old.site) running.old.items }
+/// Gives each script the seat of its client.
+fn seat_all(alloc: Global, seats: &mut Seats, scripts: Vec<Script>) -> Result<Vec<Job>, BenchFault>
     ensures seats { seats.new.site ≡ seats.old.site }
-    ensures site { All (λ thread. thread.promise.0.value.site ≡ seats.old.site) running.new.items }
+    ensures site { IfOk result (λ jobs. All (λ job. job.0.site ≡ seats.old.site) jobs.items) }
 {
+    let mut jobs = Vec::new(alloc);
     for script in scripts {
         let Some(seat) = seats.take() else {
             return Err(BenchFault::NoThread);
         };
-        running.push_reserved(start(rt, alloc, indexed, seat, script)?);
+        jobs.push((seat, script))?;
     }
-    Ok(())
+    Ok(jobs)
 }
 
 /// Appends a client's line and the lines of its answers.
@@ -126,18 +109,12 @@ fn give_back(seats: &mut Seats, seat: Seat)
     let _ = seats.give(seat);
 }
 
-/// Joins all threads, puts their seats back, and appends what each was told while memory lasts.
-fn join_all<R: Threads>(
-    rt: &R,
-    seats: &mut Seats,
-    running: Vec<Running>,
-    out: &mut Vec<u8>,
-) -> Result<(), OutOfMemory>
-    requires { All (λ thread. thread.promise.0.value.site ≡ seats.old.site) running.items }
+/// Puts all seats back, and appends what each client was told while memory lasts.
+fn give_all(seats: &mut Seats, told: Vec<Told>, out: &mut Vec<u8>) -> Result<(), OutOfMemory>
+    requires { All (λ t. t.0.site ≡ seats.old.site) told.items }
 {
     let mut outcome = Ok(());
-    for thread in running {
-        let (seat, lines) = thread.join(rt);
+    for (seat, lines) in told {
         outcome = append_next(out, outcome, seat.number(), lines);
         give_back(seats, seat);
     }
@@ -170,7 +147,7 @@ fn open_seats(
 }
 
 /// Runs each script in a thread of its own. Gives, once all have ended, what each was told and the log.
-pub(crate) fn run_scripts<R: Threads + Wait + Clone + Send + Drop + 'static>(
+pub(crate) fn run_scripts<R: Threads + Wait + Sync>(
     rt: &R,
     alloc: Global,
     indexed: Indexed,
@@ -181,12 +158,10 @@ pub(crate) fn run_scripts<R: Threads + Wait + Clone + Send + Drop + 'static>(
 {
     let shared = Arc::new(alloc, indexed)?;
     let mut seats = open_seats(alloc, &shared, names, scripts.len() as u32)?;
-    let mut running = Vec::with_capacity(alloc, scripts.len())?;
+    let jobs = seat_all(alloc, &mut seats, scripts)?;
+    let told = run_all(rt, alloc, &shared, jobs)?;
     let mut out = Vec::new(alloc);
-    let started = start_all(rt, alloc, &shared, &mut seats, scripts, &mut running);
-    let told = join_all(rt, &mut seats, running, &mut out);
-    started?;
-    told?;
+    give_all(&mut seats, told, &mut out)?;
     append_log(seats, &mut out)?;
     Ok(out)
 }

@@ -15,12 +15,13 @@ use std::thread::Threads;
 ///
 /// Nothing is written before all threads have ended, so nothing where there is another fault than that of the
 /// writer. A call that finds no memory is answered by its line, and the script goes on.
-pub fn threads<
-    R: Threads + Wait + Clone + Send + Drop + 'static,
-    S: Source,
-    Q: Source + Drop,
-    K: Sink,
->(rt: &R, alloc: Global, trace: &mut S, scripts: Vec<Q>, writer: &mut K) -> Result<(), BenchFault>
+pub fn threads<R: Threads + Wait + Sync, S: Source, Q: Source + Drop, K: Sink>(
+    rt: &R,
+    alloc: Global,
+    trace: &mut S,
+    scripts: Vec<Q>,
+    writer: &mut K,
+) -> Result<(), BenchFault>
     requires trace { S.has_failed trace.old ≡ false }
     requires scripts { All (λ q. Q.has_failed q ≡ false) scripts.items }
     requires some { 0 < vec_len scripts }

@@ -31,7 +31,7 @@ fn readers_of<'a>(alloc: Global, texts: &[&'a [u8]]) -> Result<Vec<FromRead<&'a 
 }
 
 /// What scripts give on a trace, and what was written to a writer with this room.
-fn run<R: Threads + Wait + Clone + Send + Drop + 'static>(
+fn run<R: Threads + Wait + Sync>(
     rt: &R,
     alloc: Global,
     trace: &[u8],
@@ -66,7 +66,7 @@ fn a_writer_that_fails(rt: HostRuntime) -> Result<(), Fail> {
 }
 
 /// The text of the fault that these scripts give on a trace; nothing was written.
-fn told_fault<R: Threads + Wait + Clone + Send + Drop + 'static>(
+fn told_fault<R: Threads + Wait + Sync>(
     rt: &R,
     alloc: Global,
     trace: &[u8],
