@@ -166,10 +166,32 @@ def write_scripts(folder):
         write(folder, f"replay_drop_shuffled_{rows}", ["T1|w(x)|1"], dropped(rows, shuffled))
 
 
+def seat_calls(client, row, calls):
+    """A client's calls that append an event to a schedule and take it off again, in turn."""
+    begin = [f"{client} new S{row}"] if client == row else [f"{client} list"]
+    turns = [f"{client} add S{row} 0", f"{client} back S{row}"] * (calls // 2)
+    return (begin + turns)[:calls]
+
+
+def write_seats(folder):
+    """Scripts for threads: of each client on a schedule of its own, and of all clients on one; and the same calls by one
+    client alone, in turn."""
+    os.makedirs(folder, exist_ok=True)
+    write_trace(folder, "trace", ["T1|w(x)|1"])
+    for rows in ("own_rows", "one_row"):
+        calls = [seat_calls(c, c if rows == "own_rows" else 1, sized(32_000)) for c in range(1, 32)]
+        for client, lines in enumerate(calls, start=1):
+            write_trace(folder, f"{rows}_{client}", lines)
+        for clients in (1, 8, 31):
+            in_turn = [f"1 {line.split(' ', 1)[1]}" for turn in zip(*calls[:clients]) for line in turn]
+            write_trace(folder, f"{rows}_{clients}_in_turn", in_turn)
+
+
 def main():
     folder = sys.argv[1]
     os.makedirs(folder, exist_ok=True)
     write_traces(os.path.join(folder, "info"))
+    write_seats(os.path.join(folder, "threads"))
     for threads in (4, 64):
         write(folder, f"locked_{threads}_short", locked_trace(EVENTS, threads, short, 1))
         write(folder, f"locked_{threads}_long", locked_trace(EVENTS, threads, long, 2))

@@ -1,1 +1,2 @@
 pub mod InfoLemmas
+pub mod SendLemmas

@@ -37,3 +37,4 @@ IsInfo bytes old new (Err (Replay Write)) =
     IsShort bytes × (trace : Recording) × (trace_of bytes ≡ Ok trace) × IsWritten trace old new (Err Write)
 IsInfo bytes old new (Err (Replay OutOfMemory)) = new ≡ old
 IsInfo bytes old new (Err (Replay fault)) = IsFault (of_trace bytes) fault × (new ≡ old)
+IsInfo bytes old new (Err fault) = ⊥

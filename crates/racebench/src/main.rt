@@ -1,7 +1,7 @@
-//! The workbench as a program: replays a script on a trace, or prints what a trace holds.
+//! The workbench as a program: replays a script on a trace, runs several at once, or prints what a trace holds.
 #![tactic(auto)]
 
-ghost use Rattle.std.specs.Prelude.{◌≡◌, false};
+ghost use Rattle.std.specs.Prelude.{◌≡◌, All, IfOk, false, length, vec_len};
 
 #[cfg(test)]
 mod fakes;
@@ -9,20 +9,29 @@ mod fault;
 mod info_call;
 #[cfg(test)]
 mod info_tests;
+mod input;
+mod inputs;
+mod seating;
+mod threads_call;
+#[cfg(test)]
+mod threads_tests;
 mod words;
 
-use crate::fault::BenchFault;
+use crate::fault::{BenchFault, bench_fault_text};
 use crate::info_call::info;
-use crate::words::{Task, no_text, task_of};
+use crate::input::{Input, input_at};
+use crate::threads_call::threads;
+use crate::words::{Task, no_script, no_text, task_of};
 use clap::error::{Error, ErrorKind};
 use client_scripts::{
-    FromRead, FromWrite, ReplayFault, Sink, Source, Unopened, fault_text, replay, replay_joint,
-    write_all,
+    FromRead, FromWrite, ReplayFault, Sink, Source, Unopened, replay, replay_joint, write_all,
 };
 use std::alloc::AllocError;
 use std::fs::File;
 use std::io;
 use std::process::ExitCode;
+use std::sync::Wait;
+use std::thread::Threads;
 
 /// Why nothing is to be done.
 enum Stop {
@@ -126,27 +135,71 @@ fn replay_files(rt: &HostRuntime, trace: &str, script: &str) -> Result<(), Stop>
     Ok(())
 }
 
-/// Does what the words ask for.
-fn work(rt: &HostRuntime) -> Result<(), Stop> {
+/// The files at these paths.
+fn inputs_at(rt: &HostRuntime, paths: &[&str]) -> Result<Vec<Input>, AllocError>
+    ensures count { IfOk result (λ inputs. vec_len inputs ≡ length paths.now) }
+    ensures fresh { IfOk result (λ inputs. All (λ input. input.failed ≡ false) inputs.items) }
+{
+    let mut inputs = Vec::new(rt.alloc());
+    for path in paths {
+        inputs.push(input_at(rt, path))?;
+    }
+    Ok(inputs)
+}
+
+/// Runs the scripts in files on the trace in another, each in a thread of its own.
+fn threads_on_files<R: Threads + Wait + Sync>(
+    rt: &HostRuntime,
+    starts: &R,
+    trace: &str,
+    scripts: &[&str],
+) -> Result<(), Stop> {
+    if scripts.is_empty() {
+        return Err(Stop::from(no_script(rt.alloc())?));
+    }
+    let inputs = inputs_at(rt, scripts)?;
+    let mut writer = FromWrite::new(io::writer(rt));
+    threads(
+        starts,
+        rt.alloc(),
+        &mut input_at(rt, trace),
+        inputs,
+        &mut writer,
+    )?;
+    finish(&mut writer)?;
+    Ok(())
+}
+
+/// Does what the words ask for. What starts threads is passed beside the rest, since it is given to `main` alone.
+fn work<R: Threads + Wait + Sync>(rt: &HostRuntime, starts: &R) -> Result<(), Stop> {
     let words = read_words(rt)?;
     match task_of(rt.alloc(), words.as_slice())? {
         Task::Joint => replay_input(rt),
         Task::Info(path) => info_of_file(rt, path),
         Task::Replay(trace, script) => replay_files(rt, trace, script),
+        Task::Threads(trace, scripts) => threads_on_files(rt, starts, trace, &scripts),
     }
 }
 
 /// The line that tells a fault.
-fn fault_line(rt: &HostRuntime, fault: &ReplayFault) -> Result<Vec<u8>, ReplayFault> {
+fn fault_line(rt: &HostRuntime, fault: &BenchFault) -> Result<Vec<u8>, BenchFault> {
     let mut line = Vec::new(rt.alloc());
     line.extend_from_slice(b"racebench: ")?;
-    fault_text(fault, &mut line)?;
+    bench_fault_text(fault, &mut line)?;
     line.extend_from_slice(b"\n")?;
     Ok(line)
 }
 
+/// The status of a fault: 2 where the words ask for more than the program does.
+fn status_of(fault: &BenchFault) -> ExitCode {
+    match fault {
+        BenchFault::TooManyScripts => ExitCode::from(2),
+        _ => ExitCode::FAILURE,
+    }
+}
+
 /// Tells a fault on standard error. Where that fails too there is nobody left to tell.
-fn tell_fault(rt: &HostRuntime, fault: &ReplayFault) -> ExitCode {
+fn tell_fault(rt: &HostRuntime, fault: &BenchFault) -> ExitCode {
     match fault_line(rt, fault) {
         Ok(line) => {
             let mut errors = FromWrite::new(rt.stderr());
@@ -156,22 +209,22 @@ fn tell_fault(rt: &HostRuntime, fault: &ReplayFault) -> ExitCode {
             let _ = eprintln!(rt; "racebench: out of memory");
         }
     }
-    ExitCode::FAILURE
+    status_of(fault)
 }
 
 /// Tells why the words are refused, or helps.
 fn tell_words(rt: &HostRuntime, error: &Error) -> ExitCode {
     let told = error.print(rt);
     if told.is_err() && !error.use_stderr() {
-        return tell_fault(rt, &ReplayFault::Write);
+        return tell_fault(rt, &BenchFault::from(ReplayFault::Write));
     }
     ExitCode::from(error.exit_code() as u8)
 }
 
 fn main(rt: HostRuntime) -> ExitCode {
-    match work(&rt) {
+    match work(&rt, &rt) {
         Ok(()) => ExitCode::SUCCESS,
         Err(Stop::Words(error)) => tell_words(&rt, &error),
-        Err(Stop::Fault(BenchFault::Replay(fault))) => tell_fault(&rt, &fault),
+        Err(Stop::Fault(fault)) => tell_fault(&rt, &fault),
     }
 }

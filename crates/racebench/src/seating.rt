@@ -1,0 +1,167 @@
+//! Runs scripts at once, each in a thread of its own, through the seats of one bench.
+ghost use Rattle.std.specs.Prelude.{◌≡◌, ◌≤◌, ◌<◌, All, vec_len, IfOk};
+ghost use Rattle.workspace_lock.specs.Seating.{Site};
+
+use crate::fault::BenchFault;
+use client_scripts::{Script, run_seat};
+use event_index::Indexed;
+use inverse_log::Bench;
+use rapid_text::{OutOfMemory, TextKeyed};
+use report::{Piece, append_pieces};
+use std::alloc::{AllocError, Global};
+use std::sync::{Arc, Wait};
+use std::thread;
+use std::thread::Threads;
+use workspace_lock::{Seat, Seats, open};
+
+/// What a thread is given: a seat, and the script whose calls it makes there.
+type Job = (Seat, Script);
+
+/// What a thread gives back: its seat, and the lines of its answers where there was memory for each.
+type Told = (Seat, Result<Vec<u8>, OutOfMemory>);
+
+/// Makes the calls of a script through the seat.
+fn run_script<R: Wait>(
+    rt: &R,
+    alloc: Global,
+    indexed: &Indexed,
+    mut seat: Seat,
+    script: &Script,
+) -> Told
+    ensures { (result.0.site ≡ seat.site) × (result.0.number ≡ seat.number) }
+{
+    let mut lines = Vec::new(alloc);
+    match run_seat(&mut seat, rt, indexed, script, &mut lines) {
+        Ok(()) => (seat, Ok(lines)),
+        Err(refused) => (seat, Err(refused)),
+    }
+}
+
+/// Makes the calls of each script through its seat, each in a thread of its own where one can be made. Their order is
+/// that of the jobs.
+fn run_all<R: Threads + Wait + Sync>(
+    rt: &R,
+    alloc: Global,
+    indexed: &Indexed,
+    jobs: Vec<Job>,
+) -> Result<Vec<Told>, AllocError>
+    ensures { IfOk result
+        (λ told. (s : Site) → All (λ job. job.0.site ≡ s) jobs.items → All (λ t. t.0.site ≡ s) told.items) }
+{
+    let run = |job: Job| -> Told
+        ensures { result.0.site ≡ job.0.site }
+    {
+        let (seat, script) = job;
+        run_script(rt, alloc, indexed, seat, &script)
+    };
+    thread::map_vec(rt, jobs, &run)
+}
+
+/// Gives each script the seat of its client.
+fn seat_all(alloc: Global, seats: &mut Seats, scripts: Vec<Script>) -> Result<Vec<Job>, BenchFault>
+    ensures seats { seats.new.site ≡ seats.old.site }
+    ensures site { IfOk result (λ jobs. All (λ job. job.0.site ≡ seats.old.site) jobs.items) }
+{
+    let mut jobs = Vec::new(alloc);
+    for script in scripts {
+        let Some(seat) = seats.take() else {
+            return Err(BenchFault::NoThread);
+        };
+        jobs.push((seat, script))?;
+    }
+    Ok(jobs)
+}
+
+/// Appends a client's line and the lines of its answers.
+fn append_client(
+    out: &mut Vec<u8>,
+    client: u32,
+    lines: Result<Vec<u8>, OutOfMemory>,
+) -> Result<(), OutOfMemory> {
+    let lines = lines?;
+    append_pieces(
+        out,
+        &[
+            Piece::Words(b"client "),
+            Piece::Number(u64::from(client)),
+            Piece::Words(b"\n"),
+            Piece::Words(&lines),
+        ],
+    )
+}
+
+/// The same where all before went well.
+fn append_next(
+    out: &mut Vec<u8>,
+    so_far: Result<(), OutOfMemory>,
+    client: u32,
+    lines: Result<Vec<u8>, OutOfMemory>,
+) -> Result<(), OutOfMemory> {
+    so_far?;
+    append_client(out, client, lines)
+}
+
+/// Puts a seat back.
+fn give_back(seats: &mut Seats, seat: Seat)
+    requires { seat.site ≡ seats.old.site }
+    ensures { seats.new.site ≡ seats.old.site }
+{
+    let _ = seats.give(seat);
+}
+
+/// Puts all seats back, and appends what each client was told while memory lasts.
+fn give_all(seats: &mut Seats, told: Vec<Told>, out: &mut Vec<u8>) -> Result<(), OutOfMemory>
+    requires { All (λ t. t.0.site ≡ seats.old.site) told.items }
+{
+    let mut outcome = Ok(());
+    for (seat, lines) in told {
+        outcome = append_next(out, outcome, seat.number(), lines);
+        give_back(seats, seat);
+    }
+    outcome
+}
+
+/// The log of the bench, once all seats are back.
+fn append_log(seats: Seats, out: &mut Vec<u8>) -> Result<(), OutOfMemory> {
+    match seats.close() {
+        Ok(bench) => report::log(&bench, out),
+        Err(_) => Err(OutOfMemory),
+    }
+}
+
+/// A bench of the trace with an empty log, and a seat for each of so many clients.
+fn open_seats(
+    alloc: Global,
+    indexed: &Arc<Indexed, Global>,
+    names: TextKeyed,
+    clients: u32,
+) -> Result<Seats, OutOfMemory> {
+    let theirs = Arc::try_clone(indexed)?;
+    let Ok(bench) = Bench::keyed(alloc, theirs, names) else {
+        return Err(OutOfMemory);
+    };
+    match open(alloc, bench, clients) {
+        Ok(seats) => Ok(seats),
+        Err(_) => Err(OutOfMemory),
+    }
+}
+
+/// Runs each script in a thread of its own. Gives, once all have ended, what each was told and the log.
+pub(crate) fn run_scripts<R: Threads + Wait + Sync>(
+    rt: &R,
+    alloc: Global,
+    indexed: Indexed,
+    names: TextKeyed,
+    scripts: Vec<Script>,
+) -> Result<Vec<u8>, BenchFault>
+    requires { (0 < vec_len scripts) × (vec_len scripts ≤ 31) }
+{
+    let shared = Arc::new(alloc, indexed)?;
+    let mut seats = open_seats(alloc, &shared, names, scripts.len() as u32)?;
+    let jobs = seat_all(alloc, &mut seats, scripts)?;
+    let told = run_all(rt, alloc, &shared, jobs)?;
+    let mut out = Vec::new(alloc);
+    give_all(&mut seats, told, &mut out)?;
+    append_log(seats, &mut out)?;
+    Ok(out)
+}
