@@ -2,8 +2,6 @@
 #![tactic(auto)]
 
 mod calls;
-#[cfg(test)]
-mod fakes;
 mod fault;
 mod fault_texts;
 mod joint;
@@ -12,13 +10,9 @@ mod loading;
 mod number;
 mod replaying;
 mod script;
-#[cfg(test)]
-mod seat_tests;
 mod seats;
 mod sink;
 mod source;
-#[cfg(test)]
-mod tests;
 mod unopened;
 mod verb;
 

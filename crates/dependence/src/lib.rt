@@ -3,8 +3,6 @@
 
 mod clients;
 mod numbers;
-#[cfg(test)]
-mod tests;
 mod touches;
 
 pub use clients::Clients;

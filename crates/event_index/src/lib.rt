@@ -10,8 +10,6 @@ mod relations;
 mod scans;
 mod sections;
 mod tables;
-#[cfg(test)]
-mod tests;
 
 pub use event_list::EventList;
 pub use indexed::Indexed;

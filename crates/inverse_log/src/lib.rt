@@ -4,19 +4,11 @@
 mod bench;
 mod call;
 mod entry;
-#[cfg(test)]
-mod generated_tests;
 pub mod headline;
 mod parts;
-#[cfg(test)]
-mod plain;
-#[cfg(test)]
-mod plain_log;
 mod races;
 mod refusal;
 mod reply;
-#[cfg(test)]
-mod tests;
 
 pub use bench::Bench;
 pub use call::Call;

@@ -9,12 +9,8 @@ mod inverse;
 mod listing;
 mod name;
 mod names;
-#[cfg(test)]
-mod part_tests;
 mod refusal;
 mod row;
-#[cfg(test)]
-mod tests;
 mod turning;
 mod workspace;
 

@@ -1,7 +1,11 @@
-//! Tests of schedules and of the search for witnesses, in a crate over theirs: with tests in it a crate would be proved
+//! Tests of the order SHB, of schedules and of the search for witnesses, in a crate over theirs: with tests in it a crate would be proved
 //! twice, and the tests with its types seen from inside.
 #![tactic(auto)]
 
+#[cfg(test)]
+mod clock_chance;
+#[cfg(test)]
+mod clock_tests;
 #[cfg(test)]
 mod fixtures;
 #[cfg(test)]

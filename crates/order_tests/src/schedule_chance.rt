@@ -2,56 +2,12 @@
 //! over the list.
 ghost use Rattle.std.specs.Prelude.{◌≡◌, IfSome};
 
-use crate::fixtures::{Chance, indexed_of};
+use crate::fixtures::{Chance, generated};
 use crate::schedule_plain::{does_show, first_fault, refusal_of, swap_refusal};
 use crate::schedule_tests::empty_of;
 use event_index::Indexed;
 use schedule::{ExtendRefusal, ListRefusal, Schedule};
 use std::alloc::Global;
-
-// What a generated trace is put together of: a line is kept where the rules accept it.
-const LINES: [&[u8]; 24] = [
-    b"A|w(x)|\n",
-    b"A|r(x)|\n",
-    b"A|w(y)|\n",
-    b"A|acq(l)|\n",
-    b"A|rel(l)|\n",
-    b"A|acq(m)|\n",
-    b"A|rel(m)|\n",
-    b"A|fork(B)|\n",
-    b"A|fork(C)|\n",
-    b"A|join(C)|\n",
-    b"B|w(x)|\n",
-    b"B|r(x)|\n",
-    b"B|w(y)|\n",
-    b"B|r(y)|\n",
-    b"B|acq(l)|\n",
-    b"B|rel(l)|\n",
-    b"B|fork(C)|\n",
-    b"B|join(C)|\n",
-    b"C|w(x)|\n",
-    b"C|r(x)|\n",
-    b"C|acq(l)|\n",
-    b"C|rel(l)|\n",
-    b"C|acq(m)|\n",
-    b"C|rel(m)|\n",
-];
-
-// A trace of lines that are taken by chance.
-fn generated(alloc: Global, chance: &mut Chance, tries: u32) -> Option<Indexed> {
-    let mut text = Vec::new(alloc);
-    for _try in 0..tries {
-        let len = text.len();
-        let Some(line) = LINES.get(chance.below(24) as usize) else {
-            return None;
-        };
-        text.extend_from_slice(*line).ok()?;
-        if indexed_of(alloc, text.as_slice()).is_none() {
-            text.truncate(len);
-        }
-    }
-    indexed_of(alloc, text.as_slice())
-}
 
 // Whether the schedule has these events, and answers on every event of the trace, on one that is none, and on
 // the pairs of one event as the plain program does.

@@ -1,60 +1,14 @@
 //! Slices and greedy searches on generated traces, against a plain program, and as lists of schedules.
 ghost use Rattle.std.specs.Prelude.{◌≡◌};
 
-use crate::fixtures::{Chance, indexed_of};
+use crate::fixtures::{Chance, clocks_of, generated};
 use crate::search_plain::{greedy_from, is_conflict, is_enabled, slice_of, slice_refusal};
-use crate::search_tests::{clocks_of, start_of};
+use crate::search_tests::start_of;
 use event_index::{EventList, Indexed};
 use schedule::Schedule;
 use shb_clocks::Clocks;
 use std::alloc::Global;
 use witness_search::{greedy, slice};
-
-// What a generated trace is put together of: a line is kept where the rules accept it.
-const LINES: [&[u8]; 26] = [
-    b"A|w(x)|\n",
-    b"A|r(x)|\n",
-    b"A|w(y)|\n",
-    b"A|acq(l)|\n",
-    b"A|rel(l)|\n",
-    b"A|acq(m)|\n",
-    b"A|rel(m)|\n",
-    b"A|fork(B)|\n",
-    b"A|fork(C)|\n",
-    b"A|join(C)|\n",
-    b"B|w(x)|\n",
-    b"B|r(x)|\n",
-    b"B|r(y)|\n",
-    b"B|acq(l)|\n",
-    b"B|rel(l)|\n",
-    b"B|acq(l)|\n",
-    b"B|rel(l)|\n",
-    b"B|fork(C)|\n",
-    b"B|join(C)|\n",
-    b"C|w(x)|\n",
-    b"C|w(y)|\n",
-    b"C|acq(m)|\n",
-    b"C|rel(m)|\n",
-    b"A|join(D)|\n",
-    b"B|fork(D)|\n",
-    b"D|w(y)|\n",
-];
-
-// A trace of lines that are taken by chance.
-fn generated(alloc: Global, chance: &mut Chance, tries: u32) -> Option<Indexed> {
-    let mut text = Vec::new(alloc);
-    for _try in 0..tries {
-        let len = text.len();
-        let Some(line) = LINES.get(chance.below(26) as usize) else {
-            return None;
-        };
-        text.extend_from_slice(*line).ok()?;
-        if indexed_of(alloc, text.as_slice()).is_none() {
-            text.truncate(len);
-        }
-    }
-    indexed_of(alloc, text.as_slice())
-}
 
 // A correct reordering to start from: events taken by chance, where they may come next.
 fn listed(alloc: Global, indexed: &Indexed, chance: &mut Chance, tries: u32) -> Option<Vec<u32>> {

@@ -8,15 +8,11 @@ mod line;
 mod memory;
 mod names;
 mod printing;
-#[cfg(test)]
-mod printing_tests;
 mod raw_trace;
 mod reading;
 mod recent;
 mod recorder;
 mod refusal;
-#[cfg(test)]
-mod tests;
 
 pub use bytes::Bytes;
 pub use cutting::{is_a_blank, trim, trim_start};

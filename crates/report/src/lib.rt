@@ -1,23 +1,15 @@
 //! What is printed: replies to calls and refusals, the log, what a trace holds, and candidates for a race.
 #![tactic(auto)]
 
-#[cfg(test)]
-mod answer_tests;
 mod candidate_lines;
 mod causes;
 mod commands;
 mod info_lines;
 mod log_lines;
-#[cfg(test)]
-mod log_tests;
 mod pieces;
 mod refusals;
 mod replies;
-#[cfg(test)]
-mod seat_tests;
 mod seats;
-#[cfg(test)]
-mod tests;
 
 pub use candidate_lines::candidates;
 pub use info_lines::info;

@@ -5,11 +5,7 @@ mod candidates;
 mod chains;
 mod clocks;
 mod events;
-#[cfg(test)]
-mod generated_tests;
 mod rows;
 mod spots;
-#[cfg(test)]
-mod tests;
 
 pub use clocks::Clocks;

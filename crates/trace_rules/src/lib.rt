@@ -6,8 +6,6 @@ mod hold;
 mod life;
 mod refusal;
 mod state;
-#[cfg(test)]
-mod tests;
 mod trace;
 
 pub use check_rules::check;

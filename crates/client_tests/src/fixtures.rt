@@ -1,0 +1,51 @@
+//! What the tests start from: traces told by texts, and empty benches of them.
+use event_index::Indexed;
+use inverse_log::Bench;
+use rapid_text::{RawTrace, parse};
+use std::alloc::Global;
+use std::sync::Arc;
+use trace_rules::{Trace, check};
+
+// Two threads use one lock, and write one variable outside it.
+pub(crate) const ONE_LOCK: &[u8] =
+    b"T1|w(x)|1\nT1|acq(l)|2\nT1|rel(l)|3\nT2|acq(l)|4\nT2|rel(l)|5\nT2|w(x)|6";
+
+// The trace that a text tells. Each call stands in a function of its own, so that no proof carries along what
+// another call promises; and each answer is taken apart by a `match`, since `ok` has the check prove at length how
+// what is left over is dropped.
+fn raw_of(alloc: Global, text: &[u8]) -> Option<RawTrace> {
+    match parse(alloc, text) {
+        Ok(raw) => Some(raw),
+        Err(_) => None,
+    }
+}
+
+fn trace_of(alloc: Global, raw: RawTrace) -> Option<Trace> {
+    match check(alloc, raw) {
+        Ok(trace) => Some(trace),
+        Err(_) => None,
+    }
+}
+
+pub(crate) fn indexed_of(alloc: Global, text: &[u8]) -> Option<Indexed> {
+    let trace = trace_of(alloc, raw_of(alloc, text)?)?;
+    match Indexed::new(alloc, trace) {
+        Ok(indexed) => Some(indexed),
+        Err(_) => None,
+    }
+}
+
+fn shared_of(alloc: Global, text: &[u8]) -> Option<Arc<Indexed, Global>> {
+    match Arc::new(alloc, indexed_of(alloc, text)?) {
+        Ok(shared) => Some(shared),
+        Err(_) => None,
+    }
+}
+
+// An empty bench of the trace that a text tells.
+pub(crate) fn bench_of(alloc: Global, text: &[u8]) -> Option<Bench> {
+    match Bench::new(alloc, shared_of(alloc, text)?) {
+        Ok(bench) => Some(bench),
+        Err(_) => None,
+    }
+}

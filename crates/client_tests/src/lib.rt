@@ -1,0 +1,26 @@
+//! Tests of seats, of printed texts and of scripts, in a crate over theirs: with tests in it a crate would be proved twice,
+//! and the tests with its types seen from inside.
+#![tactic(auto)]
+
+#[cfg(test)]
+mod answer_tests;
+#[cfg(test)]
+mod fakes;
+#[cfg(test)]
+mod fixtures;
+#[cfg(test)]
+mod info_tests;
+#[cfg(test)]
+mod judging;
+#[cfg(test)]
+mod log_tests;
+#[cfg(test)]
+mod run_tests;
+#[cfg(test)]
+mod script_tests;
+#[cfg(test)]
+mod seat_line_tests;
+#[cfg(test)]
+mod seat_tests;
+#[cfg(test)]
+mod thread_tests;

@@ -1,0 +1,453 @@
+//! What no clause says: that calls are answered where there is memory, that the definitions give the answers
+//! which worked examples expect, and that an undo builds nothing anew.
+use crate::fixtures::{bench_of, indexed_of};
+use event_index::{EventList, Indexed};
+use inverse_log::{Bench, Call, Refusal, Reply};
+use moves::{Command, MoveRefusal, Name};
+use schedule::{Disabled, SwapRefusal};
+use std::alloc::Global;
+use std::sync::Arc;
+use std::test::Fail;
+
+// Two threads use one lock, and write one variable outside it.
+const ONE_LOCK: &[u8] = b"T1|w(x)|1\nT1|acq(l)|2\nT1|rel(l)|3\nT2|acq(l)|4\nT2|rel(l)|5\nT2|w(x)|6";
+// A read that sees the other thread's write, and two writes of another variable.
+const TWO_PAIRS: &[u8] = b"T1|w(x)|1\nT2|r(x)|2\nT2|w(z)|3\nT1|w(z)|4";
+
+// What a client asks for; each schedule has a name of one byte.
+#[derive(Clone, Copy)]
+enum Ask {
+    New(u8),
+    Add(u8, u32),
+    Back(u8),
+    Swap(u8, u32),
+    Branch(u8, u32, u8),
+    Drop(u8),
+    Adopt(u8, u32),
+    Undo,
+    Propose(u32, u32, &'static [u32]),
+    Show(u8),
+    List,
+    Races(u8),
+}
+
+// What it is told: a reply, or the number of a refusal and what that names.
+#[derive(Clone, Copy)]
+enum Told {
+    Done(u64),
+    Undone(u64, u64),
+    Proposed(u64, u64),
+    Shown(&'static [u32]),
+    Names(&'static [u8]),
+    Pairs(&'static [(u32, u32)]),
+    Refused(u32),
+    RestsOn(u64, u8),
+    NotReordering(u32),
+}
+
+fn name_of(byte: u8) -> Option<Name> {
+    Name::new(&[byte]).ok()
+}
+
+pub(crate) fn list_of(alloc: Global, events: &[u32]) -> Option<EventList> {
+    let mut list = EventList::new(alloc);
+    for event in events {
+        list.push(*event).ok()?;
+    }
+    Some(list)
+}
+
+fn command_of(ask: Ask) -> Option<Command> {
+    match ask {
+        Ask::New(name) => Some(Command::Fresh {
+            name: name_of(name)?,
+        }),
+        Ask::Add(name, event) => Some(Command::Add {
+            name: name_of(name)?,
+            event,
+        }),
+        Ask::Back(name) => Some(Command::Back {
+            name: name_of(name)?,
+        }),
+        Ask::Swap(name, at) => Some(Command::Swap {
+            name: name_of(name)?,
+            at,
+        }),
+        Ask::Branch(name, length, to) => Some(Command::Branch {
+            name: name_of(name)?,
+            length,
+            to: name_of(to)?,
+        }),
+        Ask::Drop(name) => Some(Command::Drop {
+            name: name_of(name)?,
+        }),
+        Ask::Adopt(name, proposal) => Some(Command::Adopt {
+            name: name_of(name)?,
+            proposal,
+        }),
+        _ => None,
+    }
+}
+
+fn call_of(alloc: Global, ask: Ask) -> Option<Call> {
+    match ask {
+        Ask::Undo => Some(Call::Undo),
+        Ask::Propose(first, second, events) => Some(Call::Propose {
+            first,
+            second,
+            events: list_of(alloc, events)?,
+        }),
+        Ask::Show(name) => Some(Call::Show(name_of(name)?)),
+        Ask::List => Some(Call::List),
+        Ask::Races(name) => Some(Call::Races(name_of(name)?)),
+        _ => Some(Call::Do(command_of(ask)?)),
+    }
+}
+
+fn number_of_move(refusal: MoveRefusal) -> u32 {
+    match refusal {
+        MoveRefusal::NoSuchSchedule => 42,
+        MoveRefusal::NameTaken => 43,
+        MoveRefusal::NoSuchProposal => 44,
+        MoveRefusal::NothingToRetract => 45,
+        MoveRefusal::Disabled(Disabled::NoSuchEvent) => 4621,
+        MoveRefusal::Disabled(Disabled::NotNext) => 4622,
+        MoveRefusal::Disabled(Disabled::NotForked) => 4623,
+        MoveRefusal::Disabled(Disabled::WrongWriter { needs: _, has: _ }) => 4624,
+        MoveRefusal::Disabled(Disabled::LockHeld { thread: _ }) => 4625,
+        MoveRefusal::Disabled(Disabled::JoinEarly) => 4626,
+        MoveRefusal::Swap(SwapRefusal::NoSuchPair) => 4728,
+        MoveRefusal::Swap(SwapRefusal::Dependent) => 4729,
+        MoveRefusal::TooShort => 48,
+        MoveRefusal::OutOfMemory => 49,
+    }
+}
+
+pub(crate) fn number_of(refusal: &Refusal) -> u32 {
+    match refusal {
+        Refusal::Move(why) => number_of_move(*why),
+        Refusal::NothingToUndo => 51,
+        Refusal::RestsOn { entry: _, name: _ } => 52,
+        Refusal::NotReordering { position: _ } => 53,
+        Refusal::NotShown => 54,
+        Refusal::LogFull => 55,
+        Refusal::OutOfMemory => 56,
+    }
+}
+
+fn rests_on(refusal: &Refusal, other: u64, byte: u8) -> bool {
+    match refusal {
+        Refusal::RestsOn { entry, name } => { *entry == other && name.bytes() == [byte].as_slice() }
+        _ => false,
+    }
+}
+
+fn is_refused(refusal: &Refusal, told: Told) -> bool {
+    match told {
+        Told::Refused(number) => number_of(refusal) == number,
+        Told::RestsOn(other, byte) => rests_on(refusal, other, byte),
+        Told::NotReordering(other) => match refusal {
+            Refusal::NotReordering { position } => *position == other,
+            _ => false,
+        },
+        _ => false,
+    }
+}
+
+// Whether these are the names, each of one byte.
+fn are_names(names: &[Name], bytes: &[u8]) -> bool {
+    if names.len() != bytes.len() {
+        return false;
+    }
+    for at in 0..names.len() {
+        if names[at].bytes() != [bytes[at]].as_slice() {
+            return false;
+        }
+    }
+    true
+}
+
+fn is_replied(reply: &Reply, told: Told) -> bool {
+    match (reply, told) {
+        (Reply::Done(number), Told::Done(other)) => *number == other,
+        (Reply::Undone { number, entry }, Told::Undone(n, k)) => *number == n && *entry == k,
+        (Reply::Proposed { number, proposal }, Told::Proposed(n, p)) => {
+            *number == n && *proposal == p
+        }
+        (Reply::Shown(list), Told::Shown(events)) => list.items() == events,
+        (Reply::Listing(names), Told::Names(bytes)) => are_names(names.items(), bytes),
+        (Reply::Shows(pairs), Told::Pairs(others)) => pairs.items() == others,
+        _ => false,
+    }
+}
+
+fn is_told(answer: &Result<Reply, Refusal>, told: Told) -> bool {
+    match answer {
+        Ok(reply) => is_replied(reply, told),
+        Err(refusal) => is_refused(refusal, told),
+    }
+}
+
+// Makes the call; where memory was wanting, once more, as the refusal has changed nothing.
+fn call_twice(bench: &mut Bench, client: u32, call: &Call) -> Result<Reply, Refusal> {
+    if client == 0 || client > 32 {
+        return Err(Refusal::LogFull);
+    }
+    match bench.call(client, call) {
+        Err(Refusal::OutOfMemory) => bench.call(client, call),
+        answer => answer,
+    }
+}
+
+// The first row of the table whose answer is another one; none where all are right.
+fn wrong_row(alloc: Global, text: &[u8], rows: &[(u32, Ask, Told)]) -> Option<usize> {
+    let made = match bench_of(alloc, text) {
+        Some(bench) => Some(bench),
+        None => bench_of(alloc, text),
+    };
+    let Some(mut bench) = made else {
+        return Some(rows.len());
+    };
+    for at in 0..rows.len() {
+        let (client, ask, told) = rows[at];
+        let asked = match call_of(alloc, ask) {
+            Some(call) => Some(call),
+            None => call_of(alloc, ask),
+        };
+        let Some(call) = asked else {
+            return Some(at);
+        };
+        if !is_told(&call_twice(&mut bench, client, &call), told) {
+            return Some(at);
+        }
+    }
+    None
+}
+
+#[test]
+fn memory_undo_rests_on_a_branch(rt: HostRuntime) -> Result<(), Fail> {
+    let rows = [
+        (1, Ask::New(b'A'), Told::Done(0)),
+        (1, Ask::Add(b'A', 3), Told::Done(1)),
+        (2, Ask::Branch(b'A', 1, b'B'), Told::Done(2)),
+        (1, Ask::Undo, Told::RestsOn(2, b'A')),
+        (1, Ask::Undo, Told::RestsOn(2, b'A')),
+        (2, Ask::Undo, Told::Undone(3, 2)),
+        (1, Ask::Undo, Told::Undone(4, 1)),
+        (1, Ask::Show(b'A'), Told::Shown(&[])),
+    ];
+    assert_eq!(rt; wrong_row(rt.alloc(), ONE_LOCK, &rows), None);
+    Ok(())
+}
+
+#[test]
+fn memory_a_drop_taken_back_keeps_its_place(rt: HostRuntime) -> Result<(), Fail> {
+    let rows = [
+        (1, Ask::New(b'A'), Told::Done(0)),
+        (1, Ask::New(b'B'), Told::Done(1)),
+        (1, Ask::Drop(b'A'), Told::Done(2)),
+        (2, Ask::New(b'C'), Told::Done(3)),
+        (1, Ask::Undo, Told::Undone(4, 2)),
+        (1, Ask::List, Told::Names(b"ABC")),
+    ];
+    assert_eq!(rt; wrong_row(rt.alloc(), ONE_LOCK, &rows), None);
+    Ok(())
+}
+
+#[test]
+fn memory_undo_rests_on_a_name_taken_again(rt: HostRuntime) -> Result<(), Fail> {
+    let rows = [
+        (1, Ask::New(b'A'), Told::Done(0)),
+        (1, Ask::Drop(b'A'), Told::Done(1)),
+        (2, Ask::New(b'A'), Told::Done(2)),
+        (1, Ask::Undo, Told::RestsOn(2, b'A')),
+    ];
+    assert_eq!(rt; wrong_row(rt.alloc(), ONE_LOCK, &rows), None);
+    Ok(())
+}
+
+#[test]
+fn memory_proposals_are_judged(rt: HostRuntime) -> Result<(), Fail> {
+    let rows = [
+        (1, Ask::New(b'A'), Told::Done(0)),
+        (1, Ask::Add(b'A', 0), Told::Done(1)),
+        (2, Ask::Propose(0, 5, &[3, 4]), Told::Proposed(2, 0)),
+        (2, Ask::Propose(0, 5, &[3, 5]), Told::NotReordering(1)),
+        (2, Ask::Propose(0, 5, &[3]), Told::Refused(54)),
+        (2, Ask::Undo, Told::Refused(51)),
+        (1, Ask::Adopt(b'A', 1), Told::Refused(44)),
+        (1, Ask::Adopt(b'A', 0), Told::Done(3)),
+        (1, Ask::Show(b'A'), Told::Shown(&[3, 4])),
+        (1, Ask::Undo, Told::Undone(4, 3)),
+        (1, Ask::Show(b'A'), Told::Shown(&[0])),
+    ];
+    assert_eq!(rt; wrong_row(rt.alloc(), ONE_LOCK, &rows), None);
+    Ok(())
+}
+
+#[test]
+fn events_are_judged_and_shown(rt: HostRuntime) -> Result<(), Fail> {
+    let rows = [
+        (1, Ask::New(b'A'), Told::Done(0)),
+        (1, Ask::Add(b'A', 4), Told::Refused(4622)),
+        (1, Ask::Add(b'A', 9), Told::Refused(4621)),
+        (1, Ask::Add(b'A', 3), Told::Done(1)),
+        (1, Ask::Add(b'A', 4), Told::Done(2)),
+        (1, Ask::Races(b'A'), Told::Pairs(&[(0, 5)])),
+        (1, Ask::Races(b'B'), Told::Refused(42)),
+        (1, Ask::Show(b'B'), Told::Refused(42)),
+    ];
+    assert_eq!(rt; wrong_row(rt.alloc(), ONE_LOCK, &rows), None);
+    Ok(())
+}
+
+#[test]
+fn clients_undo_their_own(rt: HostRuntime) -> Result<(), Fail> {
+    let rows = [
+        (1, Ask::New(b'A'), Told::Done(0)),
+        (2, Ask::New(b'B'), Told::Done(1)),
+        (1, Ask::Undo, Told::Undone(2, 0)),
+        (1, Ask::List, Told::Names(b"B")),
+    ];
+    assert_eq!(rt; wrong_row(rt.alloc(), ONE_LOCK, &rows), None);
+    Ok(())
+}
+
+#[test]
+fn neighbours_change_places_and_back(rt: HostRuntime) -> Result<(), Fail> {
+    let rows = [
+        (1, Ask::New(b'A'), Told::Done(0)),
+        (1, Ask::Back(b'A'), Told::Refused(45)),
+        (1, Ask::Add(b'A', 0), Told::Done(1)),
+        (1, Ask::Add(b'A', 3), Told::Done(2)),
+        (1, Ask::Swap(b'A', 0), Told::Done(3)),
+        (1, Ask::Show(b'A'), Told::Shown(&[3, 0])),
+        (1, Ask::Swap(b'A', 0), Told::Done(4)),
+        (1, Ask::Undo, Told::Undone(5, 4)),
+        (1, Ask::Show(b'A'), Told::Shown(&[3, 0])),
+        (1, Ask::Swap(b'A', 1), Told::Refused(4728)),
+        (1, Ask::Swap(b'A', 4294967295), Told::Refused(4728)),
+    ];
+    assert_eq!(rt; wrong_row(rt.alloc(), ONE_LOCK, &rows), None);
+    Ok(())
+}
+
+#[test]
+fn tied_neighbours_stay(rt: HostRuntime) -> Result<(), Fail> {
+    let rows = [
+        (1, Ask::New(b'A'), Told::Done(0)),
+        (1, Ask::Add(b'A', 0), Told::Done(1)),
+        (1, Ask::Add(b'A', 1), Told::Done(2)),
+        (1, Ask::Swap(b'A', 0), Told::Refused(4729)),
+    ];
+    assert_eq!(rt; wrong_row(rt.alloc(), ONE_LOCK, &rows), None);
+    Ok(())
+}
+
+#[test]
+fn an_adoption_rests_on_its_schedule(rt: HostRuntime) -> Result<(), Fail> {
+    let rows = [
+        (1, Ask::New(b'A'), Told::Done(0)),
+        (2, Ask::Add(b'A', 3), Told::Done(1)),
+        (1, Ask::Propose(0, 5, &[3, 4]), Told::Proposed(2, 0)),
+        (1, Ask::Adopt(b'A', 0), Told::Done(3)),
+        (2, Ask::Undo, Told::RestsOn(3, b'A')),
+        (1, Ask::Undo, Told::Undone(4, 3)),
+        (2, Ask::Undo, Told::Undone(5, 1)),
+        (1, Ask::Show(b'A'), Told::Shown(&[])),
+    ];
+    assert_eq!(rt; wrong_row(rt.alloc(), ONE_LOCK, &rows), None);
+    Ok(())
+}
+
+#[test]
+fn one_client_undoes_all(rt: HostRuntime) -> Result<(), Fail> {
+    let rows = [
+        (1, Ask::New(b'A'), Told::Done(0)),
+        (1, Ask::Add(b'A', 0), Told::Done(1)),
+        (1, Ask::Back(b'A'), Told::Done(2)),
+        (2, Ask::New(b'B'), Told::Done(3)),
+        (2, Ask::Add(b'B', 3), Told::Done(4)),
+        (1, Ask::Undo, Told::Undone(5, 2)),
+        (1, Ask::Show(b'A'), Told::Shown(&[0])),
+        (1, Ask::Undo, Told::Undone(6, 1)),
+        (1, Ask::Undo, Told::Undone(7, 0)),
+        (1, Ask::Undo, Told::Refused(51)),
+        (1, Ask::List, Told::Names(b"B")),
+    ];
+    assert_eq!(rt; wrong_row(rt.alloc(), ONE_LOCK, &rows), None);
+    Ok(())
+}
+
+#[test]
+fn refusals_change_nothing(rt: HostRuntime) -> Result<(), Fail> {
+    let rows = [
+        (1, Ask::New(b'A'), Told::Done(0)),
+        (1, Ask::Branch(b'A', 1, b'B'), Told::Refused(48)),
+        (1, Ask::Branch(b'A', 0, b'A'), Told::Refused(43)),
+        (1, Ask::Branch(b'C', 0, b'B'), Told::Refused(42)),
+        (1, Ask::New(b'A'), Told::Refused(43)),
+        (1, Ask::Propose(0, 0, &[]), Told::Refused(54)),
+        (1, Ask::Propose(4294967295, 0, &[]), Told::Refused(54)),
+        (1, Ask::Propose(7, 7, &[9]), Told::NotReordering(0)),
+        (1, Ask::List, Told::Names(b"A")),
+    ];
+    assert_eq!(rt; wrong_row(rt.alloc(), ONE_LOCK, &rows), None);
+    Ok(())
+}
+
+#[test]
+fn pairs_are_shown_in_order(rt: HostRuntime) -> Result<(), Fail> {
+    let rows = [
+        (1, Ask::New(b'A'), Told::Done(0)),
+        (1, Ask::Races(b'A'), Told::Pairs(&[(0, 1)])),
+        (1, Ask::Add(b'A', 1), Told::Refused(4624)),
+        (1, Ask::Add(b'A', 0), Told::Done(1)),
+        (1, Ask::Races(b'A'), Told::Pairs(&[])),
+        (1, Ask::Add(b'A', 1), Told::Done(2)),
+        (1, Ask::Races(b'A'), Told::Pairs(&[(2, 3)])),
+    ];
+    assert_eq!(rt; wrong_row(rt.alloc(), TWO_PAIRS, &rows), None);
+    Ok(())
+}
+
+// Whether each round of a new schedule and its undo is answered as it must be.
+fn fill(bench: &mut Bench, fresh: &Call, rounds: u32) -> bool {
+    for round in 0..rounds {
+        let number = round as u64 * 2;
+        if !is_told(&call_twice(bench, 1, fresh), Told::Done(number)) {
+            return false;
+        }
+        if !is_told(
+            &call_twice(bench, 1, &Call::Undo),
+            Told::Undone(number + 1, number),
+        ) {
+            return false;
+        }
+    }
+    true
+}
+
+#[test]
+fn a_log_is_full_at_a_million_entries(rt: HostRuntime) -> Result<(), Fail> {
+    assert!(rt; fills_up(rt.alloc()));
+    Ok(())
+}
+
+// Whether a log takes 1,000,000 entries and no more, and has counted each of these changes.
+fn fills_up(alloc: Global) -> bool {
+    let Some(mut bench) = bench_of(alloc, ONE_LOCK) else {
+        return false;
+    };
+    let Some(fresh) = call_of(alloc, Ask::New(b'A')) else {
+        return false;
+    };
+    if !fill(&mut bench, &fresh, 500_000) {
+        return false;
+    }
+    is_told(&call_twice(&mut bench, 1, &fresh), Told::Refused(55))
+        && is_told(&call_twice(&mut bench, 1, &Call::Undo), Told::Refused(55))
+        && is_told(&call_twice(&mut bench, 1, &Call::List), Told::Names(b""))
+        && bench.edits() == 1_000_000
+        && bench.log_len() == 1_000_000
+}
