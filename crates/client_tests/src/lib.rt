@@ -1,4 +1,4 @@
-//! Tests of seats, of printed texts and of scripts, in a crate over theirs: with tests in it a crate would be proved twice,
+//! Tests of seats, of printed texts, of scripts and of the program's calls, in a crate over theirs: with tests in it a crate would be proved twice,
 //! and the tests with its types seen from inside.
 #![tactic(auto)]
 
@@ -8,6 +8,8 @@ mod answer_tests;
 mod fakes;
 #[cfg(test)]
 mod fixtures;
+#[cfg(test)]
+mod info_call_tests;
 #[cfg(test)]
 mod info_tests;
 #[cfg(test)]
@@ -24,3 +26,5 @@ mod seat_line_tests;
 mod seat_tests;
 #[cfg(test)]
 mod thread_tests;
+#[cfg(test)]
+mod threads_call_tests;

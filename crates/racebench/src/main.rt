@@ -3,29 +3,16 @@
 
 ghost use Rattle.std.specs.Prelude.{◌≡◌, All, IfOk, false, length, vec_len};
 
-#[cfg(test)]
-mod fakes;
-mod fault;
-mod info_call;
-#[cfg(test)]
-mod info_tests;
 mod input;
-mod inputs;
-mod seating;
-mod threads_call;
-#[cfg(test)]
-mod threads_tests;
 mod words;
 
-use crate::fault::{BenchFault, bench_fault_text};
-use crate::info_call::info;
 use crate::input::{Input, input_at};
-use crate::threads_call::threads;
 use crate::words::{Task, no_script, no_text, task_of};
 use clap::error::{Error, ErrorKind};
 use client_scripts::{
     FromRead, FromWrite, ReplayFault, Sink, Source, Unopened, replay, replay_joint, write_all,
 };
+use program_calls::{BenchFault, bench_fault_text, info, threads};
 use std::alloc::AllocError;
 use std::fs::File;
 use std::io;

@@ -1,8 +1,8 @@
 use denote.Param.Send.{sendable}
 use Rattle.std.proofs.Crossing.{crosses}
 use Rattle.workspace_lock.proofs.SendLemmas.{seat_send}
-use Rattle.racebench.proofs.SendLemmas.{script_send}
-use Rattle.racebench.proofs.seating.run_all.Goals as goal
+use Rattle.program_calls.proofs.SendLemmas.{script_send}
+use Rattle.program_calls.proofs.seating.run_all.Goals as goal
 
 pub map_vec-requires-send-J : goal.map_vec-requires-send-J
 map_vec-requires-send-J g c κs within = search (seat_send, script_send, sendable, crosses) depth 20

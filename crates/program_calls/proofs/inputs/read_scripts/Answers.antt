@@ -1,6 +1,6 @@
 use Rattle.std.proofs.Common.{◌≡◌, ◌∷◌, suc, arith}
 use Rattle.std.specs.Vec.Iter.{into_iter_items}
-use Rattle.racebench.proofs.inputs.read_scripts.Goals as goal
+use Rattle.program_calls.proofs.inputs.read_scripts.Goals as goal
 
 pub loop-reader-preserved : goal.loop-reader-preserved
 loop-reader-preserved g c =

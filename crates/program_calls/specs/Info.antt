@@ -9,8 +9,8 @@ use Rattle.client_scripts.specs.Replay.{AppendsPart, IsFault, IsShort, of_trace}
 use Rattle.client_scripts.specs.Traces.{trace_of}
 use Rattle.client_scripts.specs.declared.fault.ReplayFault.{ReplayFault}
 use Rattle.client_scripts.specs.declared.fault.ReplayFault.TheVariants.{Write, OutOfMemory}
-use Rattle.racebench.specs.declared.fault.BenchFault.{BenchFault}
-use Rattle.racebench.specs.declared.fault.BenchFault.TheVariants.{Replay}
+use Rattle.program_calls.specs.declared.fault.BenchFault.{BenchFault}
+use Rattle.program_calls.specs.declared.fault.BenchFault.TheVariants.{Replay}
 
 -- the lines of the first 1,000 candidates were appended
 abbrev pub AppendsCandidates : Recording → List ℕ → List ℕ → Type 0

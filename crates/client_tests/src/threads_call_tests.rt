@@ -2,16 +2,13 @@
 ghost use Rattle.std.specs.Prelude.{◌≡◌, All, IfOk, false, length, vec_len};
 
 use crate::fakes::{Full, with_room};
-use crate::fault::{BenchFault, bench_fault_text};
-use crate::threads_call::threads;
+use crate::fixtures::ONE_LOCK;
 use client_scripts::{FromRead, ReplayFault};
+use program_calls::{BenchFault, bench_fault_text, threads};
 use std::alloc::{AllocError, Global};
 use std::sync::Wait;
 use std::test::Fail;
 use std::thread::Threads;
-
-/// Two threads use one lock, and write one variable outside it.
-const ONE_LOCK: &[u8] = b"T1|w(x)|1\nT1|acq(l)|2\nT1|rel(l)|3\nT2|acq(l)|4\nT2|rel(l)|5\nT2|w(x)|6";
 
 const SHOWS_A_PAIR: &[u8] = b"1 new A\n1 add A 3\n1 add A 4\n1 races A";
 

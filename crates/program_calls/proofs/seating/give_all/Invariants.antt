@@ -1,6 +1,6 @@
 use Rattle.std.specs.Prelude.{◌≡◌, All}
 use Rattle.std.specs.Vec.Iter.{into_iter_items}
-use Rattle.racebench.proofs.seating.give_all.Given as goal
+use Rattle.program_calls.proofs.seating.give_all.Given as goal
 
 abbrev pub invariant-loop-seat : goal.invariant-loop-seat
 invariant-loop-seat l = All (λ t. t.0.site ≡ l.seats.site) (into_iter_items l.seat-iterator)

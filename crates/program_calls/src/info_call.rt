@@ -2,8 +2,8 @@
 ghost use Rattle.std.specs.Prelude.{◌≡◌, ℕ, List, false, true, IfSome, OnOk, Err};
 ghost use Rattle.client_scripts.specs.declared.fault.ReadCause.TheVariants.{Device};
 ghost use Rattle.client_scripts.specs.declared.fault.ReplayFault.TheVariants.{Write, Read};
-ghost use Rattle.racebench.specs.Info.{AppendsCandidates, IsInfo, IsWritten};
-ghost use Rattle.racebench.specs.declared.fault.BenchFault.TheVariants.{Replay};
+ghost use Rattle.program_calls.specs.Info.{AppendsCandidates, IsInfo, IsWritten};
+ghost use Rattle.program_calls.specs.declared.fault.BenchFault.TheVariants.{Replay};
 
 use crate::fault::BenchFault;
 use client_scripts::{ReplayFault, Sink, Source, load, read_input, write_all};

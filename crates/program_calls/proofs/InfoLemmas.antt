@@ -3,8 +3,8 @@ use Rattle.std.proofs.Common.{◌≡◌, ◌⊎◌, ℕ, List, Option, Err, refl
 use Rattle.client_scripts.specs.Replay.{IsFault, of_trace}
 use Rattle.client_scripts.specs.declared.fault.ReplayFault.{ReplayFault}
 use Rattle.client_scripts.specs.declared.fault.ReplayFault.TheVariants.{Text, Rule, Script, Read, Write, OutOfMemory}
-use Rattle.racebench.specs.Info.{IsInfo}
-use Rattle.racebench.specs.declared.fault.BenchFault.TheVariants.{Replay}
+use Rattle.program_calls.specs.Info.{IsInfo}
+use Rattle.program_calls.specs.declared.fault.BenchFault.TheVariants.{Replay}
 
 module _ (bytes : List ℕ) (known : Option (List ℕ)) where
   of_fault : (fault : ReplayFault) → IsFault (of_trace bytes) fault → IsInfo bytes known known (Err (Replay fault))

@@ -1,9 +1,8 @@
 //! What no clause says of `info`: that ample memory gives an answer, and which fault tells what failed.
 
 use crate::fakes::{Full, with_room};
-use crate::fault::BenchFault;
-use crate::info_call::info;
 use client_scripts::{FromRead, ReadCause, ReplayFault, Unopened};
+use program_calls::{BenchFault, info};
 use std::alloc::Global;
 
 /// Two pairs of accesses that nothing orders.

@@ -1,8 +1,8 @@
 use Rattle.std.proofs.Common.{refl}
 use Rattle.client_scripts.specs.Replay.{of_trace}
 use Rattle.client_scripts.proofs.CallerLemmas.{input-fault}
-use Rattle.racebench.proofs.InfoLemmas.{before-text}
-use Rattle.racebench.proofs.info_call.info.Goals as goal
+use Rattle.program_calls.proofs.InfoLemmas.{before-text}
+use Rattle.program_calls.proofs.info_call.info.Goals as goal
 
 pub returns-in-Err-clause-info : goal.returns-in-Err-clause-info
 returns-in-Err-clause-info g c =

@@ -1,5 +1,5 @@
 use Rattle.std.proofs.Common.{◌≡◌, ◌∙◌, sym}
-use Rattle.racebench.proofs.seating.run_scripts.Goals as goal
+use Rattle.program_calls.proofs.seating.run_scripts.Goals as goal
 
 pub give_all-requires : goal.give_all-requires
 give_all-requires g c =

@@ -1,5 +1,5 @@
 use Rattle.std.specs.Prelude.{◌≡◌, All}
-use Rattle.racebench.proofs.seating.seat_all.Given as goal
+use Rattle.program_calls.proofs.seating.seat_all.Given as goal
 
 abbrev pub invariant-loop-script : goal.invariant-loop-script
 invariant-loop-script l =

@@ -1,4 +1,6 @@
 //! Why a command of the program stopped, and what is printed of that.
+ghost use Rattle.std.specs.Prelude.{◌≡◌, ◌++◌, OnOk, OnErr};
+ghost use Rattle.program_calls.specs.BenchFaultTexts.{bench_fault_words, refusal_words, script_refusal_words};
 
 use client_scripts::{ReplayFault, ScriptCause, ScriptRefusal, fault_text, script_words};
 use rapid_text::OutOfMemory;
@@ -30,7 +32,7 @@ pub enum BenchFault {
 
 impl From<ReplayFault> for BenchFault {
     ghost use Rattle.std.specs.Prelude.{◌≡◌};
-    ghost use Rattle.racebench.specs.declared.fault.BenchFault.TheVariants.{Replay};
+    ghost use Rattle.program_calls.specs.declared.fault.BenchFault.TheVariants.{Replay};
 
     ghost from_gives = { λ fault stopped. stopped ≡ Replay fault };
 
@@ -58,16 +60,17 @@ impl<T: Drop> From<AllocFailed<T>> for BenchFault {
 }
 
 /// The number and the words of what is wrong with a script line.
-fn words_of(why: ScriptCause) -> &'static str {
+fn words_of(why: ScriptCause) -> &'static str
+    ensures { result.now ≡ refusal_words why }
+{
     script_words(why).unwrap_or("out of memory")
 }
 
 /// Appends the text of a refused script, which names the script and the line.
-fn append_refusal(
-    out: &mut Vec<u8>,
-    place: u32,
-    refusal: &ScriptRefusal,
-) -> Result<(), OutOfMemory> {
+fn append_refusal(out: &mut Vec<u8>, place: u32, refusal: &ScriptRefusal) -> Result<(), OutOfMemory>
+    ensures ok { OnOk result (out.new.items ≡ out.old.items ++ script_refusal_words place refusal.now) }
+    ensures err { OnErr result (out.new.items ≡ out.old.items) }
+{
     append_pieces(
         out,
         &[
@@ -81,8 +84,11 @@ fn append_refusal(
     )
 }
 
-/// Appends the text of a fault, without a line end.
-pub(crate) fn bench_fault_text(fault: &BenchFault, out: &mut Vec<u8>) -> Result<(), OutOfMemory> {
+/// Appends the text of a fault, without a line end. Where memory is refused `out` stays as it was.
+pub fn bench_fault_text(fault: &BenchFault, out: &mut Vec<u8>) -> Result<(), OutOfMemory>
+    ensures ok { OnOk result (out.new.items ≡ out.old.items ++ bench_fault_words fault.now) }
+    ensures err { OnErr result (out.new.items ≡ out.old.items) }
+{
     match fault {
         BenchFault::Replay(fault) => fault_text(fault, out),
         BenchFault::Script { place, refusal } => append_refusal(out, *place, refusal),

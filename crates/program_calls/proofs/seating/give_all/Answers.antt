@@ -1,6 +1,6 @@
 use Rattle.std.proofs.Common.{◌≡◌, ◌∷◌, ◌∙◌, suc, sym, arith}
 use Rattle.std.specs.Vec.Iter.{into_iter_items}
-use Rattle.racebench.proofs.seating.give_all.Goals as goal
+use Rattle.program_calls.proofs.seating.give_all.Goals as goal
 
 pub give_back-requires : goal.give_back-requires
 give_back-requires c =

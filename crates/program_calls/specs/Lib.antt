@@ -1,0 +1,2 @@
+pub mod BenchFaultTexts
+pub mod Info

@@ -1,0 +1,13 @@
+//! The calls that the program makes beside `client_scripts::{replay, replay_joint}`: what a trace holds, and scripts that run at
+//! once, each over readers and a writer. They stand apart from the words, files and statuses of the program.
+#![tactic(auto)]
+
+mod fault;
+mod info_call;
+mod inputs;
+mod seating;
+mod threads_call;
+
+pub use fault::{BenchFault, bench_fault_text};
+pub use info_call::info;
+pub use threads_call::threads;
