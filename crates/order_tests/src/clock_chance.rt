@@ -176,7 +176,7 @@ fn agrees_on_order(indexed: &Indexed, clocks: &Clocks) -> bool
     true
 }
 
-// Whether the first candidates up to each limit are a beginning of all candidates, and with no limit are all.
+// Whether the first candidates up to each of some limits are a beginning of all candidates.
 fn agrees_on_candidates(
     alloc: Global,
     indexed: &Indexed,
@@ -185,8 +185,9 @@ fn agrees_on_candidates(
 ) -> Option<bool>
     requires { clocks.now ≡ indexed.now }
 {
-    for limit in 0..all.len() {
-        if !are_first_by(alloc, clocks, indexed, limit as u32, &all[..limit])? {
+    for limit in 0..64u32 {
+        let count = all.len().min(limit as usize);
+        if !are_first_by(alloc, clocks, indexed, limit, &all[..count])? {
             return Some(false);
         }
     }
