@@ -4,7 +4,7 @@ use Rattle.std.specs.Prelude.{is_some, ok_or}
 use Rattle.std.specs.List.{list_all}
 use Rattle.std.proofs.lemmas.Bool.{cases_Bool}
 use Rattle.client_scripts.specs.Scripts.{number_reading, numbers_reading}
-use Rattle.client_scripts.specs.Words.{number_of}
+use Rattle.client_scripts.specs.LineWords.{written_number}
 use Rattle.client_scripts.specs.declared.fault.ScriptCause.{ScriptCause}
 use Rattle.client_scripts.specs.declared.fault.ScriptCause.TheVariants.{BadNumber}
 
@@ -23,9 +23,9 @@ behind-behind numbers more (Err why) = refl
 
 abbrev by_number : (word : List ℕ) (words : List (List ℕ)) (o : Option ℕ) (b : Bool) → Result (List ℕ) ScriptCause
 by_number word words None b = Err BadNumber
-by_number word words (Some n) b = behind (n ∷ []) (cond b (Ok (filter_map number_of words)) (Err BadNumber))
+by_number word words (Some n) b = behind (n ∷ []) (cond b (Ok (filter_map written_number words)) (Err BadNumber))
 
-numbers-cons : (word : List ℕ) (words : List (List ℕ)) (o : Option ℕ) (b : Bool) → number_of word ≡ o → list_all (λ w. is_some (number_of w)) words ≡ b → numbers_reading (word ∷ words) ≡ by_number word words o b
+numbers-cons : (word : List ℕ) (words : List (List ℕ)) (o : Option ℕ) (b : Bool) → written_number word ≡ o → list_all (λ w. is_some (written_number w)) words ≡ b → numbers_reading (word ∷ words) ≡ by_number word words o b
 numbers-cons word words None b e f = rw e refl
 numbers-cons word words (Some n) true e f = rw (e, f) refl
 numbers-cons word words (Some n) false e f = rw (e, f) refl
@@ -41,15 +41,15 @@ number-none (Some m) why e = cc
 -- one word more is read
 pub numbers-more : (numbers : List ℕ) (word : List ℕ) (words : List (List ℕ)) (n : ℕ) → number_reading word ≡ Ok n → behind numbers (numbers_reading (word ∷ words)) ≡ behind (numbers ++ n ∷ []) (numbers_reading words)
 numbers-more numbers word words n e =
-    let is = number-is (number_of word) n e in
-    ap (behind numbers) (numbers-cons word words (Some n) (list_all (λ w. is_some (number_of w)) words) is refl)
+    let is = number-is (written_number word) n e in
+    ap (behind numbers) (numbers-cons word words (Some n) (list_all (λ w. is_some (written_number w)) words) is refl)
     ∙ behind-behind numbers (n ∷ []) (numbers_reading words)
 
 -- a word that is no number
 pub numbers-refused : (numbers : List ℕ) (word : List ℕ) (words : List (List ℕ)) (why : ScriptCause) → number_reading word ≡ Err why → behind numbers (numbers_reading (word ∷ words)) ≡ Err why
 numbers-refused numbers word words why e =
-    let is = number-none (number_of word) why e in
-    ap (behind numbers) (numbers-cons word words None (list_all (λ w. is_some (number_of w)) words) is.0 refl) ∙ ap Err (sym is.1)
+    let is = number-none (written_number word) why e in
+    ap (behind numbers) (numbers-cons word words None (list_all (λ w. is_some (written_number w)) words) is.0 refl) ∙ ap Err (sym is.1)
 
 -- no word is left
 pub numbers-end : (numbers : List ℕ) (words : List (List ℕ)) → words ≡ [] → behind numbers (numbers_reading words) ≡ Ok numbers

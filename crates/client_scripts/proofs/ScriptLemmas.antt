@@ -11,7 +11,7 @@ use Rattle.std.proofs.lemmas.Option.{slice_get-map, slice_get-get_or}
 use Rattle.rapid_text.specs.Reading.{is_line_feed}
 use Rattle.inverse_log.specs.declared.call.Call.{Call}
 use Rattle.client_scripts.specs.Places.{line_at, asked_at, call_in, IsAsking, AsksAt}
-use Rattle.client_scripts.specs.Scripts.{Asked, line_reading, asked_by, asked_behind, AreRead, IsFirstRefused, IsScript}
+use Rattle.client_scripts.specs.Scripts.{Asked, script_line_reading, asked_by, asked_behind, AreRead, IsFirstRefused, IsScript}
 use Rattle.client_scripts.specs.declared.fault.ScriptCause.{ScriptCause}
 use Rattle.client_scripts.specs.declared.fault.ScriptCause.TheVariants.{OutOfMemory}
 use Rattle.client_scripts.specs.declared.fault.ScriptRefusal.{ScriptRefusal}
@@ -101,12 +101,12 @@ underway-start text lines places e none =
       left = inr (omega arith, e);
     }
 
-asked_behind-push : (n : ℕ) (lines : List (List ℕ)) (line : List ℕ) → asked_behind n (lines ++ line ∷ []) ≡ asked_behind n lines ++ asked_by (n + length lines + 1) (line_reading line)
-asked_behind-push n [] line = append-nil (asked_by (n + 1) (line_reading line)) ∙ ap (λ k. asked_by k (line_reading line)) {x = n + 1} {y = n + 0 + 1} (omega arith)
+asked_behind-push : (n : ℕ) (lines : List (List ℕ)) (line : List ℕ) → asked_behind n (lines ++ line ∷ []) ≡ asked_behind n lines ++ asked_by (n + length lines + 1) (script_line_reading line)
+asked_behind-push n [] line = append-nil (asked_by (n + 1) (script_line_reading line)) ∙ ap (λ k. asked_by k (script_line_reading line)) {x = n + 1} {y = n + 0 + 1} (omega arith)
 asked_behind-push n (x ∷ lines) line =
-    ap (λ more. asked_by (n + 1) (line_reading x) ++ more) (asked_behind-push (n + 1) lines line)
-    ∙ sym (append_assoc (asked_by (n + 1) (line_reading x)) (asked_behind (n + 1) lines) (asked_by (n + 1 + length lines + 1) (line_reading line)))
-    ∙ ap (λ k. (asked_by (n + 1) (line_reading x) ++ asked_behind (n + 1) lines) ++ asked_by k (line_reading line)) {x = n + 1 + length lines + 1} {y = n + length (x ∷ lines) + 1} (omega arith)
+    ap (λ more. asked_by (n + 1) (script_line_reading x) ++ more) (asked_behind-push (n + 1) lines line)
+    ∙ sym (append_assoc (asked_by (n + 1) (script_line_reading x)) (asked_behind (n + 1) lines) (asked_by (n + 1 + length lines + 1) (script_line_reading line)))
+    ∙ ap (λ k. (asked_by (n + 1) (script_line_reading x) ++ asked_behind (n + 1) lines) ++ asked_by k (script_line_reading line)) {x = n + 1 + length lines + 1} {y = n + length (x ∷ lines) + 1} (omega arith)
 
 -- the reading of a line, which memory did not stop
 pub read-so : {A : Type 0} (answer reading : Result A ScriptCause) (value : A) → (answer ≡ Err OutOfMemory) ⊎ (answer ≡ reading) → answer ≡ Ok value → reading ≡ Ok value
@@ -124,29 +124,29 @@ module _ (text : List ℕ) (lines left : List (List ℕ)) (raw : List ℕ) (line
       omega (arith, h.count, ap length h.split, ap length e, length-append h.passed lines, length-slice_split is_line_feed text, count_by-le-length is_line_feed text)
 
   -- one line more was read, and asks for no call
-  pub underway-skip : line_reading raw ≡ Ok None → IsUnderway text left (line + 1) (start + (length raw + 1)) places
+  pub underway-skip : script_line_reading raw ≡ Ok None → IsUnderway text left (line + 1) (start + (length raw + 1)) places
   underway-skip reads =
       record {
         passed = h.passed ++ raw ∷ [];
         split = h.split ∙ ap (λ ls. h.passed ++ ls) e ∙ sym (append_assoc h.passed (raw ∷ []) left);
         count = omega (arith, h.count, length-append h.passed (raw ∷ []));
-        read = All-append (λ l. IsOk (line_reading l)) h.passed (raw ∷ []) h.read (All-cons (λ l. IsOk (line_reading l)) raw [] (subst IsOk (sym reads) refl) (λ k d lt. absurd (omega (arith, lt))));
+        read = All-append (λ l. IsOk (script_line_reading l)) h.passed (raw ∷ []) h.read (All-cons (λ l. IsOk (script_line_reading l)) raw [] (subst IsOk (sym reads) refl) (λ k d lt. absurd (omega (arith, lt))));
         asked = h.asked ∙ sym (asked_behind-push 0 h.passed raw ∙ ap (λ r. asked_behind 0 h.passed ++ asked_by (0 + length h.passed + 1) r) reads ∙ append-nil (asked_behind 0 h.passed));
         asking = h.asking;
         left = (left-first text start lines left raw h.left e).2;
       }
 
   -- one line more was read, and asks for a call
-  pub underway-call : (asked : ℕ × Call) → line_reading raw ≡ Ok (Some asked) → IsUnderway text left (line + 1) (start + (length raw + 1)) (places ++ record { line = line + 1; start = start } ∷ [])
+  pub underway-call : (asked : ℕ × Call) → script_line_reading raw ≡ Ok (Some asked) → IsUnderway text left (line + 1) (start + (length raw + 1)) (places ++ record { line = line + 1; start = start } ∷ [])
   underway-call asked reads =
       let place : Place = record { line = line + 1; start = start } in
       let first = left-first text start lines left raw h.left e in
-      let here : line_reading (line_at text start) ≡ Ok (Some asked) = ap line_reading (sym first.1) ∙ reads in
+      let here : script_line_reading (line_at text start) ≡ Ok (Some asked) = ap script_line_reading (sym first.1) ∙ reads in
       record {
         passed = h.passed ++ raw ∷ [];
         split = h.split ∙ ap (λ ls. h.passed ++ ls) e ∙ sym (append_assoc h.passed (raw ∷ []) left);
         count = omega (arith, h.count, length-append h.passed (raw ∷ []));
-        read = All-append (λ l. IsOk (line_reading l)) h.passed (raw ∷ []) h.read (All-cons (λ l. IsOk (line_reading l)) raw [] (subst IsOk (sym reads) refl) (λ k d lt. absurd (omega (arith, lt))));
+        read = All-append (λ l. IsOk (script_line_reading l)) h.passed (raw ∷ []) h.read (All-cons (λ l. IsOk (script_line_reading l)) raw [] (subst IsOk (sym reads) refl) (λ k d lt. absurd (omega (arith, lt))));
         asked =
             map-append (asked_at text) places (place ∷ [])
             ∙ ap (λ a. a ++ asked_at text place ∷ []) h.asked
@@ -159,7 +159,7 @@ module _ (text : List ℕ) (lines left : List (List ℕ)) (raw : List ℕ) (line
       }
 
   -- the line is the first that is refused
-  pub underway-refused : (why : ScriptCause) → line_reading raw ≡ Err why → IsFirstRefused (lines_of text) (record { line = line + 1; why = why })
+  pub underway-refused : (why : ScriptCause) → script_line_reading raw ≡ Err why → IsFirstRefused (lines_of text) (record { line = line + 1; why = why })
   underway-refused why reads =
       record {
         before = h.passed;

@@ -1,5 +1,6 @@
 pub mod FaultTexts
 pub mod Joint
+pub mod LineWords
 pub mod LinesLeft
 pub mod Messages
 pub mod Places
@@ -8,4 +9,3 @@ pub mod Scripts
 pub mod Seats
 pub mod Steps
 pub mod Traces
-pub mod Words

@@ -4,7 +4,7 @@ use Rattle.std.specs.List.{slice_split}
 use Rattle.rapid_text.specs.Reading.{is_line_feed}
 use Rattle.inverse_log.specs.declared.call.Call.{Call}
 use Rattle.inverse_log.specs.declared.call.Call.TheVariants.{Undo}
-use Rattle.client_scripts.specs.Scripts.{Asked, line_reading, no_memory}
+use Rattle.client_scripts.specs.Scripts.{Asked, script_line_reading, no_memory}
 use Rattle.client_scripts.specs.declared.fault.ScriptCause.{ScriptCause}
 use Rattle.client_scripts.specs.declared.fault.ScriptCause.TheVariants.{OutOfMemory}
 use Rattle.client_scripts.specs.declared.fault.ScriptRefusal.{ScriptRefusal}
@@ -21,12 +21,12 @@ call_in line reading = record { line = line; client = 0; call = Undo }
 
 -- the call of the line that begins there
 abbrev pub asked_at : List ℕ → Place → Asked
-asked_at text place = call_in place.line (line_reading (line_at text place.start))
+asked_at text place = call_in place.line (script_line_reading (line_at text place.start))
 
 -- the line asks for a call
 abbrev pub IsAsking : List ℕ → Place → Type 0
 IsAsking text place =
-    (place.start ≤ length text) × (asked : ℕ × Call) × (line_reading (line_at text place.start) ≡ Ok (Some asked))
+    (place.start ≤ length text) × (asked : ℕ × Call) × (script_line_reading (line_at text place.start) ≡ Ok (Some asked))
 
 -- what the fields mean
 abbrev pub calls_in : Inside → List Asked
@@ -44,4 +44,4 @@ refusal_for line why = record { line = line; why = why }
 -- the call at a place of the script is the one that this line asks for
 abbrev pub AsksAt : List Asked → ℕ → List ℕ → Type 0
 AsksAt script at raw =
-    (asked : Asked) × (slice_get script at ≡ Some asked) × (line_reading raw ≡ Ok (Some (asked.client, asked.call)))
+    (asked : Asked) × (slice_get script at ≡ Some asked) × (script_line_reading raw ≡ Ok (Some (asked.client, asked.call)))

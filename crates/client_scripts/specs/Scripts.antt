@@ -7,7 +7,7 @@ use Rattle.moves.specs.Names.{is_name}
 use Rattle.moves.specs.declared.command.Command.TheVariants.{Fresh, Add, Back, Swap, Branch, Drop, Adopt}
 use Rattle.inverse_log.specs.declared.call.Call.{Call}
 use Rattle.inverse_log.specs.declared.call.Call.TheVariants.{Do, Undo, Propose, Show, List as ListNames, Races}
-use Rattle.client_scripts.specs.Words.{words_of, number_of}
+use Rattle.client_scripts.specs.LineWords.{words_of, written_number}
 use Rattle.client_scripts.specs.declared.verb.Verb.{Verb}
 use Rattle.client_scripts.specs.declared.verb.Verb.TheVariants.{New as NewWord, Add as AddWord, Back as BackWord, Swap as SwapWord, Branch as BranchWord, Drop as DropWord, Adopt as AdoptWord, Undo as UndoWord, Propose as ProposeWord, Show as ShowWord, List as ListWord, Races as RacesWord}
 use Rattle.client_scripts.specs.declared.fault.ScriptCause.{ScriptCause}
@@ -42,12 +42,12 @@ abbrev pub name_reading : List ℕ → Result (List ℕ) ScriptCause
 name_reading word = if is_name word then Ok word else Err BadName
 
 abbrev pub number_reading : List ℕ → Result ℕ ScriptCause
-number_reading word = ok_or (number_of word) BadNumber
+number_reading word = ok_or (written_number word) BadNumber
 
 -- the words as numbers
 abbrev pub numbers_reading : List (List ℕ) → Result (List ℕ) ScriptCause
 numbers_reading words =
-    if list_all (λ word. is_some (number_of word)) words then Ok (filter_map number_of words) else Err BadNumber
+    if list_all (λ word. is_some (written_number word)) words then Ok (filter_map written_number words) else Err BadNumber
 
 -- what a reading gives is used, and its fault stays
 abbrev pub then_read : {A B : Type 0} → Result A ScriptCause → (A → Result B ScriptCause) → Result B ScriptCause
@@ -113,7 +113,7 @@ client_by (Some n) = if is_client n then Ok n else Err BadClient
 
 -- the word as a client's number
 abbrev pub client_reading : List ℕ → Result ℕ ScriptCause
-client_reading word = client_by (number_of word)
+client_reading word = client_by (written_number word)
 
 -- the words of a line: a client, which is judged first, and a call
 abbrev pub words_reading : List (List ℕ) → Result (ℕ × Call) ScriptCause
@@ -122,8 +122,8 @@ words_reading (word ∷ words) =
     then_read (client_reading word) (λ client. then_read (call_reading words) (λ call. Ok (client, call)))
 
 -- what a line asks for: nothing where it is empty; it has at most 65,536 bytes between its blanks
-abbrev pub line_reading : List ℕ → Result (Option (ℕ × Call)) ScriptCause
-line_reading raw =
+abbrev pub script_line_reading : List ℕ → Result (Option (ℕ × Call)) ScriptCause
+script_line_reading raw =
     let line = trimmed raw in
     if length line == 0
     then Ok None
@@ -144,11 +144,11 @@ asked_by line reading = []
 -- what lines ask for, in order, of which n lines stand before them
 abbrev pub asked_behind : ℕ → List (List ℕ) → List Asked
 asked_behind n [] = []
-asked_behind n (line ∷ lines) = asked_by (n + 1) (line_reading line) ++ asked_behind (n + 1) lines
+asked_behind n (line ∷ lines) = asked_by (n + 1) (script_line_reading line) ++ asked_behind (n + 1) lines
 
 -- no line is refused
 abbrev pub AreRead : List (List ℕ) → Type 0
-AreRead lines = All (λ line. IsOk (line_reading line)) lines
+AreRead lines = All (λ line. IsOk (script_line_reading line)) lines
 
 -- The line behind `before` is the first that is refused, for this cause.
 pub record IsFirstRefused (lines : List (List ℕ)) (refusal : ScriptRefusal) : Type 0 where
@@ -157,7 +157,7 @@ pub record IsFirstRefused (lines : List (List ℕ)) (refusal : ScriptRefusal) : 
   pub behind : List (List ℕ)
   pub split : lines ≡ before ++ line ∷ behind
   pub none_before : AreRead before
-  pub refused : line_reading line ≡ Err refusal.why
+  pub refused : script_line_reading line ≡ Err refusal.why
   pub place : refusal.line ≡ length before + 1
 
 -- What a script says: the calls of its lines, where none is refused, or the first line that is.

@@ -1,7 +1,7 @@
 //! Reads the call that a script line asks for.
 ghost use Rattle.std.specs.Prelude.{◌≡◌, ◌⊎◌, ◌≤◌, ℕ, IfOk, IfSome, Ok, Err, Some};
 ghost use Rattle.inverse_log.specs.declared.call.Call.{Call};
-ghost use Rattle.client_scripts.specs.Scripts.{name_reading, number_reading, numbers_reading, nothing_reading, one_name_reading, name_and_number_reading, branch_reading, propose_reading, arguments_reading, call_reading, client_reading, words_reading, line_reading};
+ghost use Rattle.client_scripts.specs.Scripts.{name_reading, number_reading, numbers_reading, nothing_reading, one_name_reading, name_and_number_reading, branch_reading, propose_reading, arguments_reading, call_reading, client_reading, words_reading, script_line_reading};
 ghost use Rattle.client_scripts.specs.declared.fault.ScriptCause.TheVariants.{OutOfMemory};
 
 use crate::fault::ScriptCause;
@@ -210,7 +210,7 @@ fn read_words(alloc: Global, words: &mut Words<'_>) -> Result<(u32, Call), Scrip
 
 /// The client and the call of a line; none for an empty line.
 pub(crate) fn read_line(alloc: Global, raw: &[u8]) -> Result<Option<(u32, Call)>, ScriptCause>
-    ensures { (result ≡ Err OutOfMemory) ⊎ (result ≡ line_reading raw.now) }
+    ensures { (result ≡ Err OutOfMemory) ⊎ (result ≡ script_line_reading raw.now) }
 {
     let line = trim(raw);
     if line.is_empty() {
@@ -225,7 +225,7 @@ pub(crate) fn read_line(alloc: Global, raw: &[u8]) -> Result<Option<(u32, Call)>
 
 /// The client that a line names first, where it names one.
 pub(crate) fn first_client(raw: &[u8]) -> Option<u32>
-    ensures first { (client : ℕ) → (call : Call) → line_reading raw.now ≡ Ok (Some (client, call)) → result ≡ Some client }
+    ensures first { (client : ℕ) → (call : Call) → script_line_reading raw.now ≡ Ok (Some (client, call)) → result ≡ Some client }
     ensures within { IfSome result (λ client. (1 ≤ client) × (client ≤ 32)) }
 {
     let word = Words::of(trim(raw)).next()?;

@@ -2,7 +2,7 @@
 ghost use Rattle.std.specs.Prelude.{◌≡◌, ◌≤◌, [], ◌∷◌, length, IfSome, IfNone};
 ghost use Rattle.std.specs.List.{slice_split, join_with_byte, position_or_len};
 ghost use Rattle.rapid_text.specs.Reading.{is_blank, is_line_feed};
-ghost use Rattle.client_scripts.specs.Words.{words_of};
+ghost use Rattle.client_scripts.specs.LineWords.{words_of};
 
 use memchr::memchr;
 use rapid_text::{is_a_blank, trim_start};
@@ -36,7 +36,7 @@ pub(crate) struct Words<'a> {
 
 impl<'a> Model for Words<'a> {
     ghost use Rattle.std.specs.Prelude.{List, ℕ};
-    ghost use Rattle.client_scripts.specs.Words.{words_of};
+    ghost use Rattle.client_scripts.specs.LineWords.{words_of};
 
     ghost Value = { List (List ℕ) };
 

@@ -38,7 +38,7 @@ pub fn read_input<S: Source>(
     }
 }
 
-/// Checks a recording against the rules of traces.
+/// Checks a trace against the rules.
 fn check_trace(alloc: Global, raw: RawTrace) -> Result<Trace, ReplayFault>
     ensures { (result ≡ Err OutOfMemory) ⊎ (trace_checked raw (first_breach raw.events) ≡ result) }
 {

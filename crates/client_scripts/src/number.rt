@@ -1,7 +1,7 @@
 //! Numbers as scripts write them.
 ghost use Rattle.std.specs.Prelude.{◌≡◌, true, min};
 ghost use Rattle.std.specs.List.{list_all};
-ghost use Rattle.client_scripts.specs.Words.{is_digit, value_of, number_of};
+ghost use Rattle.client_scripts.specs.LineWords.{is_digit, value_of, written_number};
 
 /// The greatest number of a script.
 pub(crate) const MAX_NUMBER: u64 = 4_294_967_295;
@@ -34,7 +34,7 @@ fn bounded_value(digits: &[u8]) -> u64
 
 /// The number that the word writes: one or more decimal digits with a value of at most 4,294,967,295.
 pub(crate) fn number(word: &[u8]) -> Option<u32>
-    ensures { result ≡ number_of word.now }
+    ensures { result ≡ written_number word.now }
 {
     if word.is_empty() || !are_decimal(word) {
         return None;

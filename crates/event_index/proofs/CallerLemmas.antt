@@ -17,10 +17,14 @@ use Rattle.event_index.specs.Events.{op_at, thread_at, is_of_thread, is_write_at
 use Rattle.event_index.specs.Relations.{IsConflicting}
 use Rattle.event_index.specs.Lookups.{before, events_of, place_of, place_by, last_writer, last_writer_by, fork_of, or_else, base_of, base_by, section_end, section_of, section_by}
 use Rattle.event_index.proofs.StepLemmas.{count_before-le}
+-- what an event found in the trace does, and which thread does it
+pub use Rattle.event_index.proofs.EventLemmas.{thread_event, op_event, thread_here, op_here, thread_within, is_of_thread-from, one_thread}
 pub use Rattle.event_index.proofs.PlaceLemmas.{events_before, length-events_before, events_of-place, place_of-events_of}
 -- the first and the last that passes a test, one event further; how a count and a place go on
 pub use Rattle.event_index.proofs.ScanLemmas.{before_more, filter_more_before, find_first_is, find_last_is, find_last_none, find_last_yes, find_last_no, none_found, find_none}
 pub use Rattle.event_index.proofs.StepLemmas.{passes_here, passes_event, take_event, count_more, place_of-count}
+-- where the events of each thread begin in a row of all, thread by thread
+pub use Rattle.event_index.proofs.RowLemmas.{start_of-more, start_of-within, count_before-all}
 -- lists that hold what a function gives for each number
 pub use Rattle.event_index.proofs.TableLemmas.{get_or-IsTable, IsTable-from_get_or, IsTable-nil, IsTable-replicate, IsTable-push, IsTable-set, IsTable-like}
 -- how often a thread holds a lock, one event further
@@ -87,7 +91,7 @@ is_of_thread-thread T t e h =
     let found = passes_event (λ v. eqb v.thread t) T e h in
     ap (option_map (λ (v : Event). v.thread)) found.1 ∙ ap Some (eqb-true found.0.thread t found.2)
 
--- a base is earlier, in an execution that keeps the rules
+-- a base is earlier, in a trace that keeps the rules
 pub base_of-earlier : (T : List Event) → IsDisciplined T → (e b : ℕ) → base_of T e ≡ Some b → b < e
 base_of-earlier T rules e b h =
     let found = base_by-some T e b (slice_get T e) h in
@@ -172,7 +176,7 @@ events_of-length T t =
 pub fork_of-op : (T : List Event) (u f : ℕ) → fork_of T u ≡ Some f → op_at T f ≡ Some (Fork u)
 fork_of-op T u f is = is_fork_at-op T u f (fork_of-some T u f is).1
 
--- a base is an event of the trace, in an execution that keeps the rules
+-- a base is an event of the trace, in a trace that keeps the rules
 pub base_of-within : (T : List Event) → IsDisciplined T → (e b : ℕ) → base_of T e ≡ Some b → b < length T
 base_of-within T rules e b is =
     let found = base_by-some T e b (slice_get T e) is in

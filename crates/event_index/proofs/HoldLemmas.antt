@@ -1,4 +1,4 @@
--- How often a thread holds a lock, event by event, in an execution that keeps the rules.
+-- How often a thread holds a lock, event by event, in a trace that keeps the rules.
 use Rattle.std.proofs.Common.{◌≡◌, ◌≢◌, ℕ, zero, suc, ◌+◌, ◌<◌, ◌≤◌, ◌⊎◌, Bool, true, false, cond, eqb, ◌&&◌, List, Some, length, get_or, take, refl, sym, ap, ◌∙◌, subst, arith, eq-eqb, inl, inr, true≢false, le_refl, add-one}
 use Rattle.std.specs.List.{slice_get}
 use Rattle.std.proofs.lemmas.Bool.{eqb-true, ne_eqb, cases_Bool, and_parts, and_from, and_left, and_right}

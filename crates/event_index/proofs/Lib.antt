@@ -1,4 +1,5 @@
 pub mod CallerLemmas
+pub mod EventLemmas
 pub mod HoldLemmas
 pub mod PlaceLemmas
 pub mod ReadLemmas

@@ -62,12 +62,8 @@ not_later T i e t l h =
     ]
 
 end_by-same : (T : List Event) (i e t : ℕ) (op : Op) → ((l : ℕ) → op ≡ Acquire l → EndsNot T i e t l) → end_by T i e t op ≡ end_by T (i + 1) e t op
-end_by-same T i e t (Read x) h = refl
-end_by-same T i e t (Write x) h = refl
 end_by-same T i e t (Acquire l) h = not_later T i e t l (h l refl)
-end_by-same T i e t (Release l) h = refl
-end_by-same T i e t (Fork u) h = refl
-end_by-same T i e t (Join u) h = refl
+end_by-same T i e t op h = refl
 
 end_of-same :
     (T : List Event) (i e : ℕ) (o : Option Event)
@@ -598,12 +594,8 @@ passed_by r i v known at off was =
     }
 
 end_by-none : (T : List Event) (e t : ℕ) (op : Op) → end_by T 0 e t op ≡ None
-end_by-none T e t (Read x) = refl
-end_by-none T e t (Write x) = refl
 end_by-none T e t (Acquire l) = find_late (is_end T e t l) e 0 (omega arith)
-end_by-none T e t (Release l) = refl
-end_by-none T e t (Fork u) = refl
-end_by-none T e t (Join u) = refl
+end_by-none T e t op = refl
 
 end_of-none : (T : List Event) (e : ℕ) (o : Option Event) → end_of T 0 e o ≡ None
 end_of-none T e None = refl
@@ -630,12 +622,8 @@ nothing_known r known ends top outer =
     }
 
 end_by-all : (T : List Event) (e t : ℕ) (op : Op) → end_by T (length T) e t op ≡ section_by T e t op
-end_by-all T e t (Read x) = refl
-end_by-all T e t (Write x) = refl
 end_by-all T e t (Acquire l) = refl
-end_by-all T e t (Release l) = refl
-end_by-all T e t (Fork u) = refl
-end_by-all T e t (Join u) = refl
+end_by-all T e t op = refl
 
 end_of-all : (T : List Event) (e : ℕ) (o : Option Event) → end_of T (length T) e o ≡ section_of T e o
 end_of-all T e None = refl

@@ -1,4 +1,4 @@
-//! An accepted execution with its tables.
+//! An accepted trace with its tables.
 ghost use Rattle.std.specs.Prelude.{◌≡◌, ◌<◌, ◌≤◌, ◌↔◌, length, All, IsTrue, IfOk, IfErr, IfSome, Some};
 ghost use Rattle.rapid_text.specs.Recording.{IsWellFormed};
 ghost use Rattle.trace_rules.specs.Rules.{IsDisciplined};
@@ -13,7 +13,7 @@ use std::alloc::Global;
 use std::marker::Model;
 use trace_rules::Trace;
 
-/// An accepted execution with its tables, so that each look-up has a constant cost.
+/// An accepted trace with its tables, so that each look-up has a constant cost.
 #[derive(Drop)]
 pub struct Indexed {
     trace: Trace,
@@ -33,7 +33,7 @@ impl Model for Indexed {
 }
 
 impl Indexed {
-    /// Makes the tables in passes over the events. Where memory is refused the execution comes back.
+    /// Makes the tables in passes over the events. Where memory is refused the trace comes back.
     pub fn new(alloc: Global, trace: Trace) -> Result<Indexed, (Trace, OutOfMemory)>
         ensures ok { IfOk result (λ indexed. indexed ≡ trace) }
         ensures returned { IfErr result (λ refused. refused.0 ≡ trace) }
@@ -44,7 +44,7 @@ impl Indexed {
         }
     }
 
-    /// The execution that it was made of.
+    /// The trace that it was made of.
     pub fn trace(&self) -> &Trace
         ensures same { result.now ≡ self.now }
         ensures well_formed { IsWellFormed self.now }

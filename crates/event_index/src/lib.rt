@@ -1,4 +1,4 @@
-//! The tables of an accepted execution: places, writers, forks, sections, and what two events have to do
+//! The tables of an accepted trace: places, writers, forks, sections, and what two events have to do
 //! with each other.
 #![tactic(auto)]
 

@@ -1,4 +1,4 @@
-//! The tables of an execution, made together.
+//! The tables of a trace, made together.
 ghost use Rattle.std.specs.Prelude.{IfOk};
 ghost use Rattle.trace_rules.specs.Rules.{IsDisciplined};
 ghost use Rattle.event_index.specs.Layout.{AreTables};

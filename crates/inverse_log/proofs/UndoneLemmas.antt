@@ -21,7 +21,7 @@ use Rattle.inverse_log.specs.declared.reply.Reply.TheVariants.{Undone}
 use Rattle.inverse_log.specs.Answer.{answer_of, undo_or, undone_or, IsLegal, goes_on}
 use Rattle.inverse_log.specs.Kept.{IsBench, IsUnblocked}
 use Rattle.inverse_log.specs.Log.{Live, live, live_of, is_by, last_live, blocker_of, command_of}
-use Rattle.inverse_log.specs.Touching.{number_of, touches_name}
+use Rattle.inverse_log.specs.Touching.{entry_number, touches_name}
 use Rattle.inverse_log.proofs.DoLemmas.{after_ok, bench_same, edits_push, eqb_turn}
 use Rattle.inverse_log.proofs.Inner.{Keeps}
 use Rattle.inverse_log.proofs.KeptLemmas.{undo_within, undo_can, undo_kept, undo_never, set_back}
@@ -36,11 +36,11 @@ pub record IsLast (L : List Entry) (c k : ℕ) (d : Command) : Type 0 where
   pub split : live_of L ≡ before ++ live k c d ∷ after
   pub there : slice_get L k ≡ Some (Did c d)
 
-no_number : (o : Option Live) → None ≡ option_map number_of o → o ≡ None
+no_number : (o : Option Live) → None ≡ option_map entry_number o → o ≡ None
 no_number None h = refl
 no_number (Some g) h = absurd cc
 
-a_number : (k : ℕ) (o : Option Live) → Some k ≡ option_map number_of o → (g : Live) × (o ≡ Some g) × (g.number ≡ k)
+a_number : (k : ℕ) (o : Option Live) → Some k ≡ option_map entry_number o → (g : Live) × (o ≡ Some g) × (g.number ≡ k)
 a_number k None h = absurd cc
 a_number k (Some g) h = (g, refl, let e : Some k ≡ Some g.number = h in let f : k ≡ g.number = cc in sym f)
 
@@ -69,7 +69,7 @@ module _ (own : Inside) (b : Keeps own) where
   abbrev C : List (List ℕ)
   C = own.clients
 
-  own_last : (c : ℕ) (o : Option ℕ) → o ≡ last_of (of_client C c) → o ≡ option_map number_of (last_live L c)
+  own_last : (c : ℕ) (o : Option ℕ) → o ≡ last_of (of_client C c) → o ≡ option_map entry_number (last_live L c)
   own_last c o h = h ∙ ap last_of (b.listed.clients c) ∙ sym (find_last (is_by c) (live_of L))
 
   pub undo_none : (n c : ℕ) → n ≡ length L → n < 1000000 → None ≡ last_of (of_client C c) → answer_of T L c Undo ≡ Err NothingToUndo
@@ -102,7 +102,7 @@ module _ (own : Inside) (b : Keeps own) where
       subst (IsLast L c k) (sym same) f.1
 
   module _ (c k : ℕ) (d : Command) (last : IsLast L c k d) (n : ℕ) (is : n ≡ length L) (room : n < 1000000) where
-    blocked : (o : Option ℕ) (x : List ℕ) → x ≡ writes d → o ≡ find (λ j. ltb k j) (under N x) → o ≡ option_map number_of (blocker_of L (live k c d))
+    blocked : (o : Option ℕ) (x : List ℕ) → x ≡ writes d → o ≡ find (λ j. ltb k j) (under N x) → o ≡ option_map entry_number (blocker_of L (live k c d))
     blocked o x name h = h ∙ ap (λ y. find (λ j. ltb k j) (under N y)) name ∙ ap (find (λ j. ltb k j)) (b.listed.names (writes d)) ∙ sym (blocker_number L (live k c d))
 
     pub undo_rests : (j : ℕ) (x : List ℕ) → x ≡ writes d → Some j ≡ find (λ i. ltb k i) (under N x) → answer_of T L c Undo ≡ Err (RestsOn j x)

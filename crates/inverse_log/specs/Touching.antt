@@ -4,14 +4,14 @@ use Rattle.moves.specs.Commands.{touches}
 use Rattle.inverse_log.specs.declared.entry.Entry.{Entry}
 use Rattle.inverse_log.specs.Log.{Live, live_of, is_by}
 
-abbrev pub number_of : Live → ℕ
-number_of e = e.number
+abbrev pub entry_number : Live → ℕ
+entry_number e = e.number
 
 abbrev pub touches_name : List ℕ → Live → Bool
 touches_name x e = touches e.command x
 
 abbrev pub touching : List Entry → List ℕ → List ℕ
-touching L x = map number_of (filter (touches_name x) (live_of L))
+touching L x = map entry_number (filter (touches_name x) (live_of L))
 
 abbrev pub own_live : List Entry → ℕ → List ℕ
-own_live L c = map number_of (filter (is_by c) (live_of L))
+own_live L c = map entry_number (filter (is_by c) (live_of L))

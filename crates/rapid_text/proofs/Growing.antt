@@ -23,12 +23,9 @@ with_last r events locations event location e l =
 
 -- the name of an operation leaves the threads' numbers
 operand-keeps : (r : Recording) (kind : Kind) (name other : List ℕ) (n : ℕ) → IsNumber r.threads other n → IsNumber (with_operand r kind name).threads other n
-operand-keeps r Reads name other n h = h
-operand-keeps r Writes name other n h = h
-operand-keeps r Acquires name other n h = h
-operand-keeps r Releases name other n h = h
 operand-keeps r Forks name other n h = IsNumber-with_name r.threads other name n h
 operand-keeps r Joins name other n h = IsNumber-with_name r.threads other name n h
+operand-keeps r kind name other n h = h
 
 abbrev last_put : Recording → Event → List ℕ → Recording
 last_put s event location = record s { events = s.events ++ event ∷ []; locations = s.locations ++ location ∷ [] }

@@ -30,28 +30,19 @@ of_uses e t v l ls =
 
 -- its tables behind one more operand
 threads_operand : (kind : Kind) (name : List ℕ) (e : List Event) (t v l ls : List (List ℕ)) → first_uses (t ++ cond (names_thread kind) (name ∷ []) []) ≡ (with_operand (of_uses e t v l ls) kind name).threads
-threads_operand Reads name e t v l ls = no_use t
-threads_operand Writes name e t v l ls = no_use t
-threads_operand Acquires name e t v l ls = no_use t
-threads_operand Releases name e t v l ls = no_use t
 threads_operand Forks name e t v l ls = first_uses-push t name
 threads_operand Joins name e t v l ls = first_uses-push t name
+threads_operand kind name e t v l ls = no_use t
 
 variables_operand : (kind : Kind) (name : List ℕ) (e : List Event) (t v l ls : List (List ℕ)) → first_uses (v ++ cond (names_variable kind) (name ∷ []) []) ≡ (with_operand (of_uses e t v l ls) kind name).variables
 variables_operand Reads name e t v l ls = first_uses-push v name
 variables_operand Writes name e t v l ls = first_uses-push v name
-variables_operand Acquires name e t v l ls = no_use v
-variables_operand Releases name e t v l ls = no_use v
-variables_operand Forks name e t v l ls = no_use v
-variables_operand Joins name e t v l ls = no_use v
+variables_operand kind name e t v l ls = no_use v
 
 locks_operand : (kind : Kind) (name : List ℕ) (e : List Event) (t v l ls : List (List ℕ)) → first_uses (l ++ cond (names_lock kind) (name ∷ []) []) ≡ (with_operand (of_uses e t v l ls) kind name).locks
-locks_operand Reads name e t v l ls = no_use l
-locks_operand Writes name e t v l ls = no_use l
 locks_operand Acquires name e t v l ls = first_uses-push l name
 locks_operand Releases name e t v l ls = first_uses-push l name
-locks_operand Forks name e t v l ls = no_use l
-locks_operand Joins name e t v l ls = no_use l
+locks_operand kind name e t v l ls = no_use l
 
 -- the tables of one event more
 module _ (es : List NamedEvent) (e : NamedEvent) where
@@ -168,12 +159,9 @@ recording_is e e' t t' v v' l l' p p' a b c d f = cc
 
 -- the operand leaves the events and the locations
 operand_events : (r : Recording) (kind : Kind) (name : List ℕ) → ((with_operand r kind name).events ≡ r.events) × ((with_operand r kind name).locations ≡ r.locations)
-operand_events r Reads name = (refl, refl)
-operand_events r Writes name = (refl, refl)
-operand_events r Acquires name = (refl, refl)
-operand_events r Releases name = (refl, refl)
 operand_events r Forks name = (refl, refl)
 operand_events r Joins name = (refl, refl)
+operand_events r kind name = (refl, refl)
 
 -- all events' names stand in their recording's tables
 abbrev pub IsKnown : List NamedEvent → Type 0

@@ -1,12 +1,12 @@
--- How long a line and a name may be, and how large a recording. The constants of the code are measured
+-- How long a line and a name may be, and how large a trace. The constants of the code are measured
 -- against these numbers.
 use Rattle.std.specs.Prelude.{ℕ}
 
--- the most events of a recording
+-- the most events of a trace
 abbrev pub event_limit : ℕ
 event_limit = 65536
 
--- the most threads of a recording
+-- the most threads of a trace
 abbrev pub thread_limit : ℕ
 thread_limit = 64
 

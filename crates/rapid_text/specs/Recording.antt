@@ -1,4 +1,4 @@
--- What a contract sees of a recorded execution: its events, and the names behind their numbers.
+-- What a contract sees of a trace: its events, and the names behind their numbers.
 use Rattle.std.specs.Prelude.{◌≡◌, ℕ, ◌<◌, ◌≤◌, List, length, All}
 use Rattle.rapid_text.specs.declared.event.Event.{Event}
 use Rattle.rapid_text.specs.declared.event.Op.{Op}

@@ -1,4 +1,4 @@
-//! An event of a recorded execution: which thread did what.
+//! An event of a trace: which thread did what.
 
 /// What an event does. The number is that of a variable, a lock or a thread, each counted from 0 by
 /// first use.

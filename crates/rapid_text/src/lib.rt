@@ -1,4 +1,4 @@
-//! Reads a recorded execution from its text in RAPID's standard format, and prints it back.
+//! Reads a trace from its text in RAPID's standard format, and prints it back.
 #![tactic(auto)]
 
 mod bytes;

@@ -1,4 +1,4 @@
-//! A recorded execution as its text tells it, before any rule on it is tested.
+//! A trace before any rule on it is tested.
 ghost use Rattle.std.specs.Prelude.{◌≡◌, ◌<◌, ◌≤◌, length, slice_get, Some};
 ghost use Rattle.rapid_text.specs.Recording.{IsWellFormed, IsNamed};
 
@@ -6,17 +6,17 @@ use crate::event::Event;
 use crate::names::{Names, TextKeyed};
 use std::marker::Model;
 
-/// The most events of a recording.
+/// The most events of a trace.
 pub const MAX_EVENTS: usize = 65_536;
-/// The most threads of a recording.
+/// The most threads of a trace.
 pub const MAX_THREADS: usize = 64;
 /// The most bytes of a line, without the blanks at its ends.
 pub const MAX_LINE: usize = 4_096;
 /// The most bytes of a name.
 pub const MAX_NAME: usize = 255;
 
-/// A recorded execution. It is made by `parse` alone, so each number in it has a name, and its
-/// canonical text reads back as the same execution.
+/// A trace as its text tells it. It is made by `parse` alone, so each number in it has a name, and its
+/// canonical text reads back as the same trace.
 #[derive(Drop)]
 pub struct RawTrace {
     pub(crate) events: Vec<Event>,

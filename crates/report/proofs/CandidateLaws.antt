@@ -6,7 +6,7 @@ use Rattle.rapid_text.specs.Canonical.{name_at}
 use Rattle.rapid_text.specs.Recording.{Recording}
 use Rattle.rapid_text.specs.declared.event.Event.{Event}
 use Rattle.rapid_text.specs.declared.event.Op.{Op}
-use Rattle.rapid_text.specs.declared.event.Op.TheVariants.{Read, Write, Acquire, Release, Fork, Join}
+use Rattle.rapid_text.specs.declared.event.Op.TheVariants.{Read, Write}
 use Rattle.event_index.specs.Relations.{is_access, IsConflicting}
 use Rattle.report.specs.Candidates.{variable_by, variable_words}
 
@@ -18,10 +18,7 @@ variable_by-access : (r : Recording) (x : ℕ) (op : Op) → is_access x op ≡ 
 variable_by-access r x (Read y) h =
     ap (name_at r.variables) (⊎_elim (eqb-true y x) false_no (or_cases (eqb y x) false h))
 variable_by-access r x (Write y) h = ap (name_at r.variables) (eqb-true y x h)
-variable_by-access r x (Acquire l) h = false_no h
-variable_by-access r x (Release l) h = false_no h
-variable_by-access r x (Fork u) h = false_no h
-variable_by-access r x (Join u) h = false_no h
+variable_by-access r x op h = false_no h
 
 -- the variable that the first of two conflicting events accesses
 pub variable_words-first : (r : Recording) (a b : ℕ) → (c : IsConflicting r.events a b)

@@ -3,19 +3,15 @@ use Rattle.std.specs.Prelude.{ℕ, List, [], ◌++◌, length, flat_map, Option,
 use Rattle.rapid_text.specs.Canonical.{name_at}
 use Rattle.rapid_text.specs.Recording.{Recording}
 use Rattle.rapid_text.specs.declared.event.Op.{Op}
-use Rattle.rapid_text.specs.declared.event.Op.TheVariants.{Read, Write, Acquire, Release, Fork, Join}
+use Rattle.rapid_text.specs.declared.event.Op.TheVariants.{Read, Write}
 use Rattle.event_index.specs.Events.{op_at}
 use Rattle.report.specs.Info.{count_line}
 
 -- the name of the variable that the operation accesses; nothing where it accesses none
 abbrev pub variable_by : Recording → Option Op → List ℕ
-variable_by r None = []
 variable_by r (Some (Read x)) = name_at r.variables x
 variable_by r (Some (Write x)) = name_at r.variables x
-variable_by r (Some (Acquire l)) = []
-variable_by r (Some (Release l)) = []
-variable_by r (Some (Fork u)) = []
-variable_by r (Some (Join u)) = []
+variable_by r op = []
 
 -- the name of the variable that event e accesses
 abbrev pub variable_words : Recording → ℕ → List ℕ

@@ -1,4 +1,4 @@
--- What is printed of how much of what is in an execution.
+-- What is printed of how much of what is in a trace.
 use Rattle.std.specs.Prelude.{ℕ, List, ◌++◌, length, flat_map, codes, decimal}
 use Rattle.std.specs.List.{range_with_len}
 use Rattle.rapid_text.specs.Canonical.{name_at}

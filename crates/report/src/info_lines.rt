@@ -1,4 +1,4 @@
-//! Prints how much of what is in an execution.
+//! Prints how much of what is in a trace.
 ghost use Rattle.std.specs.Prelude.{◌≡◌, ◌<◌, ◌++◌, length, OnOk, OnErr};
 ghost use Rattle.rapid_text.specs.Canonical.{name_at};
 ghost use Rattle.report.specs.Info.{info_text, counts_text, thread_line, thread_lines};

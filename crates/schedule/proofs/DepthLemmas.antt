@@ -6,6 +6,7 @@ use Rattle.std.proofs.lemmas.Option.{same_Some, none-some}
 use Rattle.rapid_text.specs.Operations.{is_acquire, is_release}
 use Rattle.rapid_text.specs.declared.event.Event.{Event}
 use Rattle.rapid_text.specs.declared.event.Op.TheVariants.{Acquire, Release}
+use Rattle.rapid_text.proofs.CallerLemmas.{acquire-from_test, release-from_test}
 use Rattle.trace_rules.specs.Rules.{IsDisciplined, acquire_count, release_count, hold_count}
 use Rattle.event_index.specs.Events.{passes_by, passes_at}
 use Rattle.schedule.specs.Locks.{is_acquire_at, is_release_at, is_acquire_by, is_release_by, last_taker}
@@ -13,7 +14,7 @@ use Rattle.schedule.specs.Reordering.{events_at, IsCorrectReordering, IsEnabled}
 use Rattle.schedule.specs.Tables.{sets, frees}
 use Rattle.schedule.specs.declared.latest.Key.{Key}
 use Rattle.schedule.specs.declared.latest.Key.TheVariants.{Variable, Lock}
-use Rattle.schedule.proofs.CountLemmas.{count_by-events_at, releases_within_list, is_acquire-true, is_release-true}
+use Rattle.schedule.proofs.CountLemmas.{count_by-events_at, releases_within_list}
 use Rattle.schedule.proofs.EnabledLemmas.{Allows, Allows-enabled, IsCorrectReordering-take}
 use Rattle.schedule.proofs.LatestLemmas.{count_by-same, sets_lock, frees_lock, frees_variable, never_counted}
 use Rattle.schedule.proofs.LockLemmas.{AtEach-grows, counts_push, taker_is, taker_stays, took_last_or_free}
@@ -163,10 +164,10 @@ module _ (T : List Event) (l : ℕ) (xs : List ℕ) (e : ℕ) (d : IsDisciplined
   whole_step : IsWhole T l (xs ++ e ∷ [])
   whole_step =
       elim (cases_Bool (is_acquire l allowed.v.op)) [
-        | inl takes ↦ whole_acquire (is_acquire-true l allowed.v.op takes)
+        | inl takes ↦ whole_acquire (acquire-from_test l allowed.v.op takes)
         | inr no_take ↦
             elim (cases_Bool (is_release l allowed.v.op)) [
-              | inl frees_it ↦ whole_release (is_release-true l allowed.v.op frees_it)
+              | inl frees_it ↦ whole_release (release-from_test l allowed.v.op frees_it)
               | inr no_free ↦ whole_other no_take no_free
             ]
       ]

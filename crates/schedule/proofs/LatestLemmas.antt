@@ -54,29 +54,19 @@ key_eq-true (Lock x) (Lock y) h = ap Lock (eqb-true x y h)
 -- an operation that sets a key frees none
 set_not_freed : (op : Op) (q : Key) → sets_op q op ≡ true → frees_op q op ≡ false
 set_not_freed (Release l) q h = absurd (false≢true h)
-set_not_freed (Read x) q h = refl
-set_not_freed (Write x) q h = refl
-set_not_freed (Acquire l) q h = refl
-set_not_freed (Fork u) q h = refl
-set_not_freed (Join u) q h = refl
+set_not_freed op q h = refl
 
 -- what it shadows is what stood at the key that it sets
 shadow_of_op-set : (op : Op) (q : Key) (last : Key → Option ℕ) → sets_op q op ≡ true → shadow_of_op last op ≡ last q
 shadow_of_op-set (Write x) q last h = ap last (key_eq-true (Variable x) q h)
 shadow_of_op-set (Acquire l) q last h = ap last (key_eq-true (Lock l) q h)
-shadow_of_op-set (Read x) q last h = absurd (false≢true h)
-shadow_of_op-set (Release l) q last h = absurd (false≢true h)
-shadow_of_op-set (Fork u) q last h = absurd (false≢true h)
-shadow_of_op-set (Join u) q last h = absurd (false≢true h)
+shadow_of_op-set op q last h = absurd (false≢true h)
 
 -- the shadow of an operation goes by its own key
 pub shadow_of_op-own : (f g : Key → Option ℕ) (op : Op) → ((q : Key) → sets_op q op ≡ true → f q ≡ g q) → shadow_of_op f op ≡ shadow_of_op g op
 shadow_of_op-own f g (Write x) own = own (Variable x) (key_eq_equiv.refl (Variable x))
 shadow_of_op-own f g (Acquire l) own = own (Lock l) (key_eq_equiv.refl (Lock l))
-shadow_of_op-own f g (Read x) own = refl
-shadow_of_op-own f g (Release l) own = refl
-shadow_of_op-own f g (Fork u) own = refl
-shadow_of_op-own f g (Join u) own = refl
+shadow_of_op-own f g op own = refl
 
 -- one step at one key, by what the operation does there: `a` settings, `r` freeings so far
 latest_after :
@@ -189,36 +179,20 @@ depth-within T P q =
 
 -- a variable is set by its writes alone, a lock by its acquires, and freed by its releases
 set_by_write : (x : ℕ) (op : Op) → sets_op (Variable x) op ≡ is_write x op
-set_by_write x (Read y) = refl
 set_by_write x (Write y) = refl
-set_by_write x (Acquire l) = refl
-set_by_write x (Release l) = refl
-set_by_write x (Fork u) = refl
-set_by_write x (Join u) = refl
+set_by_write x op = refl
 
 set_by_acquire : (l : ℕ) (op : Op) → sets_op (Lock l) op ≡ is_acquire l op
-set_by_acquire l (Read y) = refl
-set_by_acquire l (Write y) = refl
 set_by_acquire l (Acquire m) = refl
-set_by_acquire l (Release m) = refl
-set_by_acquire l (Fork u) = refl
-set_by_acquire l (Join u) = refl
+set_by_acquire l op = refl
 
 freed_by_release : (l : ℕ) (op : Op) → frees_op (Lock l) op ≡ is_release l op
-freed_by_release l (Read y) = refl
-freed_by_release l (Write y) = refl
-freed_by_release l (Acquire m) = refl
 freed_by_release l (Release m) = refl
-freed_by_release l (Fork u) = refl
-freed_by_release l (Join u) = refl
+freed_by_release l op = refl
 
 never_freed : (x : ℕ) (op : Op) → frees_op (Variable x) op ≡ false
-never_freed x (Read y) = refl
-never_freed x (Write y) = refl
-never_freed x (Acquire l) = refl
 never_freed x (Release l) = refl
-never_freed x (Fork u) = refl
-never_freed x (Join u) = refl
+never_freed x op = refl
 
 passes_same : (p r : Event → Bool) → ((v : Event) → p v ≡ r v) → (o : Option Event) → passes_by p o ≡ passes_by r o
 passes_same p r same None = refl

@@ -7,12 +7,14 @@ use Rattle.std.proofs.lemmas.Option.{same_Some, none-some}
 use Rattle.rapid_text.specs.Operations.{is_acquire, is_release}
 use Rattle.rapid_text.specs.declared.event.Event.{Event}
 use Rattle.rapid_text.specs.declared.event.Op.TheVariants.{Acquire}
+use Rattle.rapid_text.proofs.CallerLemmas.{acquire-from_test}
 use Rattle.trace_rules.specs.Rules.{acquire_count, release_count, hold_count}
 use Rattle.event_index.specs.Events.{passes_by, thread_at}
+use Rattle.event_index.proofs.CallerLemmas.{passes_event}
 use Rattle.schedule.specs.Locks.{is_acquire_at, is_acquire_by, is_release_by, last_taker}
 use Rattle.schedule.specs.Refusals.{other_holder, IsOnlyHolder}
 use Rattle.schedule.specs.Reordering.{events_at, AtEach, FindsLockFree, RespectsLocks}
-use Rattle.schedule.proofs.CountLemmas.{count_by-events_at, is_acquire-true}
+use Rattle.schedule.proofs.CountLemmas.{count_by-events_at}
 use Rattle.schedule.proofs.ListLemmas.{Contains-here, Contains-later}
 use Rattle.schedule.proofs.TestLemmas.{find-None}
 
@@ -36,10 +38,6 @@ find-reverse_push p xs e = ap (find p) (reverse-append xs (e ∷ []))
 abbrev pub TookLastOrFree : List Event → ℕ → List ℕ → Type 0
 TookLastOrFree T l P =
     (w : ℕ) → (last_taker T P l ≡ Some w) ⊎ (count_by (is_acquire_by T w l) P ≤ count_by (is_release_by T w l) P)
-
-acquires_by : (l : ℕ) (o : Option Event) → passes_by (λ v. is_acquire l v.op) o ≡ true → (v : Event) × (o ≡ Some v) × (v.op ≡ Acquire l)
-acquires_by l None h = absurd (false≢true h)
-acquires_by l (Some v) h = (v, refl, is_acquire-true l v.op h)
 
 not_acquire_by : (l w : ℕ) (o : Option Event) → passes_by (λ v. is_acquire l v.op) o ≡ false → passes_by (λ v. v.thread == w && is_acquire l v.op) o ≡ false
 not_acquire_by l w None h = refl
@@ -108,8 +106,8 @@ took_last_step : (T : List Event) (l : ℕ) (xs : List ℕ) (e : ℕ) → TookLa
 took_last_step T l xs e so free =
     elim (cases_Bool (is_acquire_at T l e)) [
       | inl taken ↦
-          let a = acquires_by l (slice_get T e) taken in
-          took_last T l xs e a.0 a.1 a.2 free
+          let a = passes_event (λ v. is_acquire l v.op) T e taken in
+          took_last T l xs e a.0 a.1 (acquire-from_test l a.0.op a.2) free
       | inr other ↦ took_last_stays T l xs e other so
     ]
 

@@ -9,6 +9,7 @@ use Rattle.rapid_text.specs.Operations.{is_read, is_write, is_acquire, is_releas
 use Rattle.rapid_text.specs.declared.event.Event.{Event}
 use Rattle.rapid_text.specs.declared.event.Op.{Op}
 use Rattle.rapid_text.specs.declared.event.Op.TheVariants.{Read, Write, Acquire, Release, Fork, Join}
+use Rattle.rapid_text.proofs.CallerLemmas.{fork-from_test}
 use Rattle.trace_rules.specs.Rules.{acquire_count, release_count}
 use Rattle.event_index.specs.Events.{op_at, thread_at, passes_by, passes_at, is_of_thread, is_write_at}
 use Rattle.event_index.specs.Lookups.{events_of, last_write, fork_of}
@@ -116,14 +117,6 @@ IsIndependent-sym T a b i =
       };
     }
 
-is_fork-true : (u : ℕ) (op : Op) → is_fork u op ≡ true → op ≡ Fork u
-is_fork-true u (Read x) h = absurd (false≢true h)
-is_fork-true u (Write x) h = absurd (false≢true h)
-is_fork-true u (Acquire l) h = absurd (false≢true h)
-is_fork-true u (Release l) h = absurd (false≢true h)
-is_fork-true u (Fork w) h = ap Fork (eqb-true w u h)
-is_fork-true u (Join w) h = absurd (false≢true h)
-
 only_member : (a d : ℕ) → Contains (a ∷ []) d → a ≡ d
 only_member a d (zero, lt, at) = at
 only_member a d (suc k, lt, at) = absurd (omega arith)
@@ -197,7 +190,7 @@ module _ (T : List Event) (A : List ℕ) (a b : ℕ) (i : IsIndependent T a b) w
       count_by-events_at T test (A ++ a ∷ []) ∙ count_past (passes_at test T) A a fails ∙ sym (count_by-events_at T test A)
 
   forks_a : (t : ℕ) → fork_of T t ≡ Some a → i.v.op ≡ Fork t
-  forks_a t forks = is_fork-true t i.v.op (sym (passes (λ x. is_fork t x.op)) ∙ (fork_of-some T t a forks).1)
+  forks_a t forks = fork-from_test t i.v.op (sym (passes (λ x. is_fork t x.op)) ∙ (fork_of-some T t a forks).1)
 
   -- what b needs stands before a
   fork_before : (f : ℕ) → fork_of T i.w.thread ≡ Some f → a ≢ f

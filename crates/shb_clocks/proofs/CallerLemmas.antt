@@ -13,9 +13,8 @@ pub use Rattle.shb_clocks.proofs.SourceLemmas.{Edge-base, Edge-counterpart}
 pub use Rattle.shb_clocks.proofs.OrderLemmas.{Leads, IsShbBefore-sources}
 -- an earlier event of the thread, and the thread's fork, are at or before the base
 pub use Rattle.shb_clocks.proofs.SourceLemmas.{base-after, base-after_fork, fork_of-is, end_of_thread-event, end_of_thread-fork}
-pub use Rattle.event_index.proofs.CallerLemmas.{is_of_thread-thread}
 -- what an event found in the trace does, and which thread does it
-pub use Rattle.shb_clocks.proofs.EdgeLemmas.{thread_here, op_here, thread_event, op_event, thread_within, one_thread}
+pub use Rattle.event_index.proofs.CallerLemmas.{is_of_thread-thread, thread_here, op_here, thread_event, op_event, thread_within, one_thread}
 -- the events of a candidate are in the trace
 pub use Rattle.shb_clocks.proofs.PartnerLemmas.{candidate_within}
 -- no other list is meant by the first candidates

@@ -12,7 +12,8 @@ use Rattle.event_index.specs.Events.{thread_at}
 use Rattle.event_index.specs.Lookups.{place_of, base_of}
 use Rattle.shb_clocks.specs.HappensBefore.{IsShbBefore, same}
 use Rattle.shb_clocks.specs.Layout.{IsCount, AreCounts, count_by, counterpart_of}
-use Rattle.shb_clocks.proofs.EdgeLemmas.{Edge-earlier, IsShbBefore-le, along_thread, thread_here, one_thread}
+use Rattle.shb_clocks.proofs.EdgeLemmas.{Edge-earlier, IsShbBefore-le, along_thread}
+use Rattle.event_index.proofs.CallerLemmas.{thread_here, one_thread}
 use Rattle.shb_clocks.proofs.OrderLemmas.{Leads, IsShbBefore-base, IsShbBefore-counterpart, IsShbBefore-sources}
 use Rattle.shb_clocks.proofs.PlaceLemmas.{place_of-le_from, le-from_place_of}
 use Rattle.shb_clocks.proofs.SourceLemmas.{Edge-counterpart}

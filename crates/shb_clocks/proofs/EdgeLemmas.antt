@@ -1,4 +1,4 @@
--- What an edge says of two events in an execution that keeps the rules: the first stands before the
+-- What an edge says of two events in a trace that keeps the rules: the first stands before the
 -- second.
 use Rattle.std.proofs.Common.{◌≡◌, ℕ, ◌<◌, ◌≤◌, true, eqb, List, Option, Some, None, length, refl, sym, ap, ◌∙◌, subst, arith, eq-eqb, inl, inr}
 use Rattle.std.specs.List.{slice_get}
@@ -10,42 +10,8 @@ use Rattle.rapid_text.specs.declared.event.Op.{Op}
 use Rattle.rapid_text.specs.declared.event.Op.TheVariants.{Fork, Join}
 use Rattle.trace_rules.specs.Rules.{IsDisciplined}
 use Rattle.event_index.specs.Events.{op_at, thread_at, is_of_thread}
-use Rattle.event_index.proofs.CallerLemmas.{last_writer-earlier, passes_here}
+use Rattle.event_index.proofs.CallerLemmas.{last_writer-earlier, thread_event, op_event}
 use Rattle.shb_clocks.specs.HappensBefore.{Edge, in_thread, by_lock, by_fork, by_join, from_fork_to_join, by_writer, IsShbBefore, same, chain}
-
--- an event of a thread, an event that does something
-thread_found : (t : ℕ) (o : Option Event) → option_map (λ (v : Event). v.thread) o ≡ Some t → (v : Event) × (o ≡ Some v) × (v.thread ≡ t)
-thread_found t None h = absurd (none-some t h)
-thread_found t (Some v) h = (v, refl, same_Some v.thread t h)
-
-op_found : (op : Op) (o : Option Event) → option_map (λ (v : Event). v.op) o ≡ Some op → (v : Event) × (o ≡ Some v) × (v.op ≡ op)
-op_found op None h = absurd (none-some op h)
-op_found op (Some v) h = (v, refl, same_Some v.op op h)
-
-module _ (T : List Event) (e : ℕ) where
-  pub thread_event : (t : ℕ) → thread_at T e ≡ Some t → (v : Event) × (slice_get T e ≡ Some v) × (v.thread ≡ t)
-  thread_event t h = thread_found t (slice_get T e) h
-
-  pub op_event : (op : Op) → op_at T e ≡ Some op → (v : Event) × (slice_get T e ≡ Some v) × (v.op ≡ op)
-  op_event op h = op_found op (slice_get T e) h
-
-  pub thread_here : (v : Event) → slice_get T e ≡ Some v → thread_at T e ≡ Some v.thread
-  thread_here v at = ap (option_map (λ (w : Event). w.thread)) at
-
-  pub op_here : (v : Event) → slice_get T e ≡ Some v → op_at T e ≡ Some v.op
-  op_here v at = ap (option_map (λ (w : Event). w.op)) at
-
-  pub thread_within : (t : ℕ) → thread_at T e ≡ Some t → e < length T
-  thread_within t h = let found = thread_event t h in slice_get_within T e found.0 found.1
-
-  pub is_of_thread-from : (t : ℕ) → thread_at T e ≡ Some t → is_of_thread T t e ≡ true
-  is_of_thread-from t h =
-      let found = thread_event t h in
-      passes_here (λ w. eqb w.thread t) T e found.0 found.1 ∙ eq-eqb found.0.thread t found.2
-
--- two threads of one event are one
-pub one_thread : (T : List Event) (e t u : ℕ) → thread_at T e ≡ Some t → thread_at T e ≡ Some u → t ≡ u
-one_thread T e t u h k = same_Some t u (sym h ∙ k)
 
 module _ (T : List Event) (rules : IsDisciplined T) (a b u : ℕ) where
   -- a thread is forked before its events

@@ -5,10 +5,10 @@ use Rattle.rapid_text.specs.declared.event.Op.TheVariants.{Read, Acquire, Fork, 
 use Rattle.trace_rules.specs.Rules.{IsDisciplined}
 use Rattle.event_index.specs.Events.{op_at, thread_at}
 use Rattle.event_index.specs.Lookups.{base_of}
-use Rattle.event_index.proofs.CallerLemmas.{last_writer-some}
+use Rattle.event_index.proofs.CallerLemmas.{last_writer-some, thread_event}
 use Rattle.shb_clocks.specs.HappensBefore.{Edge, in_thread, by_lock, by_fork, by_join, from_fork_to_join, by_writer, IsShbBefore, same, chain}
 use Rattle.shb_clocks.specs.Layout.{counterpart_of}
-use Rattle.shb_clocks.proofs.EdgeLemmas.{thread_event, along_thread}
+use Rattle.shb_clocks.proofs.EdgeLemmas.{along_thread}
 use Rattle.shb_clocks.proofs.SourceLemmas.{base-after, base-after_fork, Edge-base, end_of_thread-event, end_of_thread-fork, Edge-counterpart, counterpart_of-op, last_release-after, release_to_release}
 
 -- a is SHB-before or equal to this event, which is there

@@ -12,7 +12,8 @@ use Rattle.event_index.specs.Relations.{is_access, IsConflicting}
 use Rattle.shb_clocks.specs.HappensBefore.{same, chain}
 use Rattle.shb_clocks.specs.Candidates.{IsApart, IsCandidate}
 use Rattle.shb_clocks.specs.Search.{IsFirstFrom, linked_variable, IsLinked, sought_by, IsPartner, IsKept, ArePartners}
-use Rattle.shb_clocks.proofs.EdgeLemmas.{op_event, thread_event, thread_here, along_thread}
+use Rattle.shb_clocks.proofs.EdgeLemmas.{along_thread}
+use Rattle.event_index.proofs.CallerLemmas.{op_event, thread_event, thread_here}
 use Rattle.shb_clocks.proofs.SourceLemmas.{base-after, Edge-base}
 
 one_variable : (x y z : ℕ) → eqb x y ≡ true → eqb z y ≡ true → z ≡ x

@@ -7,8 +7,7 @@ use Rattle.rapid_text.specs.declared.event.Event.{Event}
 use Rattle.rapid_text.specs.declared.event.Op.TheVariants.{Read}
 use Rattle.event_index.specs.Events.{thread_at}
 use Rattle.event_index.specs.Lookups.{count_before, place_of}
-use Rattle.event_index.proofs.CallerLemmas.{count_more, place_of-count}
-use Rattle.shb_clocks.proofs.EdgeLemmas.{thread_event}
+use Rattle.event_index.proofs.CallerLemmas.{count_more, place_of-count, thread_event}
 
 counts_grow : (T : List Event) (i k t : ℕ) → i + k ≤ length T → count_before T i t ≤ count_before T (i + k) t
 counts_grow T i zero t within =

@@ -11,7 +11,7 @@ use Rattle.rapid_text.specs.declared.event.Event.{Event}
 use Rattle.event_index.specs.Events.{thread_at}
 use Rattle.shb_clocks.specs.HappensBefore.{IsShbBefore}
 use Rattle.shb_clocks.specs.Layout.{IsCount, AreThreads, AreCounts}
-use Rattle.shb_clocks.proofs.EdgeLemmas.{thread_event}
+use Rattle.event_index.proofs.CallerLemmas.{thread_event}
 
 -- the numbers in an event have names
 pub event_named : (r : Recording) → IsWellFormed r → (e : ℕ) (v : Event) → slice_get r.events e ≡ Some v → IsNamed r v

@@ -1,5 +1,5 @@
 -- The base and the counterpart of an event: edges lead from them to it, and of all that has an edge to it
--- they are the last. `T` is the events of an execution that keeps the rules.
+-- they are the last. `T` is the events of a trace that keeps the rules.
 use Rattle.std.proofs.Common.{◌≡◌, ℕ, zero, suc, ◌+◌, ◌-◌, ◌<◌, ◌≤◌, ◌⊎◌, true, eqb, List, reverse, Option, Some, None, length, get_or, take, refl, sym, ap, ◌∙◌, subst, arith, eq-eqb, inl, inr, true≢false}
 use Rattle.std.specs.List.{find, slice_get}
 use Rattle.std.proofs.lemmas.Bool.{cases_Bool, cases_eq, cases_lt, cases_order, eqb-true}
@@ -12,11 +12,10 @@ use Rattle.trace_rules.specs.Rules.{IsDisciplined, hold_count}
 use Rattle.trace_rules.proofs.CallerLemmas.{release-from_test, one_holder}
 use Rattle.event_index.specs.Events.{op_at, thread_at, is_of_thread, is_fork_at}
 use Rattle.event_index.specs.Lookups.{before, events_of, place_of, fork_of, or_else, base_of, base_by}
-use Rattle.event_index.proofs.CallerLemmas.{base_by-some, fork_of-some, events_of-place, place_of-events_of, find_last_is, find_last_none, find_none, passes_here, passes_event, is_fork_at-op, is_of_thread-thread}
-use Rattle.event_index.proofs.CallerLemmas.{takes, frees, takes_is, takes_not_thread, frees_not_thread, hold_same, hold_freed}
+use Rattle.event_index.proofs.CallerLemmas.{base_by-some, fork_of-some, events_of-place, place_of-events_of, find_last_is, find_last_none, find_none, passes_here, passes_event, is_fork_at-op, is_of_thread-thread, takes, frees, takes_is, takes_not_thread, frees_not_thread, hold_same, hold_freed, thread_event, op_event, thread_here, op_here, is_of_thread-from}
 use Rattle.shb_clocks.specs.HappensBefore.{Edge, in_thread, by_lock, by_fork, by_join, from_fork_to_join, by_writer, IsShbBefore, chain}
 use Rattle.shb_clocks.specs.Layout.{is_release_at, last_release, end_of_thread, counterpart_by, counterpart_of}
-use Rattle.shb_clocks.proofs.EdgeLemmas.{thread_event, op_event, thread_here, op_here, is_of_thread-from, along_thread}
+use Rattle.shb_clocks.proofs.EdgeLemmas.{along_thread}
 use Rattle.shb_clocks.proofs.PlaceLemmas.{le-from_place_of}
 
 -- an event that passes the test of a release releases the lock

@@ -9,8 +9,7 @@ use Rattle.rapid_text.specs.Recording.{Recording, IsWellFormed}
 use Rattle.rapid_text.specs.declared.event.Event.{Event}
 use Rattle.event_index.specs.Lookups.{events_of, place_of}
 use Rattle.event_index.specs.Layout.{IsTable, start_of}
-use Rattle.event_index.proofs.CallerLemmas.{events_of-place, length-events_before, get_or-IsTable}
-use Rattle.event_index.proofs.RowLemmas.{start_of-more, start_of-within, count_before-all}
+use Rattle.event_index.proofs.CallerLemmas.{events_of-place, length-events_before, get_or-IsTable, start_of-more, start_of-within, count_before-all}
 use Rattle.shb_clocks.specs.Search.{linked_variable, IsLinked, AreSpots}
 use Rattle.shb_clocks.specs.declared.spots.Spots.{Spots}
 use Rattle.shb_clocks.specs.Spots.{IsTaken, AreNumbered, AreNoted, HasBegun}

@@ -1,4 +1,4 @@
-//! The candidates of an execution, in rising order. An event's partners in another thread are a beginning of
+//! The candidates of a trace, in rising order. An event's partners in another thread are a beginning of
 //! the accesses that follow it there, since SHB only grows along a thread: no other pair is looked at.
 ghost use Rattle.std.specs.Prelude.{◌≡◌, true, false, None, IfSome, ℕ, ◌+◌, ◌*◌, ◌<◌, ◌≤◌, ◌⊎◌, length, IfOk, OnOk, Some, slice_index};
 ghost use Rattle.event_index.specs.Events.{op_at};

@@ -1,4 +1,4 @@
-//! The order SHB of an execution's events.
+//! The order SHB of a trace's events.
 ghost use Rattle.std.specs.Prelude.{◌≡◌, ◌<◌, ◌↔◌, length, IsTrue, IfOk};
 ghost use Rattle.rapid_text.specs.Recording.{IsWellFormed};
 ghost use Rattle.trace_rules.specs.Rules.{IsDisciplined};
@@ -14,7 +14,7 @@ use std::alloc::Global;
 use std::marker::Model;
 use std::snapshot::Snapshot;
 
-/// For each event of an execution, how many events of each thread are SHB-before or equal to it.
+/// For each event of a trace, how many events of each thread are SHB-before or equal to it.
 #[derive(Drop)]
 pub struct Clocks {
     trace: Snapshot<Indexed>,

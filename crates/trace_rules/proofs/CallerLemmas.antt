@@ -219,7 +219,7 @@ owner-from_depth (Some u) depth t above =
     ]
 
 module _ (T : List Event) (is : IsDisciplined T) (j t l : ℕ) where
-  -- in an execution that keeps the rules, no thread lets a lock go more often than it took it
+  -- in a trace that keeps the rules, no thread lets a lock go more often than it took it
   pub release_count-le : release_count (take j T) t l ≤ acquire_count (take j T) t l
   release_count-le =
       let held = hold_up_to T (none-from_IsDisciplined T is) l j in

@@ -1,5 +1,4 @@
--- The rules that a recorded execution has to keep. They are this project's own: which recordings a
--- schedule can be judged on.
+-- The rules that a trace has to keep. They are this project's own: on which traces a schedule can be judged.
 use Rattle.std.specs.Prelude.{◌≡◌, ◌≢◌, ℕ, ◌-◌, ◌<◌, ◌==◌, nat_lt, not, ◌&&◌, ◌||◌, if◌then◌else◌, List, length, take, count_by, filter_map, slice_get, Option, Some, None, option_map, option_and_then}
 use Rattle.std.specs.List.{list_any, range_with_len}
 use Rattle.rapid_text.specs.Operations.{is_acquire, is_release, is_fork, is_join}
@@ -22,7 +21,7 @@ release_count es t l = count_by (λ e. e.thread == t && is_release l e.op) es
 abbrev pub hold_count : List Event → ℕ → ℕ → ℕ
 hold_count es t l = acquire_count es t l - release_count es t l
 
--- An execution that breaks no rule. `T` is its events, `i` and `j` are places of two of them.
+-- A trace that breaks no rule. `T` is its events, `i` and `j` are places of two of them.
 pub record IsDisciplined (T : List Event) : Type 0 where
   -- nothing of a thread stands after a join of it
   pub no_event_after_join :

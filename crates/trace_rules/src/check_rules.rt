@@ -1,4 +1,4 @@
-//! Tests a recorded execution against the rules.
+//! Tests a trace against the rules.
 ghost use Rattle.std.specs.Prelude.{◌≡◌, ◌⊎◌, IfOk, IfErr, Some, None};
 ghost use Rattle.trace_rules.specs.Rules.{IsDisciplined, IsFirstBreach, first_breach, no_memory};
 
@@ -8,13 +8,13 @@ use crate::trace::Trace;
 use rapid_text::RawTrace;
 use std::alloc::Global;
 
-/// Accepts exactly the executions that keep the rules. Else it gives the execution back, with the first
+/// Accepts exactly the traces that keep the rules. Else it gives the trace back, with the first
 /// event that breaks a rule and the first rule that it breaks, 11 to 16; or 17 where memory was refused,
 /// which may come before a breach is seen.
 pub fn check(alloc: Global, raw: RawTrace) -> Result<Trace, (RawTrace, RuleRefusal)>
     ensures same { IfOk result (λ trace. trace ≡ raw) }
     ensures returned { IfErr result (λ refused. refused.0 ≡ raw) }
-    // Exactly the executions that keep the rules are accepted, but for want of memory.
+    // Exactly the traces that keep the rules are accepted, but for want of memory.
     ensures disciplined { IfOk result (λ trace. IsDisciplined trace.events) }
     ensures undisciplined { IfErr result
         (λ refused. (refused.1 ≡ no_memory) ⊎ ¬ IsDisciplined raw.events) }

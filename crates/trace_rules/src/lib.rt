@@ -1,4 +1,4 @@
-//! The rules that a recorded execution has to keep, on locks, forks and joins.
+//! The rules that a trace has to keep, on locks, forks and joins.
 #![tactic(auto)]
 
 mod check_rules;

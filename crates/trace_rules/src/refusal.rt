@@ -1,4 +1,4 @@
-//! Why a recorded execution is refused, and at which event.
+//! Why a trace is refused, and at which event.
 
 /// The rule that an event breaks. Each has the number under which it is printed.
 #[derive(Clone, Copy, PartialEq, Eq, Debug)]

@@ -1,4 +1,4 @@
-//! A recorded execution that keeps the rules.
+//! A trace that keeps the rules.
 ghost use Rattle.std.specs.Prelude.{◌≡◌};
 ghost use Rattle.rapid_text.specs.Recording.{IsWellFormed};
 ghost use Rattle.trace_rules.specs.Rules.{IsDisciplined};
@@ -6,7 +6,7 @@ ghost use Rattle.trace_rules.specs.Rules.{IsDisciplined};
 use rapid_text::RawTrace;
 use std::marker::Model;
 
-/// A recorded execution that keeps the rules on locks, forks and joins. `check` alone makes one.
+/// A trace that keeps the rules on locks, forks and joins. `check` alone makes one.
 #[derive(Drop)]
 pub struct Trace {
     pub(crate) raw: RawTrace,
@@ -24,7 +24,7 @@ impl Model for Trace {
 }
 
 impl Trace {
-    /// The recorded execution itself.
+    /// The trace as its text tells it.
     pub fn raw(&self) -> &RawTrace
         ensures same { result.now ≡ self.now }
         ensures well_formed { IsWellFormed self.now }

@@ -1,4 +1,4 @@
--- In an execution that keeps the rules, the events of a set that is closed downwards under SHB are a correct
+-- In a trace that keeps the rules, the events of a set that is closed downwards under SHB are a correct
 -- reordering, in the order of the trace.
 use Rattle.std.proofs.Common.{◌≡◌, ◌≢◌, ℕ, zero, suc, ◌<◌, ◌≤◌, ◌==◌, ◌&&◌, Bool, true, List, length, take, get_or, count_by, Contains, Option, Some, None, slice_get, sym, refl, ap, ◌∙◌, subst, arith, add-one, inl, inr}
 use Rattle.std.proofs.lemmas.Bool.{cases_Bool, and_parts}
@@ -8,9 +8,9 @@ use Rattle.rapid_text.specs.declared.event.Event.{Event}
 use Rattle.rapid_text.specs.declared.event.Op.TheVariants.{Read, Acquire, Release}
 use Rattle.trace_rules.specs.Rules.{IsDisciplined, acquire_count, release_count, hold_count}
 use Rattle.trace_rules.proofs.CallerLemmas.{release-from_test}
-use Rattle.event_index.specs.Events.{op_at, passes_by, passes_at, is_of_thread, is_write_at}
+use Rattle.event_index.specs.Events.{op_at, passes_at, is_of_thread, is_write_at}
 use Rattle.event_index.specs.Lookups.{before, events_of, place_of, last_write, last_writer, last_writer_by}
-use Rattle.event_index.proofs.CallerLemmas.{events_of-place, fork_of-op, place_of-count}
+use Rattle.event_index.proofs.CallerLemmas.{events_of-place, fork_of-op, place_of-count, passes_event}
 use Rattle.shb_clocks.specs.HappensBefore.{Edge, in_thread, by_lock, by_fork, by_join, from_fork_to_join, by_writer}
 use Rattle.shb_clocks.proofs.CallerLemmas.{Edge-earlier, thread_here, op_here, is_of_thread-thread}
 use Rattle.schedule.specs.Refusals.{next_of}
@@ -20,10 +20,11 @@ use Rattle.witness_search.specs.Layout.{IsClosedTest, kept}
 use Rattle.witness_search.proofs.KeptLemmas.{kept_yes, kept_no, kept_member, count_by-kept, count_by-kept_le, count_by-before, find_last-kept}
 
 -- a release by the thread
-released_by : (T : List Event) (u l d : ℕ) (o : Option Event) → slice_get T d ≡ o → passes_by (λ v. v.thread == u && is_release l v.op) o ≡ true → op_at T d ≡ Some (Release l)
-released_by T u l d None at passes = cc
-released_by T u l d (Some v) at passes =
-    op_here T d v at ∙ ap Some (release-from_test l v.op (and_parts (v.thread == u) (is_release l v.op) passes).1)
+released_by : (T : List Event) (u l d : ℕ) → passes_at (λ v. v.thread == u && is_release l v.op) T d ≡ true → op_at T d ≡ Some (Release l)
+released_by T u l d passes =
+    let found = passes_event (λ v. v.thread == u && is_release l v.op) T d passes in
+    let v = found.0 in
+    op_here T d v found.1 ∙ ap Some (release-from_test l v.op (and_parts (v.thread == u) (is_release l v.op) found.2).1)
 
 module _ (T : List Event) (rules : IsDisciplined T) (test : ℕ → Bool) (closed : IsClosedTest T test) where
   -- what an edge leads from stands before it among those that pass
@@ -68,7 +69,7 @@ module _ (T : List Event) (rules : IsDisciplined T) (test : ℕ → Bool) (close
         let gets : Event → Bool = λ w. w.thread == u && is_acquire l w.op in
         let released : release_count (events_at T (kept test e)) u l ≡ release_count (take e T) u l =
         count_by-events_at T frees (kept test e)
-        ∙ count_by-kept (passes_at frees T) test e (λ d early passes. closed d e (by_lock l early (released_by T u l d (slice_get T d) refl passes) takes) so)
+        ∙ count_by-kept (passes_at frees T) test e (λ d early passes. closed d e (by_lock l early (released_by T u l d passes) takes) so)
         ∙ count_by-before T frees e (omega arith) in
         let taken : acquire_count (events_at T (kept test e)) u l ≡ count_by (passes_at gets T) (kept test e) =
         count_by-events_at T gets (kept test e) in

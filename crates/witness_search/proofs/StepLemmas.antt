@@ -1,4 +1,4 @@
--- The steps of the greedy search. `T` is the events of an execution that keeps the rules, `P` a correct
+-- The steps of the greedy search. `T` is the events of a trace that keeps the rules, `P` a correct
 -- reordering of it.
 use Rattle.std.proofs.Common.{◌≡◌, ℕ, zero, suc, ◌+◌, ◌-◌, ◌<◌, ◌≤◌, ◌⊎◌, ◌&&◌, ◌==◌, not, cond, Bool, true, false, List, [], ◌∷◌, ◌++◌, length, get_or, set, replicate, count_by, find, option_map, Option, Some, None, Result, Ok, slice_get, sym, refl, ap, ◌∙◌, subst, arith, add-one, eq-eqb, inl, inr, get_or-set_other, length-set}
 use Rattle.std.specs.Option.{is_none}

@@ -1,5 +1,5 @@
 -- The wanted events: what is looked for at each of them leads to all of them. `T` is the events of an
--- execution that keeps the rules.
+-- trace that keeps the rules.
 use Rattle.std.proofs.Common.{◌≡◌, ℕ, zero, suc, ◌+◌, ◌-◌, ◌<◌, ◌≤◌, Bool, List, [], length, get_or, Contains, Option, Some, None, option_map, slice_get, sym, refl, ap, ◌∙◌, subst, arith, inl, inr}
 use Rattle.std.proofs.lemmas.Bool.{cases_eq}
 use Rattle.std.proofs.lemmas.List.Elements.{All-get_or, Contains-get_or}

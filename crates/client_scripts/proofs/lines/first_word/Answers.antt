@@ -1,6 +1,6 @@
 use Rattle.std.proofs.Common.{◌≡◌, ◌<◌, sym, ap, ◌∙◌, rules, length}
 use Rattle.rapid_text.specs.Reading.{is_blank}
-use Rattle.client_scripts.specs.Words.{words_of}
+use Rattle.client_scripts.specs.LineWords.{words_of}
 use Rattle.client_scripts.proofs.WordLemmas.{words-drop, words-empty, words-next}
 use Rattle.client_scripts.proofs.lines.first_word.Goals as goal
 

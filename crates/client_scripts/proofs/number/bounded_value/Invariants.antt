@@ -1,5 +1,5 @@
 use Rattle.std.proofs.Common.{◌≡◌, min, take}
-use Rattle.client_scripts.specs.Words.{value_of}
+use Rattle.client_scripts.specs.LineWords.{value_of}
 use Rattle.client_scripts.proofs.number.bounded_value.Given as goal
 
 -- the value of the digits so far, where it is not too great

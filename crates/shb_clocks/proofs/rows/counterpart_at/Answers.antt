@@ -1,9 +1,8 @@
 use Rattle.std.proofs.Common.{ap, sym, ◌∙◌, Some}
 use Rattle.rapid_text.specs.Operations.{is_release}
 use Rattle.rapid_text.specs.declared.event.Op.TheVariants.{Acquire}
-use Rattle.event_index.proofs.CallerLemmas.{get_or-IsTable}
+use Rattle.event_index.proofs.CallerLemmas.{get_or-IsTable, op_here}
 use Rattle.shb_clocks.specs.Layout.{last_release}
-use Rattle.shb_clocks.proofs.EdgeLemmas.{op_here}
 use Rattle.shb_clocks.proofs.ReleaseLemmas.{last_release-more, last_release-same}
 use Rattle.shb_clocks.proofs.SourceLemmas.{counterpart_of-op}
 use Rattle.shb_clocks.proofs.rows.counterpart_at.Goals as goal

@@ -2,9 +2,8 @@ use Rattle.std.proofs.Common.{◌≡◌, ◌<◌, ℕ, List, length, get_or, Som
 use Rattle.std.specs.List.{slice_get}
 use Rattle.std.proofs.lemmas.Option.{slice_get-get_or}
 use Rattle.event_index.specs.Lookups.{events_of}
-use Rattle.event_index.proofs.CallerLemmas.{place_of-events_of}
+use Rattle.event_index.proofs.CallerLemmas.{place_of-events_of, thread_here, one_thread}
 use Rattle.shb_clocks.proofs.ChainLemmas.{linked_named}
-use Rattle.shb_clocks.proofs.EdgeLemmas.{thread_here, one_thread}
 use Rattle.shb_clocks.proofs.SpotLemmas.{place_within, AreNoted-note, AreNoted-past}
 use Rattle.shb_clocks.proofs.spots.Spots.note.Goals as goal
 

@@ -16,8 +16,8 @@ abbrev pub value_of : List ℕ → ℕ
 value_of digits = fold (λ value digit. value * 10 + (digit - 48)) 0 digits
 
 -- the number that the word writes, if it writes one of at most 4,294,967,295; it may begin with zeros
-abbrev pub number_of : List ℕ → Option ℕ
-number_of word =
+abbrev pub written_number : List ℕ → Option ℕ
+written_number word =
     if nat_lt 0 (length word) && list_all is_digit word && nat_le (value_of word) 4294967295
     then Some (value_of word)
     else None
