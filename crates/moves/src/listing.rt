@@ -1,6 +1,8 @@
 //! The rows of a workspace: a tree of them by birth, and each name's birth beside it.
 ghost use Rattle.std.specs.Prelude.{◌≡◌, ◌≢◌, ◌<◌, ◌++◌, ◌∷◌, [], OnOk, OnErr, IfOk, IfErr, IfSome, IfNone, Some, None, is_some, length, slice_get, option_map};
+ghost use Rattle.std.specs.BTreeMap.{get_by, is_at};
 ghost use Rattle.std.specs.Map.{remove_entry};
+ghost use Rattle.std.specs.Ordering.{nat_cmp};
 ghost use Rattle.std.specs.Str.{bytes_eq};
 ghost use Rattle.schedule.specs.Refusals.{refusal_of, IsRefusalOf};
 ghost use Rattle.schedule.specs.Swaps.{exchanged, swap_refusal};
@@ -148,7 +150,7 @@ impl Listing {
         ensures unchanged { IfNone result (self.new ≡ self.old) }
     {
         let birth = self.births.swap_remove(&name)?;
-        let (_, row) = self.rows.remove(&birth).unwrap();
+        let (_, row) = take_out(&mut self.rows, birth).unwrap();
         Some(row)
     }
 
@@ -225,4 +227,12 @@ impl Listing {
         let (_, row) = self.rows.get_mut(&birth).unwrap();
         mem::replace(&mut row.schedule, schedule)
     }
+}
+
+/// Takes out what lies under the birth. What lies under the others stays where it is.
+fn take_out(rows: &mut BTreeMap<u64, (Name, Row)>, birth: u64) -> Option<(Name, Row)>
+    ensures value { result ≡ get_by (nat_cmp birth) rows.old }
+    ensures entries { rows.new.entries ≡ remove_entry (is_at (nat_cmp birth)) rows.old.entries }
+{
+    rows.remove(&birth)
 }
