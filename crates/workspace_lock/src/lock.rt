@@ -2,6 +2,7 @@
 ghost use Rattle.std.specs.Prelude.{List, []};
 ghost use Rattle.inverse_log.specs.declared.entry.Entry.{Entry};
 
+use crate::bells::Bells;
 use atomic_table::{Join, Play, Seat, Split, Table, TableRule};
 use inverse_log::Bench;
 use std::alloc::Global;
@@ -41,6 +42,13 @@ impl TableRule<Option<Bench>, View, Opening> for Order {
 
 /// Three words, TICKET, SERVING and FRONT, and a slot for the bench.
 pub type Lock = Table<Option<Bench>, View, Opening, Order, Global>;
+
+/// What the seats share.
+#[derive(Drop)]
+pub struct Hall {
+    pub lock: Lock,
+    pub bells: Bells,
+}
 
 /// One client's place at the lock.
 pub type Place = Seat<Option<Bench>, View>;

@@ -7,12 +7,11 @@ ghost use Rattle.workspace_lock.specs.Turns.{mark_of, saw, solo, ticket_in};
 ghost use Rattle.workspace_lock.specs.Seating.{mark_in, IsSized, IsResting, IsWaiting, IsBusy, GotTurn, TookBench, Looked, seat_view};
 ghost use Rattle.workspace_lock.specs.Runs.{Ran, Fronted};
 
-use crate::lock::{Draw, Lock, Look, Named, PassOn, Place, Publish, Watch};
+use crate::lock::{Draw, Hall, Lock, Look, Named, PassOn, Place, Publish, Watch};
 use inverse_log::{Bench, Call, Refusal, Reply};
 use std::alloc::Global;
 use std::marker::{Brand, Model};
 use std::sync::{Arc, Wait};
-use std::thread;
 
 /// Why a call through a seat was refused.
 #[derive(Clone, Copy, PartialEq, Eq)]
@@ -38,28 +37,28 @@ impl Gate for Open {
     fn pass<R: Wait>(&mut self, _rt: &R, _step: u32) {}
 }
 
-// Yields the processor until the ticket is served. The load that finds it so takes the bench along.
-fn watch<R: Wait>(rt: &R, lock: &Lock, place: &mut Place, ticket: u64)
-    requires { (place.old.table_id ≡ lock.now.shared.table_id) × IsSized place.old.table_id × IsWaiting ticket place.old.me }
+// Sleeps until the ticket is served. The load that finds it so takes the bench along.
+fn watch<R: Wait>(rt: &R, hall: &Hall, place: &mut Place, ticket: u64)
+    requires { (place.old.table_id ≡ hall.now.lock.shared.table_id) × IsSized place.old.table_id × IsWaiting ticket place.old.me }
     ensures { (place.new.table_id ≡ place.old.table_id) × (place.new.id ≡ place.old.id) × GotTurn ticket place.old.me place.new.me }
 {
     for _ in rt.forever() {
-        if lock.shared.load::<Watch>(place, 1) == ticket {
+        if hall.lock.shared.load::<Watch>(place, 1) == ticket {
             return;
         }
-        thread::yield_now();
+        hall.bells.wait(rt, ticket);
     }
     unreachable!()
 }
 
 // Draws a ticket, waits for its turn and takes the bench.
-fn take_bench<R: Wait>(rt: &R, lock: &Lock, place: &mut Place) -> Bench
-    requires { (place.old.table_id ≡ lock.now.shared.table_id) × IsSized place.old.table_id × IsResting place.old.me × (place.old.me.0.turns < 4294967295) }
+fn take_bench<R: Wait>(rt: &R, hall: &Hall, place: &mut Place) -> Bench
+    requires { (place.old.table_id ≡ hall.now.lock.shared.table_id) × IsSized place.old.table_id × IsResting place.old.me × (place.old.me.0.turns < 4294967295) }
     ensures { (place.new.table_id ≡ place.old.table_id) × (place.new.id ≡ place.old.id) × TookBench place.old.me result place.new.me }
 {
-    let ticket = lock.shared.fetch_add::<Draw>(place, 0, 1);
-    watch(rt, lock, place, ticket);
-    lock.shared.exchange(place, 0, None).unwrap()
+    let ticket = hall.lock.shared.fetch_add::<Draw>(place, 0, 1);
+    watch(rt, hall, place, ticket);
+    hall.lock.shared.exchange(place, 0, None).unwrap()
 }
 
 // FRONT follows the log, which is one entry longer than the place has seen.
@@ -73,18 +72,19 @@ fn publish<N: Named>(lock: &Lock, place: &mut Place, bench: &Bench)
     lock.shared.fetch_add::<Publish<N>>(place, 2, 1);
 }
 
-// Publishes what was logged, puts the bench back, and passes the turn on.
-fn give_back(lock: &Lock, place: &mut Place, bench: Bench, before: u64)
-    requires place { (place.old.table_id ≡ lock.now.shared.table_id) × IsSized place.old.table_id × IsBusy place.old.me }
+// Publishes what was logged, puts the bench back, passes the turn on, and wakes whom it waits for.
+fn give_back(hall: &Hall, place: &mut Place, bench: Bench, before: u64)
+    requires place { (place.old.table_id ≡ hall.now.lock.shared.table_id) × IsSized place.old.table_id × IsBusy place.old.me }
     requires bench { IsLegal (mark_of place.old.me.0).start.trace bench.log × Grown (mark_of place.old.me.0).seen (mark_of place.old.me.0).number bench.log × (bench.trace ≡ (mark_of place.old.me.0).start.trace) }
     requires before { before ≡ length (mark_of place.old.me.0).seen }
     ensures { (place.new.table_id ≡ place.old.table_id) × (place.new.id ≡ place.old.id) × (place.new.me ≡ (solo (saw (mark_of place.old.me.0) bench.log) place.old.me.0.turns idle, [])) }
 {
     if before < bench.log_len() {
-        publish::<Brand>(lock, place, &bench);
+        publish::<Brand>(&hall.lock, place, &bench);
     }
-    drop(lock.shared.exchange(place, 0, Some(bench)));
-    lock.shared.fetch_add::<PassOn>(place, 1, 1);
+    drop(hall.lock.shared.exchange(place, 0, Some(bench)));
+    let served = hall.lock.shared.fetch_add::<PassOn>(place, 1, 1);
+    hall.bells.ring(served.wrapping_add(1));
 }
 
 // One load of FRONT.
@@ -98,7 +98,7 @@ fn look(lock: &Lock, place: &mut Place) -> u64
 /// A client's seat: the one through which its thread calls the shared bench.
 #[derive(Drop)]
 pub struct Seat {
-    lock: Arc<Lock, Global>,
+    hall: Arc<Hall, Global>,
     place: Place,
     number: u32,
     turns: u32,
@@ -113,7 +113,7 @@ impl Model for Seat {
 
     ghost view = { λ s. seat_view s.place.table_id s.place.me };
 
-    ghost invariant = { λ s. (s.place.table_id ≡ (arc_value s.lock).shared.table_id) × IsSeatOf s.place.table_id s.place.me s.number s.turns };
+    ghost invariant = { λ s. (s.place.table_id ≡ (arc_value s.hall).lock.shared.table_id) × IsSeatOf s.place.table_id s.place.me s.number s.turns };
 }
 
 impl Seat {
@@ -139,14 +139,14 @@ impl Seat {
     }
 
     // The seat of a place that has made no call.
-    pub(crate) fn at(lock: Arc<Lock, Global>, place: Place, number: u32) -> Seat
-        requires lock { (place.table_id ≡ (arc_value lock).shared.table_id) × IsSized place.table_id }
+    pub(crate) fn at(hall: Arc<Hall, Global>, place: Place, number: u32) -> Seat
+        requires lock { (place.table_id ≡ (arc_value hall).lock.shared.table_id) × IsSized place.table_id }
         requires number { (0 < number) × (number ≤ 32) × (number ≤ (mark_of place.me.0).clients) }
         requires place { (place.me ≡ (solo (mark_of place.me.0) 0 idle, [])) × ((mark_of place.me.0).number ≡ number) }
         ensures { result ≡ seat_view place.table_id place.me }
     {
         Seat {
-            lock,
+            hall,
             place,
             number,
             turns: 0,
@@ -158,7 +158,7 @@ impl Seat {
         ensures { (result.table_id ≡ self.site.table) × IsSized result.table_id × (result.me ≡ (solo (mark_in self) self.turns idle, [])) × (self.turns ≤ 4294967295) }
     {
         let Seat {
-            lock: _,
+            hall: _,
             place,
             number: _,
             turns: _,
@@ -188,13 +188,13 @@ impl Seat {
         if self.turns == u32::MAX {
             return Err(SeatRefusal::SeatSpent);
         }
-        let mut bench = take_bench(rt, &self.lock, &mut self.place);
+        let mut bench = take_bench(rt, &self.hall, &mut self.place);
         self.turns += 1;
         let before = bench.log_len();
         gate.pass(rt, 1);
         let answered = bench.call(self.number, call);
         gate.pass(rt, 2);
-        give_back(&self.lock, &mut self.place, bench, before);
+        give_back(&self.hall, &mut self.place, bench, before);
         match answered {
             Ok(reply) => Ok(reply),
             Err(refusal) => Err(SeatRefusal::Bench(refusal)),
@@ -206,6 +206,6 @@ impl Seat {
         ensures front { Fronted self.old result self.new }
         ensures seat { (self.new.site ≡ self.old.site) × (self.new.number ≡ self.old.number) }
     {
-        look(&self.lock, &mut self.place)
+        look(&self.hall.lock, &mut self.place)
     }
 }

@@ -7,7 +7,8 @@ ghost use Rattle.workspace_lock.specs.Turns.{mark_of, saw, solo};
 ghost use Rattle.workspace_lock.specs.Seating.{IsSized, IsEnd, Gathers, mark_in, marks_in, AllSeated, HasAll, TakesFirst, Closes, SeatView, site_at, dealt, fresh_rows, Opened};
 ghost use Rattle.workspace_lock.specs.Counts.{IsBadCount};
 
-use crate::lock::{Deal, Draw, Finish, Gather, Lock, Opening, Place};
+use crate::bells::Bells;
+use crate::lock::{Deal, Draw, Finish, Gather, Hall, Lock, Opening, Place};
 use crate::seat::Seat;
 use atomic_table::{Refused, Table};
 use inverse_log::Bench;
@@ -55,7 +56,7 @@ fn gather(lock: &Lock, place: &mut Place, mut rows: Vec<Option<Seat>>)
 /// All seats of a shared bench. Those that are in stand in the order of their numbers.
 #[derive(Drop)]
 pub struct Seats {
-    lock: Arc<Lock, Global>,
+    hall: Arc<Hall, Global>,
     rows: Vec<Option<Seat>>,
 }
 
@@ -74,9 +75,9 @@ impl Model for Seats {
 
     ghost Value = { SeatsView };
 
-    ghost view = { λ s. record { site = site_at (arc_value s.lock).shared.table_id (arc_value s.lock).shared.key.bench.value (arc_value s.lock).shared.key.clients; rows = s.rows.items } };
+    ghost view = { λ s. record { site = site_at (arc_value s.hall).lock.shared.table_id (arc_value s.hall).lock.shared.key.bench.value (arc_value s.hall).lock.shared.key.clients; rows = s.rows.items } };
 
-    ghost invariant = { λ s. IsSeatsView (site_at (arc_value s.lock).shared.table_id (arc_value s.lock).shared.key.bench.value (arc_value s.lock).shared.key.clients) s.rows.items };
+    ghost invariant = { λ s. IsSeatsView (site_at (arc_value s.hall).lock.shared.table_id (arc_value s.hall).lock.shared.key.bench.value (arc_value s.hall).lock.shared.key.clients) s.rows.items };
 }
 
 // The first row that has a seat.
@@ -137,13 +138,13 @@ impl Seats {
         if is_one_out(self.rows.as_slice()) {
             return Err((self, CloseRefusal::NotAll));
         }
-        let Seats { lock, mut rows } = self;
+        let Seats { hall, mut rows } = self;
         let Some(Some(first)) = rows.pop() else {
             unreachable!()
         };
         let mut place = first.into_place();
-        gather(&lock, &mut place, rows);
-        Ok(finish(&lock, &mut place))
+        gather(&hall.lock, &mut place, rows);
+        Ok(finish(&hall.lock, &mut place))
     }
 }
 
@@ -158,48 +159,52 @@ pub enum OpenRefusal {
 
 // A seat for each client, by the first place, which is spent then.
 fn deal(
-    lock: Arc<Lock, Global>,
+    hall: Arc<Hall, Global>,
     mut place: Place,
     mut rows: Vec<Option<Seat>>,
     clients: u32,
 ) -> Result<Seats, (Bench, OpenRefusal)>
-    requires place { (place.table_id ≡ (arc_value lock).shared.table_id) × IsSized place.table_id × (place.me ≡ dealt (arc_value lock).shared.key.bench.value clients 0) }
-    requires clients { (clients ≡ (arc_value lock).shared.key.clients) × (0 < clients) × (clients ≤ 32) }
+    requires place { (place.table_id ≡ (arc_value hall).lock.shared.table_id) × IsSized place.table_id × (place.me ≡ dealt (arc_value hall).lock.shared.key.bench.value clients 0) }
+    requires clients { (clients ≡ (arc_value hall).lock.shared.key.clients) × (0 < clients) × (clients ≤ 32) }
     requires rows { (rows.items ≡ []) × (clients ≤ vec_capacity rows) }
-    ensures ok { IfOk result (λ s. Opened (arc_value lock).shared.key.bench.value clients s) }
-    ensures err { IfErr result (λ e. e.0 ≡ (arc_value lock).shared.key.bench.value) }
+    ensures ok { IfOk result (λ s. Opened (arc_value hall).lock.shared.key.bench.value clients s) }
+    ensures err { IfErr result (λ e. e.0 ≡ (arc_value hall).lock.shared.key.bench.value) }
     ensures memory { IfErr result (λ e. e.1 ≡ OpenRefusal.OutOfMemory) }
 {
     for i in 0..clients {
-        let Ok(own) = Arc::try_clone(&lock) else {
-            gather(&lock, &mut place, rows);
-            return Err((finish(&lock, &mut place), OpenRefusal::OutOfMemory));
+        let Ok(own) = Arc::try_clone(&hall) else {
+            gather(&hall.lock, &mut place, rows);
+            return Err((finish(&hall.lock, &mut place), OpenRefusal::OutOfMemory));
         };
-        let other = lock.shared.split_seat::<Deal>(&mut place);
+        let other = hall.lock.shared.split_seat::<Deal>(&mut place);
         rows.push_reserved(Some(Seat::at(own, other, i + 1)));
     }
-    Ok(Seats { lock, rows })
+    Ok(Seats { hall, rows })
 }
 
-// The lock goes where all seats can reach it.
+// The lock and its bells go where all seats can reach them.
 fn share(
     alloc: Global,
-    table: Lock,
+    lock: Lock,
     mut place: Place,
     rows: Vec<Option<Seat>>,
     clients: u32,
 ) -> Result<Seats, (Bench, OpenRefusal)>
-    requires place { (place.table_id ≡ table.shared.table_id) × IsSized place.table_id × (place.me ≡ dealt table.shared.key.bench.value clients 0) }
-    requires clients { (clients ≡ table.shared.key.clients) × (0 < clients) × (clients ≤ 32) }
+    requires place { (place.table_id ≡ lock.shared.table_id) × IsSized place.table_id × (place.me ≡ dealt lock.shared.key.bench.value clients 0) }
+    requires clients { (clients ≡ lock.shared.key.clients) × (0 < clients) × (clients ≤ 32) }
     requires rows { (rows.items ≡ []) × (clients ≤ vec_capacity rows) }
-    ensures ok { IfOk result (λ s. Opened table.shared.key.bench.value clients s) }
-    ensures err { IfErr result (λ e. e.0 ≡ table.shared.key.bench.value) }
+    ensures ok { IfOk result (λ s. Opened lock.shared.key.bench.value clients s) }
+    ensures err { IfErr result (λ e. e.0 ≡ lock.shared.key.bench.value) }
     ensures memory { IfErr result (λ e. e.1 ≡ OpenRefusal.OutOfMemory) }
 {
-    match Arc::new(alloc, table) {
-        Ok(lock) => deal(lock, place, rows, clients),
-        Err(AllocFailed { value: table }) => {
-            Err((finish(&table, &mut place), OpenRefusal::OutOfMemory))
+    let hall = Hall {
+        lock,
+        bells: Bells::new(),
+    };
+    match Arc::new(alloc, hall) {
+        Ok(shared) => deal(shared, place, rows, clients),
+        Err(AllocFailed { value: hall }) => {
+            Err((finish(&hall.lock, &mut place), OpenRefusal::OutOfMemory))
         }
     }
 }
@@ -227,7 +232,7 @@ pub fn open(alloc: Global, bench: Bench, clients: u32) -> Result<Seats, (Bench, 
     let length = bench.log_len();
     slots.push_reserved(Some(bench));
     match Table::new(alloc, &[0, 0, length], slots, &opening) {
-        Ok((table, place)) => share(alloc, table, place, rows, clients),
+        Ok((lock, place)) => share(alloc, lock, place, rows, clients),
         Err(Refused { mut slots }) => match slots.pop() {
             Some(Some(bench)) => Err((bench, OpenRefusal::OutOfMemory)),
             _ => unreachable!(),

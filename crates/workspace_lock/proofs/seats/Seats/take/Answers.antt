@@ -5,7 +5,7 @@ use Rattle.workspace_lock.proofs.RowLemmas.{seats_set, row_is, row_at}
 use Rattle.workspace_lock.proofs.seats.Seats.take.Goals as goal
 
 pub invariant_of-self : goal.invariant_of-self
-invariant_of-self c = let b = c.self.inside.lock.value.shared in subst (λ o. IsSeatsView (site_at b.table_id b.key.bench.value b.key.clients) (slice_set c.self.inside.rows.items c.in_ok-i.i o)) (sym c.take.ensures.after)
+invariant_of-self c = let b = c.self.inside.hall.value.lock.shared in subst (λ o. IsSeatsView (site_at b.table_id b.key.bench.value b.key.clients) (slice_set c.self.inside.rows.items c.in_ok-i.i o)) (sym c.take.ensures.after)
     (seats_set (site_at b.table_id b.key.bench.value b.key.clients) c.self.inside.rows.items c.in_ok-i.i None c.self.invariant (λ k e. tt))
 
 takes : (site : Site) (os ps : List (Option SeatView)) (i : ℕ) (f r o : Option SeatView) → IsSeatsView site os → ps ≡ os → f ≡ get_or os i f → r ≡ f → o ≡ None
@@ -31,7 +31,7 @@ takes site os ps i f r o whole same e is after h =
 
 pub returns-clause-some : goal.returns-clause-some
 returns-clause-some c =
-    let b = c.self.inside.lock.value.shared in
+    let b = c.self.inside.hall.value.lock.shared in
     rw (← c.self.view_is)
     (takes (site_at b.table_id b.key.bench.value b.key.clients) c.self.inside.rows.items c.as_slice.result.now c.in_ok-i.i c.index_mut-row.result.now c.take.result c.take.new.self c.self.invariant c.as_slice.ensures.value c.index_mut-row.ensures.value c.take.ensures.value c.take.ensures.after c.in_ok-i.ensures.some)
 
