@@ -7,6 +7,7 @@ mod entry;
 #[cfg(test)]
 mod generated_tests;
 pub mod headline;
+mod kept;
 mod parts;
 #[cfg(test)]
 mod plain;
