@@ -1,6 +1,8 @@
 //! The entries that touch each name.
-ghost use Rattle.std.specs.Prelude.{◌≡◌, ◌++◌, ◌∷◌, [], ℕ, All, ◌<◌, List, OnOk, OnErr, IfOk, IsOk, find, nat_lt, bytes_eq, if◌then◌else◌};
+ghost use Rattle.std.specs.Prelude.{◌≡◌, ◌++◌, ◌∷◌, [], ℕ, All, ◌<◌, List, OnOk, OnErr, IfOk, IsOk, IfNone, IfSome, None, IsTrue, find, nat_lt, bytes_eq, if◌then◌else◌};
+ghost use Rattle.std.specs.Map.{lookup};
 ghost use Rattle.dependence.specs.Lists.{under, without, Pushed, Removed, Same, AllBelow, IsLeastAbove};
+ghost use Rattle.dependence.specs.Places.{HasAt};
 
 use crate::numbers::Numbers;
 use indexmap::IndexMap;
@@ -9,13 +11,17 @@ use rapid_text::{OutOfMemory, TextKeyed};
 use std::alloc::Global;
 use std::marker::Model;
 
+type ByName = IndexMap<Name, Numbers, TextKeyed>;
+
 /// For each name the numbers of the entries whose commands touch it.
 ///
 /// A name whose entries were all taken out keeps its empty list, so that taking out needs no memory and moves no
 /// other name. What is held grows with the entries that were ever put in.
 #[derive(Drop)]
 pub struct Touches {
-    lists: IndexMap<Name, Numbers, TextKeyed>,
+    lists: ByName,
+    // the place of the name that was touched last, where calls on one name follow each other
+    recent: usize,
     alloc: Global,
 }
 
@@ -43,6 +49,7 @@ impl Touches {
     {
         Ok(Touches {
             lists: IndexMap::with_hasher(alloc, hashers),
+            recent: 0,
             alloc,
         })
     }
@@ -52,19 +59,24 @@ impl Touches {
         ensures ok { OnOk result ((x : List ℕ) → under self.new x ≡ (if bytes_eq x name then under self.old x ++ entry ∷ [] else under self.old x)) }
         ensures err { OnErr result (Same self.old self.new) }
     {
-        if let Some(list) = self.lists.get_mut(&name) {
+        if let Some(at) = place_of(&self.lists, self.recent, &name) {
+            self.recent = at;
+            let (_, list) = self.lists.pair_mut(at);
             return list.push(entry);
         }
         let mut list = Numbers::empty(self.alloc);
         list.push(entry)?;
-        self.lists.insert(name, list)?;
+        let (at, _) = self.lists.insert_full(name, list)?;
+        self.recent = at;
         Ok(())
     }
 
     fn remove_name(&mut self, entry: u64, name: &Name)
         ensures { (x : List ℕ) → under self.new x ≡ (if bytes_eq x name.now then without entry (under self.old x) else under self.old x) }
     {
-        if let Some(list) = self.lists.get_mut(name) {
+        if let Some(at) = place_of(&self.lists, self.recent, name) {
+            self.recent = at;
+            let (_, list) = self.lists.pair_mut(at);
             list.remove(entry);
         }
     }
@@ -105,7 +117,30 @@ impl Touches {
         ensures least { IsLeastAbove entry (under self.now name.now) result }
         ensures first { result ≡ find (λ k. nat_lt entry k) (under self.now name.now) }
     {
-        let list = self.lists.get(name)?;
+        let at = place_of(&self.lists, self.recent, name)?;
+        let (_, list) = self.lists.get_index(at)?;
         list.first_after(entry)
     }
+}
+
+/// Whether the list of the name stands at this place.
+fn is_at(lists: &ByName, at: usize, name: &Name) -> bool
+    ensures { IsTrue result → HasAt lists.now.entries at name.now }
+{
+    match lists.get_index(at) {
+        Some((key, _)) => key == name,
+        None => false,
+    }
+}
+
+/// The place of the name's list. Where it is the recent one the name has not to be hashed.
+fn place_of(lists: &ByName, recent: usize, name: &Name) -> Option<usize>
+    ensures none { IfNone result (lookup (bytes_eq name.now) lists.now.entries ≡ None) }
+    ensures some { IfSome result (λ at. HasAt lists.now.entries at name.now) }
+{
+    if is_at(lists, recent, name) {
+        return Some(recent);
+    }
+    let (at, _, _) = lists.get_full(name)?;
+    Some(at)
 }

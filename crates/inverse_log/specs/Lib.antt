@@ -4,4 +4,5 @@ pub mod Kept
 pub mod Log
 pub mod Next
 pub mod Pairs
+pub mod Steps
 pub mod Touching

@@ -8,16 +8,17 @@ ghost use Rattle.inverse_log.specs.Log.{live, board_of, edits_of};
 
 use crate::call::Call;
 use crate::entry::Entry;
+use crate::kept::{Kept, Spare};
 use crate::parts::{
-    add_entry, add_step, apply, command_at, copied, enter, leave, make_room, put_back, take_out,
-    turn_back,
+    add_entry, add_no_step, add_step, apply, command_at, copied, enter, leave, make_room, put_back,
+    take_out, turn_back,
 };
 use crate::races::shown_pairs;
 use crate::refusal::Refusal;
 use crate::reply::Reply;
 use dependence::{Clients, Touches};
 use event_index::Indexed;
-use moves::{Board, Command, Inverse, MoveRefusal, Name, Step, Workspace};
+use moves::{Board, Command, Inverse, MoveRefusal, Name, Workspace};
 use rapid_text::{OutOfMemory, TextKeyed};
 use schedule::{ListRefusal, Schedule};
 use std::alloc::Global;
@@ -37,7 +38,9 @@ pub struct Bench {
     board: Board,
     log: Vec<Entry>,
     // for each entry what takes it back, where it is a command that was not undone
-    steps: Vec<Option<Step>>,
+    steps: Vec<Kept>,
+    // for a step that wants a box
+    spare: Spare,
     touches: Touches,
     clients: Clients,
     edits: u64,
@@ -98,6 +101,7 @@ impl Bench {
             board: Board::empty(alloc),
             log: Vec::new(alloc),
             steps: Vec::new(alloc),
+            spare: None,
             touches,
             clients,
             edits: 0,
@@ -185,7 +189,7 @@ impl Bench {
         if let Err(why) = self.workspace.check(&self.indexed, &self.board, command) {
             return Err(Refusal::Move(why));
         }
-        let Ok(()) = make_room(&mut self.log, &mut self.steps) else {
+        let Ok(()) = make_room(self.alloc, &mut self.log, &mut self.steps, &mut self.spare) else {
             return Err(Refusal::OutOfMemory);
         };
         let Ok(()) = enter(
@@ -214,7 +218,7 @@ impl Bench {
             );
             return Err(Refusal::OutOfMemory);
         };
-        add_step(&mut self.steps, Some(inverse.step));
+        add_step(&mut self.steps, &mut self.spare, inverse.step);
         add_entry(
             &mut self.log,
             Entry::Did {
@@ -264,7 +268,7 @@ impl Bench {
         ensures ok { OnOk result (self.new.log ≡ self.old.log ++ Entry.Undid client entry ∷ []) }
         ensures err { OnErr result (self.new.log ≡ self.old.log) }
     {
-        let Ok(()) = make_room(&mut self.log, &mut self.steps) else {
+        let Ok(()) = make_room(self.alloc, &mut self.log, &mut self.steps, &mut self.spare) else {
             return Err(OutOfMemory);
         };
         let Some(step) = take_out(&mut self.steps, entry) else {
@@ -275,11 +279,11 @@ impl Bench {
         let Err(step) = turn_back(&mut self.workspace, &mut self.edits, &self.indexed, inverse)
         else {
             leave(&mut self.touches, &mut self.clients, client, command, entry);
-            add_step(&mut self.steps, None);
+            add_no_step(&mut self.steps);
             add_entry(&mut self.log, Entry::Undid { client, entry });
             return Ok(());
         };
-        put_back(&mut self.steps, entry, step);
+        put_back(&mut self.steps, &mut self.spare, entry, step);
         Err(OutOfMemory)
     }
 
@@ -312,14 +316,14 @@ impl Bench {
         let Ok(events) = copied(self.alloc, events) else {
             return Err(Refusal::OutOfMemory);
         };
-        let Ok(()) = make_room(&mut self.log, &mut self.steps) else {
+        let Ok(()) = make_room(self.alloc, &mut self.log, &mut self.steps, &mut self.spare) else {
             return Err(Refusal::OutOfMemory);
         };
         let proposal = self.board.len() as u64;
         let Ok(()) = self.board.push(first, second, schedule) else {
             return Err(Refusal::OutOfMemory);
         };
-        add_step(&mut self.steps, None);
+        add_no_step(&mut self.steps);
         add_entry(
             &mut self.log,
             Entry::Proposed {

@@ -5,6 +5,7 @@ mod bench;
 mod call;
 mod entry;
 pub mod headline;
+mod kept;
 mod parts;
 mod races;
 mod refusal;

@@ -1,5 +1,5 @@
 //! Steps on the parts of a bench.
-ghost use Rattle.std.specs.Prelude.{◌≡◌, ℕ, ◌+◌, ◌++◌, ◌∷◌, [], ◌<◌, ◌≤◌, All, OnOk, OnErr, IfOk, IfErr, Some, None, vec_len, vec_capacity, slice_get, slice_set};
+ghost use Rattle.std.specs.Prelude.{◌≡◌, ℕ, ◌+◌, ◌++◌, ◌∷◌, [], ◌<◌, ◌≤◌, All, OnOk, OnErr, IfOk, IfErr, IsSome, Some, None, vec_len, vec_capacity, slice_get, slice_set};
 ghost use Rattle.moves.specs.Applied.{IsApplied};
 ghost use Rattle.moves.specs.Boards.{IsBoardOf};
 ghost use Rattle.moves.specs.Inverses.{CanTurn, IsTurned};
@@ -8,6 +8,7 @@ ghost use Rattle.dependence.specs.Lists.{AllBelow, Entered, Left, of_client, Pus
 ghost use Rattle.inverse_log.specs.Log.{command_of};
 
 use crate::entry::Entry;
+use crate::kept::{Kept, Spare};
 use dependence::{Clients, Touches};
 use event_index::{EventList, Indexed};
 use moves::{Board, Command, Inverse, MoveRefusal, Step, Workspace};
@@ -63,8 +64,10 @@ pub(crate) fn turn_back(
 
 /// Room for one more entry and step.
 pub(crate) fn make_room(
+    alloc: Global,
     log: &mut Vec<Entry>,
-    steps: &mut Vec<Option<Step>>,
+    steps: &mut Vec<Kept>,
+    spare: &mut Spare,
 ) -> Result<(), OutOfMemory>
     ensures log { log.new.items ≡ log.old.items }
     ensures steps { steps.new.items ≡ steps.old.items }
@@ -72,7 +75,14 @@ pub(crate) fn make_room(
     ensures steps_len { vec_len steps.new ≡ vec_len steps.old }
     ensures room { OnOk result
         ((vec_len log.new < vec_capacity log.new) × (vec_len steps.new < vec_capacity steps.new)) }
+    ensures spare { OnOk result (IsSome spare.new) }
 {
+    if spare.is_none() {
+        let Ok(apart) = Box::new(alloc, None) else {
+            return Err(OutOfMemory);
+        };
+        *spare = Some(apart);
+    }
     let Ok(()) = log.reserve(1) else {
         return Err(OutOfMemory);
     };
@@ -91,15 +101,24 @@ pub(crate) fn add_entry(log: &mut Vec<Entry>, entry: Entry)
 }
 
 /// Appends what takes the next entry back, where there is room.
-pub(crate) fn add_step(steps: &mut Vec<Option<Step>>, step: Option<Step>)
-    requires { vec_len steps.old < vec_capacity steps.old }
-    ensures { steps.new.items ≡ steps.old.items ++ step ∷ [] }
+pub(crate) fn add_step(steps: &mut Vec<Kept>, spare: &mut Spare, step: Step)
+    requires room { vec_len steps.old < vec_capacity steps.old }
+    requires spare { IsSome spare.old }
+    ensures { steps.new.items ≡ steps.old.items ++ Some step ∷ [] }
 {
-    let _ = steps.push(step);
+    let _ = steps.push(Kept::of(step, spare));
+}
+
+/// Appends that nothing takes the next entry back, where there is room.
+pub(crate) fn add_no_step(steps: &mut Vec<Kept>)
+    requires { vec_len steps.old < vec_capacity steps.old }
+    ensures { steps.new.items ≡ steps.old.items ++ None ∷ [] }
+{
+    let _ = steps.push(Kept::nothing());
 }
 
 /// Takes out what takes the entry back.
-pub(crate) fn take_out(steps: &mut Vec<Option<Step>>, entry: u64) -> Option<Step>
+pub(crate) fn take_out(steps: &mut Vec<Kept>, entry: u64) -> Option<Step>
     requires { entry < vec_len steps.old }
     ensures taken { slice_get steps.old.items entry ≡ Some result }
     ensures items { steps.new.items ≡ slice_set steps.old.items entry None }
@@ -110,11 +129,12 @@ pub(crate) fn take_out(steps: &mut Vec<Option<Step>>, entry: u64) -> Option<Step
 }
 
 /// Puts back what takes the entry back.
-pub(crate) fn put_back(steps: &mut Vec<Option<Step>>, entry: u64, step: Step)
-    requires { entry < vec_len steps.old }
+pub(crate) fn put_back(steps: &mut Vec<Kept>, spare: &mut Spare, entry: u64, step: Step)
+    requires entry { entry < vec_len steps.old }
+    requires spare { IsSome spare.old }
     ensures { steps.new.items ≡ slice_set steps.old.items entry (Some step) }
 {
-    steps[entry as usize] = Some(step);
+    steps[entry as usize] = Kept::of(step, spare);
 }
 
 /// Enters a live command under its names and its client, or changes nothing.

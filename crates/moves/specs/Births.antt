@@ -1,6 +1,6 @@
 -- How the rows of a workspace are held: each under its birth, and each name's birth beside them. No public
 -- clause cites this module.
-use Rattle.std.specs.Prelude.{◌≡◌, ℕ, List, Option, map, option_map}
+use Rattle.std.specs.Prelude.{◌≡◌, ℕ, List, Option, Some, map, option_map, slice_get}
 use Rattle.std.specs.Ordering.{nat_cmp}
 use Rattle.std.specs.Str.{bytes_eq}
 use Rattle.std.specs.Map.{lookup, values_of}
@@ -25,3 +25,8 @@ pub record IsHeld (births : List (List ℕ × ℕ)) (rows : List (ℕ × (List �
   pub listing : IsListing (values_of rows)
   pub tree : rows ≡ by_birth (values_of rows)
   pub names : (x : List ℕ) → lookup (bytes_eq x) births ≡ birth_of (values_of rows) x
+
+-- the name x and its birth b stand at this place, and b is what is found under x
+pub record HasBirth (births : List (List ℕ × ℕ)) (at : ℕ) (x : List ℕ) (b : ℕ) : Type 0 where
+  pub there : slice_get births at ≡ Some (x, b)
+  pub found : lookup (bytes_eq x) births ≡ Some b

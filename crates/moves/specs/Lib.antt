@@ -8,3 +8,4 @@ pub mod Layout
 pub mod Moves
 pub mod Names
 pub mod Rows
+pub mod Words

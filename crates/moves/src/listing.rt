@@ -1,7 +1,7 @@
 //! The rows of a workspace: a tree of them by birth, and each name's birth beside it.
-ghost use Rattle.std.specs.Prelude.{◌≡◌, ◌≢◌, ◌<◌, ◌++◌, ◌∷◌, [], OnOk, OnErr, IfOk, IfErr, IfSome, IfNone, Some, None, is_some, length, slice_get, option_map};
+ghost use Rattle.std.specs.Prelude.{◌≡◌, ◌≢◌, ◌<◌, ◌++◌, ◌∷◌, [], ℕ, List, if◌then◌else◌, OnOk, OnErr, IfOk, IfErr, IfSome, IfNone, Some, None, is_some, length, slice_get, option_map};
 ghost use Rattle.std.specs.BTreeMap.{get_by, is_at};
-ghost use Rattle.std.specs.Map.{remove_entry};
+ghost use Rattle.std.specs.Map.{lookup, remove_entry};
 ghost use Rattle.std.specs.Ordering.{nat_cmp};
 ghost use Rattle.std.specs.Str.{bytes_eq};
 ghost use Rattle.schedule.specs.Refusals.{refusal_of, IsRefusalOf};
@@ -9,7 +9,7 @@ ghost use Rattle.schedule.specs.Swaps.{exchanged, swap_refusal};
 ghost use Rattle.moves.specs.declared.row.Row.{Row as RowValue};
 ghost use Rattle.moves.specs.Rows.{row_of, put_in, with_row, names_of, IsListing, IsFree, IsOfTrace};
 ghost use Rattle.moves.specs.Moves.{with_events};
-ghost use Rattle.moves.specs.Births.{born};
+ghost use Rattle.moves.specs.Births.{born, HasBirth};
 ghost use Rattle.moves.specs.Applied.{IsAt, IsTakenOff};
 
 use crate::name::Name;
@@ -24,10 +24,15 @@ use std::collections::BTreeMap;
 use std::marker::Model;
 use std::mem;
 
+/// The birth of each name's row.
+type Births = IndexMap<Name, u64, TextKeyed>;
+
 /// The rows by name. Contracts see it as the list of names and rows, by rising birth.
 #[derive(Drop)]
 pub(crate) struct Listing {
-    births: IndexMap<Name, u64, TextKeyed>,
+    births: Births,
+    // the place among the births of the name that was put in last
+    recent: usize,
     rows: BTreeMap<u64, (Name, Row)>,
 }
 
@@ -50,6 +55,7 @@ impl Listing {
     {
         Listing {
             births: IndexMap::with_hasher(alloc, hashers),
+            recent: 0,
             rows: BTreeMap::new(alloc),
         }
     }
@@ -94,8 +100,8 @@ impl Listing {
         ensures none { IfNone result (row_of self.now name ≡ None) }
         ensures some { IfSome result (λ birth. IsAt self.now birth name) }
     {
-        let birth = self.births.get(&name)?;
-        Some(*birth)
+        let birth = birth_of(&self.births, self.recent, &name)?;
+        Some(birth)
     }
 
     /// The schedule of this name.
@@ -136,6 +142,7 @@ impl Listing {
         };
         let birth = row.birth;
         let Err(failed) = self.rows.insert(birth, (name, row)) else {
+            self.recent = self.births.len();
             let _ = self.births.insert(name, birth);
             return Ok(());
         };
@@ -149,7 +156,7 @@ impl Listing {
         ensures gone { row_of self.new name ≡ None }
         ensures unchanged { IfNone result (self.new ≡ self.old) }
     {
-        let birth = self.births.swap_remove(&name)?;
+        let birth = take_birth(&mut self.births, self.recent, &name)?;
         let (_, row) = take_out(&mut self.rows, birth).unwrap();
         Some(row)
     }
@@ -235,4 +242,38 @@ fn take_out(rows: &mut BTreeMap<u64, (Name, Row)>, birth: u64) -> Option<(Name, 
     ensures entries { rows.new.entries ≡ remove_entry (is_at (nat_cmp birth)) rows.old.entries }
 {
     rows.remove(&birth)
+}
+
+/// The birth of the name, where its place is the recent one.
+fn recent_birth(births: &Births, recent: usize, name: &Name) -> Option<u64>
+    ensures { IfSome result (λ birth. HasBirth births.now.entries recent name.now birth) }
+{
+    match births.get_index(recent) {
+        Some((key, birth)) if key == name => Some(*birth),
+        _ => None,
+    }
+}
+
+/// The birth of the name's row. Where its place is the recent one the name has not to be hashed.
+fn birth_of(births: &Births, recent: usize, name: &Name) -> Option<u64>
+    ensures value { result ≡ lookup (bytes_eq name.now) births.now.entries }
+{
+    if let Some(birth) = recent_birth(births, recent, name) {
+        return Some(birth);
+    }
+    births.get(name).copied()
+}
+
+/// Takes out the birth of the name's row, in the same way.
+fn take_birth(births: &mut Births, recent: usize, name: &Name) -> Option<u64>
+    ensures value { result ≡ lookup (bytes_eq name.now) births.old.entries }
+    ensures updates { (y : List ℕ) → lookup (bytes_eq y) births.new.entries
+        ≡ (if bytes_eq name.now y then None else lookup (bytes_eq y) births.old.entries) }
+    ensures unchanged { IfNone result (births.new.entries ≡ births.old.entries) }
+{
+    if recent_birth(births, recent, name).is_some() {
+        let (_, birth) = births.swap_remove_index(recent)?;
+        return Some(birth);
+    }
+    births.swap_remove(name)
 }

@@ -1,12 +1,12 @@
 //! The name of a schedule, which is copied without memory.
-ghost use Rattle.std.specs.Prelude.{◌≡◌, ◌↔◌, ◌≤◌, ◌++◌, ◌-◌, replicate, true, length, IsOk, IfOk};
+ghost use Rattle.std.specs.Prelude.{◌≡◌, ◌↔◌, ◌≤◌, ◌++◌, ◌∷◌, [], ◌-◌, replicate, true, length, IsOk, IfOk};
 ghost use Rattle.std.specs.Cmp.{partial_equiv_from_equiv};
 ghost use Rattle.std.specs.Cmp.Lexicographic.{nat_list_eq_equiv, bytes_decides};
-ghost use Rattle.std.specs.Hash as fed;
 ghost use Rattle.std.specs.List.{list_all};
 ghost use Rattle.std.specs.Str.{bytes_eq};
 ghost use Rattle.std.proofs.Common.{ap};
 ghost use Rattle.moves.specs.Names.{is_name, is_name_byte};
+ghost use Rattle.moves.specs.Words.{whole_words};
 
 use std::hash::{Hash, Hasher};
 use std::marker::Model;
@@ -62,6 +62,14 @@ impl Name {
     {
         &self.padded[..self.len as usize]
     }
+
+    // The bytes of the name and zeros up to a whole word, since hashers take whole words at once.
+    fn words(&self) -> &[u8]
+        ensures { result.now ≡ whole_words self.now }
+    {
+        let len = self.len as usize;
+        &self.padded[..len + (64 - len) % 8]
+    }
 }
 
 impl PartialEq for Name {
@@ -79,12 +87,12 @@ impl Eq for Name {
 }
 
 impl Hash for Name {
-    ghost hash_input = { λ n. fed.slice fed.u8 n };
+    ghost hash_input = { λ n. whole_words n ∷ [] };
 
-    ghost respects_eq = { λ a b h. ap (fed.slice fed.u8) ((bytes_decides a b).0 h) };
+    ghost respects_eq = { λ a b h. ap (λ n. whole_words n ∷ []) ((bytes_decides a b).0 h) };
 
     fn hash<H: Hasher>(&self, state: &mut H) {
-        self.bytes().hash(state);
+        state.write(self.words());
     }
 }
 

@@ -70,8 +70,8 @@ invariant_of-self-2 c =
     let so : c.shows.result ≡ true = search rules in
     let shown = shown_as c.deref.result.now c.in-Ok.schedule c.args.events.now c.args.first c.args.second c.shows.result c.in-Ok.ensures.trace c.in-Ok.ensures.events c.shows.ensures.test ∙ so in
     let log : c.add_entry.new.log.items ≡ s.log.items ++ Proposed c.args.client c.args.first c.args.second c.args.events.now ∷ [] = rw (c.in-Ok-make_room.ensures.log, c.in-Ok-copied.ensures) at c.add_entry.ensures in
-    proposed_bench s c.self.invariant c.add_entry.new.log.items c.deref.result.now c.args.client c.args.first c.args.second c.args.events.now c.in-Ok.schedule c.push.new.self c.add_step.new.steps.items
-    c.deref.ensures room c.in-Ok.ensures.reordering shown c.in-Ok.ensures.trace c.in-Ok.ensures.events c.in-Ok-push.ensures.ok (rw (c.in-Ok-make_room.ensures.steps) at c.add_step.ensures) log c.requires.low c.requires.high
+    proposed_bench s c.self.invariant c.add_entry.new.log.items c.deref.result.now c.args.client c.args.first c.args.second c.args.events.now c.in-Ok.schedule c.push.new.self c.add_no_step.new.steps.items
+    c.deref.ensures room c.in-Ok.ensures.reordering shown c.in-Ok.ensures.trace c.in-Ok.ensures.events c.in-Ok-push.ensures.ok (rw (c.in-Ok-make_room.ensures.steps) at c.add_no_step.ensures) log c.requires.low c.requires.high
 
 pub returns-clause-call : goal.returns-clause-call
 returns-clause-call c =

@@ -42,13 +42,13 @@ invariant_of-self-in_default-turn_back c =
     let free = subst (λ (v : Benched). IsUnblocked v.log (live c.args.entry c.args.client c.args.command.now)) (sym c.self.view_is) c.requires.free in
     let legal = subst (λ (v : Benched). IsLegal v.trace (v.log ++ Undid c.args.client k ∷ [])) (sym c.self.view_is) c.requires.legal in
     let taken : slice_get s.steps.items k ≡ Some (Some c.in-Some.step) = rw (c.make_room.ensures.steps) at c.in-Some.ensures.taken in
-    let later : c.add_step.new.steps.items ≡ set s.steps.items k None ++ None ∷ [] = rw (c.take_out.ensures.items, c.make_room.ensures.steps) at c.add_step.ensures in
+    let later : c.add_no_step.new.steps.items ≡ set s.steps.items k None ++ None ∷ [] = rw (c.take_out.ensures.items, c.make_room.ensures.steps) at c.add_no_step.ensures in
     let log : c.add_entry.new.log.items ≡ s.log.items ++ Undid c.args.client k ∷ [] = rw (c.make_room.ensures.log) at c.add_entry.ensures in
     took_bench s c.self.invariant c.args.client k c.args.command.now free
-    c.add_entry.new.log.items c.turn_back.new.workspace c.writes-name.result c.in-Some.step c.add_step.new.steps.items c.leave.new.touches c.leave.new.clients c.turn_back.new.edits c.writes-name.ensures taken c.in_default-turn_back.ensures.ok later log c.leave.ensures.names c.leave.ensures.clients c.in_default-turn_back.ensures.counted legal
+    c.add_entry.new.log.items c.turn_back.new.workspace c.writes-name.result c.in-Some.step c.add_no_step.new.steps.items c.leave.new.touches c.leave.new.clients c.turn_back.new.edits c.writes-name.ensures taken c.in_default-turn_back.ensures.ok later log c.leave.ensures.names c.leave.ensures.clients c.in_default-turn_back.ensures.counted legal
 
-pub put_back-requires : goal.put_back-requires
-put_back-requires c =
+pub put_back-requires-clause-entry : goal.put_back-requires-clause-entry
+put_back-requires-clause-entry c =
     let s = c.self.inside in
     let free = subst (λ (v : Benched). IsUnblocked v.log (live c.args.entry c.args.client c.args.command.now)) (sym c.self.view_is) c.requires.free in
     take_within s c.self.invariant c.args.client c.args.entry c.args.command.now free _ (omega (arith, c.make_room.ensures.steps_len, c.take_out.ensures.len))

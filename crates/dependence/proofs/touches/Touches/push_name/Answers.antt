@@ -1,0 +1,30 @@
+use Rattle.std.proofs.Common.{◌≡◌, ◌++◌, ◌∷◌, [], ◌∙◌, ap, cond, bytes_eq, subst}
+use Rattle.indexmap.specs.IndexMap.{with_value_at}
+use Rattle.dependence.specs.Lists.{Lists, under, Same}
+use Rattle.dependence.proofs.PlaceLemmas.{on_ok, on_err, list_there, under_changed, same_kept}
+use Rattle.dependence.proofs.touches.Touches.push_name.Goals as goal
+
+pub returns-in-Some-clause-ok : goal.returns-in-Some-clause-ok
+returns-in-Some-clause-ok c =
+    let m = c.self.inside.lists in
+    let at = c.in-Some.at in
+    let x = c.args.name in
+    let has = c.in-Some.ensures.some in
+    let w = c.push.new.self in
+    let list = c.pair_mut-list.result.1.now in
+    let old = list_there m.entries at x c.pair_mut-list.result.0.now list has c.pair_mut-list.ensures.value in
+    on_ok c.push.result (w ≡ list ++ c.args.entry ∷ []) _
+    (λ pushed y. subst (λ (T : Lists). under (with_value_at m at w).entries y ≡ cond (bytes_eq y x) (under T y ++ c.args.entry ∷ []) (under T y)) c.self.view_is
+    (under_changed m at x has c.pair_mut-list.ensures.unique (λ l. l ++ c.args.entry ∷ []) w (pushed ∙ ap (λ l. l ++ c.args.entry ∷ []) old) y)) c.push.ensures.ok
+
+pub returns-in-Some-clause-err : goal.returns-in-Some-clause-err
+returns-in-Some-clause-err c =
+    let m = c.self.inside.lists in
+    let at = c.in-Some.at in
+    let x = c.args.name in
+    let has = c.in-Some.ensures.some in
+    let w = c.push.new.self in
+    let list = c.pair_mut-list.result.1.now in
+    let old = list_there m.entries at x c.pair_mut-list.result.0.now list has c.pair_mut-list.ensures.value in
+    on_err c.push.result (w ≡ list) _
+    (λ same. subst (λ (T : Lists). Same T (with_value_at m at w).entries) c.self.view_is (same_kept m at x has c.pair_mut-list.ensures.unique w (same ∙ old))) c.push.ensures.err
