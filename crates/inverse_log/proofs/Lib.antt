@@ -7,6 +7,7 @@ pub mod Inner
 pub mod KeptLemmas
 pub mod LawLemmas
 pub mod LiveLemmas
+pub mod NextLemmas
 pub mod OtherLemmas
 pub mod PairLemmas
 pub mod SoundLemmas

@@ -3,7 +3,7 @@ ghost use Rattle.std.specs.Prelude.{◌≡◌, ℕ, ◌+◌, ◌<◌, ◌≤◌,
 ghost use Rattle.rapid_text.specs.Recording.{IsWellFormed};
 ghost use Rattle.trace_rules.specs.Rules.{IsDisciplined};
 ghost use Rattle.schedule.specs.Faults.{IsListRefusal};
-ghost use Rattle.schedule.specs.Refusals.{refusal_of, IsRefusalOf, NamesHolder};
+ghost use Rattle.schedule.specs.Refusals.{next_of, refusal_of, IsRefusalOf, NamesHolder};
 ghost use Rattle.schedule.specs.Reordering.{IsCorrectReordering, IsEnabled};
 ghost use Rattle.schedule.specs.Shows.{Shows, does_show};
 ghost use Rattle.schedule.specs.Tables.{AreTables};
@@ -15,7 +15,7 @@ use crate::refusal::{Disabled, ExtendRefusal, ListRefusal, PrefixRefusal, SwapRe
 use crate::refusing::refusal_of;
 use crate::showing::is_ready;
 use crate::swapping::swap_refusal;
-use crate::tables::{Tables, forget, no_tables, note, tables_of};
+use crate::tables::{Tables, count_at, forget, no_tables, note, tables_of};
 use event_index::Indexed;
 use rapid_text::OutOfMemory;
 use std::alloc::Global;
@@ -260,6 +260,19 @@ impl Schedule {
             events,
             tables,
         })
+    }
+
+    /// The event of the thread that follows those in the schedule, or None where all of them are there.
+    pub fn next_of(&self, indexed: &Indexed, thread: u32) -> Option<u32>
+        requires trace { self.now.trace ≡ indexed.now }
+        requires thread { thread < length self.now.trace.threads }
+        ensures next { result ≡ next_of self.now.trace.events self.now.events thread }
+        ensures within { IfSome result (λ e. e < length self.now.trace.events) }
+    {
+        let of_thread = indexed.thread_events(thread);
+        of_thread
+            .get(count_at(&self.tables.counts, thread) as usize)
+            .copied()
     }
 
     /// Whether the two events conflict and both are ready: not in the schedule, but all earlier events of

@@ -15,4 +15,4 @@ returns c =
     let q : ℕ × ℕ → Bool = λ p. does_show T P p.0 p.1 in
     let none : drop c.loop-at.at c.in_ok-next.next.items ≡ [] = drop_of_length-le c.in_ok-next.next.items (omega (arith, c.len-at-end.ensures)) in
     let all : c.loop-at.pairs ≡ filter q (pairs_of c.in_ok-next.next.items) = sym (append-nil c.loop-at.pairs) ∙ (rw none at c.loop-at.invariant) in
-    all ∙ ap (λ xs. filter q (pairs_of xs)) c.in_ok-next.ensures ∙ ap (λ Q. filter q (pairs_of (filter (is_next T Q) (before (length T))))) c.events-events.ensures.same ∙ sym (shown_next T P)
+    all ∙ ap (λ xs. filter q (pairs_of xs)) c.in_ok-next.ensures ∙ sym (shown_next T P)
