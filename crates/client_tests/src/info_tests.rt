@@ -16,8 +16,8 @@ const FORK_AND_JOIN: &[u8] = b"M|fork(W)|1\nW|w(x)|2\nM|join(W)|3\nM|r(x)|4";
 // Threads that are only forked or only joined, between lines that make no event.
 const NO_EVENTS: &[u8] = b"M|begin(b)|\nM|fork(W)|\n\nM|join(V)|\nM|end|";
 
-// The index of the execution that a text tells.
-// What is printed of an execution, behind a byte that stood there.
+// The index of the trace that a text tells.
+// What is printed of a trace, behind a byte that stood there.
 fn info_of(alloc: Global, text: &[u8]) -> Option<Vec<u8>> {
     let indexed = indexed_of(alloc, text)?;
     let mut out = Vec::from_slice(alloc, b">").ok()?;
@@ -76,7 +76,7 @@ pub(crate) fn is_printed(printed: Option<Vec<u8>>, wanted: &[u8]) -> bool {
 }
 
 #[test]
-fn texts_of_executions(rt: HostRuntime) {
+fn texts_of_traces(rt: HostRuntime) {
     let rows: [(&[u8], &[u8]); 5] = [
         (
             ONE_LOCK,

@@ -1,11 +1,9 @@
 -- How often a thread holds a lock, event by event, in a trace that keeps the rules.
-use Rattle.std.proofs.Common.{◌≡◌, ◌≢◌, ℕ, zero, suc, ◌+◌, ◌<◌, ◌≤◌, ◌⊎◌, Bool, true, false, cond, eqb, ◌&&◌, List, Some, length, get_or, take, refl, sym, ap, ◌∙◌, subst, arith, eq-eqb, inl, inr, true≢false, le_refl, add-one}
+use Rattle.std.proofs.Common.{◌≡◌, ◌≢◌, ℕ, ◌+◌, ◌<◌, ◌≤◌, ◌⊎◌, Bool, true, false, cond, eqb, ◌&&◌, List, Some, take, refl, ap, ◌∙◌, subst, arith, eq-eqb, inl, inr}
 use Rattle.std.specs.List.{slice_get}
 use Rattle.std.proofs.lemmas.Bool.{eqb-true, ne_eqb, cases_Bool, and_parts, and_from, and_left, and_right}
-use Rattle.std.proofs.lemmas.Option.{slice_get-get_or, slice_get_within}
 use Rattle.rapid_text.specs.Operations.{is_acquire, is_release}
 use Rattle.rapid_text.specs.declared.event.Event.{Event}
-use Rattle.rapid_text.specs.declared.event.Op.{Op}
 use Rattle.rapid_text.specs.declared.event.Op.TheVariants.{Acquire, Release}
 use Rattle.trace_rules.specs.Rules.{acquire_count, release_count, hold_count, IsDisciplined}
 use Rattle.trace_rules.proofs.CallerLemmas.{acquire-from_test, release-from_test, release_count-le}

@@ -1,5 +1,5 @@
 -- The tests of two events agree with the relations that they stand for.
-use Rattle.std.proofs.Common.{◌≡◌, ◌≢◌, ℕ, Bool, true, false, not, ◌&&◌, ◌||◌, eqb, List, Option, Some, None, Decides, refl, sym, ap, ◌∙◌, subst, ⊎_elim, true≢false, eq-eqb}
+use Rattle.std.proofs.Common.{◌≡◌, ◌≢◌, ℕ, Bool, true, false, not, ◌&&◌, ◌||◌, eqb, List, Option, Some, None, Decides, refl, sym, ◌∙◌, subst, ⊎_elim, true≢false, eq-eqb}
 use Rattle.std.proofs.lemmas.Bool.{eqb-true, eqb-false, ne_eqb, and_parts, and_from, or_cases, or_left, or_right, not-true, not_from_false, false_from_ne_true}
 use Rattle.std.specs.List.{slice_get}
 use Rattle.rapid_text.specs.Operations.{is_read, is_write, is_fork, is_join}

@@ -9,7 +9,7 @@ use Rattle.std.proofs.lemmas.Option.{slice_get_within, get_or_from_slice_get}
 use Rattle.rapid_text.specs.Operations.{is_write, is_fork}
 use Rattle.rapid_text.specs.declared.event.Event.{Event}
 use Rattle.rapid_text.specs.declared.event.Op.{Op}
-use Rattle.rapid_text.specs.declared.event.Op.TheVariants.{Read, Write, Acquire, Release, Fork, Join}
+use Rattle.rapid_text.specs.declared.event.Op.TheVariants.{Write, Acquire, Release, Fork, Join}
 use Rattle.event_index.specs.Events.{passes_by, passes_at, is_of_thread, is_write_at, is_fork_at}
 use Rattle.event_index.specs.Lookups.{before, last_write, last_writer, last_writer_by, place_of, place_by}
 use Rattle.event_index.specs.Layout.{IsTable, fork_before, count_before, last_before}

@@ -26,7 +26,7 @@ const INFO_EXAMPLE: &str =
 
   racebench info trace.std
 
-A candidate is a conflicting pair that the order of the recording leaves open. Where none is
+A candidate is a conflicting pair that the order of the trace leaves open. Where none is
 printed there may still be a race: a schedule can show a pair that is no candidate.";
 
 const REPLAY: &str = "Makes the calls of a script on a trace, and prints the answer to each";

@@ -6,7 +6,7 @@ use Rattle.std.proofs.lemmas.Option.{none-some, same_Some}
 use Rattle.rapid_text.specs.Operations.{is_write, is_acquire, is_release}
 use Rattle.rapid_text.specs.declared.event.Event.{Event}
 use Rattle.rapid_text.specs.declared.event.Op.{Op}
-use Rattle.rapid_text.specs.declared.event.Op.TheVariants.{Read, Write, Acquire, Release, Fork, Join}
+use Rattle.rapid_text.specs.declared.event.Op.TheVariants.{Write, Acquire, Release}
 use Rattle.event_index.specs.Events.{passes_by, is_write_at}
 use Rattle.schedule.specs.Locks.{is_acquire_at, is_release_at}
 use Rattle.schedule.specs.Keys.{key_eq, key_eq_equiv}

@@ -1,6 +1,6 @@
 -- Two independent neighbours may change places: what stands after them sees no difference.
 use Rattle.std.proofs.Common.{◌≡◌, ◌≢◌, ◌↔◌, ℕ, zero, suc, ◌+◌, ◌<◌, ◌≤◌, ◌==◌, ◌&&◌, Bool, true, false, cond, List, [], ◌∷◌, ◌++◌, length, take, drop, reverse, get_or, slice_index, find, count_by, Contains, Option, Some, None, IfSome, slice_get, option_map, sym, refl, ap, ◌∙◌, subst, arith, inl, inr}
-use Rattle.std.proofs.lemmas.Bool.{cases_lt, eqb-true, eq-eqb, ne_eqb, false≢true, and_right, or_left, or_right, false_from_ne_true, cond-true, cond-false}
+use Rattle.std.proofs.lemmas.Bool.{cases_lt, eq-eqb, ne_eqb, and_right, or_left, or_right, false_from_ne_true, cond-true, cond-false}
 use Rattle.std.proofs.Math.Bool.{or_comm}
 use Rattle.std.proofs.lemmas.List.{append_assoc, append-nil, take_at, length-append}
 use Rattle.std.proofs.lemmas.List.Elements.{Contains-append_left, Contains-append_right, Contains-append_cases}
@@ -8,7 +8,7 @@ use Rattle.std.proofs.lemmas.Option.{same_Some, none-some, slice_get-get_or, sli
 use Rattle.rapid_text.specs.Operations.{is_read, is_write, is_acquire, is_release, is_fork}
 use Rattle.rapid_text.specs.declared.event.Event.{Event}
 use Rattle.rapid_text.specs.declared.event.Op.{Op}
-use Rattle.rapid_text.specs.declared.event.Op.TheVariants.{Read, Write, Acquire, Release, Fork, Join}
+use Rattle.rapid_text.specs.declared.event.Op.TheVariants.{Read, Acquire, Fork, Join}
 use Rattle.rapid_text.proofs.CallerLemmas.{fork-from_test}
 use Rattle.trace_rules.specs.Rules.{acquire_count, release_count}
 use Rattle.event_index.specs.Events.{op_at, thread_at, passes_by, passes_at, is_of_thread, is_write_at}

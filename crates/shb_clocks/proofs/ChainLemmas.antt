@@ -1,5 +1,5 @@
 -- Chains of accesses, one event further back or forth.
-use Rattle.std.proofs.Common.{◌≡◌, ◌≢◌, ℕ, ◌+◌, ◌<◌, ◌≤◌, Bool, true, false, List, Some, None, length, get_or, set, replicate, refl, sym, ap, ◌∙◌, subst, arith, inl, inr, le_refl, length-set, get_or-set_same, get_or-set_other}
+use Rattle.std.proofs.Common.{◌≡◌, ◌≢◌, ℕ, ◌+◌, ◌<◌, ◌≤◌, Bool, false, List, Some, None, length, get_or, set, replicate, refl, sym, ap, ◌∙◌, subst, arith, inl, inr, le_refl, length-set, get_or-set_same, get_or-set_other}
 use Rattle.std.specs.List.{slice_get}
 use Rattle.std.proofs.lemmas.Bool.{cases_eq, cases_order}
 use Rattle.std.proofs.lemmas.List.{length-replicate, get_or-replicate, get_or_read}
@@ -7,7 +7,7 @@ use Rattle.std.proofs.lemmas.Option.{none-some, same_Some, slice_get_within}
 use Rattle.rapid_text.specs.Recording.{Recording, IsNamed, IsNamedOp}
 use Rattle.rapid_text.specs.declared.event.Event.{Event}
 use Rattle.rapid_text.specs.declared.event.Op.{Op}
-use Rattle.rapid_text.specs.declared.event.Op.TheVariants.{Read, Write, Acquire, Release, Fork, Join}
+use Rattle.rapid_text.specs.declared.event.Op.TheVariants.{Read, Write}
 use Rattle.shb_clocks.specs.Search.{IsFirstFrom, linked_variable, IsLinked, AreSpots, AreLinks}
 
 module _ (P : ℕ → Type 0) (end : ℕ) where

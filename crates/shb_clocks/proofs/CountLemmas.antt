@@ -11,7 +11,7 @@ use Rattle.trace_rules.specs.Rules.{IsDisciplined}
 use Rattle.event_index.specs.Events.{thread_at}
 use Rattle.event_index.specs.Lookups.{place_of, base_of}
 use Rattle.shb_clocks.specs.HappensBefore.{IsShbBefore, same}
-use Rattle.shb_clocks.specs.Layout.{IsCount, AreCounts, count_by, counterpart_of}
+use Rattle.shb_clocks.specs.Layout.{IsCount, AreCounts, row_count, counterpart_of}
 use Rattle.shb_clocks.proofs.EdgeLemmas.{Edge-earlier, IsShbBefore-le, along_thread}
 use Rattle.event_index.proofs.CallerLemmas.{thread_here, one_thread}
 use Rattle.shb_clocks.proofs.OrderLemmas.{Leads, IsShbBefore-base, IsShbBefore-counterpart, IsShbBefore-sources}
@@ -68,7 +68,7 @@ module _ (T : List Event) (rules : IsDisciplined T) (e : ℕ) (v : Event) (at : 
 -- what a row counts
 pub IsCountBy-read :
     (T : List Event) (width t : ℕ) (counts : List ℕ) (o : Option ℕ) → AreCounts T width counts → t < width
-    → ((s : ℕ) → o ≡ Some s → s * width + t < length counts) → IsCountBy T o t (count_by counts width o t)
+    → ((s : ℕ) → o ≡ Some s → s * width + t < length counts) → IsCountBy T o t (row_count counts width o t)
 IsCountBy-read T width t counts None are low within = refl
 IsCountBy-read T width t counts (Some s) are low within = are s t low (within s refl)
 
@@ -107,7 +107,7 @@ read_within (Some k) P h s is = subst P (same_Some k s is) h
 -- what the table of the rows told at a source
 pub IsCountBy-told :
     (T : List Event) (k width t n : ℕ) (counts : List ℕ) (o p : Option ℕ) → AreCounts T k counts → width ≡ k → t < k
-    → IfSome o (λ s. s * width + t < length counts) → o ≡ p → n ≡ count_by counts width o t → IsCountBy T p t n
+    → IfSome o (λ s. s * width + t < length counts) → o ≡ p → n ≡ row_count counts width o t → IsCountBy T p t n
 IsCountBy-told T k width t n counts o p are wide low within is told =
     let these : AreCounts T width counts = subst (λ (w : ℕ). AreCounts T w counts) (sym wide) are in
     rw (told, ← is) (IsCountBy-read T width t counts o these (omega arith) (read_within o (λ s. s * width + t < length counts) within))

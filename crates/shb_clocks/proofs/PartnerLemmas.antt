@@ -6,7 +6,7 @@ use Rattle.std.proofs.lemmas.Option.{none-some, same_Some, slice_get_within}
 use Rattle.rapid_text.specs.Operations.{is_write}
 use Rattle.rapid_text.specs.declared.event.Event.{Event}
 use Rattle.rapid_text.specs.declared.event.Op.{Op}
-use Rattle.rapid_text.specs.declared.event.Op.TheVariants.{Read, Write, Acquire, Release, Fork, Join}
+use Rattle.rapid_text.specs.declared.event.Op.TheVariants.{Read, Write}
 use Rattle.event_index.specs.Events.{op_at, thread_at}
 use Rattle.event_index.specs.Relations.{is_access, IsConflicting}
 use Rattle.shb_clocks.specs.HappensBefore.{same, chain}

@@ -1,5 +1,5 @@
 -- The row of an event, made of those of its sources; rows that grow by one row.
-use Rattle.std.proofs.Common.{◌≡◌, ◌≢◌, ℕ, suc, ◌+◌, ◌*◌, ◌<◌, ◌≤◌, max, List, [], ◌∷◌, ◌++◌, Option, Some, None, length, get_or, set, refl, sym, ◌∙◌, subst, arith, inl, inr}
+use Rattle.std.proofs.Common.{◌≡◌, ℕ, suc, ◌+◌, ◌*◌, ◌<◌, ◌≤◌, max, List, [], ◌∷◌, ◌++◌, Option, Some, None, length, get_or, set, refl, sym, ◌∙◌, subst, arith, inl, inr}
 use Rattle.std.specs.List.{slice_get}
 use Rattle.std.specs.Option.{IfSome}
 use Rattle.std.proofs.lemmas.Bool.{cases_eq}
@@ -9,7 +9,7 @@ use Rattle.std.proofs.Math.Nat.{mul-le-mul_left}
 use Rattle.rapid_text.specs.declared.event.Event.{Event}
 use Rattle.trace_rules.specs.Rules.{IsDisciplined}
 use Rattle.event_index.specs.Lookups.{place_of, base_of}
-use Rattle.shb_clocks.specs.Layout.{IsCount, IsRow, AreCounts, count_by, counterpart_of}
+use Rattle.shb_clocks.specs.Layout.{IsCount, IsRow, AreCounts, row_count, counterpart_of}
 use Rattle.shb_clocks.proofs.CountLemmas.{IsCount-own, IsCount-other, IsCountBy-told, AreCounts-push, counterpart_of-earlier, within_rows}
 
 -- the counts from thread t on
@@ -45,8 +45,8 @@ pub IsRow-made :
     → (width : ℕ) (counts row copied raised : List ℕ) (b o : Option ℕ) → AreCounts T width counts → e * width ≤ length counts
     → IfSome b (λ s. s < e) → b ≡ base_of T e → o ≡ counterpart_of T e
     → length row ≡ width → length copied ≡ length row → length raised ≡ length copied
-    → ((t : ℕ) → t < length row → get_or copied t 0 ≡ count_by counts (length row) b t)
-    → ((t : ℕ) → t < length copied → get_or raised t 0 ≡ max (get_or copied t 0) (count_by counts (length copied) o t))
+    → ((t : ℕ) → t < length row → get_or copied t 0 ≡ row_count counts (length row) b t)
+    → ((t : ℕ) → t < length copied → get_or raised t 0 ≡ max (get_or copied t 0) (row_count counts (length copied) o t))
     → v.thread < length raised → (n : ℕ) → n ≡ place_of T e + 1 → IsRow T e (set raised v.thread n)
 IsRow-made T rules e v at width counts row copied raised b o are rows early base counterpart wide same again copies raises within n here t lt =
     let inside : t < length raised = omega (arith, lt, length-set raised v.thread n) in
@@ -62,7 +62,7 @@ IsRow-made T rules e v at width counts row copied raised b o are rows early base
           IsCountBy-told T width (length row) t (get_or copied t 0) counts b (base_of T e) are wide low
           (rw wide (within_rows b e width t (length counts) early low rows)) base (copies t (omega (arith, inside, same, again))) in
           let by_counterpart =
-          IsCountBy-told T width (length copied) t (count_by counts (length copied) o t) counts o (counterpart_of T e) are wider low
+          IsCountBy-told T width (length copied) t (row_count counts (length copied) o t) counts o (counterpart_of T e) are wider low
           (rw wider (within_rows o e width t (length counts) (counterpart_of-earlier T rules e o counterpart) low rows)) counterpart refl in
-          rw (value, raises t (omega (arith, inside, again))) (IsCount-other T rules e v at t (get_or copied t 0) (count_by counts (length copied) o t) other by_base by_counterpart)
+          rw (value, raises t (omega (arith, inside, again))) (IsCount-other T rules e v at t (get_or copied t 0) (row_count counts (length copied) o t) other by_base by_counterpart)
     ]

@@ -33,9 +33,9 @@ abbrev pub IsRow : List Event → ℕ → List ℕ → Type 0
 IsRow T e row = (t : ℕ) → t < length row → IsCount T e t (slice_index row t)
 
 -- what a row counts of the thread; nothing where there is no row
-abbrev pub count_by : List ℕ → ℕ → Option ℕ → ℕ → ℕ
-count_by counts width None t = 0
-count_by counts width (Some e) t = slice_index counts (e * width + t)
+abbrev pub row_count : List ℕ → ℕ → Option ℕ → ℕ → ℕ
+row_count counts width None t = 0
+row_count counts width (Some e) t = slice_index counts (e * width + t)
 
 -- whether the event lets the lock go
 abbrev pub is_release_at : List Event → ℕ → ℕ → Bool

@@ -1,7 +1,7 @@
 //! The rows of counts, made in one pass over the events.
 ghost use Rattle.std.specs.Prelude.{◌≡◌, ◌+◌, ◌*◌, ◌<◌, ◌≤◌, length, IfOk, OnOk, IfSome, slice_index, max, ℕ};
 ghost use Rattle.event_index.specs.Tables.{IsTable};
-ghost use Rattle.shb_clocks.specs.Layout.{AreThreads, AreCounts, last_release, counterpart_of, count_by, IsRow};
+ghost use Rattle.shb_clocks.specs.Layout.{AreThreads, AreCounts, last_release, counterpart_of, row_count, IsRow};
 
 use crate::events::event_at;
 use event_index::Indexed;
@@ -92,7 +92,7 @@ fn copy_row(row: &mut Vec<u32>, counts: &[u32], event: Option<u32>)
     requires within { IfSome event (λ e. (e + 1) * length row.old.items ≤ length counts.now) }
     ensures len { length row.new.items ≡ length row.old.items }
     ensures counts { (t : ℕ) → t < length row.old.items
-        → slice_index row.new.items t ≡ count_by counts.now (length row.old.items) event t }
+        → slice_index row.new.items t ≡ row_count counts.now (length row.old.items) event t }
 {
     match event {
         None => row.fill(0),
@@ -111,7 +111,7 @@ fn raise_row(row: &mut Vec<u32>, counts: &[u32], event: Option<u32>)
     ensures len { length row.new.items ≡ length row.old.items }
     ensures counts { (t : ℕ) → t < length row.old.items
         → slice_index row.new.items t
-        ≡ max (slice_index row.old.items t) (count_by counts.now (length row.old.items) event t) }
+        ≡ max (slice_index row.old.items t) (row_count counts.now (length row.old.items) event t) }
 {
     if let Some(event) = event {
         let width = row.len();

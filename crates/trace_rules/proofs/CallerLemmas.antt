@@ -1,6 +1,6 @@
 -- What the rules say of a list of events, for the crates above: a list that keeps them has no first
 -- breach and the other way round; what a first breach says; and who holds a lock.
-use Rattle.std.proofs.Common.{◌≡◌, ◌≢◌, ℕ, zero, suc, ◌+◌, ◌-◌, ◌<◌, ◌≤◌, ◌==◌, Bool, true, false, ◌||◌, cond, List, [], ◌∷◌, ◌++◌, length, take, slice_get, option_and_then, Option, Some, None, refl, sym, ap, ◌∙◌, subst, arith, add-one, lt_irrefl, eq-eqb, ne_eqb, eqb-true, inl, inr}
+use Rattle.std.proofs.Common.{◌≡◌, ◌≢◌, ℕ, zero, suc, ◌+◌, ◌-◌, ◌<◌, ◌≤◌, ◌==◌, Bool, true, false, ◌||◌, cond, List, [], ◌∷◌, ◌++◌, length, take, slice_get, option_and_then, Option, Some, None, refl, sym, ap, ◌∙◌, subst, arith, add-one, lt_irrefl, eq-eqb, ne_eqb, inl, inr}
 use Rattle.std.specs.List.{list_any}
 use Rattle.std.proofs.lemmas.Bool.{cases_Bool, cases_eq, cases_lt, or_left, or_right, or_from, true≢false, false_from_ne_true, eqb-false}
 use Rattle.std.proofs.lemmas.Option.{none-some, same_Some, slice_get_within}

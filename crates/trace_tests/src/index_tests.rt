@@ -231,7 +231,7 @@ fn independent_events(rt: HostRuntime) {
 }
 
 #[test]
-fn the_empty_execution(rt: HostRuntime) {
+fn the_empty_trace(rt: HostRuntime) {
     let index = indexed_of(rt.alloc(), b"");
     assert!(rt; index.is_some());
     if let Some(index) = index {

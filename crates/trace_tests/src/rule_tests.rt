@@ -1,10 +1,10 @@
 //! What no clause says: that `check` succeeds where there is memory, that it answers the rules' worked
-//! examples read from their texts, and that a refused execution comes back whole.
+//! examples read from their texts, and that a refused trace comes back whole.
 use rapid_text::parse;
 use std::alloc::Global;
 use trace_rules::{RuleCause, RuleRefusal, check};
 
-// What `check` answers on the execution that a text tells.
+// What `check` answers on the trace that a text tells.
 #[derive(Clone, Copy)]
 struct Judgement {
     len: u32,

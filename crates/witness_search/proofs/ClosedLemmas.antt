@@ -1,6 +1,6 @@
 -- In a trace that keeps the rules, the events of a set that is closed downwards under SHB are a correct
 -- reordering, in the order of the trace.
-use Rattle.std.proofs.Common.{◌≡◌, ◌≢◌, ℕ, zero, suc, ◌<◌, ◌≤◌, ◌==◌, ◌&&◌, Bool, true, List, length, take, get_or, count_by, Contains, Option, Some, None, slice_get, sym, refl, ap, ◌∙◌, subst, arith, add-one, inl, inr}
+use Rattle.std.proofs.Common.{◌≡◌, ◌≢◌, ℕ, zero, suc, ◌<◌, ◌≤◌, ◌==◌, ◌&&◌, Bool, true, List, length, take, get_or, count_by, Contains, Some, slice_get, sym, ap, ◌∙◌, subst, arith, add-one, inl, inr}
 use Rattle.std.proofs.lemmas.Bool.{cases_Bool, and_parts}
 use Rattle.std.proofs.lemmas.Option.{same_Some, slice_get_within, slice_get-get_or}
 use Rattle.rapid_text.specs.Operations.{is_acquire, is_release}
