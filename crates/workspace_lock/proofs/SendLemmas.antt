@@ -23,6 +23,9 @@ use Rattle.event_index.proofs.indexed.Indexed.TheSendSync as IndexedSend
 use Rattle.dependence.proofs.touches.Touches.TheSendSync as TouchesSend
 use Rattle.dependence.proofs.clients.Clients.TheSendSync as ClientsSend
 use Rattle.inverse_log.proofs.entry.Entry.TheSendSync as EntrySend
+use Rattle.inverse_log.specs.contracts.kept.Form as Form
+use Rattle.inverse_log.specs.contracts.kept.Kept as Kept
+use Rattle.inverse_log.specs.contracts.kept.Kept.TheInside as KeptInside
 use Rattle.inverse_log.specs.contracts.bench.Bench as Bench
 use Rattle.inverse_log.specs.contracts.bench.Bench.TheInside as BenchInside
 use Rattle.atomic_table.proofs.owned.Table.TheSendSync as TableSend
@@ -73,14 +76,31 @@ board_send = view_send BoardInside.the_row _ _ _ _ board_inside
 step_send : IsSend (Step.the_field).row
 step_send = search (schedule_send, row_send, sendable, crosses) depth 20
 
+form_send : IsSend (Form.the_field).row
+form_send = search (step_send, sendable, crosses) depth 20
+
+kept_inside : IsSend KeptInside.the_row
+kept_inside =
+    recorded_send (KeptInside.the_field).row _ _ (KeptInside.the_type).to_one
+    (struct_send (shape KeptInside.the_type) (
+      search (form_send, sendable, crosses) depth 20,
+      tt,
+    ))
+
+kept_send : IsSend Kept.the_row
+kept_send = view_send KeptInside.the_row _ _ _ _ kept_inside
+
 listing_inside : IsSend ListingInside.the_row
 listing_inside =
     recorded_send (ListingInside.the_field).row _ _ (ListingInside.the_type).to_one
     (struct_send (shape ListingInside.the_type) (
       search (NameSend.the_send, TextKeyedSend.the_send, IndexMapSend.the_send, sendable, crosses) depth 20,
       (
-        search (row_row, NameSend.the_send, maps.crosses, sendable, crosses) depth 20,
-        tt,
+        search (sendable, crosses) depth 20,
+        (
+          search (row_row, NameSend.the_send, maps.crosses, sendable, crosses) depth 20,
+          tt,
+        ),
       ),
     ))
 
@@ -115,14 +135,17 @@ bench_inside =
             (
               search (EntrySend.the_send, sendable, crosses) depth 20,
               (
-                search (step_send, sendable, crosses) depth 20,
+                search (kept_send, sendable, crosses) depth 20,
                 (
-                  search (TouchesSend.the_send, sendable, crosses) depth 20,
+                  search (step_send, sendable, crosses) depth 20,
                   (
-                    search (ClientsSend.the_send, sendable, crosses) depth 20,
+                    search (TouchesSend.the_send, sendable, crosses) depth 20,
                     (
-                      search (sendable, crosses) depth 20,
-                      tt,
+                      search (ClientsSend.the_send, sendable, crosses) depth 20,
+                      (
+                        search (sendable, crosses) depth 20,
+                        tt,
+                      ),
                     ),
                   ),
                 ),
