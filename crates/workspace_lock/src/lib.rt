@@ -8,6 +8,8 @@ mod lock;
 mod seat;
 mod seats;
 #[cfg(test)]
+mod small_runs;
+#[cfg(test)]
 mod tests;
 #[cfg(test)]
 mod thread_tests;
