@@ -25,6 +25,8 @@ mod seat_line_tests;
 #[cfg(test)]
 mod seat_tests;
 #[cfg(test)]
+mod small_runs;
+#[cfg(test)]
 mod thread_tests;
 #[cfg(test)]
 mod threads_call_tests;
