@@ -1,5 +1,7 @@
 //! Runs several scripts on one trace at once: reads all texts, runs the scripts, and writes what they were told.
-ghost use Rattle.std.specs.Prelude.{◌≡◌, ◌<◌, All, false, vec_len};
+ghost use Rattle.std.specs.Prelude.{◌≡◌, ◌<◌, All, false, true, vec_len, OnErr, Err};
+ghost use Rattle.client_scripts.specs.declared.fault.ReplayFault.TheVariants.{Write};
+ghost use Rattle.program_calls.specs.declared.fault.BenchFault.TheVariants.{Replay};
 
 use crate::fault::BenchFault;
 use crate::inputs::{MAX_SCRIPTS, read_scripts};
@@ -26,6 +28,9 @@ pub fn threads<R: Threads + Wait + Sync, S: Source, Q: Source + Drop, K: Sink>(
     requires scripts { All (λ q. Q.has_failed q ≡ false) scripts.items }
     requires some { 0 < vec_len scripts }
     requires writer { K.has_failed writer.old ≡ false }
+    // Where no write fails, nothing is written at a fault; and where one fails, that is the fault.
+    ensures unwritten { OnErr result (K.has_failed writer.new ≡ false → K.taken writer.new ≡ K.taken writer.old) }
+    ensures write_failed { K.has_failed writer.new ≡ true → result ≡ Err (Replay Write) }
 {
     if scripts.len() > MAX_SCRIPTS {
         return Err(BenchFault::TooManyScripts);
@@ -36,7 +41,7 @@ pub fn threads<R: Threads + Wait + Sync, S: Source, Q: Source + Drop, K: Sink>(
     let names = read.keyed();
     let told = run_scripts(rt, alloc, indexed, names, read.scripts)?;
     if write_all(writer, &told).is_err() {
-        return Err(BenchFault::from(ReplayFault::Write));
+        return Err(BenchFault::Replay(ReplayFault::Write));
     }
     Ok(())
 }
