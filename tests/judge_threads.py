@@ -10,9 +10,11 @@ Takes the program's path. Says what is wrong, if something is, and ends with sta
 import os
 import random
 import re
-import subprocess
 import sys
 import tempfile
+
+sys.dont_write_bytecode = True
+import running
 
 CLIENTS = 31
 CALLS = 60
@@ -51,33 +53,6 @@ def scripts():
     return texts
 
 
-def run(words):
-    done = subprocess.run(words, capture_output=True, timeout=60, check=False)
-    if done.returncode != 0 or done.stderr:
-        sys.exit(f"{words[1]}: status {done.returncode}: {done.stderr.decode()[:300]}")
-    return done.stdout.decode().splitlines()
-
-
-def parts_of(printed):
-    """The lines of each client, and the log as pairs of a client and a call."""
-    at = 0
-    told = []
-    for client in range(1, CLIENTS + 1):
-        if printed[at] != f"client {client}":
-            sys.exit(f"line {at + 1} is not that of client {client}: {printed[at]}")
-        told.append(printed[at + 1 : at + 1 + CALLS])
-        at += 1 + CALLS
-    if printed[at] != f"log {len(printed) - at - 1}":
-        sys.exit(f"line {at + 1} does not count the log: {printed[at]}")
-    log = []
-    for number, line in enumerate(printed[at + 1 :]):
-        entry, client, words = line.split(" ", 2)
-        if int(entry) != number:
-            sys.exit(f"entry {number} of the log has another number: {line}")
-        log.append((int(client), words))
-    return told, log
-
-
 def judge(told, log, script, replayed):
     """Each client's numbered lines are its entries of the log, and the replay of the log prints them."""
     entered = [None] * len(log)
@@ -106,19 +81,17 @@ def main():
     switches = 0
     with tempfile.TemporaryDirectory() as folder:
         os.chdir(folder)
-        with open("trace", "w") as out:
-            out.write(trace_text())
+        running.write("trace", trace_text())
         names = []
         for client, calls in enumerate(script, start=1):
             names.append(f"script{client}")
-            with open(names[-1], "w") as out:
-                out.write("".join(f"{client} {words}\n" for words in calls))
+            running.write(names[-1], "".join(f"{client} {words}\n" for words in calls))
         for _ in range(RUNS):
-            told, log = parts_of(run([program, "threads", "trace"] + names))
-            with open("in_order", "w") as out:
-                for client, words in log:
-                    out.write(f"{client} {'undo' if words.startswith('undo ') else words}\n")
-            replayed = run([program, "replay", "trace", "in_order"])
+            lines = running.printed(program, ["threads", "trace"] + names).decode().splitlines()
+            told, log = running.parts_of(lines, [CALLS] * CLIENTS)
+            in_order = [f"{client} {'undo' if words.startswith('undo ') else words}\n" for client, words in log]
+            running.write("in_order", "".join(in_order))
+            replayed = running.printed(program, ["replay", "trace", "in_order"]).decode().splitlines()
             if len(replayed) != len(log) or not log:
                 sys.exit(f"{len(log)} entries, and {len(replayed)} answers to their calls")
             judge(told, log, script, replayed)

@@ -1,0 +1,149 @@
+"""Traces that keep the rules, and calls that are most often accepted, drawn by chance for the judges."""
+
+import plain
+
+THREADS = ["main", "T1", "T2", "worker.b", "5"]
+VARIABLES = ["x", "y", "a[0](1)"]
+LOCKS = ["l", "m"]
+SCHEDULES = ["A", "AB", "B", "a-longer.name_4", "x" * 64]
+
+# How often each operation is drawn at the beginning of a trace, in its middle and at its end.
+OPERATIONS = ["r", "w", "acq", "rel", "fork", "join"]
+BEGINNING = [4, 4, 3, 1, 6, 0]
+MIDDLES = [[7, 6, 4, 4, 1, 0], [3, 3, 9, 8, 1, 0]]
+END = [6, 4, 2, 6, 0, 3]
+
+# How often each call is drawn where schedules grow, and where much is taken back and copied.
+GROWING = {
+    "new": 3, "add": 14, "back": 2, "swap": 3, "branch": 2, "drop": 1, "adopt": 1,
+    "undo": 4, "propose": 1, "show": 1, "list": 1, "races": 2,
+}
+ARGUING = {
+    "new": 3, "add": 9, "back": 3, "swap": 4, "branch": 5, "drop": 3, "adopt": 3,
+    "undo": 14, "propose": 2, "show": 2, "list": 1, "races": 1,
+}
+# Schedules that come to have all events, whose ends are exchanged.
+ENDING = {"new": 1, "add": 40, "back": 1, "swap": 6, "undo": 1, "propose": 1, "adopt": 1, "races": 2}
+MOODS = [GROWING, ARGUING, ENDING]
+# The commands alone.
+COMMANDS = {"new": 2, "add": 4, "back": 1, "swap": 2, "branch": 2, "drop": 2}
+
+
+def weights_at(place, length, middle):
+    if place < 4:
+        return BEGINNING
+    return END if place > length * 3 // 4 else middle
+
+
+def trace(chance, most):
+    """A trace of 2 to 5 threads with 4 to `most` events, or fewer where the rules leave none to draw."""
+    threads = chance.sample(THREADS, chance.randint(2, 5))
+    names = {"r": VARIABLES[: chance.randint(1, 3)], "acq": LOCKS[: chance.randint(1, 2)], "fork": threads}
+    names.update(w=names["r"], rel=names["acq"], join=threads)
+    length = chance.randint(4, most)
+    middle = chance.choice(MIDDLES)
+    events = []
+    for _ in range(20 * length):
+        if len(events) == length:
+            break
+        word = chance.choices(OPERATIONS, weights_at(len(events), length, middle))[0]
+        event = plain.Event(chance.choice(threads), word, chance.choice(names[word]))
+        if plain.breach(events, event) is None:
+            events.append(event)
+    return plain.Trace(events)
+
+
+def probed(drawn):
+    """The trace with a write before and a write behind each pair of events, of a variable of their own: the two writes are a
+    candidate exactly where no chain of edges leads from the first event to the second."""
+    events = []
+    numbers = range(len(drawn.events))
+    for number, event in enumerate(drawn.events):
+        events += [plain.Event(event.thread, "w", f"{number}-{later}") for later in numbers if later > number]
+        events.append(event)
+        events += [plain.Event(event.thread, "w", f"{earlier}-{number}") for earlier in numbers if earlier < number]
+    return plain.Trace(events)
+
+
+def event(chance, trace_, listed):
+    """An event, most often one that may come next, or the next one of a thread; also the number after the last one, which is none."""
+    wanted = chance.random()
+    if wanted < 0.9:
+        causes = [trace_.cause(listed, event) for event in range(len(trace_.events))]
+        is_next = [cause is None if wanted < 0.7 else cause not in (None, "22 not next") for cause in causes]
+        if any(is_next):
+            return chance.choice([event for event, is_one in enumerate(is_next) if is_one])
+    return chance.randint(0, len(trace_.events))
+
+
+def neighbours(chance, trace_, listed):
+    """A place in the list, most often one whose event may change places with the next; also one behind its end."""
+    apart = [at for at in range(len(listed) - 1) if trace_.independent(listed[at], listed[at + 1])]
+    if apart and chance.random() < 0.7:
+        return chance.choice(apart)
+    return chance.randint(0, len(listed))
+
+
+def proposal(chance, log):
+    """A list, most often a correct reordering that begins like some schedule, and a pair, most often one that it shows."""
+    trace_ = log.trace
+    listed = chance.choice([()] + [row.events for row in log.rows.values()])
+    listed = listed[: chance.randint(0, len(listed))]
+    for _ in range(chance.randint(0, 8)):
+        drawn = event(chance, trace_, listed)
+        if trace_.cause(listed, drawn) is None:
+            listed += (drawn,)
+    shown = trace_.shown_pairs(listed)
+    if chance.random() < 0.25:
+        at = chance.randint(0, len(listed))
+        listed = listed[:at] + (chance.randint(0, len(trace_.events)),) + listed[at:]
+    if shown and chance.random() < 0.85:
+        pair = chance.choice(shown)
+        return ("propose", *(pair if chance.random() < 0.5 else pair[::-1]), listed)
+    return ("propose", chance.randint(0, len(trace_.events)), chance.randint(0, len(trace_.events)), listed)
+
+
+def name_among(chance, names, preferred):
+    """One of the names, most often one of those that are preferred."""
+    among = [name for name in names if name in preferred]
+    return chance.choice(among if among and chance.random() < 0.85 else names)
+
+
+def call(chance, log, names, mood):
+    """A call on one of the names, whoever makes it."""
+    word = chance.choices(list(mood), list(mood.values()))[0]
+    fresh = [name for name in names if name not in log.rows]
+    if word in ("undo", "list"):
+        return (word,)
+    if word == "propose":
+        return proposal(chance, log)
+    if word == "new":
+        return (word, name_among(chance, names, fresh))
+    name = name_among(chance, names, log.rows)
+    listed = log.rows[name].events if name in log.rows else ()
+    if word == "add":
+        return (word, name, event(chance, log.trace, listed))
+    if word == "swap":
+        return (word, name, neighbours(chance, log.trace, listed))
+    if word == "branch":
+        return (word, name, chance.randint(0, len(listed) + 1), name_among(chance, names, fresh))
+    if word == "adopt":
+        return (word, name, chance.randint(0, len(log.board)))
+    return (word, name)
+
+
+def script(chance, trace_, length, clients=None):
+    """So many calls of several clients, each with its client, the line that it is answered by and the log before it; and
+    the log after all."""
+    clients = clients or chance.sample(range(1, 33), chance.randint(2, 5))
+    names = chance.sample(SCHEDULES, chance.randint(2, 4))
+    mood = chance.choice(MOODS)
+    log = plain.Log(trace_)
+    calls = []
+    for _ in range(length):
+        client = chance.choice(clients)
+        drawn = call(chance, log, names, mood)
+        told, after = log.answer(client, drawn)
+        calls.append((client, drawn, told, log))
+        log = after
+    return calls, log

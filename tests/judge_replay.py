@@ -1,0 +1,281 @@
+#!/usr/bin/env python3
+"""Judges what `replay` and `info` print, by tests/plain.py, which answers from the definitions.
+
+The traces and scripts are drawn by chance, always the same ones. Whole outputs have to be alike. It also tries every order in which
+several clients can undo a few commands. Each kind of answer has to be reached, so that no draw can go stale unseen.
+Takes the program's path. Says what is wrong, if something is, and ends with status 1 then.
+"""
+
+import collections
+import itertools
+import os
+import random
+import re
+import sys
+import tempfile
+
+sys.dont_write_bytecode = True
+import by_chance
+import plain
+import running
+
+# How many traces are drawn; how many scripts on each, and how many calls in one.
+TRACES = 400
+SCRIPTS = 2
+CALLS = (20, 200)
+MOST_EVENTS = 40
+# How many traces are probed, and how many events they have before that.
+PROBED = 100
+MOST_PROBED = 12
+# How many scripts are judged with the log that they lead to.
+LOGS = 60
+# So many clients undo so many times, in every order; so many orders stand in one script. And for how many lists of commands
+# drawn by chance, with fewer undos.
+UNDOING = 3
+UNDOS = 7
+ORDERS = 4
+PROBLEMS = 20
+
+# What has to be reached. A number after a word is that of a refusal.
+REACHED = """
+    new|done add|done back|done swap|done branch|done drop|done adopt|done propose|proposed
+    show|shown list|names races|none races|pairs
+    undo|new undo|add undo|back undo|swap undo|branch undo|drop undo|adopt undo|last undo|past-undone undo|past-others
+    undo|into-the-middle
+    new|43 add|42 add|46-21 add|46-22 add|46-23 add|46-24 add|46-25 add|46-26
+    needs-none needs-other needs-missing back|42 back|45 swap|42 swap|47-28 swap|47-29
+    branch|42 branch|43 branch|48 drop|42 adopt|42 adopt|44 adopt|anothers
+    undo|51 undo|52 undo|52-by-source propose|53 propose|54 show|42 races|42
+""".split()
+
+
+class Tally(collections.Counter):
+    """How often each kind of answer was compared."""
+
+    def note(self, log, client, call, told):
+        word = call[0]
+        parts = told.split(" ")
+        if parts[0] == "refused":
+            self[f"{word}|{'-'.join(parts[1:3]) if parts[1] in ('46', '47') else parts[1]}"] += 1
+            self.note_refusal(log, parts)
+        elif word == "undo":
+            self.note_undo(log, int(parts[2]))
+        elif word == "races":
+            self["races|pairs" if parts[1:] else "races|none"] += 1
+            self["pairs"] += len(parts) - 1
+        else:
+            self[f"{word}|{parts[0] if word in ('show', 'list') else parts[1]}"] += 1
+        if word == "adopt" and parts[1] == "done":
+            whose = [entry.client for entry in log.entries if entry.kind == "proposed"][call[2]]
+            self["adopt|anothers"] += whose != client
+        self["calls"] += 1
+        self["refused"] += parts[0] == "refused"
+
+    def note_refusal(self, log, parts):
+        if parts[2] == "24":
+            needs, has = parts[6], parts[8]
+            self["needs-none" if needs == "none" else "needs-missing" if has == "none" else "needs-other"] += 1
+        if parts[1] == "52":
+            blocker = log.entries[int(parts[4])].what
+            self["undo|52-by-source"] += blocker[0] == "branch" and blocker[1] == parts[5]
+
+    def note_undo(self, log, undone):
+        command = log.entries[undone].what
+        self[f"undo|{command[0]}"] += 1
+        self["undone"] += 1
+        if undone == len(log.entries) - 1:
+            self["undo|last"] += 1
+        later = [entry for entry in log.entries[undone + 1 :] if entry.kind == "did"]
+        # Later commands that touched the name were undone themselves, and those that were not touch other names.
+        self["undo|past-undone"] += any(plain.writes(command) in plain.touches(entry.what) for entry in later)
+        past = [other for number, _, other in log.live if number > undone]
+        self["undo|past-others"] += bool(past)
+        # A row that comes back stands before those that were made since.
+        self["undo|into-the-middle"] += command[0] == "drop" and any(other[0] in ("new", "branch") for other in past)
+
+
+class Judge:
+    """Runs the program in this folder, and compares."""
+
+    def __init__(self, program):
+        self.program = program
+        self.tally = Tally()
+
+    def compare(self, expected, *words):
+        """Ends with the first line that the program prints otherwise, where there is one, and with what it was given."""
+        printed = running.printed(self.program, words)
+        if printed == expected.encode("ascii"):
+            return
+        pairs = itertools.zip_longest(expected.encode("ascii").split(b"\n"), printed.split(b"\n"))
+        at, (wanted, found) = next((at, pair) for at, pair in enumerate(pairs, start=1) if pair[0] != pair[1])
+        sys.exit(f"{words[0]}, line {at}: {found!r}, and plainly {wanted!r}{running.given(words)}")
+
+    def judge_info(self, trace):
+        running.write("trace", trace.text())
+        expected = trace.info()
+        self.compare(expected, "info", "trace")
+        self.tally["candidates"] += expected.count("\ncandidate ")
+        self.tally["traces"] += 1
+
+    def judge_script(self, trace, calls, log=None):
+        """Judges the script by `replay`, or, where a log is expected, by `threads`."""
+        running.write("trace", trace.text())
+        running.write("script", "".join(f"{client} {plain.words_of(call)}\n" for client, call, _, _ in calls))
+        told = "".join(line + "\n" for _, _, line, _ in calls)
+        if log is None:
+            self.compare(told, "replay", "trace", "script")
+        else:
+            self.compare(f"client 1\n{told}{log.text()}", "threads", "trace", "script")
+            self.tally["entries"] += len(log.entries)
+        for client, call, line, before in calls:
+            self.tally.note(before, client, call, line)
+        self.tally["scripts"] += 1
+
+
+def seen(log):
+    """Calls that show all that the log has come to."""
+    names = log.names()
+    return [("list",)] + [("show", name) for name in names] + [("races", name) for name in names]
+
+
+def looked_at(calls, log, chance):
+    """The calls, and after some of them all that the log has come to then, seen by the same client."""
+    longer = []
+    for (client, call, told, before), after in zip(calls, [before for _, _, _, before in calls[1:]] + [log]):
+        longer.append((client, call, told, before))
+        if call[0] == "undo" or chance.random() < 0.1:
+            longer += [(client, look, after.answer(client, look)[0], after) for look in seen(after)]
+    return longer
+
+
+def probes(trace, log):
+    """Each event, and one that is none, put to each schedule, and taken off where it could come next."""
+    calls = []
+    for name in log.names():
+        for event in range(len(trace.events) + 1):
+            for call in [("add", name, event), ("back", name)]:
+                told, after = log.answer(1, call)
+                calls.append((1, call, told, log))
+                log = after
+                if told.startswith("refused"):
+                    break
+    return calls
+
+
+def judge_by_chance(judge):
+    for seed in range(TRACES):
+        chance = random.Random(seed)
+        trace = by_chance.trace(chance, MOST_EVENTS)
+        judge.judge_info(trace)
+        for _ in range(SCRIPTS):
+            calls, log = by_chance.script(chance, trace, chance.randint(*CALLS))
+            calls = looked_at(calls, log, chance)
+            judge.judge_script(trace, calls + probes(trace, log))
+
+
+def judge_probed(judge):
+    for seed in range(PROBED):
+        judge.judge_info(by_chance.probed(by_chance.trace(random.Random(seed), MOST_PROBED)))
+    # More candidates than are printed.
+    one = plain.Event("one", "w", "x")
+    judge.judge_info(plain.Trace([one] * 40 + [one._replace(thread="other")] * 40))
+
+
+def judge_logs(judge):
+    """Scripts of client 1 alone, run by `threads`, which prints the log too."""
+    for seed in range(LOGS):
+        chance = random.Random(seed)
+        trace = by_chance.trace(chance, MOST_EVENTS)
+        calls, log = by_chance.script(chance, trace, chance.randint(*CALLS), [1])
+        judge.judge_script(trace, calls, log)
+
+
+# Schedules that grow, are copied, go and come again, on a trace of two threads that use one lock.
+ONE_LOCK = [("T1", "w", "x"), ("T1", "acq", "l"), ("T1", "rel", "l"), ("T2", "acq", "l"), ("T2", "rel", "l"), ("T2", "w", "x")]
+COMMANDS = [
+    (0, ("new", "A")), (1, ("new", "B")), (0, ("add", "A", 0)), (2, ("branch", "A", 1, "C")), (1, ("add", "B", 3)),
+    (0, ("drop", "A")), (2, ("add", "C", 3)), (1, ("new", "A")), (2, ("swap", "C", 0)),
+]
+
+
+def drawn_commands(chance, trace):
+    """Accepted commands of three clients on three schedules."""
+    log = plain.Log(trace)
+    commands = []
+    while len(commands) < UNDOS:
+        client = chance.randrange(UNDOING)
+        command = by_chance.call(chance, log, ["A", "B", "C"], by_chance.COMMANDS)
+        after = log.answer(client, command)[1]
+        if after is not log:
+            commands.append((client, command))
+            log = after
+    return commands
+
+
+def in_order(log, group, commands, order):
+    """The commands and then the undos of these clients, all with names and clients of this group alone; and the log after all."""
+    names = sorted({name for _, command in commands for name in plain.touches(command)})
+    renamed = {name: f"{name}.{group}" for name in names}
+    steps = [(client, tuple(renamed.get(part, part) for part in command)) for client, command in commands]
+    for client in order:
+        steps += [(client, ("undo",)), (client, ("list",))]
+    steps += [(0, ("show", name)) for name in renamed.values()]
+    calls = []
+    for client, call in steps:
+        number = group * UNDOING + client + 1
+        told, after = log.answer(number, call)
+        calls.append((number, call, told, log))
+        log = after
+    return calls, log
+
+
+def judge_orders(judge, trace, commands, undos):
+    """Each order in which the clients can undo so often."""
+    orders = list(itertools.product(range(UNDOING), repeat=undos))
+    for first in range(0, len(orders), ORDERS):
+        log = plain.Log(trace)
+        all_calls = []
+        for group, order in enumerate(orders[first : first + ORDERS]):
+            calls, log = in_order(log, group, commands, order)
+            all_calls += calls
+        judge.judge_script(trace, all_calls)
+    judge.tally["orders"] += len(orders)
+
+
+def judge_undo(judge):
+    judge_orders(judge, plain.Trace(plain.Event(*event) for event in ONE_LOCK), COMMANDS, UNDOS)
+    for seed in range(PROBLEMS):
+        chance = random.Random(seed)
+        trace = by_chance.trace(chance, MOST_PROBED)
+        judge_orders(judge, trace, drawn_commands(chance, trace), UNDOS - 2)
+
+
+def summary(tally):
+    """What was compared, with how often each refusal was, by its number and that of its cause."""
+    refusals = collections.Counter()
+    for kind, count in tally.items():
+        number = kind.partition("|")[2]
+        if re.fullmatch(r"\d+(-\d+)?", number):
+            refusals[number.replace("-", " ")] += count
+    by_number = ", ".join(f"{number}: {count}" for number, count in sorted(refusals.items()))
+    return (
+        f"replay: {tally['scripts']} scripts with {tally['calls']} calls are answered as the definitions say, with {tally['undone']} "
+        f"undos done, {tally['pairs']} pairs shown, {tally['entries']} lines of logs and {tally['refused']} refusals ({by_number}); "
+        f"{tally['orders']} orders of undos\n"
+        f"info: {tally['traces']} traces with {tally['candidates']} candidates"
+    )
+
+
+def main():
+    judge = Judge(os.path.abspath(sys.argv[1]))
+    with tempfile.TemporaryDirectory() as folder:
+        os.chdir(folder)
+        for part in (judge_by_chance, judge_probed, judge_logs, judge_undo):
+            part(judge)
+    missing = [kind for kind in REACHED if not judge.tally[kind]]
+    if missing:
+        sys.exit(f"replay: never reached: {missing}")
+    print(summary(judge.tally))
+
+
+main()

@@ -1,0 +1,461 @@
+"""A plain program that answers as `replay` and `info` do, from the words of docs/DEFINITIONS.md and docs/FORMATS.md.
+
+It goes over lists and over the trace, and has neither clocks nor tables nor steps back. Its log keeps the entries
+alone: the rows of each log are folded anew of the commands that were not undone. What the headline of docs/PROMISES.md
+says of all logs is asked of each log here: where it does not hold, `Contradiction` is raised.
+"""
+
+from collections import namedtuple
+
+LOG_LIMIT = 1_000_000
+CANDIDATE_LIMIT = 1_000
+
+# What one thread does: `word` is that of the trace text, `name` the variable, lock or thread.
+Event = namedtuple("Event", "thread word name")
+# A schedule, and the number of the entry that made it.
+Row = namedtuple("Row", "birth events")
+# `what` is the call of a command or a proposal, and of an undo the number of the entry that it takes back.
+Entry = namedtuple("Entry", "client kind what")
+
+
+class Contradiction(Exception):
+    """Two of the definitions say different things."""
+
+
+class Refused(Exception):
+    """The number of a refusal and its words."""
+
+
+def holds(events, thread, lock):
+    """How often the thread holds the lock after these events."""
+    own = [event.word for event in events if event.thread == thread and event.name == lock]
+    return own.count("acq") - own.count("rel")
+
+
+def breach(earlier, event):
+    """The number of the first rule that the event breaks after these events of a trace, or None."""
+    thread, word, name = event
+    done = [(other.word, other.name) for other in earlier]
+    started = {other.thread for other in earlier}
+    if ("join", thread) in done:
+        return 16
+    if word in ("fork", "join") and name == thread:
+        return 15
+    if word == "fork" and ("fork", name) in done:
+        return 13
+    if word == "fork" and (name in started or ("join", name) in done):
+        return 14
+    if word == "acq" and any(holds(earlier, other, name) for other in started - {thread}):
+        return 12
+    if word == "rel" and not holds(earlier, thread, name):
+        return 11
+    return None
+
+
+def asked_once(question):
+    """The question to a trace, whose answer is kept: a trace never changes."""
+
+    def answer(trace, *about):
+        key = (question, *about)
+        if key not in trace.asked:
+            trace.asked[key] = question(trace, *about)
+        return trace.asked[key]
+
+    return answer
+
+
+class Trace:
+    """The events of a trace, and what the definitions say of them and of lists of their numbers, which are tuples."""
+
+    def __init__(self, events):
+        self.events = tuple(events)
+        self.asked = {}
+
+    def text(self):
+        return "".join(f"{thread}|{word}({name})|\n" for thread, word, name in self.events)
+
+    def thread(self, event):
+        return self.events[event].thread
+
+    def does(self, event, word, name):
+        return self.events[event].word == word and self.events[event].name == name
+
+    def is_event(self, event):
+        return event < len(self.events)
+
+    @asked_once
+    def events_of(self, thread):
+        return [event for event in range(len(self.events)) if self.thread(event) == thread]
+
+    def threads(self):
+        """All threads in the order of their first uses, also those that are only forked or joined."""
+        used = []
+        for thread, word, name in self.events:
+            used += [thread, name] if word in ("fork", "join") else [thread]
+        return list(dict.fromkeys(used))
+
+    @asked_once
+    def forks_of(self, thread):
+        return [event for event in range(len(self.events)) if self.does(event, "fork", thread)]
+
+    def last_write(self, variable, events):
+        """The last write of the variable among these events, or None."""
+        writes = [event for event in events if self.does(event, "w", variable)]
+        return writes[-1] if writes else None
+
+    @asked_once
+    def last_writer(self, read):
+        return self.last_write(self.events[read].name, range(read))
+
+    def base(self, event):
+        """The event before it in its thread; of the first one the thread's fork, or None."""
+        earlier = [other for other in self.events_of(self.thread(event)) if other < event]
+        if not earlier:
+            earlier = self.forks_of(self.thread(event))
+        return earlier[-1] if earlier else None
+
+    def conflict(self, first, second):
+        one, other = self.events[first], self.events[second]
+        words = {one.word, other.word}
+        return one.thread != other.thread and one.name == other.name and words <= {"r", "w"} and "w" in words
+
+    def independent(self, first, second):
+        one, other = self.events[first], self.events[second]
+        words = {one.word, other.word}
+        is_same = one.name == other.name
+        return not (
+            one.thread == other.thread
+            or self.conflict(first, second)
+            or (words <= {"acq", "rel"} and is_same)
+            or (one.word in ("fork", "join") and one.name == other.thread)
+            or (other.word in ("fork", "join") and other.name == one.thread)
+            or (words == {"fork", "join"} and is_same)
+        )
+
+    # Correct reorderings.
+
+    def keeps_thread_order(self, listed):
+        for thread in {self.thread(event) for event in listed}:
+            own = [event for event in listed if self.thread(event) == thread]
+            if own != self.events_of(thread)[: len(own)]:
+                return False
+        return True
+
+    def may_stand(self, earlier, event):
+        """Whether the event keeps its writer, lock, fork and join where these events stand before it."""
+        thread, word, name = self.events[event]
+        if any(fork not in earlier for fork in self.forks_of(thread)):
+            return False
+        if word == "r":
+            return self.last_write(name, earlier) == self.last_writer(event)
+        if word == "acq":
+            done = [self.events[other] for other in earlier]
+            return all(holds(done, other, name) == 0 for other in {one.thread for one in done} - {thread})
+        if word == "join":
+            return all(other in earlier for other in self.events_of(name) + self.forks_of(name))
+        return True
+
+    @asked_once
+    def is_reordering(self, listed):
+        return (
+            all(self.is_event(event) for event in listed)
+            and self.keeps_thread_order(listed)
+            and all(self.may_stand(listed[:at], event) for at, event in enumerate(listed))
+        )
+
+    # Why an event may not come next, and why neighbours do not change places.
+
+    @asked_once
+    def cause(self, listed, event):
+        """The number and the words of the first cause for which the event may not come next, or None."""
+        if not self.is_event(event):
+            return "21 no such event"
+        thread, word, name = self.events[event]
+        if event in listed or any(other < event and other not in listed for other in self.events_of(thread)):
+            return "22 not next"
+        if any(fork not in listed for fork in self.forks_of(thread)):
+            return "23 not forked"
+        if word == "r":
+            needs, has = self.last_writer(event), self.last_write(name, listed)
+            as_words = ["none" if write is None else write for write in (needs, has)]
+            return None if needs == has else "24 wrong writer needs {} has {}".format(*as_words)
+        if word == "acq":
+            done = [self.events[other] for other in listed]
+            others = [one.thread for one in done if one.thread != thread and holds(done, one.thread, name)]
+            return f"25 lock held by {others[0]}" if others else None
+        if word == "join" and any(other not in listed for other in self.events_of(name) + self.forks_of(name)):
+            return "26 join early"
+        return None
+
+    def extended(self, listed, event):
+        """The list followed by the event, where that is a correct reordering."""
+        cause = self.cause(listed, event)
+        if self.is_reordering(listed + (event,)) != (cause is None):
+            raise Contradiction(f"{event} after {listed} has the cause {cause}")
+        if cause is not None:
+            raise Refused(f"46 {cause}")
+        return listed + (event,)
+
+    def exchanged(self, listed, at):
+        """The list with the events at this place and the next in each other's place."""
+        if at + 1 >= len(listed):
+            raise Refused("47 28 no such pair")
+        if not self.independent(listed[at], listed[at + 1]):
+            raise Refused("47 29 dependent")
+        return listed[:at] + (listed[at + 1], listed[at]) + listed[at + 2 :]
+
+    def first_fault(self, listed):
+        """The first place at which the list stops being a correct reordering, or None."""
+        for at in range(len(listed)):
+            if not self.is_reordering(listed[: at + 1]):
+                return at
+        return None
+
+    # Which pairs a list shows.
+
+    def is_ready(self, listed, event):
+        earlier = [other for other in self.events_of(self.thread(event)) if other < event]
+        return event not in listed and all(other in listed for other in earlier + self.forks_of(self.thread(event)))
+
+    def shows(self, listed, first, second):
+        return (
+            self.is_event(first)
+            and self.is_event(second)
+            and self.conflict(first, second)
+            and self.is_ready(listed, first)
+            and self.is_ready(listed, second)
+        )
+
+    @asked_once
+    def shown_pairs(self, listed):
+        ready = [event for event in range(len(self.events)) if self.is_ready(listed, event)]
+        return [(a, b) for a in ready for b in ready if a < b and self.shows(listed, a, b)]
+
+    # SHB and candidates.
+
+    def is_edge(self, first, second):
+        """Whether the first event comes before the second with nothing between them."""
+        one, other = self.events[first], self.events[second]
+        return (
+            (first < second and one.thread == other.thread)
+            or (first < second and one.word == "rel" and other.word == "acq" and one.name == other.name)
+            or (one.word == "fork" and one.name == other.thread)
+            or (other.word == "join" and one.thread == other.name)
+            or (one.word == "fork" and other.word == "join" and one.name == other.name)
+            or (other.word == "r" and self.last_writer(second) == first)
+        )
+
+    def chains(self):
+        """For each event all to which a chain of edges leads from it, itself too."""
+        numbers = range(len(self.events))
+        after = [{first} | {second for second in numbers if self.is_edge(first, second)} for first in numbers]
+        for between in numbers:
+            for first in numbers:
+                if between in after[first]:
+                    after[first] |= after[between]
+        return after
+
+    def candidates(self):
+        """All candidates for a race, in rising order."""
+        after = self.chains()
+        pairs = []
+        for first in range(len(self.events)):
+            for second in range(first + 1, len(self.events)):
+                if self.conflict(first, second):
+                    base = self.base(second)
+                    if base is None or base not in after[first]:
+                        pairs.append((first, second))
+        return pairs
+
+    def info(self):
+        """What is printed of what the trace holds."""
+        variables = {event.name for event in self.events if event.word in ("r", "w")}
+        locks = {event.name for event in self.events if event.word in ("acq", "rel")}
+        lines = [f"events {len(self.events)}", f"threads {len(self.threads())}"]
+        lines += [f"variables {len(variables)}", f"locks {len(locks)}"]
+        for number, thread in enumerate(self.threads()):
+            lines.append(f"thread {number} {thread} {len(self.events_of(thread))}")
+        pairs = self.candidates()[:CANDIDATE_LIMIT]
+        lines.append(f"candidates {len(pairs)}")
+        lines += [f"candidate {first} {second} {self.events[first].name}" for first, second in pairs]
+        return "".join(line + "\n" for line in lines)
+
+
+# A call is a tuple: its word, and its arguments in the order of the script's line; a list of events is one argument.
+
+
+def words_of(call):
+    """The line of the call in a script, without its client."""
+    words = []
+    for part in call:
+        words += part if isinstance(part, tuple) else [part]
+    return " ".join(str(word) for word in words)
+
+
+def call_of(line):
+    """The call of such a line. In a log the line of an undo has a number more."""
+    word, *rest = line.split(" ")
+    if word == "undo":
+        return (word,)
+    if word == "propose":
+        first, second, *listed = [int(number) for number in rest]
+        return (word, first, second, tuple(listed))
+    if word == "branch":
+        return (word, rest[0], int(rest[1]), rest[2])
+    return (word, *rest[:1], *[int(number) for number in rest[1:]])
+
+
+def writes(command):
+    return command[3] if command[0] == "branch" else command[1]
+
+
+def touches(command):
+    return {command[1], writes(command)}
+
+
+class Log:
+    """The entries of a log, and what the definitions say of them."""
+
+    def __init__(self, trace, entries=()):
+        self.trace = trace
+        self.entries = entries
+        self.board = [entry.what[3] for entry in entries if entry.kind == "proposed"]
+        undone = {entry.what for entry in entries if entry.kind == "undid"}
+        # The commands that were not undone, each with its number and client.
+        self.live = [
+            (number, entry.client, entry.what)
+            for number, entry in enumerate(entries)
+            if entry.kind == "did" and number not in undone
+        ]
+        self.rows = self.fold(self.live)
+
+    def fold(self, live):
+        """The rows that these commands make of none, in their order: none is refused, and each row is a correct reordering."""
+        rows = {}
+        for number, _, command in live:
+            try:
+                row = self.row_after(rows, number, command)
+            except Refused as why:
+                raise Contradiction(f"{number} {words_of(command)}, which was not undone, is refused: {why}") from why
+            rows.pop(writes(command), None)
+            if row is not None:
+                rows[writes(command)] = row
+        for name, row in rows.items():
+            if not self.trace.is_reordering(row.events):
+                raise Contradiction(f"{name} is no correct reordering: {row.events}")
+        return rows
+
+    def row_after(self, rows, number, command):
+        """What the command of this number makes of the row that it writes; None where that goes."""
+        word, name, *rest = command
+        row = rows.get(name)
+        if word == "new":
+            if row is not None:
+                raise Refused("43 name taken")
+            return Row(number, ())
+        if row is None:
+            raise Refused("42 no such schedule")
+        if word == "drop":
+            return None
+        if word == "branch":
+            length, to = rest
+            if to in rows:
+                raise Refused("43 name taken")
+            if length > len(row.events):
+                raise Refused("48 too short")
+            return Row(number, row.events[:length])
+        return Row(row.birth, self.events_after(row.events, word, rest))
+
+    def events_after(self, events, word, rest):
+        """What a command that changes a row's events makes of them."""
+        if word == "add":
+            return self.trace.extended(events, rest[0])
+        if word == "swap":
+            return self.trace.exchanged(events, rest[0])
+        if word == "adopt":
+            if rest[0] >= len(self.board):
+                raise Refused("44 no such proposal")
+            return self.board[rest[0]]
+        if word != "back":
+            raise ValueError(word)
+        if not events:
+            raise Refused("45 nothing to retract")
+        return events[:-1]
+
+    def names(self):
+        return sorted(self.rows, key=lambda name: self.rows[name].birth)
+
+    def row(self, name):
+        if name not in self.rows:
+            raise Refused("42 no such schedule")
+        return self.rows[name]
+
+    def answer(self, client, call):
+        """The line that the client's call is answered by, and the log after it."""
+        try:
+            if call[0] in ("show", "list", "races"):
+                return self.looked(call), self
+            if len(self.entries) == LOG_LIMIT:
+                raise Refused("55 log full")
+            told, entry = self.entered(client, call)
+        except Refused as why:
+            return f"refused {why}", self
+        after = Log(self.trace, self.entries + (entry,))
+        if entry.kind == "undid":
+            self.ask_undone(entry.what, after)
+        return f"{len(self.entries)}: {told}", after
+
+    def looked(self, call):
+        """What a call that changes nothing is answered."""
+        if call[0] == "list":
+            return " ".join(["names"] + self.names())
+        events = self.row(call[1]).events
+        if call[0] == "show":
+            return " ".join(["shown"] + [str(event) for event in events])
+        return " ".join(["pairs"] + [f"{first}-{second}" for first, second in self.trace.shown_pairs(events)])
+
+    def entered(self, client, call):
+        """What a call that is logged is answered, behind its number, and its entry."""
+        if call[0] == "undo":
+            undone = self.to_undo(client)
+            return f"undone {undone}", Entry(client, "undid", undone)
+        if call[0] == "propose":
+            first, second, listed = call[1:]
+            fault = self.trace.first_fault(listed)
+            if fault is not None:
+                raise Refused(f"53 not a reordering at {fault}")
+            if not self.trace.shows(listed, first, second):
+                raise Refused("54 not shown")
+            return f"proposed {len(self.board)}", Entry(client, "proposed", call)
+        self.row_after(self.rows, len(self.entries), call)
+        return "done", Entry(client, "did", call)
+
+    def to_undo(self, client):
+        """The number of the client's latest command that was not undone, where no later one rests on it."""
+        own = [(number, command) for number, whose, command in self.live if whose == client]
+        if not own:
+            raise Refused("51 nothing to undo")
+        last, undone = own[-1]
+        for number, _, command in self.live:
+            if number > last and writes(undone) in touches(command):
+                raise Refused(f"52 rests on {number} {writes(undone)}")
+        return last
+
+    def ask_undone(self, undone, after):
+        """Asks whether the undo gave the written name the row that it had, and changed no other row."""
+        before = self.fold([entry for entry in self.live if entry[0] < undone])
+        name = writes(self.entries[undone].what)
+        expected = {other: row for other, row in self.rows.items() if other != name}
+        if name in before:
+            expected[name] = before[name]
+        if after.rows != expected:
+            raise Contradiction(f"the undo of {undone} leaves {after.rows} and not {expected}")
+
+    def line(self, number):
+        """The line of an entry in the printed log."""
+        client, kind, what = self.entries[number]
+        return f"{number} {client} {f'undo {what}' if kind == 'undid' else words_of(what)}"
+
+    def text(self):
+        lines = [f"log {len(self.entries)}"] + [self.line(number) for number in range(len(self.entries))]
+        return "".join(line + "\n" for line in lines)

@@ -1,0 +1,46 @@
+"""Runs the program for the judges, in the folder that they are in, and takes what `threads` printed apart."""
+
+import subprocess
+import sys
+
+
+def write(name, text):
+    with open(name, "w", encoding="ascii") as out:
+        out.write(text)
+
+
+def printed(program, words):
+    """What the program writes, where it ends well."""
+    done = subprocess.run([program, *words], capture_output=True, timeout=60, check=False)
+    if done.returncode != 0 or done.stderr:
+        sys.exit(f"{words[0]}: status {done.returncode}: {done.stderr.decode()[:300]}{given(words)}")
+    return done.stdout
+
+
+def given(words):
+    """The files that the program was given, for a look at what went wrong."""
+    texts = []
+    for name in words[1:]:
+        with open(name, encoding="ascii") as text:
+            texts.append(f"\n--- {name}\n{text.read()}")
+    return "".join(texts)
+
+
+def parts_of(lines, lengths):
+    """The lines of each client, who made so many calls, and the log as pairs of a client and a call."""
+    at = 0
+    told = []
+    for client, calls in enumerate(lengths, start=1):
+        if lines[at] != f"client {client}":
+            sys.exit(f"line {at + 1} is not that of client {client}: {lines[at]}")
+        told.append(lines[at + 1 : at + 1 + calls])
+        at += 1 + calls
+    if lines[at] != f"log {len(lines) - at - 1}":
+        sys.exit(f"line {at + 1} does not count the log: {lines[at]}")
+    log = []
+    for number, line in enumerate(lines[at + 1 :]):
+        entry, client, words = line.split(" ", 2)
+        if int(entry) != number:
+            sys.exit(f"entry {number} of the log has another number: {line}")
+        log.append((int(client), words))
+    return told, log
