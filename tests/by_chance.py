@@ -3,6 +3,8 @@
 import plain
 
 THREADS = ["main", "T1", "T2", "worker.b", "5"]
+# A thread that is only forked and joined: its fork and its join may stand side by side.
+IDLE = "idle"
 VARIABLES = ["x", "y", "a[0](1)"]
 LOCKS = ["l", "m"]
 SCHEDULES = ["A", "AB", "B", "a-longer.name_4", "x" * 64]
@@ -38,8 +40,8 @@ def weights_at(place, length, middle):
 def trace(chance, most):
     """A trace of 2 to 5 threads with 4 to `most` events, or fewer where the rules leave none to draw."""
     threads = chance.sample(THREADS, chance.randint(2, 5))
-    names = {"r": VARIABLES[: chance.randint(1, 3)], "acq": LOCKS[: chance.randint(1, 2)], "fork": threads}
-    names.update(w=names["r"], rel=names["acq"], join=threads)
+    names = {"r": VARIABLES[: chance.randint(1, 3)], "acq": LOCKS[: chance.randint(1, 2)], "fork": threads + [IDLE]}
+    names.update(w=names["r"], rel=names["acq"], join=names["fork"])
     length = chance.randint(4, most)
     middle = chance.choice(MIDDLES)
     events = []

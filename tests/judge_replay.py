@@ -29,6 +29,8 @@ PROBED = 100
 MOST_PROBED = 12
 # How many scripts are judged with the log that they lead to.
 LOGS = 60
+# How many scripts are run on a trace with a thread that has no event.
+IDLE_SCRIPTS = 12
 # So many clients undo so many times, in every order; so many orders stand in one script. And for how many lists of commands
 # drawn by chance, with fewer undos.
 UNDOING = 3
@@ -43,7 +45,7 @@ REACHED = """
     undo|new undo|add undo|back undo|swap undo|branch undo|drop undo|adopt undo|last undo|past-undone undo|past-others
     undo|into-the-middle
     new|43 add|42 add|46-21 add|46-22 add|46-23 add|46-24 add|46-25 add|46-26
-    needs-none needs-other needs-missing back|42 back|45 swap|42 swap|47-28 swap|47-29
+    needs-none needs-other needs-missing back|42 back|45 swap|42 swap|47-28 swap|47-29 swap|fork-join
     branch|42 branch|43 branch|48 drop|42 adopt|42 adopt|44 adopt|anothers
     undo|51 undo|52 undo|52-by-source propose|53 propose|54 show|42 races|42
 """.split()
@@ -65,6 +67,9 @@ class Tally(collections.Counter):
             self["pairs"] += len(parts) - 1
         else:
             self[f"{word}|{parts[0] if word in ('show', 'list') else parts[1]}"] += 1
+        if word == "swap" and parts[1] == "47":
+            words = [log.trace.events[event].word for event in log.rows[call[1]].events[call[2] : call[2] + 2]]
+            self["swap|fork-join"] += words == ["fork", "join"]
         if word == "adopt" and parts[1] == "done":
             whose = [entry.client for entry in log.entries if entry.kind == "proposed"][call[2]]
             self["adopt|anothers"] += whose != client
@@ -173,6 +178,15 @@ def judge_by_chance(judge):
             judge.judge_script(trace, calls + probes(trace, log))
 
 
+def judge_idle(judge):
+    """A thread's fork and join, by two others, with no event of its own between them."""
+    trace = plain.Trace(plain.Event(*event) for event in IDLE_THREAD)
+    judge.judge_info(trace)
+    for seed in range(IDLE_SCRIPTS):
+        chance = random.Random(seed)
+        judge.judge_script(trace, by_chance.script(chance, trace, chance.randint(*CALLS))[0])
+
+
 def judge_probed(judge):
     for seed in range(PROBED):
         judge.judge_info(by_chance.probed(by_chance.trace(random.Random(seed), MOST_PROBED)))
@@ -190,6 +204,7 @@ def judge_logs(judge):
         judge.judge_script(trace, calls, log)
 
 
+IDLE_THREAD = [("A", "w", "x"), ("A", "fork", "W"), ("B", "join", "W"), ("B", "w", "x")]
 # Schedules that grow, are copied, go and come again, on a trace of two threads that use one lock.
 ONE_LOCK = [("T1", "w", "x"), ("T1", "acq", "l"), ("T1", "rel", "l"), ("T2", "acq", "l"), ("T2", "rel", "l"), ("T2", "w", "x")]
 COMMANDS = [
@@ -270,7 +285,7 @@ def main():
     judge = Judge(os.path.abspath(sys.argv[1]))
     with tempfile.TemporaryDirectory() as folder:
         os.chdir(folder)
-        for part in (judge_by_chance, judge_probed, judge_logs, judge_undo):
+        for part in (judge_by_chance, judge_idle, judge_probed, judge_logs, judge_undo):
             part(judge)
     missing = [kind for kind in REACHED if not judge.tally[kind]]
     if missing:
