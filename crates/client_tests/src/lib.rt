@@ -13,8 +13,6 @@ mod info_call_tests;
 #[cfg(test)]
 mod info_tests;
 #[cfg(test)]
-mod judging;
-#[cfg(test)]
 mod log_tests;
 #[cfg(test)]
 mod run_tests;
@@ -24,8 +22,6 @@ mod script_tests;
 mod seat_line_tests;
 #[cfg(test)]
 mod seat_tests;
-#[cfg(test)]
-mod small_runs;
 #[cfg(test)]
 mod thread_tests;
 #[cfg(test)]

@@ -42,17 +42,6 @@ impl Own {
         Call::Show(self.name)
     }
 
-    // The calls in turn, by their number.
-    pub(crate) fn call_of(&self, number: u32) -> Call {
-        match number % 5 {
-            0 => self.new_schedule(),
-            1 => self.add(),
-            2 => self.show(),
-            3 => self.back(),
-            _ => Call::Undo,
-        }
-    }
-
     // The new schedule, and then its event added and taken off in turn, by the call's number.
     pub(crate) fn call_in_turn(&self, number: u32) -> Call {
         if number == 0 {

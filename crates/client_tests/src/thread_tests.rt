@@ -1,12 +1,9 @@
 //! What no clause says of seats in two threads: that both are served, that `front` is answered while another seat has the
-//! turn, that what one thread was told before it ended is there for the next, and that the log is one that a single
-//! thread builds with the same calls.
+//! turn, and that what one thread was told before it ended is there for the next.
 ghost use Rattle.std.specs.Prelude.{◌≡◌};
 
-use crate::fixtures::{ONE_LOCK, bench_of};
-use crate::judging::{calls_in_turn, has_numbers, is_replayed};
 use crate::seat_tests::{Own, is_done, seats_of, shows_its_event};
-use inverse_log::{Call, Reply};
+use inverse_log::{Bench, Call, Entry, Reply};
 use moves::{Command, Name};
 use std::sync::Wait;
 use std::sync::atomic::{AtomicBool, Ordering};
@@ -14,59 +11,37 @@ use std::test::Fail;
 use std::thread;
 use workspace_lock::{Gate, Seat};
 
-// 200 calls on the schedule that both clients change, and the numbers of the entries that the client was told.
-fn told_numbers<R: Wait>(
-    rt: &R,
-    mut seat: Seat,
-    own: Own,
-    mut numbers: Vec<u64>,
-) -> (Seat, Vec<u64>)
-    ensures { result.0.site ≡ seat.site }
-{
-    for i in 0..200u32 {
-        let entered = match seat.run(rt, &own.call_of(i)) {
-            Ok(Reply::Done(number)) => Some(number),
-            Ok(Reply::Undone { number, entry: _ }) => Some(number),
-            _ => None,
-        };
-        if let Some(number) = entered {
-            let _ = numbers.push(number);
+// Whether the command is the one of this number among those that `Own::call_in_turn` gives.
+fn is_in_turn(command: &Command, own: &Own, number: u32) -> bool {
+    match command {
+        Command::Fresh { name } => number == 0 && *name == own.name,
+        Command::Add { name, event } => {
+            number % 2 == 1 && *name == own.name && *event == own.event
         }
+        Command::Back { name } => number > 0 && number % 2 == 0 && *name == own.name,
+        _ => false,
     }
-    (seat, numbers)
 }
 
-#[test]
-fn log_of_two_threads_is_one_that_a_single_thread_builds(rt: HostRuntime) -> Result<(), Fail> {
-    let alloc = rt.alloc();
-    let (Ok(name), Some(mut seats), Some(fresh)) = (
-        Name::new(b"A"),
-        seats_of(alloc, 2),
-        bench_of(alloc, ONE_LOCK),
-    ) else {
-        panic!(rt; "not opened")
-    };
-    let (Some(one), Some(two)) = (seats.take(), seats.take()) else {
-        panic!(rt; "no seat")
-    };
-    let first = Own { name, event: 0 };
-    let second = Own { name, event: 3 };
-    let ((one, of_one), (two, of_two)) = thread::join(
-        &rt,
-        || told_numbers(&rt, one, first, Vec::new(alloc)),
-        || told_numbers(&rt, two, second, Vec::new(alloc)),
-    );
-    assert_eq!(rt; one.turns(), 200);
-    assert_eq!(rt; two.turns(), 200);
-    let _ = seats.give(one);
-    let _ = seats.give(two);
-    let Ok(bench) = seats.close() else {
-        panic!(rt; "not closed")
-    };
-    assert!(rt; has_numbers(&bench, 1, of_one.as_slice()));
-    assert!(rt; has_numbers(&bench, 2, of_two.as_slice()));
-    assert!(rt; is_replayed(fresh, &bench));
-    Ok(())
+// How many entries the client has, where they are its calls in turn.
+fn calls_in_turn(bench: &Bench, client: u32, own: &Own) -> Option<u32> {
+    let mut count = 0u32;
+    for number in 0..bench.log_len() {
+        let Entry::Did {
+            client: whose,
+            command,
+        } = bench.entry(number)
+        else {
+            return None;
+        };
+        if *whose == client {
+            if !is_in_turn(command, own, count) {
+                return None;
+            }
+            count = count.saturating_add(1);
+        }
+    }
+    Some(count)
 }
 
 // A thousand calls on a schedule that only this client changes. Whether all were accepted, and the schedule then shows
@@ -109,6 +84,8 @@ fn each_of_two_threads_has_its_thousand_calls_in_order(rt: HostRuntime) -> Resul
         || thousand_calls(&rt, two, second),
     );
     assert!(rt; are_first_done && are_second_done);
+    assert_eq!(rt; one.turns(), 1001);
+    assert_eq!(rt; two.turns(), 1001);
     let _ = seats.give(one);
     let _ = seats.give(two);
     let Ok(bench) = seats.close() else {

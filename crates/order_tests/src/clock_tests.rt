@@ -69,7 +69,7 @@ fn is_candidate(alloc: Global, text: &[u8], first: u32, second: u32) -> Option<b
 }
 
 // Whether the first candidates up to the limit are these.
-pub(crate) fn are_first_by(
+fn are_first_by(
     alloc: Global,
     clocks: &Clocks,
     indexed: &Indexed,

@@ -3,15 +3,9 @@
 #![tactic(auto)]
 
 #[cfg(test)]
-mod clock_chance;
-#[cfg(test)]
 mod clock_tests;
 #[cfg(test)]
 mod fixtures;
-#[cfg(test)]
-mod schedule_chance;
-#[cfg(test)]
-mod schedule_plain;
 #[cfg(test)]
 mod schedule_tests;
 #[cfg(test)]

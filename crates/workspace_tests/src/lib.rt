@@ -5,10 +5,6 @@
 #[cfg(test)]
 mod fixtures;
 #[cfg(test)]
-mod log_chance;
-#[cfg(test)]
-mod log_plain;
-#[cfg(test)]
 mod log_tests;
 #[cfg(test)]
 mod move_tests;
@@ -16,5 +12,3 @@ mod move_tests;
 mod part_tests;
 #[cfg(test)]
 mod touch_tests;
-#[cfg(test)]
-mod trace_plain;

@@ -3,7 +3,7 @@
 use crate::fixtures::{bench_of, indexed_of};
 use event_index::{EventList, Indexed};
 use inverse_log::{Bench, Call, Refusal, Reply};
-use moves::{Command, MoveRefusal, Name};
+use moves::{Command, MoveRefusal, Name, Workspace};
 use schedule::{Disabled, SwapRefusal};
 use std::alloc::Global;
 use std::sync::Arc;
@@ -49,7 +49,7 @@ fn name_of(byte: u8) -> Option<Name> {
     Name::new(&[byte]).ok()
 }
 
-pub(crate) fn list_of(alloc: Global, events: &[u32]) -> Option<EventList> {
+fn list_of(alloc: Global, events: &[u32]) -> Option<EventList> {
     let mut list = EventList::new(alloc);
     for event in events {
         list.push(*event).ok()?;
@@ -123,7 +123,7 @@ fn number_of_move(refusal: MoveRefusal) -> u32 {
     }
 }
 
-pub(crate) fn number_of(refusal: &Refusal) -> u32 {
+fn number_of(refusal: &Refusal) -> u32 {
     match refusal {
         Refusal::Move(why) => number_of_move(*why),
         Refusal::NothingToUndo => 51,
@@ -412,6 +412,67 @@ fn pairs_are_shown_in_order(rt: HostRuntime) -> Result<(), Fail> {
 }
 
 // Whether each round of a new schedule and its undo is answered as it must be.
+// The first call of the table that is answered otherwise, or after which the bench counts other changes or proposals; none
+// where all are right.
+fn wrong_count(
+    alloc: Global,
+    bench: &mut Bench,
+    rows: &[(u32, Ask, Told, u64, usize)],
+) -> Option<usize> {
+    for at in 0..rows.len() {
+        let (client, ask, told, edits, proposals) = rows[at];
+        let Some(call) = call_of(alloc, ask) else {
+            return Some(at);
+        };
+        let is_right = is_told(&call_twice(bench, client, &call), told);
+        if !is_right || bench.edits() != edits || bench.board().len() != proposals {
+            return Some(at);
+        }
+    }
+    None
+}
+
+// Whether the row at this place is the name's, with this birth and these events.
+fn is_row(workspace: &Workspace, at: usize, byte: u8, born: u64, events: &[u32]) -> bool {
+    if at < workspace.len() {
+        let (name, birth, schedule) = workspace.row(at);
+        name.bytes() == [byte].as_slice() && birth == born && schedule.events() == events
+    } else {
+        false
+    }
+}
+
+// Whether the changes and proposals are counted, and a row that was dropped has its birth again.
+fn is_counted(alloc: Global, rows: &[(u32, Ask, Told, u64, usize)]) -> bool {
+    let Some(mut bench) = bench_of(alloc, ONE_LOCK) else {
+        return false;
+    };
+    wrong_count(alloc, &mut bench, rows).is_none()
+        && bench.workspace().len() == 2
+        && is_row(bench.workspace(), 0, b'A', 0, &[3, 4])
+        && is_row(bench.workspace(), 1, b'B', 2, &[])
+}
+
+#[test]
+fn each_change_is_counted_once(rt: HostRuntime) -> Result<(), Fail> {
+    let rows = [
+        (1, Ask::New(b'A'), Told::Done(0), 1, 0),
+        (1, Ask::Add(b'A', 3), Told::Done(1), 2, 0),
+        (2, Ask::Branch(b'A', 1, b'B'), Told::Done(2), 3, 0),
+        (1, Ask::Undo, Told::RestsOn(2, b'A'), 3, 0),
+        (1, Ask::Propose(0, 5, &[3, 4]), Told::Proposed(3, 0), 3, 1),
+        (1, Ask::Propose(0, 5, &[3]), Told::Refused(54), 3, 1),
+        (1, Ask::Adopt(b'A', 0), Told::Done(4), 4, 1),
+        (2, Ask::Back(b'B'), Told::Done(5), 5, 1),
+        (2, Ask::Drop(b'B'), Told::Done(6), 6, 1),
+        (1, Ask::Swap(b'A', 0), Told::Refused(4729), 6, 1),
+        (2, Ask::Undo, Told::Undone(7, 6), 7, 1),
+        (1, Ask::Show(b'A'), Told::Shown(&[3, 4]), 7, 1),
+    ];
+    assert!(rt; is_counted(rt.alloc(), &rows));
+    Ok(())
+}
+
 fn fill(bench: &mut Bench, fresh: &Call, rounds: u32) -> bool {
     for round in 0..rounds {
         let number = round as u64 * 2;
