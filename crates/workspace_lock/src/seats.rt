@@ -123,7 +123,8 @@ impl Seats {
         ensures err { IfErr result (λ s. (s ≡ seat) × (self.new ≡ self.old) × ((c : SeatView) × (slice_get self.old.rows (seat.number - 1) ≡ Some (Some c)))) }
     {
         let i = seat.row();
-        if self.rows[i].is_some() {
+        let is_in = self.rows[i].is_some();
+        if is_in {
             return Err(seat);
         }
         self.rows[i] = Some(seat);
