@@ -1,2 +1,6 @@
 pub mod InfoLemmas
+pub mod InputLemmas
+pub mod JobLemmas
 pub mod SendLemmas
+pub mod ThreadsLemmas
+pub mod ToldLemmas

@@ -42,18 +42,36 @@ impl From<ReplayFault> for BenchFault {
 }
 
 impl From<OutOfMemory> for BenchFault {
+    ghost use Rattle.std.specs.Prelude.{◌≡◌};
+    ghost use Rattle.client_scripts.specs.declared.fault.ReplayFault.TheVariants.{OutOfMemory as NoMemory};
+    ghost use Rattle.program_calls.specs.declared.fault.BenchFault.TheVariants.{Replay};
+
+    ghost from_gives = { λ _ stopped. stopped ≡ Replay NoMemory };
+
     fn from(refused: OutOfMemory) -> BenchFault {
         BenchFault::Replay(ReplayFault::from(refused))
     }
 }
 
 impl From<AllocError> for BenchFault {
+    ghost use Rattle.std.specs.Prelude.{◌≡◌};
+    ghost use Rattle.client_scripts.specs.declared.fault.ReplayFault.TheVariants.{OutOfMemory as NoMemory};
+    ghost use Rattle.program_calls.specs.declared.fault.BenchFault.TheVariants.{Replay};
+
+    ghost from_gives = { λ _ stopped. stopped ≡ Replay NoMemory };
+
     fn from(_error: AllocError) -> BenchFault {
         BenchFault::Replay(ReplayFault::OutOfMemory)
     }
 }
 
 impl<T: Drop> From<AllocFailed<T>> for BenchFault {
+    ghost use Rattle.std.specs.Prelude.{◌≡◌};
+    ghost use Rattle.client_scripts.specs.declared.fault.ReplayFault.TheVariants.{OutOfMemory as NoMemory};
+    ghost use Rattle.program_calls.specs.declared.fault.BenchFault.TheVariants.{Replay};
+
+    ghost from_gives = { λ _ stopped. stopped ≡ Replay NoMemory };
+
     fn from(_failed: AllocFailed<T>) -> BenchFault {
         BenchFault::Replay(ReplayFault::OutOfMemory)
     }

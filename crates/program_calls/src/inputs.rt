@@ -1,5 +1,7 @@
 //! Reads the scripts that are to run at once, each for a client of its own.
-ghost use Rattle.std.specs.Prelude.{◌≡◌, ◌≤◌, All, false, vec_len, IfOk, OnOk, ◌+◌};
+ghost use Rattle.std.specs.Prelude.{◌≡◌, ◌≤◌, ◌+◌, ◌++◌, ◌∷◌, [], ℕ, List, All, map, false, vec_len, IfOk, IfErr, OnOk};
+ghost use Rattle.client_scripts.specs.Scripts.{Asked};
+ghost use Rattle.program_calls.specs.ScriptInputs.{AreScripts, IsFirstFault, IsScriptFault, IsScriptOf, IsTextFault, IsTold, refused_as};
 
 use crate::fault::BenchFault;
 use client_scripts::{
@@ -21,7 +23,9 @@ pub(crate) struct Scripts {
 }
 
 /// The fault of a script that is refused.
-fn refused(place: u32, refusal: ScriptRefusal) -> BenchFault {
+fn refused(place: u32, refusal: ScriptRefusal) -> BenchFault
+    ensures { result ≡ refused_as place refusal refusal.why }
+{
     match refusal.why {
         ScriptCause::OutOfMemory => BenchFault::from(ReplayFault::OutOfMemory),
         _ => BenchFault::Script { place, refusal },
@@ -29,7 +33,10 @@ fn refused(place: u32, refusal: ScriptRefusal) -> BenchFault {
 }
 
 /// A script whose every line is of the client of this number.
-fn script_of(alloc: Global, text: &[u8], client: u32) -> Result<Script, BenchFault> {
+fn script_of(alloc: Global, text: &[u8], client: u32) -> Result<Script, BenchFault>
+    ensures ok { IfOk result (λ asked. IsScriptOf client text.now asked) }
+    ensures err { IfErr result (λ fault. IsTextFault client text.now fault) }
+{
     let script = match read_script(alloc, text) {
         Ok(script) => script,
         Err(refusal) => return Err(refused(client, refusal)),
@@ -49,7 +56,8 @@ fn script_of(alloc: Global, text: &[u8], client: u32) -> Result<Script, BenchFau
 impl Scripts {
     /// No script.
     fn empty(alloc: Global) -> Scripts
-        ensures { vec_len result.scripts ≡ 0 }
+        ensures count { vec_len result.scripts ≡ 0 }
+        ensures none { result.scripts.items ≡ [] }
     {
         Scripts {
             scripts: Vec::new(alloc),
@@ -61,7 +69,10 @@ impl Scripts {
     fn read_next<S: Source>(&mut self, alloc: Global, reader: &mut S) -> Result<(), BenchFault>
         requires reader { S.has_failed reader.old ≡ false }
         requires few { vec_len self.old.scripts ≤ 30 }
-        ensures { OnOk result (vec_len self.new.scripts ≡ vec_len self.old.scripts + 1) }
+        ensures count { OnOk result (vec_len self.new.scripts ≡ vec_len self.old.scripts + 1) }
+        ensures read { OnOk result ((text : List ℕ) × (asked : List Asked) × IsTold (S.rest reader.old) text × IsScriptOf (vec_len self.old.scripts + 1) text asked
+            × (self.new.scripts.items ≡ self.old.scripts.items ++ asked ∷ [])) }
+        ensures fault { IfErr result (λ fault. IsScriptFault (vec_len self.old.scripts + 1) (S.rest reader.old) fault) }
     {
         let client = self.scripts.len() as u32 + 1;
         let text = read_input(alloc, reader, client + 1)?;
@@ -85,10 +96,15 @@ pub(crate) fn read_scripts<S: Source + Drop>(
     requires readers { All (λ s. S.has_failed s ≡ false) readers.items }
     requires few { vec_len readers ≤ 31 }
     ensures count { IfOk result (λ r. vec_len r.scripts ≡ vec_len readers) }
+    ensures read { IfOk result (λ r. AreScripts 1 (map (λ s. S.rest s) readers.items) r.scripts.items) }
+    ensures fault { IfErr result (λ fault. IsFirstFault (map (λ s. S.rest s) readers.items) fault) }
 {
     let mut all = Scripts::empty(alloc);
     for mut reader in readers {
-        all.read_next(alloc, &mut reader)?;
+        match all.read_next(alloc, &mut reader) {
+            Ok(()) => {}
+            Err(fault) => return Err(fault),
+        }
     }
     Ok(all)
 }

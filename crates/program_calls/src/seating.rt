@@ -1,6 +1,13 @@
 //! Runs scripts at once, each in a thread of its own, through the seats of one bench.
-ghost use Rattle.std.specs.Prelude.{◌≡◌, ◌≤◌, ◌<◌, All, vec_len, IfOk};
-ghost use Rattle.workspace_lock.specs.Seating.{Site};
+ghost use Rattle.std.specs.Prelude.{◌≡◌, ◌≤◌, ◌<◌, ◌-◌, ◌++◌, [], length, map, replicate, slice_get, slice_set, All, vec_len, IfOk, IfErr, IsOk, OnOk, Some, None};
+ghost use Rattle.std.specs.Arc.{arc_value};
+ghost use Rattle.inverse_log.specs.Log.{Benched};
+ghost use Rattle.workspace_lock.specs.Seating.{Site, Closes, Opened, fresh_rows};
+ghost use Rattle.report.specs.Log.{log_text};
+ghost use Rattle.client_scripts.specs.declared.fault.ReplayFault.TheVariants.{OutOfMemory as NoMemory};
+ghost use Rattle.program_calls.specs.declared.fault.BenchFault.TheVariants.{Replay};
+ghost use Rattle.program_calls.specs.Told.{client_text, fresh_bench, AreTold};
+ghost use Rattle.program_calls.specs.Jobs.{AnswersJob, AnswerJobs, AreSeated, Numbered, AllLines, lines_of, told_text};
 
 use crate::fault::BenchFault;
 use client_scripts::{Script, run_seat};
@@ -28,7 +35,8 @@ fn run_script<R: Wait>(
     mut seat: Seat,
     script: &Script,
 ) -> Told
-    ensures { (result.0.site ≡ seat.site) × (result.0.number ≡ seat.number) }
+    ensures same { (result.0.site ≡ seat.site) × (result.0.number ≡ seat.number) }
+    ensures told { AnswersJob indexed.now (seat, script.now) result }
 {
     let mut lines = Vec::new(alloc);
     match run_seat(&mut seat, rt, indexed, script, &mut lines) {
@@ -45,11 +53,13 @@ fn run_all<R: Threads + Wait + Sync>(
     indexed: &Indexed,
     jobs: Vec<Job>,
 ) -> Result<Vec<Told>, AllocError>
-    ensures { IfOk result
+    ensures told { IfOk result (λ told. AnswerJobs indexed.now jobs.items told.items) }
+    ensures site { IfOk result
         (λ told. (s : Site) → All (λ job. job.0.site ≡ s) jobs.items → All (λ t. t.0.site ≡ s) told.items) }
 {
     let run = |job: Job| -> Told
-        ensures { result.0.site ≡ job.0.site }
+        ensures site { result.0.site ≡ job.0.site }
+        ensures told { AnswersJob indexed.entry.now job result }
     {
         let (seat, script) = job;
         run_script(rt, alloc, indexed, seat, &script)
@@ -61,6 +71,10 @@ fn run_all<R: Threads + Wait + Sync>(
 fn seat_all(alloc: Global, seats: &mut Seats, scripts: Vec<Script>) -> Result<Vec<Job>, BenchFault>
     ensures seats { seats.new.site ≡ seats.old.site }
     ensures site { IfOk result (λ jobs. All (λ job. job.0.site ≡ seats.old.site) jobs.items) }
+    // Where as many seats are in as there are scripts, each script has its own, in order, and then none is in.
+    ensures jobs { seats.old.rows ≡ fresh_rows seats.old.site 1 (vec_len scripts) → IfOk result
+        (λ jobs. AreSeated seats.old.site scripts.items jobs.items × (seats.new.rows ≡ replicate (length jobs.items) None)) }
+    ensures fault { seats.old.rows ≡ fresh_rows seats.old.site 1 (vec_len scripts) → IfErr result (λ fault. fault ≡ Replay NoMemory) }
 {
     let mut jobs = Vec::new(alloc);
     for script in scripts {
@@ -77,7 +91,9 @@ fn append_client(
     out: &mut Vec<u8>,
     client: u32,
     lines: Result<Vec<u8>, OutOfMemory>,
-) -> Result<(), OutOfMemory> {
+) -> Result<(), OutOfMemory>
+    ensures ok { OnOk result (IsOk lines × (out.new.items ≡ out.old.items ++ client_text client (lines_of lines))) }
+{
     let lines = lines?;
     append_pieces(
         out,
@@ -96,7 +112,10 @@ fn append_next(
     so_far: Result<(), OutOfMemory>,
     client: u32,
     lines: Result<Vec<u8>, OutOfMemory>,
-) -> Result<(), OutOfMemory> {
+) -> Result<(), OutOfMemory>
+    ensures before { OnOk result (IsOk so_far) }
+    ensures ok { OnOk result (IsOk lines × (out.new.items ≡ out.old.items ++ client_text client (lines_of lines))) }
+{
     so_far?;
     append_client(out, client, lines)
 }
@@ -104,7 +123,8 @@ fn append_next(
 /// Puts a seat back.
 fn give_back(seats: &mut Seats, seat: Seat)
     requires { seat.site ≡ seats.old.site }
-    ensures { seats.new.site ≡ seats.old.site }
+    ensures site { seats.new.site ≡ seats.old.site }
+    ensures back { slice_get seats.old.rows (seat.number - 1) ≡ Some None → seats.new.rows ≡ slice_set seats.old.rows (seat.number - 1) (Some seat) }
 {
     let _ = seats.give(seat);
 }
@@ -112,6 +132,10 @@ fn give_back(seats: &mut Seats, seat: Seat)
 /// Puts all seats back, and appends what each client was told while memory lasts.
 fn give_all(seats: &mut Seats, told: Vec<Told>, out: &mut Vec<u8>) -> Result<(), OutOfMemory>
     requires { All (λ t. t.0.site ≡ seats.old.site) told.items }
+    ensures text { OnOk result (AllLines told.items × (out.new.items ≡ out.old.items ++ told_text told.items)) }
+    ensures site { seats.new.site ≡ seats.old.site }
+    // Where none was in, and each is of its number, all are in then.
+    ensures back { Numbered 1 told.items → seats.old.rows ≡ replicate (length told.items) None → seats.new.rows ≡ map (λ t. Some t.0) told.items }
 {
     let mut outcome = Ok(());
     for (seat, lines) in told {
@@ -122,7 +146,9 @@ fn give_all(seats: &mut Seats, told: Vec<Told>, out: &mut Vec<u8>) -> Result<(),
 }
 
 /// The log of the bench, once all seats are back.
-fn append_log(seats: Seats, out: &mut Vec<u8>) -> Result<(), OutOfMemory> {
+fn append_log(seats: Seats, out: &mut Vec<u8>) -> Result<(), OutOfMemory>
+    ensures { OnOk result ((bench : Benched) × Closes seats bench × (out.new.items ≡ out.old.items ++ log_text bench.log)) }
+{
     match seats.close() {
         Ok(bench) => report::log(&bench, out),
         Err(_) => Err(OutOfMemory),
@@ -135,7 +161,9 @@ fn open_seats(
     indexed: &Arc<Indexed, Global>,
     names: TextKeyed,
     clients: u32,
-) -> Result<Seats, OutOfMemory> {
+) -> Result<Seats, OutOfMemory>
+    ensures { IfOk result (λ s. Opened (fresh_bench (arc_value indexed.now)) clients s) }
+{
     let theirs = Arc::try_clone(indexed)?;
     let Ok(bench) = Bench::keyed(alloc, theirs, names) else {
         return Err(OutOfMemory);
@@ -155,6 +183,8 @@ pub(crate) fn run_scripts<R: Threads + Wait + Sync>(
     scripts: Vec<Script>,
 ) -> Result<Vec<u8>, BenchFault>
     requires { (0 < vec_len scripts) × (vec_len scripts ≤ 31) }
+    ensures told { IfOk result (λ text. AreTold indexed scripts.items text.items) }
+    ensures fault { IfErr result (λ fault. fault ≡ Replay NoMemory) }
 {
     let shared = Arc::new(alloc, indexed)?;
     let mut seats = open_seats(alloc, &shared, names, scripts.len() as u32)?;

@@ -1,7 +1,11 @@
 //! Runs several scripts on one trace at once: reads all texts, runs the scripts, and writes what they were told.
-ghost use Rattle.std.specs.Prelude.{◌≡◌, ◌<◌, All, false, true, vec_len, OnErr, Err};
-ghost use Rattle.client_scripts.specs.declared.fault.ReplayFault.TheVariants.{Write};
-ghost use Rattle.program_calls.specs.declared.fault.BenchFault.TheVariants.{Replay};
+ghost use Rattle.std.specs.Prelude.{◌≡◌, ◌<◌, ℕ, List, All, false, true, map, vec_len, IfErr, OnErr, OnOk, Err};
+ghost use Rattle.std.specs.Io.KnownBytes.{Appends};
+ghost use Rattle.client_scripts.specs.declared.fault.ReplayFault.TheVariants.{Write, Read};
+ghost use Rattle.client_scripts.specs.declared.fault.ReadCause.TheVariants.{Device};
+ghost use Rattle.program_calls.specs.ScriptInputs.{IsTold};
+ghost use Rattle.program_calls.specs.Threads.{RunsTogether, StopsRun};
+ghost use Rattle.program_calls.specs.declared.fault.BenchFault.TheVariants.{Replay, TooManyScripts};
 
 use crate::fault::BenchFault;
 use crate::inputs::{MAX_SCRIPTS, read_scripts};
@@ -31,15 +35,37 @@ pub fn threads<R: Threads + Wait + Sync, S: Source, Q: Source + Drop, K: Sink>(
     // Where no write fails, nothing is written at a fault; and where one fails, that is the fault.
     ensures unwritten { OnErr result (K.has_failed writer.new ≡ false → K.taken writer.new ≡ K.taken writer.old) }
     ensures write_failed { K.has_failed writer.new ≡ true → result ≡ Err (Replay Write) }
+    // The trace's device is at fault exactly where a read of it failed.
+    ensures device { result ≡ Err (Replay (Read 1 Device)) → S.has_failed trace.new ≡ true }
+    ensures read_failed { S.has_failed trace.new ≡ true → result ≡ Err (Replay (Read 1 Device)) }
+    // There is a text, the one that the reader tells where it tells it, of which what is written comes.
+    ensures told { OnOk result ((bytes : List ℕ) × IsTold (S.rest trace.old) bytes × (text : List ℕ)
+        × RunsTogether bytes (map (λ q. Q.rest q) scripts.items) text × Appends (K.taken writer.old) (K.taken writer.new) text) }
+    // Too many scripts come before all other faults, then those of the trace, then that of the first script that has one.
+    ensures most { 31 < vec_len scripts → result ≡ Err TooManyScripts }
+    ensures too_many { result ≡ Err TooManyScripts → 31 < vec_len scripts }
+    ensures fault { IfErr result (λ fault. StopsRun (S.rest trace.old) (map (λ q. Q.rest q) scripts.items) (K.has_failed writer.new) fault) }
 {
     if scripts.len() > MAX_SCRIPTS {
         return Err(BenchFault::TooManyScripts);
     }
-    let text = read_input(alloc, trace, 1)?;
-    let indexed = load(alloc, &text)?;
-    let read = read_scripts(alloc, scripts)?;
+    let text = match read_input(alloc, trace, 1) {
+        Ok(text) => text,
+        Err(fault) => return Err(BenchFault::Replay(fault)),
+    };
+    let indexed = match load(alloc, &text) {
+        Ok(indexed) => indexed,
+        Err(fault) => return Err(BenchFault::Replay(fault)),
+    };
+    let read = match read_scripts(alloc, scripts) {
+        Ok(read) => read,
+        Err(fault) => return Err(fault),
+    };
     let names = read.keyed();
-    let told = run_scripts(rt, alloc, indexed, names, read.scripts)?;
+    let told = match run_scripts(rt, alloc, indexed, names, read.scripts) {
+        Ok(told) => told,
+        Err(fault) => return Err(fault),
+    };
     if write_all(writer, &told).is_err() {
         return Err(BenchFault::Replay(ReplayFault::Write));
     }
