@@ -3,12 +3,13 @@
 ghost use Rattle.std.specs.Prelude.{◌≡◌};
 
 use crate::fakes::{AMPLE, with_room};
-use crate::fixtures::{bench_of, indexed_of};
-use client_scripts::{FromRead, read_script, replay, run_seat};
+use client_scripts::{FromRead, Script, read_script, replay, run_seat};
 use event_index::Indexed;
+use inverse_log::Bench;
 use rapid_text::OutOfMemory;
 use std::alloc::Global;
 use std::sync::Wait;
+use test_support::{bench_of, indexed_of};
 use workspace_lock::{Seat, Seats, open};
 
 /// Two threads that write one variable after each took and let go one lock.
@@ -24,11 +25,30 @@ const LINES: &[u8] =
 /// The line of a call for which there was no memory.
 const NO_MEMORY: &[u8] = b"refused 56 out of memory";
 
-/// Seats for two clients at an empty bench of the trace, and the trace.
+/// Seats for two clients at an empty bench of the trace.
+fn seats_of(alloc: Global, bench: Bench) -> Option<Seats> {
+    match open(alloc, bench, 2) {
+        Ok(seats) => Some(seats),
+        Err(_) => None,
+    }
+}
+
+fn seats_on_trace(alloc: Global) -> Option<Seats> {
+    match bench_of(alloc, TRACE) {
+        Some(bench) => seats_of(alloc, bench),
+        None => None,
+    }
+}
+
+/// The same, and the trace.
 fn seated(alloc: Global) -> Option<(Indexed, Seats)> {
-    let bench = bench_of(alloc, TRACE)?;
-    let seats = open(alloc, bench, 2).ok()?;
-    Some((indexed_of(alloc, TRACE)?, seats))
+    match indexed_of(alloc, TRACE) {
+        Some(indexed) => match seats_on_trace(alloc) {
+            Some(seats) => Some((indexed, seats)),
+            None => None,
+        },
+        None => None,
+    }
 }
 
 /// Runs the script of this text through the seat.
@@ -82,6 +102,23 @@ fn a_script_gets_the_lines_of_a_replay(rt: HostRuntime) {
     assert_eq!(rt; seat.turns(), 11);
 }
 
+// Whether the seats' scripts get these lines in turn, and each seat goes on where it stopped.
+fn goes_on<R: Wait>(
+    rt: &R,
+    one: &mut Seat,
+    two: &mut Seat,
+    indexed: &Indexed,
+    out: &mut Vec<u8>,
+) -> bool {
+    run_text(rt, one, indexed, b"1 new A\n1 add A 0\n", out)
+        && run_text(rt, two, indexed, b"2 branch A 1 B\n", out)
+        && run_text(rt, one, indexed, b"1 undo\n1 add B 3\n", out)
+        && one.turns() == 4
+        && two.turns() == 1
+        && run_text(rt, one, indexed, b"", out)
+        && one.turns() == 4
+}
+
 #[test]
 fn a_seat_goes_on_where_it_stopped(rt: HostRuntime) {
     let alloc = rt.alloc();
@@ -92,17 +129,11 @@ fn a_seat_goes_on_where_it_stopped(rt: HostRuntime) {
         panic!(rt; "no seat")
     };
     let mut out = Vec::new(alloc);
-    assert!(rt; run_text(&rt, &mut one, &indexed, b"1 new A\n1 add A 0\n", &mut out));
-    assert!(rt; run_text(&rt, &mut two, &indexed, b"2 branch A 1 B\n", &mut out));
-    assert!(rt; run_text(&rt, &mut one, &indexed, b"1 undo\n1 add B 3\n", &mut out));
+    assert!(rt; goes_on(&rt, &mut one, &mut two, &indexed, &mut out));
     let lines = b"0: done\n1: done\n2: done\nrefused 52 rests on 2 A\n3: done\n";
     assert!(rt; out.as_slice() == lines.as_slice());
     let all = b"1 new A\n1 add A 0\n2 branch A 1 B\n1 undo\n1 add B 3\n";
     assert!(rt; is_replayed(alloc, all, out.as_slice()));
-    assert_eq!(rt; one.turns(), 4);
-    assert_eq!(rt; two.turns(), 1);
-    assert!(rt; run_text(&rt, &mut one, &indexed, b"", &mut out));
-    assert_eq!(rt; one.turns(), 4);
 }
 
 fn push_line(out: &mut Vec<u8>, line: &[u8]) -> Result<(), OutOfMemory> {
@@ -152,33 +183,66 @@ fn is_told_so(alloc: Global, lines: &[u8], turns: u32, is_whole: bool) -> Option
     Some(is_counted && written.as_slice() == heard.lines.as_slice())
 }
 
+/// Whether what the script was told is right, asked once more where there was no memory for the question.
+fn is_told_so_at_last(alloc: Global, lines: &[u8], turns: u32, is_whole: bool) -> bool {
+    match is_told_so(alloc, lines, turns, is_whole) {
+        Some(is_right) => is_right,
+        None => is_told_so(alloc, lines, turns, is_whole) == Some(true),
+    }
+}
+
+/// Whether the script is told what became of its calls, up to the last that was made.
+fn is_told_or_stopped<R: Wait>(
+    rt: &R,
+    alloc: Global,
+    seat: &mut Seat,
+    indexed: &Indexed,
+    script: &Script,
+) -> bool {
+    let mut out = Vec::new(alloc);
+    let is_whole = run_seat(seat, rt, indexed, script, &mut out).is_ok();
+    is_told_so_at_last(alloc, out.as_slice(), seat.turns(), is_whole)
+}
+
+/// Whether the seat is served.
+fn is_served<R: Wait>(rt: &R, alloc: Global, seat: &mut Seat, indexed: &Indexed) -> bool {
+    let turns = seat.turns();
+    let mut more = Vec::new(alloc);
+    let is_run = run_text(rt, seat, indexed, b"1 undo\n", &mut more)
+        || run_text(rt, seat, indexed, b"1 list\n", &mut more);
+    is_run && seat.turns() > turns
+}
+
+fn seated_at_last(alloc: Global) -> Option<(Indexed, Seats)> {
+    match seated(alloc) {
+        Some(both) => Some(both),
+        None => seated(alloc),
+    }
+}
+
+fn script_at_last(alloc: Global, text: &[u8]) -> Option<Script> {
+    match read_script(alloc, text) {
+        Ok(script) => Some(script),
+        Err(_) => match read_script(alloc, text) {
+            Ok(script) => Some(script),
+            Err(_) => None,
+        },
+    }
+}
+
 /// Each of its allocations can be refused in turn, one in a run: what wanted it is done again.
 #[test]
 fn refused_memory_is_told_or_stops_a_script(rt: HostRuntime) {
     let alloc = rt.alloc();
-    let Some((indexed, mut seats)) = seated(alloc).or_else(|| seated(alloc)) else {
+    let Some((indexed, mut seats)) = seated_at_last(alloc) else {
         panic!(rt; "not opened")
     };
     let Some(mut seat) = seats.take() else {
         panic!(rt; "no seat")
     };
-    let Ok(script) = read_script(alloc, SCRIPT).or_else(|_| read_script(alloc, SCRIPT)) else {
+    let Some(script) = script_at_last(alloc, SCRIPT) else {
         panic!(rt; "no script")
     };
-    let mut out = Vec::new(alloc);
-    let is_whole = run_seat(&mut seat, &rt, &indexed, &script, &mut out).is_ok();
-    let turns = seat.turns();
-    let told = is_told_so(alloc, out.as_slice(), turns, is_whole).or_else(|| is_told_so(
-        alloc,
-        out.as_slice(),
-        turns,
-        is_whole,
-    ));
-    assert!(rt; told == Some(true));
-    // The seat is served afterwards.
-    let mut more = Vec::new(alloc);
-    let is_served = run_text(&rt, &mut seat, &indexed, b"1 undo\n", &mut more)
-        || run_text(&rt, &mut seat, &indexed, b"1 list\n", &mut more);
-    assert!(rt; is_served);
-    assert!(rt; seat.turns() > turns);
+    assert!(rt; is_told_or_stopped(&rt, alloc, &mut seat, &indexed, &script));
+    assert!(rt; is_served(&rt, alloc, &mut seat, &indexed));
 }

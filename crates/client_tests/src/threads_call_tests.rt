@@ -2,13 +2,13 @@
 ghost use Rattle.std.specs.Prelude.{◌≡◌, All, IfOk, false, length, vec_len};
 
 use crate::fakes::{Full, with_room};
-use crate::fixtures::ONE_LOCK;
 use client_scripts::{FromRead, ReplayFault};
 use program_calls::{BenchFault, bench_fault_text, threads};
 use std::alloc::{AllocError, Global};
 use std::sync::Wait;
 use std::test::Fail;
 use std::thread::Threads;
+use test_support::ONE_LOCK;
 
 const SHOWS_A_PAIR: &[u8] = b"1 new A\n1 add A 3\n1 add A 4\n1 races A";
 

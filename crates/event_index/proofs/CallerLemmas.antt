@@ -29,7 +29,7 @@ pub use Rattle.event_index.proofs.RowLemmas.{start_of-more, start_of-within, cou
 pub use Rattle.event_index.proofs.TableLemmas.{get_or-IsTable, IsTable-from_get_or, IsTable-nil, IsTable-replicate, IsTable-push, IsTable-set, IsTable-like}
 -- how often a thread holds a lock, one event further
 pub use Rattle.event_index.proofs.HoldLemmas.{takes, frees, takes_is, frees_is, takes_not_thread, frees_not_thread, hold_same, hold_taken, hold_freed}
-pub use Rattle.event_index.proofs.RelationLaws.{Decides-is_clash, Decides-is_apart, Decides-is_conflict, Decides-is_independent}
+pub use Rattle.event_index.proofs.RelationLaws.{Decides-is_clash, Decides-is_apart, Decides-is_conflict, Decides-is_independent, IsIndependent-sym}
 
 never : {A : Type 0} (w : ℕ) → None ≡ Some w → A
 never w h = absurd (none-some w h)

@@ -1,5 +1,6 @@
 -- The tests of two events agree with the relations that they stand for.
 use Rattle.std.proofs.Common.{◌≡◌, ◌≢◌, ℕ, Bool, true, false, not, ◌&&◌, ◌||◌, eqb, List, Option, Some, None, Decides, refl, sym, ◌∙◌, subst, ⊎_elim, true≢false, eq-eqb}
+use Rattle.std.proofs.Math.Bool.{or_comm}
 use Rattle.std.proofs.lemmas.Bool.{eqb-true, eqb-false, ne_eqb, and_parts, and_from, or_cases, or_left, or_right, not-true, not_from_false, false_from_ne_true}
 use Rattle.std.specs.List.{slice_get}
 use Rattle.rapid_text.specs.Operations.{is_read, is_write, is_fork, is_join}
@@ -195,3 +196,34 @@ Decides-is_independent T a b = (
       both_there is_apart T a b independent.v independent.w independent.first independent.second
       ∙ (Decides-is_apart independent.v independent.w).1 independent.apart,
 )
+
+-- independence does not ask for the order of the two
+pub IsIndependent-sym : (T : List Event) (a b : ℕ) → IsIndependent T a b → IsIndependent T b a
+IsIndependent-sym T a b i =
+    let v : Event = i.v in
+    let w : Event = i.w in
+    record {
+      v = w;
+      w = v;
+      first = i.second;
+      second = i.first;
+      apart = record {
+        threads = λ same. i.apart.threads (sym same);
+        no_clash = λ clash.
+            i.apart.no_clash
+            (record {
+              threads = i.apart.threads;
+              variable = clash.variable;
+              first = clash.second;
+              second = clash.first;
+              writes = or_comm (is_write clash.variable v.op) (is_write clash.variable w.op) ∙ clash.writes;
+            });
+        no_lock = λ l on_w on_v. i.apart.no_lock l on_v on_w;
+        first_no_fork = i.apart.second_no_fork;
+        first_no_join = i.apart.second_no_join;
+        second_no_fork = i.apart.first_no_fork;
+        second_no_join = i.apart.first_no_join;
+        no_fork_and_join = λ u forks joins. i.apart.no_join_and_fork u joins forks;
+        no_join_and_fork = λ u joins forks. i.apart.no_fork_and_join u forks joins;
+      };
+    }

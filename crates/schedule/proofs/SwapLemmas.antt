@@ -1,7 +1,6 @@
 -- Two independent neighbours may change places: what stands after them sees no difference.
 use Rattle.std.proofs.Common.{◌≡◌, ◌≢◌, ◌↔◌, ℕ, zero, suc, ◌+◌, ◌<◌, ◌≤◌, ◌==◌, ◌&&◌, Bool, true, false, cond, List, [], ◌∷◌, ◌++◌, length, take, drop, reverse, get_or, slice_index, find, count_by, Contains, Option, Some, None, IfSome, slice_get, option_map, sym, refl, ap, ◌∙◌, subst, arith, inl, inr}
 use Rattle.std.proofs.lemmas.Bool.{cases_lt, eq-eqb, ne_eqb, and_right, or_left, or_right, false_from_ne_true, cond-true, cond-false}
-use Rattle.std.proofs.Math.Bool.{or_comm}
 use Rattle.std.proofs.lemmas.List.{append_assoc, append-nil, take_at, length-append}
 use Rattle.std.proofs.lemmas.List.Elements.{Contains-append_left, Contains-append_right, Contains-append_cases}
 use Rattle.std.proofs.lemmas.Option.{same_Some, none-some, slice_get-get_or, slice_get_past}
@@ -14,7 +13,7 @@ use Rattle.trace_rules.specs.Rules.{acquire_count, release_count}
 use Rattle.event_index.specs.Events.{op_at, thread_at, passes_by, passes_at, is_of_thread, is_write_at}
 use Rattle.event_index.specs.Lookups.{events_of, last_write, fork_of}
 use Rattle.event_index.specs.Relations.{is_access, is_on_lock, IsIndependent, is_independent}
-use Rattle.event_index.proofs.CallerLemmas.{fork_of-some, Decides-is_independent}
+use Rattle.event_index.proofs.CallerLemmas.{fork_of-some, Decides-is_independent, IsIndependent-sym}
 use Rattle.schedule.specs.Locks.{is_acquire_by, is_release_by}
 use Rattle.schedule.specs.Refusals.{next_of}
 use Rattle.schedule.specs.Reordering.{IsCorrectReordering, StandsAfterThread, events_at}
@@ -85,37 +84,6 @@ alike_is T P Q (e ∷ B) alike q is =
     let q_more : IsCorrectReordering T (Q ++ e ∷ []) = IsEnabled-allowed T Q e q (Allows-alike T P Q e alike a) in
     subst (IsCorrectReordering T) (append_assoc Q (e ∷ []) B)
     (alike_is T (P ++ e ∷ []) (Q ++ e ∷ []) B (IsAlike-push T P Q e alike) q_more whole)
-
--- independence does not ask for the order of the two
-pub IsIndependent-sym : (T : List Event) (a b : ℕ) → IsIndependent T a b → IsIndependent T b a
-IsIndependent-sym T a b i =
-    let v : Event = i.v in
-    let w : Event = i.w in
-    record {
-      v = w;
-      w = v;
-      first = i.second;
-      second = i.first;
-      apart = record {
-        threads = λ same. i.apart.threads (sym same);
-        no_clash = λ clash.
-            i.apart.no_clash
-            (record {
-              threads = i.apart.threads;
-              variable = clash.variable;
-              first = clash.second;
-              second = clash.first;
-              writes = or_comm (is_write clash.variable v.op) (is_write clash.variable w.op) ∙ clash.writes;
-            });
-        no_lock = λ l on_w on_v. i.apart.no_lock l on_v on_w;
-        first_no_fork = i.apart.second_no_fork;
-        first_no_join = i.apart.second_no_join;
-        second_no_fork = i.apart.first_no_fork;
-        second_no_join = i.apart.first_no_join;
-        no_fork_and_join = λ u forks joins. i.apart.no_join_and_fork u joins forks;
-        no_join_and_fork = λ u joins forks. i.apart.no_fork_and_join u forks joins;
-      };
-    }
 
 only_member : (a d : ℕ) → Contains (a ∷ []) d → a ≡ d
 only_member a d (zero, lt, at) = at

@@ -14,7 +14,7 @@ use Rattle.rapid_text.specs.declared.event.Event.{Event}
 use Rattle.event_index.specs.Events.{passes_by, is_of_thread}
 use Rattle.event_index.specs.Tables.{IsTable}
 use Rattle.event_index.specs.Relations.{IsIndependent}
-use Rattle.event_index.proofs.CallerLemmas.{get_or-IsTable, IsTable-set}
+use Rattle.event_index.proofs.CallerLemmas.{get_or-IsTable, IsTable-set, IsIndependent-sym}
 use Rattle.schedule.specs.Swaps.{exchanged, MayExchange}
 use Rattle.schedule.specs.Keys.{key_eq}
 use Rattle.schedule.specs.Tables.{AreTables, sets_op, sets, frees, last_set, latest_by, latest_of, shadow_of, shadow_at, shadow_by}
@@ -24,7 +24,7 @@ use Rattle.schedule.specs.declared.tables.Tables.{Tables}
 use Rattle.schedule.proofs.ExchangeLemmas.{at_pair, exchanged-at_pair, get_or-exchanged_first, get_or-exchanged_second, take-exchanged, length-exchanged, stores}
 use Rattle.schedule.proofs.LatestLemmas.{shadow_of_op-own, sets_variable, sets_lock}
 use Rattle.schedule.proofs.LockLemmas.{find-reverse_push, counts_push}
-use Rattle.schedule.proofs.SwapLemmas.{last_of_either, IsIndependent-sym}
+use Rattle.schedule.proofs.SwapLemmas.{last_of_either}
 
 -- a table with two places exchanged
 IsTable-swap :

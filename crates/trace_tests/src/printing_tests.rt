@@ -1,7 +1,23 @@
 //! What no clause says: that the canonical text is the one that is meant, and that a print succeeds.
-use rapid_text::{Bytes, parse, print};
+use crate::fixtures::raw_of;
+use rapid_text::{Bytes, RawTrace, print};
+use std::alloc::Global;
 
-// Each text, and the canonical text of the trace that it tells.
+fn is_printed(alloc: Global, trace: &RawTrace, canonical: &[u8]) -> bool {
+    match print(alloc, trace) {
+        Ok(printed) => printed.items() == canonical,
+        Err(_) => false,
+    }
+}
+
+// Whether this is the canonical text of the trace that the text tells.
+fn is_canonical(alloc: Global, text: &[u8], canonical: &[u8]) -> bool {
+    match raw_of(alloc, text) {
+        Some(trace) => is_printed(alloc, &trace, canonical),
+        None => false,
+    }
+}
+
 #[test]
 fn prints_the_canonical_text(rt: HostRuntime) {
     let every_operation: &[u8] =
@@ -21,15 +37,10 @@ fn prints_the_canonical_text(rt: HostRuntime) {
         ),
     ];
     for (text, canonical) in cases {
-        let Ok(trace) = parse(rt.alloc(), text) else {
-            assert!(rt; false, "the text is read");
-            return;
-        };
-        let Ok(printed) = print(rt.alloc(), &trace) else {
-            assert!(rt; false, "the trace is printed");
-            return;
-        };
-        assert!(rt; printed.items() == canonical, "the text is canonical");
+        assert!(rt;
+            is_canonical(rt.alloc(), text, canonical),
+            "the text is canonical"
+        );
     }
 }
 

@@ -1,4 +1,5 @@
 //! What no clause says: that a text means what the format's worked examples say, and that a call succeeds.
+use crate::fixtures::raw_of;
 use rapid_text::{
     Bytes, Event, Op, OutOfMemory, RawTrace, TextCause, TextKeyed, TextRefusal, is_a_blank, parse,
     trim, trim_start,
@@ -82,97 +83,82 @@ fn long_text(
     Ok(text)
 }
 
+fn is_event(trace: &RawTrace, event: u32, thread: u32, op: Op) -> bool {
+    event_at(trace, event) == Some(Event { thread, op })
+}
+
+fn are_two_events(trace: &RawTrace) -> bool {
+    counts(trace) == [2, 2, 1, 0]
+        && is_event(trace, 0, 0, Op::Write(0))
+        && is_event(trace, 1, 1, Op::Read(0))
+        && is_thread(trace, 0, b"T1")
+        && is_thread(trace, 1, b"T2")
+        && is_variable(trace, 0, b"x")
+        && is_location(trace, 0, b"1")
+        && is_location(trace, 1, b"")
+}
+
+fn tells_two_events(alloc: Global, text: &[u8]) -> bool {
+    match raw_of(alloc, text) {
+        Some(trace) => are_two_events(&trace),
+        None => false,
+    }
+}
+
 #[test]
 fn two_events_with_names_and_locations(rt: HostRuntime) {
-    let Ok(trace) = parse(rt.alloc(), b"T1|w(x)|1\r\n\r\nT1|begin(b)|2\r\nT2| r( x ) ") else {
-        assert!(rt; false, "the text is read");
-        return;
-    };
-    assert_eq!(rt; counts(&trace), [2, 2, 1, 0]);
-    assert!(rt;
-        event_at(&trace, 0)
-            == Some(Event {
-                thread: 0,
-                op: Op::Write(0)
-            })
-    );
-    assert!(rt;
-        event_at(&trace, 1)
-            == Some(Event {
-                thread: 1,
-                op: Op::Read(0)
-            })
-    );
-    assert!(rt; is_thread(&trace, 0, b"T1") && is_thread(&trace, 1, b"T2"));
-    assert!(rt; is_variable(&trace, 0, b"x"));
-    assert!(rt; is_location(&trace, 0, b"1") && is_location(&trace, 1, b""));
+    let text = b"T1|w(x)|1\r\n\r\nT1|begin(b)|2\r\nT2| r( x ) ";
+    assert!(rt; tells_two_events(rt.alloc(), text));
+}
+
+fn are_numbered_apart(trace: &RawTrace) -> bool {
+    counts(trace) == [7, 3, 2, 2]
+        && is_event(trace, 2, 0, Op::Fork(1))
+        && is_event(trace, 3, 2, Op::Acquire(1))
+        && is_event(trace, 4, 0, Op::Read(1))
+        && is_event(trace, 5, 2, Op::Join(1))
+        && is_event(trace, 6, 1, Op::Release(0))
+        && is_lock(trace, 0, b"n")
+        && is_lock(trace, 1, b"m")
+        && is_thread(trace, 2, b"a")
+        && is_location(trace, 3, b"x|y")
+}
+
+fn numbers_apart(alloc: Global, text: &[u8]) -> bool {
+    match raw_of(alloc, text) {
+        Some(trace) => are_numbered_apart(&trace),
+        None => false,
+    }
 }
 
 #[test]
 fn names_are_numbered_apart_by_first_use(rt: HostRuntime) {
-    let Ok(trace) = parse(
-        rt.alloc(),
-        b"b|acq(n)|\nb|w(n)|\nb|fork(n)|\na|acq(m)|x|y\nb|r(m)|\na|join(n)|\nn|rel(n)|\n",
-    ) else {
-        assert!(rt; false, "the text is read");
-        return;
-    };
-    assert_eq!(rt; counts(&trace), [7, 3, 2, 2]);
-    assert!(rt;
-        event_at(&trace, 2)
-            == Some(Event {
-                thread: 0,
-                op: Op::Fork(1)
-            })
-    );
-    assert!(rt;
-        event_at(&trace, 3)
-            == Some(Event {
-                thread: 2,
-                op: Op::Acquire(1)
-            })
-    );
-    assert!(rt;
-        event_at(&trace, 4)
-            == Some(Event {
-                thread: 0,
-                op: Op::Read(1)
-            })
-    );
-    assert!(rt;
-        event_at(&trace, 5)
-            == Some(Event {
-                thread: 2,
-                op: Op::Join(1)
-            })
-    );
-    assert!(rt;
-        event_at(&trace, 6)
-            == Some(Event {
-                thread: 1,
-                op: Op::Release(0)
-            })
-    );
-    assert!(rt; is_lock(&trace, 0, b"n") && is_lock(&trace, 1, b"m"));
-    assert!(rt; is_thread(&trace, 2, b"a") && is_location(&trace, 3, b"x|y"));
+    let text = b"b|acq(n)|\nb|w(n)|\nb|fork(n)|\na|acq(m)|x|y\nb|r(m)|\na|join(n)|\nn|rel(n)|\n";
+    assert!(rt; numbers_apart(rt.alloc(), text));
+}
+
+fn counts_of(alloc: Global, text: &[u8]) -> Option<[u32; 4]> {
+    match raw_of(alloc, text) {
+        Some(trace) => Some(counts(&trace)),
+        None => None,
+    }
 }
 
 #[test]
 fn the_empty_text_is_the_empty_trace(rt: HostRuntime) {
-    let Ok(trace) = parse(rt.alloc(), b"") else {
-        assert!(rt; false, "the text is read");
-        return;
-    };
-    assert_eq!(rt; counts(&trace), [0, 0, 0, 0]);
+    assert!(rt; counts_of(rt.alloc(), b"") == Some([0, 0, 0, 0]));
+}
+
+fn names_a_variable(alloc: Global, text: &[u8], name: &[u8]) -> bool {
+    match raw_of(alloc, text) {
+        Some(trace) => is_variable(&trace, 0, name),
+        None => false,
+    }
 }
 
 #[test]
 fn a_name_keeps_its_own_parentheses(rt: HostRuntime) {
-    let Ok(trace) = parse(rt.alloc(), b"T1|w(f(x))|") else {
-        assert!(rt; false, "the text is read");
-        return;
-    };
-    assert!(rt; is_variable(&trace, 0, b"f(x)"));
+    assert!(rt; names_a_variable(rt.alloc(), b"T1|w(f(x))|", b"f(x)"));
 }
 
 // The lines of a case are texts of their own.
@@ -190,6 +176,13 @@ fn single_lines_have_their_first_cause(rt: HostRuntime) {
     assert!(rt; each_is(alloc, accepted, None));
 }
 
+fn has_no_location(alloc: Global, text: &[u8]) -> bool {
+    match raw_of(alloc, text) {
+        Some(trace) => is_location(&trace, 0, b""),
+        None => false,
+    }
+}
+
 #[test]
 fn a_cut_text_is_refused_or_shorter(rt: HostRuntime) {
     let alloc = rt.alloc();
@@ -197,11 +190,7 @@ fn a_cut_text_is_refused_or_shorter(rt: HostRuntime) {
     let cut = b"T1|\nT1|w\nT1|w(\nT1|w(x";
     assert!(rt; each_is(alloc, cut, Some(TextCause::BadParentheses)));
     assert!(rt; each_is(alloc, b"\nT1|w(x)\nT1|w(x)|\nT1|w(x)|1", None));
-    let Ok(trace) = parse(alloc, b"T1|w(x)|") else {
-        assert!(rt; false, "the text is read");
-        return;
-    };
-    assert!(rt; is_location(&trace, 0, b""));
+    assert!(rt; has_no_location(alloc, b"T1|w(x)|"));
 }
 
 #[test]
@@ -263,14 +252,18 @@ fn blanks_are_space_tab_and_carriage_return(rt: HostRuntime) {
     assert!(rt; is_a_blank(b'\r') && !is_a_blank(b'\n'));
 }
 
+// What the hashers make of nothing: it tells them apart.
+fn kept_by(alloc: Global, text: &[u8]) -> Option<u64> {
+    match raw_of(alloc, text) {
+        Some(trace) => Some(trace.keyed().build_hasher().finish()),
+        None => None,
+    }
+}
+
 #[test]
 fn a_trace_keeps_the_hashers_of_its_text(rt: HostRuntime) {
     let text = b"T1|w(x)|1";
-    let trace = parse(rt.alloc(), text);
-    assert!(rt; trace.is_ok());
-    if let Ok(trace) = trace {
-        let kept = trace.keyed().build_hasher().finish();
-        assert_eq!(rt; kept, TextKeyed::of(text).build_hasher().finish());
-        assert!(rt; kept != TextKeyed::of(b"T1|w(y)|1").build_hasher().finish());
-    }
+    let kept = kept_by(rt.alloc(), text);
+    assert!(rt; kept == Some(TextKeyed::of(text).build_hasher().finish()));
+    assert!(rt; kept != Some(TextKeyed::of(b"T1|w(y)|1").build_hasher().finish()));
 }

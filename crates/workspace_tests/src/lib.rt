@@ -3,8 +3,6 @@
 #![tactic(auto)]
 
 #[cfg(test)]
-mod fixtures;
-#[cfg(test)]
 mod log_tests;
 #[cfg(test)]
 mod move_tests;

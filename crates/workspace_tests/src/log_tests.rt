@@ -1,16 +1,13 @@
 //! What no clause says: that calls are answered where there is memory, that the definitions give the answers
 //! which worked examples expect, and that an undo builds nothing anew.
-use crate::fixtures::{bench_of, indexed_of};
-use event_index::{EventList, Indexed};
+use event_index::EventList;
 use inverse_log::{Bench, Call, Refusal, Reply};
 use moves::{Command, MoveRefusal, Name, Workspace};
 use schedule::{Disabled, SwapRefusal};
 use std::alloc::Global;
-use std::sync::Arc;
 use std::test::Fail;
+use test_support::{ONE_LOCK, bench_of};
 
-// Two threads use one lock, and write one variable outside it.
-const ONE_LOCK: &[u8] = b"T1|w(x)|1\nT1|acq(l)|2\nT1|rel(l)|3\nT2|acq(l)|4\nT2|rel(l)|5\nT2|w(x)|6";
 // A read that sees the other thread's write, and two writes of another variable.
 const TWO_PAIRS: &[u8] = b"T1|w(x)|1\nT2|r(x)|2\nT2|w(z)|3\nT1|w(z)|4";
 
@@ -199,29 +196,49 @@ fn call_twice(bench: &mut Bench, client: u32, call: &Call) -> Result<Reply, Refu
     }
 }
 
-// The first row of the table whose answer is another one; none where all are right.
-fn wrong_row(alloc: Global, text: &[u8], rows: &[(u32, Ask, Told)]) -> Option<usize> {
-    let made = match bench_of(alloc, text) {
+// Whether the call is answered so.
+fn is_answered(bench: &mut Bench, client: u32, call: &Call, told: Told) -> bool {
+    is_told(&call_twice(bench, client, call), told)
+}
+
+// The call that is asked for, and a bench of the text's trace; where memory was wanting, at the second try.
+fn call_again(alloc: Global, ask: Ask) -> Option<Call> {
+    match call_of(alloc, ask) {
+        Some(call) => Some(call),
+        None => call_of(alloc, ask),
+    }
+}
+
+fn bench_again(alloc: Global, text: &[u8]) -> Option<Bench> {
+    match bench_of(alloc, text) {
         Some(bench) => Some(bench),
         None => bench_of(alloc, text),
-    };
-    let Some(mut bench) = made else {
-        return Some(rows.len());
-    };
+    }
+}
+
+fn is_right_row(alloc: Global, bench: &mut Bench, row: (u32, Ask, Told)) -> bool {
+    let (client, ask, told) = row;
+    match call_again(alloc, ask) {
+        Some(call) => is_answered(bench, client, &call, told),
+        None => false,
+    }
+}
+
+fn wrong_row_of(alloc: Global, bench: &mut Bench, rows: &[(u32, Ask, Told)]) -> Option<usize> {
     for at in 0..rows.len() {
-        let (client, ask, told) = rows[at];
-        let asked = match call_of(alloc, ask) {
-            Some(call) => Some(call),
-            None => call_of(alloc, ask),
-        };
-        let Some(call) = asked else {
-            return Some(at);
-        };
-        if !is_told(&call_twice(&mut bench, client, &call), told) {
+        if !is_right_row(alloc, bench, rows[at]) {
             return Some(at);
         }
     }
     None
+}
+
+// The first row of the table whose answer is another one; none where all are right.
+fn wrong_row(alloc: Global, text: &[u8], rows: &[(u32, Ask, Told)]) -> Option<usize> {
+    match bench_again(alloc, text) {
+        Some(mut bench) => wrong_row_of(alloc, &mut bench, rows),
+        None => Some(rows.len()),
+    }
 }
 
 #[test]
@@ -411,7 +428,6 @@ fn pairs_are_shown_in_order(rt: HostRuntime) -> Result<(), Fail> {
     Ok(())
 }
 
-// Whether each round of a new schedule and its undo is answered as it must be.
 // The first call of the table that is answered otherwise, or after which the bench counts other changes or proposals; none
 // where all are right.
 fn wrong_count(
@@ -421,10 +437,7 @@ fn wrong_count(
 ) -> Option<usize> {
     for at in 0..rows.len() {
         let (client, ask, told, edits, proposals) = rows[at];
-        let Some(call) = call_of(alloc, ask) else {
-            return Some(at);
-        };
-        let is_right = is_told(&call_twice(bench, client, &call), told);
+        let is_right = is_right_row(alloc, bench, (client, ask, told));
         if !is_right || bench.edits() != edits || bench.board().len() != proposals {
             return Some(at);
         }
@@ -442,15 +455,19 @@ fn is_row(workspace: &Workspace, at: usize, byte: u8, born: u64, events: &[u32])
     }
 }
 
-// Whether the changes and proposals are counted, and a row that was dropped has its birth again.
-fn is_counted(alloc: Global, rows: &[(u32, Ask, Told, u64, usize)]) -> bool {
-    let Some(mut bench) = bench_of(alloc, ONE_LOCK) else {
-        return false;
-    };
-    wrong_count(alloc, &mut bench, rows).is_none()
+fn are_counted(alloc: Global, bench: &mut Bench, rows: &[(u32, Ask, Told, u64, usize)]) -> bool {
+    wrong_count(alloc, bench, rows).is_none()
         && bench.workspace().len() == 2
         && is_row(bench.workspace(), 0, b'A', 0, &[3, 4])
         && is_row(bench.workspace(), 1, b'B', 2, &[])
+}
+
+// Whether the changes and proposals are counted, and a row that was dropped has its birth again.
+fn is_counted(alloc: Global, rows: &[(u32, Ask, Told, u64, usize)]) -> bool {
+    match bench_of(alloc, ONE_LOCK) {
+        Some(mut bench) => are_counted(alloc, &mut bench, rows),
+        None => false,
+    }
 }
 
 #[test]
@@ -473,42 +490,49 @@ fn each_change_is_counted_once(rt: HostRuntime) -> Result<(), Fail> {
     Ok(())
 }
 
+// Whether each round of a new schedule and its undo is answered as it must be.
 fn fill(bench: &mut Bench, fresh: &Call, rounds: u32) -> bool {
     for round in 0..rounds {
         let number = round as u64 * 2;
-        if !is_told(&call_twice(bench, 1, fresh), Told::Done(number)) {
-            return false;
-        }
-        if !is_told(
-            &call_twice(bench, 1, &Call::Undo),
-            Told::Undone(number + 1, number),
-        ) {
+        let is_round = is_answered(bench, 1, fresh, Told::Done(number))
+            && is_answered(bench, 1, &Call::Undo, Told::Undone(number + 1, number));
+        if !is_round {
             return false;
         }
     }
     true
 }
 
+fn is_full(bench: &mut Bench, fresh: &Call) -> bool {
+    is_answered(bench, 1, fresh, Told::Refused(55))
+        && is_answered(bench, 1, &Call::Undo, Told::Refused(55))
+        && is_answered(bench, 1, &Call::List, Told::Names(b""))
+}
+
+// Whether a log takes 1,000,000 entries and no more, and has counted each of these changes.
+fn fills_up_with(bench: &mut Bench, fresh: &Call) -> bool {
+    fill(bench, fresh, 500_000)
+        && is_full(bench, fresh)
+        && bench.edits() == 1_000_000
+        && bench.log_len() == 1_000_000
+}
+
+fn does_fill_up(alloc: Global, bench: &mut Bench) -> bool {
+    match call_of(alloc, Ask::New(b'A')) {
+        Some(fresh) => fills_up_with(bench, &fresh),
+        None => false,
+    }
+}
+
+fn fills_up(alloc: Global) -> bool {
+    match bench_of(alloc, ONE_LOCK) {
+        Some(mut bench) => does_fill_up(alloc, &mut bench),
+        None => false,
+    }
+}
+
 #[test]
 fn a_log_is_full_at_a_million_entries(rt: HostRuntime) -> Result<(), Fail> {
     assert!(rt; fills_up(rt.alloc()));
     Ok(())
-}
-
-// Whether a log takes 1,000,000 entries and no more, and has counted each of these changes.
-fn fills_up(alloc: Global) -> bool {
-    let Some(mut bench) = bench_of(alloc, ONE_LOCK) else {
-        return false;
-    };
-    let Some(fresh) = call_of(alloc, Ask::New(b'A')) else {
-        return false;
-    };
-    if !fill(&mut bench, &fresh, 500_000) {
-        return false;
-    }
-    is_told(&call_twice(&mut bench, 1, &fresh), Told::Refused(55))
-        && is_told(&call_twice(&mut bench, 1, &Call::Undo), Told::Refused(55))
-        && is_told(&call_twice(&mut bench, 1, &Call::List), Told::Names(b""))
-        && bench.edits() == 1_000_000
-        && bench.log_len() == 1_000_000
 }

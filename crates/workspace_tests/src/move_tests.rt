@@ -5,15 +5,12 @@ ghost use Rattle.moves.specs.Rows.{Rows, IsOfTrace, Below};
 ghost use Rattle.moves.specs.Boards.{IsBoardOf};
 ghost use Rattle.moves.specs.Inverses.{CanTurn, IsTurned};
 
-use crate::fixtures::indexed_of;
 use event_index::Indexed;
 use moves::{Board, Command, Inverse, MoveRefusal, Name, Workspace};
 use schedule::{Disabled, Schedule, SwapRefusal};
 use std::alloc::Global;
 use std::test::Fail;
-
-// Two threads use one lock, and write one variable outside it.
-const ONE_LOCK: &[u8] = b"T1|w(x)|1\nT1|acq(l)|2\nT1|rel(l)|3\nT2|acq(l)|4\nT2|rel(l)|5\nT2|w(x)|6";
+use test_support::{ONE_LOCK, indexed_of};
 
 const GROWS_AND_SHRINKS: &[u8] =
     b"aA0 42\nnA undone\nnA done A\nnA 43\nbA 45\naA9 4621\naA4 4622\naA0 undone A\naA0 done A 0\nbA undone A 0\nbA done A";
@@ -243,6 +240,7 @@ fn is_told(
         None => answered(workspace, indexed, board, birth + 1, command, outcome) == Some(true),
     }
 }
+
 // One line of a script: a command's word, then `done`, `undone` or the number of a refusal, then names and events.
 fn line_of(line: &[u8]) -> Option<(Command, Outcome<'_>)> {
     let mut fields = line.split(|byte| *byte == b' ');
@@ -279,10 +277,18 @@ fn are_told(alloc: Global, indexed: &Indexed, board: &Board, script: &[u8]) -> b
     true
 }
 
+fn holds_on(alloc: Global, indexed: &Indexed, script: &[u8]) -> Option<bool> {
+    match board_of(alloc, indexed, 0, 5, &[3, 4]) {
+        Some(board) => Some(are_told(alloc, indexed, &board, script)),
+        None => None,
+    }
+}
+
 fn holds_once(alloc: Global, script: &[u8]) -> Option<bool> {
-    let indexed = indexed_of(alloc, ONE_LOCK)?;
-    let board = board_of(alloc, &indexed, 0, 5, &[3, 4])?;
-    Some(are_told(alloc, &indexed, &board, script))
+    match indexed_of(alloc, ONE_LOCK) {
+        Some(indexed) => holds_on(alloc, &indexed, script),
+        None => None,
+    }
 }
 
 // Whether the script holds on a board with one proposal.

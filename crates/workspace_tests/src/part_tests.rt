@@ -2,13 +2,13 @@
 //! what it took, and each command tells the names that its word names.
 ghost use Rattle.std.specs.Prelude.{◌≡◌};
 
-use crate::fixtures::indexed_of;
 use crate::move_tests::{command_of, name_of};
 use event_index::Indexed;
 use moves::{Board, Name, Names};
 use schedule::Schedule;
 use std::alloc::Global;
 use std::test::Fail;
+use test_support::indexed_of;
 
 // A read that sees the other thread's write, and two writes of another variable.
 const TWO_PAIRS: &[u8] = b"T1|w(x)|1\nT2|r(x)|2\nT2|w(z)|3\nT1|w(z)|4";
@@ -56,13 +56,16 @@ fn gives_what_it_took(alloc: Global, indexed: &Indexed) -> bool {
     is_taken && board.len() == 2 && has(&board, 0, (0, 1), &[]) && has(&board, 1, (3, 2), &[0, 1])
 }
 
+fn gives_on(alloc: Global, text: &[u8]) -> bool {
+    match indexed_of(alloc, text) {
+        Some(indexed) => gives_what_it_took(alloc, &indexed),
+        None => false,
+    }
+}
+
 #[test]
 fn a_board_gives_what_it_took(rt: HostRuntime) -> Result<(), Fail> {
-    let holds = match indexed_of(rt.alloc(), TWO_PAIRS) {
-        Some(indexed) => gives_what_it_took(rt.alloc(), &indexed),
-        None => false,
-    };
-    assert!(rt; holds);
+    assert!(rt; gives_on(rt.alloc(), TWO_PAIRS));
     Ok(())
 }
 

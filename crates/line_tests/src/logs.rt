@@ -1,19 +1,23 @@
 //! What no clause says: that the lines of a log are those that are meant, and that they are appended where
 //! there is memory.
 
-use crate::fixtures::{ONE_LOCK, bench_of};
-use crate::info_tests::is_printed;
+use crate::answers::is_printed;
 use event_index::EventList;
 use inverse_log::{Bench, Call};
 use moves::{Command, Name};
 use report::log;
 use std::alloc::Global;
-use std::sync::Arc;
+use test_support::{ONE_LOCK, bench_of};
 
-// A bench of the trace of one lock.
 // Whether the client's call is answered by a reply; a client that is none is answered by nothing.
 fn is_accepted(bench: &mut Bench, client: u32, call: &Call) -> bool {
-    client >= 1 && client <= 32 && bench.call(client, call).is_ok()
+    if client == 0 || client > 32 {
+        return false;
+    }
+    match bench.call(client, call) {
+        Ok(_) => true,
+        Err(_) => false,
+    }
 }
 
 // What is printed of the bench's log, behind a byte that stood there.
@@ -23,15 +27,29 @@ fn log_of(alloc: Global, bench: &Bench) -> Option<Vec<u8>> {
     Some(out)
 }
 
-// The log after the calls, where each is accepted exactly as the row says.
-fn log_after(alloc: Global, rows: &[(u32, Call, bool)]) -> Option<Vec<u8>> {
-    let mut bench = bench_of(alloc, ONE_LOCK)?;
+fn are_accepted(bench: &mut Bench, rows: &[(u32, Call, bool)]) -> bool {
     for (client, call, accepted) in rows {
-        if is_accepted(&mut bench, *client, call) != *accepted {
-            return None;
+        if is_accepted(bench, *client, call) != *accepted {
+            return false;
         }
     }
-    log_of(alloc, &bench)
+    true
+}
+
+fn log_on(alloc: Global, bench: &mut Bench, rows: &[(u32, Call, bool)]) -> Option<Vec<u8>> {
+    if are_accepted(bench, rows) {
+        log_of(alloc, bench)
+    } else {
+        None
+    }
+}
+
+// The log after the calls, where each is accepted exactly as the row says.
+fn log_after(alloc: Global, rows: &[(u32, Call, bool)]) -> Option<Vec<u8>> {
+    match bench_of(alloc, ONE_LOCK) {
+        Some(mut bench) => log_on(alloc, &mut bench, rows),
+        None => None,
+    }
 }
 
 // The call that proposes that events 3 and 4 show the pair 0, 5.

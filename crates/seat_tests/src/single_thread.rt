@@ -2,17 +2,27 @@
 //! is answered when it is made again.
 ghost use Rattle.std.specs.Prelude.{◌≡◌};
 
-use crate::fixtures::{ONE_LOCK, bench_of};
 use inverse_log::{Bench, Call, Refusal, Reply};
 use moves::{Command, Name};
 use std::alloc::Global;
 use std::sync::Wait;
 use std::test::Fail;
+use test_support::{ONE_LOCK, bench_of};
 use workspace_lock::{CloseRefusal, OpenRefusal, Seat, SeatRefusal, Seats, open};
 
-// An empty bench of the trace.
+fn opened(alloc: Global, bench: Bench, clients: u32) -> Option<Seats> {
+    match open(alloc, bench, clients) {
+        Ok(seats) => Some(seats),
+        Err(_) => None,
+    }
+}
+
+// Seats at an empty bench of the trace.
 pub(crate) fn seats_of(alloc: Global, clients: u32) -> Option<Seats> {
-    open(alloc, bench_of(alloc, ONE_LOCK)?, clients).ok()
+    match bench_of(alloc, ONE_LOCK) {
+        Some(bench) => opened(alloc, bench, clients),
+        None => None,
+    }
 }
 
 // The schedule that a client changes, and the event that it adds and takes off.
@@ -139,30 +149,39 @@ fn is_done_at_last<R: Wait>(rt: &R, seat: &mut Seat, other: &mut Seat, call: &Ca
     seat.run(rt, call).is_ok()
 }
 
+// Two seats at the bench. Where that was refused, it was for memory, and the bench came back as it was: then once more.
+fn opened_at_last(alloc: Global, bench: Bench) -> Option<Seats> {
+    match open(alloc, bench, 2) {
+        Ok(seats) => Some(seats),
+        Err((bench, why)) => {
+            if why == OpenRefusal::OutOfMemory && bench.log_len() == 0 {
+                opened(alloc, bench, 2)
+            } else {
+                None
+            }
+        },
+    }
+}
+
+fn bench_at_last(alloc: Global) -> Option<Bench> {
+    match bench_of(alloc, ONE_LOCK) {
+        Some(bench) => Some(bench),
+        None => bench_of(alloc, ONE_LOCK),
+    }
+}
+
+fn seats_at_last(alloc: Global) -> Option<Seats> {
+    match bench_at_last(alloc) {
+        Some(bench) => opened_at_last(alloc, bench),
+        None => None,
+    }
+}
+
 // Each of its allocations can be refused in turn, one in a run.
 #[test]
 fn refused_memory_changes_nothing(rt: HostRuntime) -> Result<(), Fail> {
-    let alloc = rt.alloc();
-    let Ok(name) = Name::new(b"A") else {
-        panic!(rt; "no name")
-    };
-    let bench = match bench_of(alloc, ONE_LOCK) {
-        Some(bench) => bench,
-        None => match bench_of(alloc, ONE_LOCK) {
-            Some(bench) => bench,
-            None => panic!(rt; "no bench"),
-        },
-    };
-    let mut seats = match open(alloc, bench, 2) {
-        Ok(seats) => seats,
-        Err((bench, why)) => {
-            assert!(rt; why == OpenRefusal::OutOfMemory);
-            assert_eq!(rt; bench.log_len(), 0);
-            match open(alloc, bench, 2) {
-                Ok(seats) => seats,
-                Err(_) => panic!(rt; "not opened"),
-            }
-        },
+    let (Ok(name), Some(mut seats)) = (Name::new(b"A"), seats_at_last(rt.alloc())) else {
+        panic!(rt; "not opened")
     };
     let (Some(mut one), Some(mut two)) = (seats.take(), seats.take()) else {
         panic!(rt; "no seat")

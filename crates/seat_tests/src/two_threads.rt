@@ -2,7 +2,7 @@
 //! turn, and that what one thread was told before it ended is there for the next.
 ghost use Rattle.std.specs.Prelude.{◌≡◌};
 
-use crate::seat_tests::{Own, is_done, seats_of, shows_its_event};
+use crate::single_thread::{Own, is_done, seats_of, shows_its_event};
 use inverse_log::{Bench, Call, Entry, Reply};
 use moves::{Command, Name};
 use std::sync::Wait;
@@ -44,16 +44,29 @@ fn calls_in_turn(bench: &Bench, client: u32, own: &Own) -> Option<u32> {
     Some(count)
 }
 
+// Whether the client's call of this number is accepted.
+fn is_done_in_turn<R: Wait>(rt: &R, seat: &mut Seat, own: &Own, number: u32) -> bool
+    ensures { seat.new.site ≡ seat.old.site }
+{
+    is_done(rt, seat, &own.call_in_turn(number))
+}
+
+fn are_thousand_done<R: Wait>(rt: &R, seat: &mut Seat, own: &Own) -> bool
+    ensures { seat.new.site ≡ seat.old.site }
+{
+    let mut are_done = true;
+    for number in 0..1000u32 {
+        are_done = is_done_in_turn(rt, seat, own, number) && are_done;
+    }
+    are_done
+}
+
 // A thousand calls on a schedule that only this client changes. Whether all were accepted, and the schedule then shows
 // what the client did last.
 fn thousand_calls<R: Wait>(rt: &R, mut seat: Seat, own: Own) -> (Seat, bool)
     ensures { result.0.site ≡ seat.site }
 {
-    let mut are_done = true;
-    for number in 0..1000u32 {
-        let call = own.call_in_turn(number);
-        are_done = is_done(rt, &mut seat, &call) && are_done;
-    }
+    let are_done = are_thousand_done(rt, &mut seat, &own);
     let is_shown = shows_its_event(rt, &mut seat, &own);
     (seat, are_done && is_shown)
 }

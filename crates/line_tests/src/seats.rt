@@ -1,14 +1,14 @@
 //! What no clause says of calls that a seat refuses: that their lines are those that are meant, and that they are appended
 //! where there is memory.
 
-use crate::fixtures::{ONE_LOCK, indexed_of};
-use crate::info_tests::is_printed;
+use crate::answers::is_printed;
 use event_index::Indexed;
 use inverse_log::Refusal;
 use moves::{MoveRefusal, Name};
 use report::seat_refusal;
 use schedule::{Disabled, SwapRefusal};
 use std::alloc::Global;
+use test_support::{ONE_LOCK, indexed_of};
 use workspace_lock::SeatRefusal;
 
 // Each kind of refusal, with what is printed of it on the trace of one lock.
@@ -55,12 +55,20 @@ fn each_kind(name: Name) -> [(SeatRefusal, &'static [u8]); 10] {
     ]
 }
 
+fn seat_refusal_on(alloc: Global, indexed: &Indexed, why: &SeatRefusal) -> Option<Vec<u8>> {
+    let mut out = Vec::new(alloc);
+    match seat_refusal(indexed, why, &mut out) {
+        Ok(()) => Some(out),
+        Err(_) => None,
+    }
+}
+
 // What is printed of it on the trace of one lock.
 fn seat_refusal_of(alloc: Global, why: &SeatRefusal) -> Option<Vec<u8>> {
-    let indexed = indexed_of(alloc, ONE_LOCK)?;
-    let mut out = Vec::new(alloc);
-    seat_refusal(&indexed, why, &mut out).ok()?;
-    Some(out)
+    match indexed_of(alloc, ONE_LOCK) {
+        Some(indexed) => seat_refusal_on(alloc, &indexed, why),
+        None => None,
+    }
 }
 
 #[test]
@@ -96,17 +104,34 @@ fn is_appended_at_last(alloc: Global, indexed: &Indexed, why: &SeatRefusal, want
     seat_refusal(indexed, why, &mut out).is_ok() && is_behind(out.as_slice(), wanted)
 }
 
+fn index_at_last(alloc: Global) -> Option<Indexed> {
+    match indexed_of(alloc, ONE_LOCK) {
+        Some(indexed) => Some(indexed),
+        None => indexed_of(alloc, ONE_LOCK),
+    }
+}
+
+fn are_appended_at_last(alloc: Global, indexed: &Indexed, name: Name) -> bool {
+    for (why, wanted) in each_kind(name) {
+        if !is_appended_at_last(alloc, indexed, &why, wanted) {
+            return false;
+        }
+    }
+    true
+}
+
+fn is_each_appended_at_last(alloc: Global, name: Name) -> bool {
+    match index_at_last(alloc) {
+        Some(indexed) => are_appended_at_last(alloc, &indexed, name),
+        None => false,
+    }
+}
+
 // Each of its allocations can be refused in turn, one in a run.
 #[test]
 fn refused_memory_leaves_what_was_printed(rt: HostRuntime) {
-    let alloc = rt.alloc();
     let Ok(name) = Name::new(b"A") else {
         panic!(rt; "no name")
     };
-    let Some(indexed) = indexed_of(alloc, ONE_LOCK).or_else(|| indexed_of(alloc, ONE_LOCK)) else {
-        panic!(rt; "no trace")
-    };
-    for (why, wanted) in each_kind(name) {
-        assert!(rt; is_appended_at_last(alloc, &indexed, &why, wanted));
-    }
+    assert!(rt; is_each_appended_at_last(rt.alloc(), name));
 }

@@ -1,16 +1,12 @@
 //! What no clause says: that the lines of replies and refusals are those that are meant, and that they are
-//! appended where there is memory.
+//! appended where there is memory. The lines of lists, of a trace and of its candidates are those of the program's cases.
 
-use crate::fixtures::{ONE_LOCK, indexed_of};
-use crate::info_tests::is_printed;
-use event_index::{EventList, Pairs};
 use inverse_log::{Refusal, Reply};
-use moves::{MoveRefusal, Name, Names};
-use rapid_text::OutOfMemory;
+use moves::{MoveRefusal, Name};
 use report::{refusal, reply};
 use schedule::{Disabled, SwapRefusal};
 use std::alloc::Global;
-use std::test::Fail;
+use test_support::{ONE_LOCK, indexed_of};
 
 // What is printed of a reply, behind a byte that stood there.
 fn reply_of(alloc: Global, answer: &Reply) -> Option<Vec<u8>> {
@@ -27,31 +23,12 @@ fn refusal_of(alloc: Global, why: &Refusal) -> Option<Vec<u8>> {
     Some(out)
 }
 
-fn list_of(alloc: Global, events: &[u32]) -> Result<EventList, OutOfMemory> {
-    let mut list = EventList::new(alloc);
-    for event in events {
-        list.push(*event)?;
+// Whether this is what was printed.
+pub(crate) fn is_printed(printed: Option<Vec<u8>>, wanted: &[u8]) -> bool {
+    match printed {
+        Some(out) => out.as_slice() == wanted,
+        None => false,
     }
-    Ok(list)
-}
-
-fn pairs_of(alloc: Global, pairs: &[(u32, u32)]) -> Result<Pairs, OutOfMemory> {
-    let mut list = Pairs::new(alloc);
-    for pair in pairs {
-        list.push(*pair)?;
-    }
-    Ok(list)
-}
-
-// The names that are names of these; a word that is no name is passed over.
-fn names_of(alloc: Global, words: &[&[u8]]) -> Result<Names, OutOfMemory> {
-    let mut list = Names::new(alloc);
-    for word in words {
-        if let Ok(name) = Name::new(word) {
-            list.push(name)?;
-        }
-    }
-    Ok(list)
 }
 
 #[test]
@@ -87,30 +64,6 @@ fn lines_of_replies(rt: HostRuntime) {
     for (answer, wanted) in rows {
         assert!(rt; is_printed(reply_of(rt.alloc(), &answer), wanted));
     }
-}
-
-#[test]
-fn lines_of_shown_lists(rt: HostRuntime) -> Result<(), Fail> {
-    let alloc = rt.alloc();
-    let rows: [(Reply, &[u8]); 7] = [
-        (Reply::Shown(list_of(alloc, &[3, 4])?), b">shown 3 4\n"),
-        (Reply::Shown(list_of(alloc, &[])?), b">shown\n"),
-        (
-            Reply::Listing(names_of(alloc, &[b"A", b"x_1-.z", b"C"])?),
-            b">names A x_1-.z C\n",
-        ),
-        (Reply::Listing(names_of(alloc, &[])?), b">names\n"),
-        (Reply::Shows(pairs_of(alloc, &[(0, 5)])?), b">pairs 0-5\n"),
-        (
-            Reply::Shows(pairs_of(alloc, &[(0, 5), (12, 345)])?),
-            b">pairs 0-5 12-345\n",
-        ),
-        (Reply::Shows(pairs_of(alloc, &[])?), b">pairs\n"),
-    ];
-    for (answer, wanted) in rows {
-        assert!(rt; is_printed(reply_of(alloc, &answer), wanted));
-    }
-    Ok(())
 }
 
 #[test]
