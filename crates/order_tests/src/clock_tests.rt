@@ -1,5 +1,5 @@
-//! What no clause says: that `new` and `candidates` succeed where there is memory, and that the definitions
-//! give the answers that worked examples expect, read from their texts.
+//! What no clause says and the program does not tell: which events are ordered, and the candidates up to another limit than the
+//! program's, in worked examples that are read from their texts.
 ghost use Rattle.std.specs.Prelude.{◌≡◌};
 
 use crate::fixtures::{clocks_of, indexed_of};
@@ -46,26 +46,6 @@ fn are_ordered_in(alloc: Global, indexed: &Indexed, pairs: &[(u32, u32, bool)]) 
 
 fn are_ordered(alloc: Global, text: &[u8], pairs: &[(u32, u32, bool)]) -> Option<bool> {
     are_ordered_in(alloc, &indexed_of(alloc, text)?, pairs)
-}
-
-// Whether the two events are a candidate.
-fn is_candidate_by(clocks: &Clocks, indexed: &Indexed, first: u32, second: u32) -> Option<bool>
-    requires { clocks.now ≡ indexed.now }
-{
-    if first < indexed.len() && second < indexed.len() {
-        Some(clocks.candidate(indexed, first, second))
-    } else {
-        None
-    }
-}
-
-fn is_candidate_in(alloc: Global, indexed: &Indexed, first: u32, second: u32) -> Option<bool> {
-    let clocks = clocks_of(alloc, indexed)?;
-    is_candidate_by(&clocks, indexed, first, second)
-}
-
-fn is_candidate(alloc: Global, text: &[u8], first: u32, second: u32) -> Option<bool> {
-    is_candidate_in(alloc, &indexed_of(alloc, text)?, first, second)
 }
 
 // Whether the first candidates up to the limit are these.
@@ -121,17 +101,6 @@ fn events_in_order(rt: HostRuntime) {
 }
 
 #[test]
-fn pairs_that_are_candidates(rt: HostRuntime) {
-    let alloc = rt.alloc();
-    assert_eq!(rt; is_candidate(alloc, ONE_LOCK, 0, 5), Some(false));
-    assert_eq!(rt; is_candidate(alloc, TWO_PAIRS, 0, 1), Some(true));
-    assert_eq!(rt; is_candidate(alloc, TWO_PAIRS, 3, 2), Some(true));
-    assert_eq!(rt; is_candidate(alloc, TWO_PAIRS, 0, 2), Some(false));
-    assert_eq!(rt; is_candidate(alloc, FORK_AND_JOIN, 1, 3), Some(false));
-    assert_eq!(rt; is_candidate(alloc, FORK_AFTER_WRITE, 0, 2), Some(false));
-}
-
-#[test]
 fn candidates_up_to_a_limit(rt: HostRuntime) {
     let alloc = rt.alloc();
     assert_eq!(rt; are_first(alloc, ONE_LOCK, 1000, &[]), Some(true));
@@ -144,15 +113,9 @@ fn candidates_up_to_a_limit(rt: HostRuntime) {
     assert_eq!(rt; are_first(alloc, FORK_AND_JOIN, 10, &[]), Some(true));
     assert_eq!(rt; are_first(alloc, FORK_AFTER_WRITE, 10, &[]), Some(true));
     assert_eq!(rt; are_first(alloc, b"", 10, &[]), Some(true));
-}
-
-#[test]
-fn partners_of_one_event_in_several_threads(rt: HostRuntime) {
-    let alloc = rt.alloc();
-    let all = [(0, 1), (0, 2), (1, 2), (1, 3), (2, 3)];
-    assert_eq!(rt; are_first(alloc, THREE_WRITERS, 10, &all), Some(true));
+    let within_one_event = [(0, 1), (0, 2), (1, 2)];
     assert_eq!(rt;
-        are_first(alloc, THREE_WRITERS, 3, &[(0, 1), (0, 2), (1, 2)]),
+        are_first(alloc, THREE_WRITERS, 3, &within_one_event),
         Some(true)
     );
 }

@@ -9,6 +9,4 @@ mod index_tests;
 #[cfg(test)]
 mod printing_tests;
 #[cfg(test)]
-mod rule_tests;
-#[cfg(test)]
 mod text_tests;

@@ -1,0 +1,88 @@
+#!/usr/bin/env python3
+"""Judges what `info` says of trace texts in a table: how many events one has, or where and for what it is refused.
+
+These are worked examples of the checks of a line and of the rules of a trace (docs/FORMATS.md), up to their limits. Each
+number of a refusal there has to stand in the table.
+Takes the program's path. Says what is wrong, if something is, and ends with status 1 then.
+"""
+
+import os
+import re
+import subprocess
+import sys
+import tempfile
+
+sys.dont_write_bytecode = True
+import running
+
+# What the program refuses a text or a trace for.
+NUMBERS = {1, 2, 3, 4, 5, 6, 7, 8, 11, 12, 13, 14, 15, 16}
+ONE_LOCK = "T1|w(x)|1\nT1|acq(l)|2\nT1|rel(l)|3\nT2|acq(l)|4\nT2|rel(l)|5\nT2|w(x)|6"
+THREADS = [f"{chr(ord('!') + number)}|w(x)|\n" for number in range(64)]
+NAMES = {length: "x" * length for length in (255, 256)}
+# What follows `T|w(x)|` in a line of 4,096 bytes.
+REST = "1" * 4_089
+
+# What is said of the texts behind it: a number of events, or what a refusal says.
+TABLE = [
+    (0, "", "\n \t\r\n", "|begin|", "|end()|", "T1|begin|3", f"\t T|begin|{REST[1:]} \r\n"),
+    (1, "T1|w(x)", "T1|w(x)|", "T1|w(x)|1", "T1|w(\0)|", "T1|w(f(x))|", f"\t T|w(x)|{REST} \r\n"),
+    (1, f"\nT|w({NAMES[255]})|", f"\n{NAMES[255]}|w(x)|", "T1|join(T2)|"),
+    (2, "T1|w(x)|1\r\n\r\nT1|begin(b)|2\r\nT2| r( x ) ", "T1|acq(l)|\nT2|acq(m)|", "T2|w(x)|\nT1|join(T2)|"),
+    (4, "T1|acq(l)\nT1|acq(l)\nT1|rel(l)\nT1|rel(l)", "M|fork(W)|1\nW|w(x)|2\nM|join(W)|3\nM|r(x)|4"),
+    (4, "T1|fork(T2)|\nT1|join(T2)|\nT1|join(T2)|\nT3|join(T2)|"),
+    (6, "T1|acq(l)|\nT1|acq(l)|\nT1|rel(l)|\nT1|rel(l)|\nT2|acq(l)|\nT2|rel(l)|", ONE_LOCK),
+    (64, "".join(THREADS)),
+    (65_536, "T1|w(x)|1\n" * 65_536),
+    ("line 1: 1 no bar", "T", "T1", "begin"),
+    ("line 1: 2 bad parentheses", "T1|", "T1|w", "T1|w(", "T1|w(x", "T1|w x|2", "T1|w)(|1", "T1|w(x)y|"),
+    ("line 1: 2 bad parentheses", "T1|begin(x|", "T1|w(a|b)|1"),
+    ("line 1: 3 unknown operation", "T1|inc(x)|2", "T1|)w(x)|", "T1|R(x)|", "|inc()|"),
+    ("line 1: 4 empty name", "T1|w()|2", "T1|w( )|2", "|w(x)|2", " \t\r|w(x)|2"),
+    ("line 2: 5 name too long", f"\nT|w({NAMES[256]})|", f"\n{NAMES[256]}|w(x)|"),
+    ("line 1: 6 line too long", f"\t T|w(x)|{REST}1 \r\n", f"\t T|begin|{REST} \r\n", "1" * 4_097),
+    ("line 65537: 7 too many events", "T1|w(x)|1\n" * 65_537),
+    ("line 65: 8 too many names", "".join(THREADS) + "!|join(new)|\n"),
+    ("line 64: 8 too many names", "".join(THREADS[:63]) + "new|join(newer)|\n"),
+    ("event 0: 11 release not held", "T1|rel(l)|1"),
+    ("event 1: 11 release not held", "T1|acq(l)|\nT2|rel(l)|", "T1|acq(l)|\nT1|rel(m)|"),
+    ("event 2: 11 release not held", "T1|acq(l)|\nT1|rel(l)|\nT1|rel(l)|"),
+    ("event 1: 12 acquire held", "T1|acq(l)|\nT2|acq(l)|"),
+    ("event 3: 12 acquire held", "T1|acq(l)|\nT1|acq(l)|\nT1|rel(l)|\nT2|acq(l)|"),
+    ("event 1: 13 fork twice", "T1|fork(T2)|\nT1|fork(T2)|"),
+    ("event 2: 13 fork twice", "T1|fork(T2)|\nT2|w(x)|\nT1|fork(T2)|", "T1|fork(T2)|\nT1|join(T2)|\nT3|fork(T2)|"),
+    ("event 1: 14 fork late", "T2|w(x)|\nT1|fork(T2)|", "T1|join(T2)|\nT1|fork(T2)|"),
+    ("event 0: 15 own thread", "T1|fork(T1)|", "T1|join(T1)|"),
+    ("event 1: 15 own thread", "T1|w(x)|\nT1|fork(T1)|"),
+    ("event 1: 16 after join", "T1|join(T2)|\nT2|r(x)|", "T1|join(T2)|\nT2|fork(T2)|"),
+    ("event 1: 16 after join", "T1|join(T2)|\nT2|rel(l)|\nT1|rel(l)|"),
+    ("event 3: 16 after join", "T1|fork(T2)|1\nT2|w(x)|2\nT1|join(T2)|3\nT2|w(x)|4"),
+]
+
+
+def judge(program, said, text):
+    """Ends where the program says something else of the text."""
+    running.write("trace", text)
+    done = subprocess.run([program, "info", "trace"], capture_output=True, timeout=60, check=False)
+    first = done.stdout.partition(b"\n")[0].decode()
+    found = (done.returncode, first, done.stderr.decode())
+    wanted = (0, f"events {said}", "") if isinstance(said, int) else (1, "", f"racebench: trace {said}\n")
+    if found != wanted:
+        sys.exit(f"info: {found}, and to be {wanted}, of {text[:200]!r}, a text of {len(text)} bytes")
+
+
+def main():
+    program = os.path.abspath(sys.argv[1])
+    rows = [(said, text) for said, *texts in TABLE for text in texts]
+    refused = [said for said, _ in rows if not isinstance(said, int)]
+    missing = NUMBERS - {int(re.search(r": (\d+) ", said)[1]) for said in refused}
+    if missing or len(refused) == len(rows):
+        sys.exit(f"info: no text is refused for {missing}, or none is accepted")
+    with tempfile.TemporaryDirectory() as folder:
+        os.chdir(folder)
+        for said, text in rows:
+            judge(program, said, text)
+    print(f"info: {len(rows)} texts are judged as the formats say, {len(refused)} of them refused")
+
+
+main()
