@@ -3,13 +3,13 @@
 ghost use Rattle.std.specs.Prelude.{◌≡◌};
 
 use crate::fakes::{AMPLE, with_room};
+use crate::fixtures::{bench_of, indexed_of};
 use client_scripts::{FromRead, Script, read_script, replay, run_seat};
 use event_index::Indexed;
 use inverse_log::Bench;
 use rapid_text::OutOfMemory;
 use std::alloc::Global;
 use std::sync::Wait;
-use test_support::{bench_of, indexed_of};
 use workspace_lock::{Seat, Seats, open};
 
 /// Two threads that write one variable after each took and let go one lock.

@@ -10,7 +10,7 @@ use trace_rules::{Trace, check};
 // The trace that a text tells. Each call stands in a function of its own, so that no proof carries along what
 // another call promises; and each answer is taken apart by a `match`, since `ok` has the check prove at length how
 // what is left over is dropped.
-fn raw_of(alloc: Global, text: &[u8]) -> Option<RawTrace> {
+pub(crate) fn raw_of(alloc: Global, text: &[u8]) -> Option<RawTrace> {
     match parse(alloc, text) {
         Ok(raw) => Some(raw),
         Err(_) => None,

@@ -7,6 +7,10 @@ mod clock_tests;
 #[cfg(test)]
 mod fixtures;
 #[cfg(test)]
+mod index_tests;
+#[cfg(test)]
+mod printing_tests;
+#[cfg(test)]
 mod schedule_tests;
 #[cfg(test)]
 mod search_chance;
@@ -14,3 +18,5 @@ mod search_chance;
 mod search_plain;
 #[cfg(test)]
 mod search_tests;
+#[cfg(test)]
+mod text_tests;
