@@ -134,6 +134,14 @@ def call(chance, log, names, mood):
     return (word, name)
 
 
+def undo_by_number(chance, log, client):
+    """An undo by number, most often of a command of the client that was not undone; also by a number that no entry has."""
+    own = [number for number, whose, _ in log.live if whose == client]
+    if own and chance.random() < 0.75:
+        return ("undo", chance.choice(own))
+    return ("undo", chance.randint(0, len(log.entries)))
+
+
 def script(chance, trace_, length, clients=None):
     """So many calls of several clients, each with its client, the line that it is answered by and the log before it; and
     the log after all."""
@@ -145,6 +153,8 @@ def script(chance, trace_, length, clients=None):
     for _ in range(length):
         client = chance.choice(clients)
         drawn = call(chance, log, names, mood)
+        if drawn == ("undo",) and chance.random() < 0.4:
+            drawn = undo_by_number(chance, log, client)
         told, after = log.answer(client, drawn)
         calls.append((client, drawn, told, log))
         log = after

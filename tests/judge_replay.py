@@ -47,7 +47,7 @@ REACHED = """
     new|43 add|42 add|46-21 add|46-22 add|46-23 add|46-24 add|46-25 add|46-26
     needs-none needs-other needs-missing back|42 back|45 swap|42 swap|47-28 swap|47-29 swap|fork-join
     branch|42 branch|43 branch|48 drop|42 adopt|42 adopt|44 adopt|anothers
-    undo|51 undo|52 undo|52-by-source propose|53 propose|54 show|42 races|42
+    undo|numbered undo|past-own undo|51 undo|52 undo|52-by-source undo|52-by-own undo|57 undo|58 undo|58-undid undo|59 propose|53 propose|54 show|42 races|42
 """.split()
 
 
@@ -59,9 +59,10 @@ class Tally(collections.Counter):
         parts = told.split(" ")
         if parts[0] == "refused":
             self[f"{word}|{'-'.join(parts[1:3]) if parts[1] in ('46', '47') else parts[1]}"] += 1
-            self.note_refusal(log, parts)
+            self.note_refusal(log, client, call, parts)
         elif word == "undo":
-            self.note_undo(log, int(parts[2]))
+            self.note_undo(log, client, int(parts[2]))
+            self["undo|numbered"] += len(call) > 1
         elif word == "races":
             self["races|pairs" if parts[1:] else "races|none"] += 1
             self["pairs"] += len(parts) - 1
@@ -76,15 +77,18 @@ class Tally(collections.Counter):
         self["calls"] += 1
         self["refused"] += parts[0] == "refused"
 
-    def note_refusal(self, log, parts):
+    def note_refusal(self, log, client, call, parts):
         if parts[2] == "24":
             needs, has = parts[6], parts[8]
             self["needs-none" if needs == "none" else "needs-missing" if has == "none" else "needs-other"] += 1
         if parts[1] == "52":
             blocker = log.entries[int(parts[4])].what
             self["undo|52-by-source"] += blocker[0] == "branch" and blocker[1] == parts[5]
+            self["undo|52-by-own"] += log.entries[int(parts[4])].client == client
+        if parts[1] == "58":
+            self["undo|58-undid"] += log.entries[call[1]].kind == "undid"
 
-    def note_undo(self, log, undone):
+    def note_undo(self, log, client, undone):
         command = log.entries[undone].what
         self[f"undo|{command[0]}"] += 1
         self["undone"] += 1
@@ -95,6 +99,7 @@ class Tally(collections.Counter):
         self["undo|past-undone"] += any(plain.writes(command) in plain.touches(entry.what) for entry in later)
         past = [other for number, _, other in log.live if number > undone]
         self["undo|past-others"] += bool(past)
+        self["undo|past-own"] += any(whose == client for number, whose, _ in log.live if number > undone)
         # A row that comes back stands before those that were made since.
         self["undo|into-the-middle"] += command[0] == "drop" and any(other[0] in ("new", "branch") for other in past)
 

@@ -1,8 +1,8 @@
 #!/usr/bin/env python3
-"""Judges what `info` says of trace texts in a table: how many events one has, or where and for what it is refused.
+"""Judges what `info` says of trace texts in two tables: all that it prints of one, or where and for what it is refused.
 
 These are worked examples of the checks of a line and of the rules of a trace (docs/FORMATS.md), up to their limits. Each
-number of a refusal there has to stand in the table.
+number of a refusal there has to stand in a table. What is printed of the events of a text is said by tests/plain.py.
 Takes the program's path. Says what is wrong, if something is, and ends with status 1 then.
 """
 
@@ -13,6 +13,7 @@ import sys
 import tempfile
 
 sys.dont_write_bytecode = True
+import plain
 import running
 
 # What the program refuses a text or a trace for.
@@ -22,18 +23,36 @@ THREADS = [f"{chr(ord('!') + number)}|w(x)|\n" for number in range(64)]
 NAMES = {length: "x" * length for length in (255, 256)}
 # What follows `T|w(x)|` in a line of 4,096 bytes.
 REST = "1" * 4_089
+LARGEST = "T1|w(x)|1\n" * 65_536
 
-# What is said of the texts behind it: a number of events, or what a refusal says.
-TABLE = [
-    (0, "", "\n \t\r\n", "|begin|", "|end()|", "T1|begin|3", f"\t T|begin|{REST[1:]} \r\n"),
-    (1, "T1|w(x)", "T1|w(x)|", "T1|w(x)|1", "T1|w(\0)|", "T1|w(f(x))|", f"\t T|w(x)|{REST} \r\n"),
-    (1, f"\nT|w({NAMES[255]})|", f"\n{NAMES[255]}|w(x)|", "T1|join(T2)|"),
-    (2, "T1|w(x)|1\r\n\r\nT1|begin(b)|2\r\nT2| r( x ) ", "T1|acq(l)|\nT2|acq(m)|", "T2|w(x)|\nT1|join(T2)|"),
-    (4, "T1|acq(l)\nT1|acq(l)\nT1|rel(l)\nT1|rel(l)", "M|fork(W)|1\nW|w(x)|2\nM|join(W)|3\nM|r(x)|4"),
-    (4, "T1|fork(T2)|\nT1|join(T2)|\nT1|join(T2)|\nT3|join(T2)|"),
-    (6, "T1|acq(l)|\nT1|acq(l)|\nT1|rel(l)|\nT1|rel(l)|\nT2|acq(l)|\nT2|rel(l)|", ONE_LOCK),
-    (64, "".join(THREADS)),
-    (65_536, "T1|w(x)|1\n" * 65_536),
+# What is printed of the texts behind it: all of it, or what tests/plain.py prints of these events.
+ACCEPTED = [
+    ([], "", "\n \t\r\n", "|begin|", "|end()|", "T1|begin|3", f"\t T|begin|{REST[1:]} \r\n"),
+    (["T1 w x"], "T1|w(x)", "T1|w(x)|", "T1|w(x)|1"),
+    (["T1 w \0"], "T1|w(\0)|"),
+    (["T1 w f(x)"], "T1|w(f(x))|"),
+    (["T w x"], f"\t T|w(x)|{REST} \r\n"),
+    ([f"T w {NAMES[255]}"], f"\nT|w({NAMES[255]})|"),
+    ([f"{NAMES[255]} w x"], f"\n{NAMES[255]}|w(x)|"),
+    (["T1 join T2"], "T1|join(T2)|"),
+    (["T1 w x", "T2 r x"], "T1|w(x)|1\r\n\r\nT1|begin(b)|2\r\nT2| r( x ) "),
+    (["T1 acq l", "T2 acq m"], "T1|acq(l)|\nT2|acq(m)|"),
+    (["T2 w x", "T1 join T2"], "T2|w(x)|\nT1|join(T2)|"),
+    (["T1 acq l", "T1 acq l", "T1 rel l", "T1 rel l"], "T1|acq(l)\nT1|acq(l)\nT1|rel(l)\nT1|rel(l)"),
+    (["M fork W", "W w x", "M join W", "M r x"], "M|fork(W)|1\nW|w(x)|2\nM|join(W)|3\nM|r(x)|4"),
+    (["T1 fork T2", "T1 join T2", "T1 join T2", "T3 join T2"], "T1|fork(T2)|\nT1|join(T2)|\nT1|join(T2)|\nT3|join(T2)|"),
+    (
+        ["T1 acq l", "T1 acq l", "T1 rel l", "T1 rel l", "T2 acq l", "T2 rel l"],
+        "T1|acq(l)|\nT1|acq(l)|\nT1|rel(l)|\nT1|rel(l)|\nT2|acq(l)|\nT2|rel(l)|",
+    ),
+    (["T1 w x", "T1 acq l", "T1 rel l", "T2 acq l", "T2 rel l", "T2 w x"], ONE_LOCK),
+    (["T1 w x", "T2 r x", "T2 w z", "T1 w z"], "T1|w(x)|1\nT2|r(x)|2\nT2|w(z)|3\nT1|w(z)|4"),
+    ([line[0] + " w x" for line in THREADS], "".join(THREADS)),
+    ("events 65536\nthreads 1\nvariables 1\nlocks 0\nthread 0 T1 65536\ncandidates 0\n", LARGEST),
+]
+
+# What the texts behind it are refused for.
+REFUSED = [
     ("line 1: 1 no bar", "T", "T1", "begin"),
     ("line 1: 2 bad parentheses", "T1|", "T1|w", "T1|w(", "T1|w(x", "T1|w x|2", "T1|w)(|1", "T1|w(x)y|"),
     ("line 1: 2 bad parentheses", "T1|begin(x|", "T1|w(a|b)|1"),
@@ -41,7 +60,7 @@ TABLE = [
     ("line 1: 4 empty name", "T1|w()|2", "T1|w( )|2", "|w(x)|2", " \t\r|w(x)|2"),
     ("line 2: 5 name too long", f"\nT|w({NAMES[256]})|", f"\n{NAMES[256]}|w(x)|"),
     ("line 1: 6 line too long", f"\t T|w(x)|{REST}1 \r\n", f"\t T|begin|{REST} \r\n", "1" * 4_097),
-    ("line 65537: 7 too many events", "T1|w(x)|1\n" * 65_537),
+    ("line 65537: 7 too many events", LARGEST + "T1|w(x)|1\n"),
     ("line 65: 8 too many names", "".join(THREADS) + "!|join(new)|\n"),
     ("line 64: 8 too many names", "".join(THREADS[:63]) + "new|join(newer)|\n"),
     ("event 0: 11 release not held", "T1|rel(l)|1"),
@@ -60,29 +79,35 @@ TABLE = [
 ]
 
 
-def judge(program, said, text):
-    """Ends where the program says something else of the text."""
+def said_of(events):
+    """What is printed of a trace of these events; a text is what is printed."""
+    if isinstance(events, str):
+        return events
+    return plain.Trace(plain.Event(*event.split(" ")) for event in events).info()
+
+
+def judge(program, text, wanted):
+    """Ends where the program ends otherwise or prints something else of the text."""
     running.write("trace", text)
     done = subprocess.run([program, "info", "trace"], capture_output=True, timeout=60, check=False)
-    first = done.stdout.partition(b"\n")[0].decode()
-    found = (done.returncode, first, done.stderr.decode())
-    wanted = (0, f"events {said}", "") if isinstance(said, int) else (1, "", f"racebench: trace {said}\n")
+    found = (done.returncode, done.stdout.decode("ascii", "replace"), done.stderr.decode("ascii", "replace"))
     if found != wanted:
         sys.exit(f"info: {found}, and to be {wanted}, of {text[:200]!r}, a text of {len(text)} bytes")
 
 
 def main():
     program = os.path.abspath(sys.argv[1])
-    rows = [(said, text) for said, *texts in TABLE for text in texts]
-    refused = [said for said, _ in rows if not isinstance(said, int)]
-    missing = NUMBERS - {int(re.search(r": (\d+) ", said)[1]) for said in refused}
-    if missing or len(refused) == len(rows):
+    rows = [(text, (0, said_of(events), "")) for events, *texts in ACCEPTED for text in texts]
+    accepted = len(rows)
+    rows += [(text, (1, "", f"racebench: trace {said}\n")) for said, *texts in REFUSED for text in texts]
+    missing = NUMBERS - {int(re.search(r": (\d+) ", said)[1]) for said, *_ in REFUSED}
+    if missing or not accepted:
         sys.exit(f"info: no text is refused for {missing}, or none is accepted")
     with tempfile.TemporaryDirectory() as folder:
         os.chdir(folder)
-        for said, text in rows:
-            judge(program, said, text)
-    print(f"info: {len(rows)} texts are judged as the formats say, {len(refused)} of them refused")
+        for text, wanted in rows:
+            judge(program, text, wanted)
+    print(f"info: {len(rows)} texts are judged as the formats say, {len(rows) - accepted} of them refused")
 
 
 main()

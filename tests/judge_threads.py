@@ -1,36 +1,42 @@
 #!/usr/bin/env python3
-"""Runs scripts of 31 clients at once, several times, and judges what `threads` printed.
+"""Runs scripts of 31 clients at once, several times, and judges what `threads` printed, by tests/legal.py.
 
-Which order the calls were made in is another at each run, so no expected output can be written down. What must hold:
-each call has one line; a client's lines that carry a number are those of its own entries of the log, in their order;
-and `replay` of the log's calls, one client after another in the log's order, gives the same lines.
+Which order the calls were made in is another at each run, so no expected output can be written down. Half of the runs are with no door
+before the lock, so that the clients change often, which is counted.
 Takes the program's path. Says what is wrong, if something is, and ends with status 1 then.
 """
 
+import collections
 import os
 import random
-import re
 import sys
 import tempfile
 
 sys.dont_write_bytecode = True
+import legal
+import plain
 import running
 
 CLIENTS = 31
-CALLS = 60
-RUNS = 6
+CALLS = 40
+# So many of each kind, and with no door more, until the clients took turns often enough, but so many at most.
+RUNS = 3
+MOST_RUNS = 30
+# How often the client has to change in the logs of the runs with no door beside the changes that there are where each client's calls are made in one go.
+LEAST_CHANGES = 60
 EVENTS = 40
 SHARED = ["left", "right", "middle"]
-LOGGED = re.compile(r"(\d+): (?:done|undone (\d+)|proposed \d+)")
+# What has to be reached.
+REACHED = ["new", "add", "back", "swap", "branch", "drop", "adopt", "undo", "propose", "blocked", "later", "mixed"]
 
 
-def trace_text():
+def trace():
     """Threads that write and read in turn under one lock, and outside it."""
-    lines = []
+    events = []
     for i in range(EVENTS // 4):
         thread = f"T{i % 4}"
-        lines += [f"{thread}|acq(l)|", f"{thread}|w(x)|", f"{thread}|rel(l)|", f"{thread}|w(y)|"]
-    return "\n".join(lines) + "\n"
+        events += [(thread, "acq", "l"), (thread, "w", "x"), (thread, "rel", "l"), (thread, "w", "y")]
+    return plain.Trace(plain.Event(*event) for event in events)
 
 
 def call(chance, own):
@@ -39,64 +45,65 @@ def call(chance, own):
     event = chance.randrange(EVENTS // 2)
     kinds = [
         f"new {name}", f"add {name} {event}", f"add {name} {event % 5}", f"add {name} {event % 5}",
-        f"back {name}", f"swap {name} 0", f"branch {name} 0 {chance.choice([own, own + '.1'] + SHARED)}",
-        f"drop {name}", "undo", "undo", "propose 3 7", f"adopt {name} 0", f"show {name}", "list", f"races {name}",
+        f"back {name}", f"swap {name} {event % 8}", f"branch {name} 0 {chance.choice([own, own + '.1'] + SHARED)}",
+        f"drop {name}", "undo", "undo", "propose 3 7", "propose 3 7 0 1 2 4 5 6",
+        f"adopt {name} 0", f"show {name}", "list", f"races {name}",
     ]
     return chance.choice(kinds)
 
 
+def swapping(name):
+    """Calls that end in a swap that no other client's call can spoil, since no other names this schedule."""
+    return [f"new {name}"] + [f"add {name} {event}" for event in range(5)] + [f"swap {name} 3"]
+
+
 def scripts():
+    """For each client the lines of its script, without its number."""
     texts = []
     for client in range(1, CLIENTS + 1):
         chance = random.Random(client)
-        texts.append([call(chance, f"own{client}") for _ in range(CALLS)])
+        texts.append([call(chance, f"own{client}") for _ in range(CALLS)] + swapping(f"swapped{client}"))
     return texts
 
 
-def judge(told, log, script, replayed):
-    """Each client's numbered lines are its entries of the log, and the replay of the log prints them."""
-    entered = [None] * len(log)
-    for client, (calls, lines) in enumerate(zip(script, told), start=1):
-        last = -1
-        for words, line in zip(calls, lines):
-            numbered = LOGGED.fullmatch(line)
-            if not numbered:
-                continue
-            number = int(numbered.group(1))
-            if number <= last or number >= len(log):
-                sys.exit(f"client {client} was told the entry {number} after {last} of {len(log)}")
-            last = number
-            in_log = f"undo {numbered.group(2)}" if words == "undo" else words
-            if log[number] != (client, in_log):
-                sys.exit(f"client {client} was told {line} for {words}, and the log has {log[number]}")
-            entered[number] = line
-    for number, line in enumerate(replayed):
-        if entered[number] != line:
-            sys.exit(f"entry {number}: told {entered[number]}, and in the log's order {line}")
+def judge_run(program, tally, room, of, names, drawn):
+    """Judges one run, and counts what was seen."""
+    printed = running.printed(program, ["threads", *room, "trace", *names]).decode("ascii")
+    try:
+        told, entries = running.parts_of(printed.splitlines(), [len(lines) for lines in drawn])
+        tally.update(legal.judge(of, drawn, told, entries))
+    except legal.Wrong as what:
+        sys.exit(f"{what}\n--- printed\n{printed}")
 
 
 def main():
     program = os.path.abspath(sys.argv[1])
-    script = scripts()
-    switches = 0
+    of = trace()
+    written = scripts()
+    drawn = [[plain.call_of(line) for line in lines] for lines in written]
+    tally = collections.Counter()
     with tempfile.TemporaryDirectory() as folder:
         os.chdir(folder)
-        running.write("trace", trace_text())
-        names = []
-        for client, calls in enumerate(script, start=1):
-            names.append(f"script{client}")
-            running.write(names[-1], "".join(f"{client} {words}\n" for words in calls))
+        running.write("trace", of.text())
+        names = [f"script{client}" for client in range(1, CLIENTS + 1)]
+        for client, (name, lines) in enumerate(zip(names, written), start=1):
+            running.write(name, "".join(f"{client} {line}\n" for line in lines))
+        runs = 0
+        while runs < RUNS or (tally["changes"] < runs * (CLIENTS - 1) + LEAST_CHANGES and runs < MOST_RUNS):
+            judge_run(program, tally, running.NO_DOOR, of, names, drawn)
+            runs += 1
+        changes = tally["changes"]
         for _ in range(RUNS):
-            lines = running.printed(program, ["threads", "trace"] + names).decode().splitlines()
-            told, log = running.parts_of(lines, [CALLS] * CLIENTS)
-            in_order = [f"{client} {'undo' if words.startswith('undo ') else words}\n" for client, words in log]
-            running.write("in_order", "".join(in_order))
-            replayed = running.printed(program, ["replay", "trace", "in_order"]).decode().splitlines()
-            if len(replayed) != len(log) or not log:
-                sys.exit(f"{len(log)} entries, and {len(replayed)} answers to their calls")
-            judge(told, log, script, replayed)
-            switches += sum(a[0] != b[0] for a, b in zip(log, log[1:]))
-    print(f"threads: {RUNS} runs of {CLIENTS} scripts are legal; the client changed {switches} times in their logs")
+            judge_run(program, tally, running.BEST_ROOM, of, names, drawn)
+    missing = [kind for kind in REACHED if not tally[kind]]
+    if missing:
+        sys.exit(f"threads: never reached: {missing}")
+    if changes < runs * (CLIENTS - 1) + LEAST_CHANGES:
+        sys.exit(f"threads: in {runs} runs with no door the client changed {changes} times only")
+    print(
+        f"threads: {runs + RUNS} runs of {CLIENTS} scripts with {tally['entries']} entries are legal; the client changed {changes} times in the logs of the "
+        f"{runs} with no door, and {tally['changes'] - changes} times in the others"
+    )
 
 
 main()

@@ -293,10 +293,10 @@ def words_of(call):
 
 
 def call_of(line):
-    """The call of such a line. In a log the line of an undo has a number more."""
+    """The call of such a line, in a script or in a log, where each undo is told by the number of what it took back."""
     word, *rest = line.split(" ")
     if word == "undo":
-        return (word,)
+        return (word, *[int(number) for number in rest])
     if word == "propose":
         first, second, *listed = [int(number) for number in rest]
         return (word, first, second, tuple(listed))
@@ -392,18 +392,25 @@ class Log:
 
     def answer(self, client, call):
         """The line that the client's call is answered by, and the log after it."""
+        told, entry = self.reply(client, call)
+        if entry is None:
+            return told, self
+        after = Log(self.trace, self.entries + (entry,))
+        if entry.kind == "undid":
+            self.ask_undone(entry.what, after)
+        return told, after
+
+    def reply(self, client, call):
+        """The line that the client's call is answered by, and the entry that it makes, or None."""
         try:
             if call[0] in ("show", "list", "races"):
-                return self.looked(call), self
+                return self.looked(call), None
             if len(self.entries) == LOG_LIMIT:
                 raise Refused("55 log full")
             told, entry = self.entered(client, call)
         except Refused as why:
-            return f"refused {why}", self
-        after = Log(self.trace, self.entries + (entry,))
-        if entry.kind == "undid":
-            self.ask_undone(entry.what, after)
-        return f"{len(self.entries)}: {told}", after
+            return f"refused {why}", None
+        return f"{len(self.entries)}: {told}", entry
 
     def looked(self, call):
         """What a call that changes nothing is answered."""
@@ -417,7 +424,8 @@ class Log:
     def entered(self, client, call):
         """What a call that is logged is answered, behind its number, and its entry."""
         if call[0] == "undo":
-            undone = self.to_undo(client)
+            undone = self.live_of_number(client, call[1]) if call[1:] else self.latest_live(client)
+            self.ask_blocked(undone)
             return f"undone {undone}", Entry(client, "undid", undone)
         if call[0] == "propose":
             first, second, listed = call[1:]
@@ -430,16 +438,29 @@ class Log:
         self.row_after(self.rows, len(self.entries), call)
         return "done", Entry(client, "did", call)
 
-    def to_undo(self, client):
-        """The number of the client's latest command that was not undone, where no later one rests on it."""
-        own = [(number, command) for number, whose, command in self.live if whose == client]
+    def latest_live(self, client):
+        """The number of the client's latest command that was not undone."""
+        own = [number for number, whose, _ in self.live if whose == client]
         if not own:
             raise Refused("51 nothing to undo")
-        last, undone = own[-1]
+        return own[-1]
+
+    def live_of_number(self, client, number):
+        """The number, where it is that of a command of the client that was not undone."""
+        if number >= len(self.entries):
+            raise Refused("57 no such entry")
+        if self.entries[number].kind != "did" or self.entries[number].client != client:
+            raise Refused("58 not own")
+        if number not in [live for live, _, _ in self.live]:
+            raise Refused("59 not live")
+        return number
+
+    def ask_blocked(self, undone):
+        """Asks whether a later command that was not undone, of any client, rests on this one."""
+        name = writes(self.entries[undone].what)
         for number, _, command in self.live:
-            if number > last and writes(undone) in touches(command):
-                raise Refused(f"52 rests on {number} {writes(undone)}")
-        return last
+            if number > undone and name in touches(command):
+                raise Refused(f"52 rests on {number} {name}")
 
     def ask_undone(self, undone, after):
         """Asks whether the undo gave the written name the row that it had, and changed no other row."""

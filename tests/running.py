@@ -1,5 +1,6 @@
 """Runs the program for the judges, in the folder that they are in, and takes what `threads` printed apart."""
 
+import os
 import subprocess
 import sys
 
@@ -20,10 +21,16 @@ def printed(program, words):
 def given(words):
     """The files that the program was given, for a look at what went wrong."""
     texts = []
-    for name in words[1:]:
+    for name in filter(os.path.exists, words[1:]):
         with open(name, encoding="ascii") as text:
             texts.append(f"\n--- {name}\n{text.read()}")
     return "".join(texts)
+
+
+# What `threads` is told beside its files: that each thread may queue for its turn at any time, so that clients change at nearly each
+# call; and nothing, as users run it, where one thread makes many calls before another comes.
+NO_DOOR = ["--room=32"]
+BEST_ROOM = []
 
 
 def parts_of(lines, lengths):
@@ -31,12 +38,12 @@ def parts_of(lines, lengths):
     at = 0
     told = []
     for client, calls in enumerate(lengths, start=1):
-        if lines[at] != f"client {client}":
-            sys.exit(f"line {at + 1} is not that of client {client}: {lines[at]}")
+        if lines[at : at + 1] != [f"client {client}"]:
+            sys.exit(f"line {at + 1} is not that of client {client}: {lines[at : at + 1]}")
         told.append(lines[at + 1 : at + 1 + calls])
         at += 1 + calls
-    if lines[at] != f"log {len(lines) - at - 1}":
-        sys.exit(f"line {at + 1} does not count the log: {lines[at]}")
+    if lines[at : at + 1] != [f"log {len(lines) - at - 1}"]:
+        sys.exit(f"line {at + 1} does not count the log: {lines[at : at + 1]}")
     log = []
     for number, line in enumerate(lines[at + 1 :]):
         entry, client, words = line.split(" ", 2)

@@ -7,17 +7,18 @@ use Rattle.rapid_text.specs.declared.refusal.TextRefusal.{TextRefusal}
 use Rattle.trace_rules.specs.Rules.{first_breach}
 use Rattle.trace_rules.specs.declared.refusal.RuleRefusal.{RuleRefusal}
 use Rattle.client_scripts.specs.Replay.{Texts, Said, IsShort, IsAccepted, IsFault, IsReplay}
-use Rattle.client_scripts.specs.Scripts.{Asked, IsScript, no_memory}
+use Rattle.script_language.specs.Scripts.{Asked, IsScript, no_memory}
 use Rattle.client_scripts.specs.Steps.{IsInput, IsRun, IsScriptRun, script_fault}
 use Rattle.client_scripts.specs.Traces.{trace_checked, trace_read, trace_of}
 use Rattle.client_scripts.specs.declared.fault.ReadCause.{ReadCause}
 use Rattle.client_scripts.specs.declared.fault.ReadCause.TheVariants.{Device, TooLong}
 use Rattle.client_scripts.specs.declared.fault.ReplayFault.{ReplayFault}
 use Rattle.client_scripts.specs.declared.fault.ReplayFault.TheVariants.{Text, Rule, Script, Read, Write, OutOfMemory}
-use Rattle.client_scripts.specs.declared.fault.ScriptCause.{ScriptCause}
-use Rattle.client_scripts.specs.declared.fault.ScriptCause.TheVariants.{BadWord, BadNumber, BadClient, BadName, LineTooLong, OutOfMemory as NoScriptMemory}
-use Rattle.client_scripts.specs.declared.fault.ScriptRefusal.{ScriptRefusal}
+use Rattle.script_language.specs.declared.refusal.ScriptCause.{ScriptCause}
+use Rattle.script_language.specs.declared.refusal.ScriptCause.TheVariants.{BadWord, BadNumber, BadClient, BadName, LineTooLong, OutOfMemory as NoScriptMemory}
+use Rattle.script_language.specs.declared.refusal.ScriptRefusal.{ScriptRefusal}
 use Rattle.client_scripts.specs.declared.fault.Tally.{Tally}
+use Rattle.client_scripts.specs.declared.fault.TheConstants.{LIMIT}
 
 -- bytes that a reader tells, where it tells them
 abbrev pub IsTold : Option (List ℕ) → List ℕ → Type 0
@@ -34,14 +35,14 @@ told-long limit (Some xs) long = (xs, refl, long)
 -- an input that was not read: which bytes it had, and why
 abbrev pub IsUnreadAt : ℕ → List ℕ → ReplayFault → Type 0
 IsUnreadAt input bytes (Read place Device) = place ≡ input
-IsUnreadAt input bytes (Read place TooLong) = (place ≡ input) × (268435456 < length bytes)
+IsUnreadAt input bytes (Read place TooLong) = (place ≡ input) × (LIMIT < length bytes)
 IsUnreadAt input bytes OutOfMemory = ⊤
 IsUnreadAt input bytes fault = ⊥
 
 pub unread-at : (input : ℕ) (rest : Option (List ℕ)) (fault : ReplayFault) → IsInput input rest (Err fault) → (bytes : List ℕ) × IsTold rest bytes × IsUnreadAt input bytes fault
 unread-at input rest (Read place Device) h = ((told rest).0, (told rest).1, h)
 unread-at input rest (Read place TooLong) h =
-    let long = told-long 268435456 rest h.1 in (long.0, long.1, (h.0, long.2))
+    let long = told-long LIMIT rest h.1 in (long.0, long.1, (h.0, long.2))
 unread-at input rest OutOfMemory h = ((told rest).0, (told rest).1, tt)
 unread-at input rest (Text refusal) h = absurd h
 unread-at input rest (Rule refusal) h = absurd h

@@ -11,12 +11,12 @@ use Rattle.inverse_log.specs.declared.entry.Entry.{Entry}
 use Rattle.inverse_log.specs.declared.refusal.Refusal.{Refusal}
 use Rattle.inverse_log.specs.declared.reply.Reply.{Reply}
 use Rattle.client_scripts.specs.Replay.{AppendsPart, answer_text, answers_behind, answers_text, script_text, tally_of}
-use Rattle.client_scripts.specs.Scripts.{Asked}
+use Rattle.script_language.specs.Scripts.{Asked}
 use Rattle.client_scripts.specs.Steps.{HandsOn, IsRun}
 use Rattle.client_scripts.specs.declared.fault.ReplayFault.{ReplayFault}
 use Rattle.client_scripts.specs.declared.fault.ReplayFault.TheVariants.{Write, OutOfMemory as NoMemory}
 use Rattle.client_scripts.specs.declared.fault.Tally.{Tally}
-use Rattle.client_scripts.proofs.FindLemmas.{option_map-some}
+use Rattle.script_language.proofs.CallerLemmas.{option_map-some}
 use Rattle.client_scripts.proofs.KnownBytesLemmas.{Appends-then}
 
 abbrev Answer : Type 0

@@ -4,8 +4,8 @@ use Rattle.rapid_text.specs.declared.refusal.TextCause.{TextCause}
 use Rattle.rapid_text.specs.declared.refusal.TextCause.TheVariants.{NoBar, BadParentheses, UnknownOperation, EmptyName, NameTooLong, LineTooLong as TraceLineTooLong, TooManyEvents, TooManyNames, OutOfMemory as NoTextMemory}
 use Rattle.trace_rules.specs.declared.refusal.RuleCause.{RuleCause}
 use Rattle.trace_rules.specs.declared.refusal.RuleCause.TheVariants.{ReleaseNotHeld, AcquireHeld, ForkTwice, ForkLate, OwnThread, AfterJoin, OutOfMemory as NoRuleMemory}
-use Rattle.client_scripts.specs.declared.fault.ScriptCause.{ScriptCause}
-use Rattle.client_scripts.specs.declared.fault.ScriptCause.TheVariants.{BadWord, BadNumber, BadClient, BadName, LineTooLong as ScriptLineTooLong, OutOfMemory as NoScriptMemory}
+use Rattle.script_language.specs.declared.refusal.ScriptCause.{ScriptCause}
+use Rattle.script_language.specs.declared.refusal.ScriptCause.TheVariants.{BadWord, BadNumber, BadClient, BadName, LineTooLong as ScriptLineTooLong, OutOfMemory as NoScriptMemory}
 use Rattle.client_scripts.specs.declared.fault.ReadCause.{ReadCause}
 use Rattle.client_scripts.specs.declared.fault.ReadCause.TheVariants.{Device, TooLong}
 use Rattle.client_scripts.specs.declared.fault.ReplayFault.{ReplayFault}

@@ -1,11 +1,7 @@
 pub mod FaultTexts
 pub mod Joint
-pub mod LineWords
-pub mod LinesLeft
 pub mod Messages
-pub mod Places
 pub mod Replay
-pub mod Scripts
 pub mod Seats
 pub mod Steps
 pub mod Traces

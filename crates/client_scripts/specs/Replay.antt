@@ -10,13 +10,14 @@ use Rattle.inverse_log.specs.declared.reply.Reply.{Reply}
 use Rattle.report.specs.Refusals.{refusal_text}
 use Rattle.report.specs.Replies.{reply_text}
 use Rattle.client_scripts.specs.Joint.{trace_part, script_part}
-use Rattle.client_scripts.specs.Scripts.{Asked, IsScript}
+use Rattle.script_language.specs.Scripts.{Asked, IsScript}
 use Rattle.client_scripts.specs.Traces.{trace_of}
 use Rattle.client_scripts.specs.declared.fault.ReadCause.{ReadCause}
 use Rattle.client_scripts.specs.declared.fault.ReadCause.TheVariants.{Device, TooLong}
 use Rattle.client_scripts.specs.declared.fault.ReplayFault.{ReplayFault}
 use Rattle.client_scripts.specs.declared.fault.ReplayFault.TheVariants.{Text, Rule, Script, Read, Write, OutOfMemory}
 use Rattle.client_scripts.specs.declared.fault.Tally.{Tally}
+use Rattle.client_scripts.specs.declared.fault.TheConstants.{LIMIT}
 
 -- the line of an answer
 abbrev pub answer_text : Recording → Result Reply Refusal → List ℕ
@@ -62,9 +63,9 @@ of_joint bytes = record { first = bytes; second = []; trace = trace_part bytes; 
 abbrev pub of_trace : List ℕ → Texts
 of_trace bytes = record { first = bytes; second = []; trace = bytes; script = [] }
 
--- an input has at most 268,435,456 bytes
+-- an input is within the limit
 abbrev pub IsShort : List ℕ → Type 0
-IsShort bytes = length bytes ≤ 268435456
+IsShort bytes = length bytes ≤ LIMIT
 
 -- The trace is accepted, and the script says these calls.
 pub record Said (t : Texts) : Type 0 where
@@ -78,7 +79,7 @@ pub record Said (t : Texts) : Type 0 where
 -- why an input is not read: any device may fail
 abbrev pub IsUnreadable : List ℕ → ReadCause → Type 0
 IsUnreadable bytes Device = ⊤
-IsUnreadable bytes TooLong = 268435456 < length bytes
+IsUnreadable bytes TooLong = LIMIT < length bytes
 
 -- the trace is accepted
 abbrev pub IsAccepted : Texts → Type 0

@@ -1,14 +1,14 @@
 -- What a script does through a seat: its calls, made one after another, and the lines of their answers. This project's own.
-use Rattle.std.specs.Prelude.{◌≡◌, ℕ, ◌+◌, ◌<◌, ◌≤◌, List, ◌++◌, length, map, take, flat_map, Result, Ok, Err}
+use Rattle.std.specs.Prelude.{◌≡◌, ℕ, ◌+◌, ◌<◌, List, [], ◌∷◌, ◌++◌, length, map, take, flat_map, Result, Ok, Err}
 use Rattle.rapid_text.specs.Recording.{Recording}
 use Rattle.inverse_log.specs.declared.call.Call.{Call}
 use Rattle.inverse_log.specs.declared.reply.Reply.{Reply}
-use Rattle.workspace_lock.specs.declared.seat.SeatRefusal.{SeatRefusal}
+use Rattle.inverse_log.specs.declared.refusal.SeatRefusal.{SeatRefusal}
 use Rattle.workspace_lock.specs.Seating.{SeatView}
 use Rattle.workspace_lock.specs.Runs.{Runs}
 use Rattle.report.specs.Replies.{reply_text}
 use Rattle.report.specs.Seats.{seat_refusal_text}
-use Rattle.client_scripts.specs.Scripts.{Asked}
+use Rattle.script_language.specs.Scripts.{Asked}
 
 -- the line of an answer through a seat
 abbrev pub seat_text : Recording → Result Reply SeatRefusal → List ℕ
@@ -29,13 +29,11 @@ pub record RunsScript (trace : Recording) (script : List Asked) (s : SeatView) (
   pub run : Runs s (calls_asked script) answers n
   pub text : new ≡ old ++ seat_texts trace answers
 
--- Memory was wanted: the first calls of the script were made, `made` of them, and the lines of the answers `told` were
--- appended: of all, or of all but the last. A line or a call of the script is missing.
+-- The memory for a line was refused: the first calls of the script were made, and the lines of all their answers but the
+-- last were appended. That one answer is untold.
 pub record StopsInScript (trace : Recording) (script : List Asked) (s : SeatView) (old : List ℕ) (n : SeatView) (new : List ℕ) : Type 0 where
-  pub made : ℕ
   pub told : List (Result Reply SeatRefusal)
-  pub untold : List (Result Reply SeatRefusal)
-  pub run : Runs s (calls_asked (take made script)) (told ++ untold) n
+  pub untold : Result Reply SeatRefusal
+  pub run : Runs s (calls_asked (take (length told + 1) script)) (told ++ untold ∷ []) n
   pub text : new ≡ old ++ seat_texts trace told
-  pub one : length untold ≤ 1
-  pub left : made < length script + length untold
+  pub made : length told < length script

@@ -10,14 +10,17 @@ use Rattle.trace_rules.specs.declared.refusal.RuleCause.{RuleCause}
 use Rattle.trace_rules.specs.declared.refusal.RuleCause.TheVariants.{OutOfMemory as NoRuleMemory}
 use Rattle.trace_rules.specs.declared.refusal.RuleRefusal.{RuleRefusal}
 use Rattle.client_scripts.specs.Replay.{AppendsPart, IsShort, script_text, tally_of}
-use Rattle.client_scripts.specs.Scripts.{Asked, IsScript}
+use Rattle.script_language.specs.Scripts.{Asked, IsScript}
 use Rattle.client_scripts.specs.declared.fault.ReadCause.TheVariants.{Device, TooLong}
+use Rattle.client_scripts.specs.declared.fault.ReadFault.{ReadFault}
+use Rattle.client_scripts.specs.declared.fault.ReadFault.TheVariants.{Device as NoDevice, TooLong as PastLimit, OutOfMemory as NoReadMemory}
 use Rattle.client_scripts.specs.declared.fault.ReplayFault.{ReplayFault}
 use Rattle.client_scripts.specs.declared.fault.ReplayFault.TheVariants.{Text, Rule, Script, Read, Write, OutOfMemory}
-use Rattle.client_scripts.specs.declared.fault.ScriptCause.{ScriptCause}
-use Rattle.client_scripts.specs.declared.fault.ScriptCause.TheVariants.{OutOfMemory as NoScriptMemory}
-use Rattle.client_scripts.specs.declared.fault.ScriptRefusal.{ScriptRefusal}
+use Rattle.script_language.specs.declared.refusal.ScriptCause.{ScriptCause}
+use Rattle.script_language.specs.declared.refusal.ScriptCause.TheVariants.{OutOfMemory as NoScriptMemory}
+use Rattle.script_language.specs.declared.refusal.ScriptRefusal.{ScriptRefusal}
 use Rattle.client_scripts.specs.declared.fault.Tally.{Tally}
+use Rattle.client_scripts.specs.declared.fault.TheConstants.{LIMIT}
 
 -- the fault for a refusal of the text, of the rules, and of the script; want of memory is a fault of its own
 abbrev pub text_fault : TextRefusal → TextCause → ReplayFault
@@ -32,11 +35,17 @@ abbrev pub script_fault : ScriptRefusal → ScriptCause → ReplayFault
 script_fault refusal NoScriptMemory = OutOfMemory
 script_fault refusal why = Script refusal
 
+-- the fault of the input of this number, which was not read
+abbrev pub read_fault : ℕ → ReadFault → ReplayFault
+read_fault input NoDevice = Read input Device
+read_fault input PastLimit = Read input TooLong
+read_fault input NoReadMemory = OutOfMemory
+
 -- an input that was read whole, or why it was not
 abbrev pub IsInput : ℕ → Option (List ℕ) → Result (Vec ℕ Global) ReplayFault → Type 0
 IsInput input rest (Ok bytes) = IsShort bytes.items × IfSome rest (λ told. bytes.items ≡ told)
 IsInput input rest (Err (Read place Device)) = place ≡ input
-IsInput input rest (Err (Read place TooLong)) = (place ≡ input) × IfSome rest (λ told. 268435456 < length told)
+IsInput input rest (Err (Read place TooLong)) = (place ≡ input) × IfSome rest (λ told. LIMIT < length told)
 IsInput input rest (Err OutOfMemory) = ⊤
 IsInput input rest (Err fault) = ⊥
 

@@ -1,41 +1,17 @@
-//! Why a replay stopped, and what it counted where it did not.
+//! Why a replay stopped, and how what stops its parts becomes that; what it counted where it did not stop.
+ghost use Rattle.std.specs.Prelude.{◌≡◌};
+ghost use Rattle.client_scripts.specs.Steps.{read_fault};
 
 use crate::fault_texts::message_of;
 use crate::source::Failed;
 use rapid_text::{OutOfMemory, TextCause, TextRefusal};
+use script_language::{ScriptCause, ScriptRefusal};
 use std::alloc::AllocError;
 use thiserror::Error;
 use trace_rules::{RuleCause, RuleRefusal, Trace};
 
 /// The most bytes of an input.
 pub const LIMIT: usize = 268_435_456;
-
-/// What is wrong with a script line. Each has the number under which it is printed.
-#[derive(Clone, Copy, PartialEq, Eq, Debug)]
-pub enum ScriptCause {
-    /// 81: there is no second word, it is no command word, or its arguments are too few or too many.
-    BadWord,
-    /// 82: an argument is no number, which is one or more decimal digits with a value of at most
-    /// 4,294,967,295.
-    BadNumber,
-    /// 83: the first word is not the number of a client that may stand there.
-    BadClient,
-    /// 84: an argument is no name, which is 1 to 64 bytes of ASCII letters, digits, `_`, `-` and `.`.
-    BadName,
-    /// 85: the line, without the blanks at both ends, is longer than 65,536 bytes.
-    LineTooLong,
-    /// 86: a growth was refused.
-    OutOfMemory,
-}
-
-/// The first script line that is refused, and its first cause.
-#[derive(Clone, Copy, PartialEq, Eq, Debug)]
-pub struct ScriptRefusal {
-    /// The line, counted from 1 over all lines of the script; 0 where memory was refused.
-    pub line: u64,
-    /// What is wrong with it.
-    pub why: ScriptCause,
-}
 
 /// Why an input was not read.
 #[derive(Clone, Copy, PartialEq, Eq, Debug)]
@@ -67,6 +43,25 @@ pub enum ReplayFault {
     Write,
     /// 96: a growth was refused.
     OutOfMemory,
+}
+
+impl ReplayFault {
+    /// The fault of the input of this number, which was not read; want of memory is a fault of its own.
+    pub(crate) fn of_input(input: u32, why: ReadFault) -> ReplayFault
+        ensures { result ≡ read_fault input why }
+    {
+        match why {
+            ReadFault::Device => ReplayFault::Read {
+                input,
+                why: ReadCause::Device,
+            },
+            ReadFault::TooLong => ReplayFault::Read {
+                input,
+                why: ReadCause::TooLong,
+            },
+            ReadFault::OutOfMemory => ReplayFault::OutOfMemory,
+        }
+    }
 }
 
 impl From<OutOfMemory> for ReplayFault {

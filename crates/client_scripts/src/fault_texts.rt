@@ -3,9 +3,10 @@ ghost use Rattle.std.specs.Prelude.{◌≡◌, ◌++◌, IfOk, OnOk, OnErr};
 ghost use Rattle.client_scripts.specs.FaultTexts.{fault_words, located_words, text_cause_words, rule_cause_words, script_cause_words};
 ghost use Rattle.client_scripts.specs.Messages.{message_bytes, words_in};
 
-use crate::fault::{ReadCause, ReplayFault, ScriptCause};
+use crate::fault::{ReadCause, ReplayFault};
 use rapid_text::{OutOfMemory, TextCause};
 use report::{Piece, append_pieces};
+use script_language::ScriptCause;
 use std::fmt;
 use trace_rules::RuleCause;
 

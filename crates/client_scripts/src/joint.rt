@@ -2,8 +2,8 @@
 ghost use Rattle.std.specs.Prelude.{◌≡◌};
 ghost use Rattle.client_scripts.specs.Joint.{is_divider, trace_part, script_part};
 
-use crate::lines::Lines;
 use rapid_text::trim;
+use script_language::Lines;
 
 /// Whether the line is `---` with blanks round it.
 fn is_a_divider(line: &[u8]) -> bool

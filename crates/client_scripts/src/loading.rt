@@ -6,7 +6,7 @@ ghost use Rattle.client_scripts.specs.Traces.{trace_checked, trace_of};
 ghost use Rattle.client_scripts.specs.declared.fault.ReadCause.TheVariants.{Device};
 ghost use Rattle.client_scripts.specs.declared.fault.ReplayFault.TheVariants.{Read, OutOfMemory};
 
-use crate::fault::{ReadCause, ReadFault, ReplayFault};
+use crate::fault::ReplayFault;
 use crate::source::{Source, read_all};
 use event_index::Indexed;
 use rapid_text::{RawTrace, parse};
@@ -26,15 +26,7 @@ pub fn read_input<S: Source>(
 {
     match read_all(alloc, source) {
         Ok(bytes) => Ok(bytes),
-        Err(ReadFault::Device) => Err(ReplayFault::Read {
-            input,
-            why: ReadCause::Device,
-        }),
-        Err(ReadFault::TooLong) => Err(ReplayFault::Read {
-            input,
-            why: ReadCause::TooLong,
-        }),
-        Err(ReadFault::OutOfMemory) => Err(ReplayFault::OutOfMemory),
+        Err(why) => Err(ReplayFault::of_input(input, why)),
     }
 }
 

@@ -11,12 +11,12 @@ ghost use Rattle.client_scripts.specs.declared.fault.ReplayFault.TheVariants.{Wr
 use crate::fault::{ReplayFault, Tally};
 use crate::joint::parts_of;
 use crate::loading::{load, read_input};
-use crate::script::{Script, read_script};
 use crate::sink::{Sink, write_all};
 use crate::source::Source;
 use event_index::Indexed;
 use inverse_log::{Bench, Call, Refusal};
 use rapid_text::{OutOfMemory, TextKeyed};
+use script_language::{Script, read_script};
 use std::alloc::Global;
 use std::sync::Arc;
 
@@ -97,8 +97,8 @@ fn run<K: Sink>(
     let mut kept = Vec::new(alloc);
     let mut accepted = 0;
     for at in 0..script.len() {
-        let (client, call) = script.asked(at)?;
-        let is_reply = make_call(bench, client, &call, &mut kept)?;
+        let call = script.call(at);
+        let is_reply = make_call(bench, script.client(at), call.get(), &mut kept)?;
         accepted += u64::from(is_reply);
         write_if_full(writer, &mut kept)?;
     }

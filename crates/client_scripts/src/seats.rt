@@ -2,10 +2,10 @@
 ghost use Rattle.std.specs.Prelude.{◌≡◌, ◌++◌, OnOk, OnErr};
 ghost use Rattle.client_scripts.specs.Seats.{RunsScript, StopsInScript, seat_text};
 
-use crate::script::Script;
 use event_index::Indexed;
 use inverse_log::Reply;
 use rapid_text::OutOfMemory;
+use script_language::Script;
 use std::sync::Wait;
 use workspace_lock::{Seat, SeatRefusal};
 
@@ -25,8 +25,8 @@ fn append_answer(
 }
 
 /// Makes the calls of a script through the seat, whoever the script names as their client, and appends the line of each
-/// answer. Each call waits for its turn. Where memory is refused to a line, or to the making of a call, it stops there: the
-/// lines of all earlier calls stand in `out`.
+/// answer. Each call waits for its turn. Where memory is refused to a line, it stops behind that call: the lines of all earlier
+/// calls stand in `out`, and this one is untold. A call for which there was no memory has a line of its own, 56, and the others go on.
 pub fn run_seat<R: Wait>(
     seat: &mut Seat,
     rt: &R,
@@ -39,8 +39,8 @@ pub fn run_seat<R: Wait>(
     ensures seat { (seat.new.site ≡ seat.old.site) × (seat.new.number ≡ seat.old.number) }
 {
     for at in 0..script.len() {
-        let call = script.call(at)?;
-        let answer = seat.run(rt, &call);
+        let call = script.call(at);
+        let answer = seat.run(rt, call.get());
         append_answer(indexed, &answer, out)?;
     }
     Ok(())

@@ -172,36 +172,43 @@ fn heard_of(alloc: Global, script: &[u8], lines: &[u8]) -> Result<Heard, OutOfMe
     Ok(heard)
 }
 
-/// Whether the lines are those of a replay of the calls that were made, as many as the turns or, where the last line is
-/// missing, one fewer.
-fn is_told_so(alloc: Global, lines: &[u8], turns: u32, is_whole: bool) -> Option<bool> {
+/// Whether each of the script's calls has its line, and the lines of those that were made are those of a replay of these calls.
+fn is_told_so(alloc: Global, lines: &[u8]) -> Option<bool> {
     let heard = heard_of(alloc, SCRIPT, lines).ok()?;
     let written = replayed(alloc, heard.calls.as_slice())?;
-    let missing = turns.checked_sub(heard.count)?;
-    let are_all = missing == 0 && turns == 11;
-    let is_counted = if is_whole { are_all } else { missing <= 1 };
-    Some(is_counted && written.as_slice() == heard.lines.as_slice())
+    Some(heard.count == 11 && written.as_slice() == heard.lines.as_slice())
 }
 
 /// Whether what the script was told is right, asked once more where there was no memory for the question.
-fn is_told_so_at_last(alloc: Global, lines: &[u8], turns: u32, is_whole: bool) -> bool {
-    match is_told_so(alloc, lines, turns, is_whole) {
+fn is_told_so_at_last(alloc: Global, lines: &[u8]) -> bool {
+    match is_told_so(alloc, lines) {
         Some(is_right) => is_right,
-        None => is_told_so(alloc, lines, turns, is_whole) == Some(true),
+        None => is_told_so(alloc, lines) == Some(true),
     }
 }
 
-/// Whether the script is told what became of its calls, up to the last that was made.
-fn is_told_or_stopped<R: Wait>(
+/// A vector with room for all lines of the script, whatever they are.
+fn roomy_at_last(alloc: Global) -> Option<Vec<u8>> {
+    match Vec::with_capacity(alloc, 4096) {
+        Ok(out) => Some(out),
+        Err(_) => Vec::with_capacity(alloc, 4096).ok(),
+    }
+}
+
+/// Whether a script whose lines have room is told what became of each of its calls, also of one for which there was no memory.
+fn is_each_told<R: Wait>(
     rt: &R,
     alloc: Global,
     seat: &mut Seat,
     indexed: &Indexed,
     script: &Script,
 ) -> bool {
-    let mut out = Vec::new(alloc);
-    let is_whole = run_seat(seat, rt, indexed, script, &mut out).is_ok();
-    is_told_so_at_last(alloc, out.as_slice(), seat.turns(), is_whole)
+    let Some(mut out) = roomy_at_last(alloc) else {
+        return false;
+    };
+    run_seat(seat, rt, indexed, script, &mut out).is_ok()
+        && seat.turns() == 11
+        && is_told_so_at_last(alloc, out.as_slice())
 }
 
 /// Whether the seat is served.
@@ -232,7 +239,7 @@ fn script_at_last(alloc: Global, text: &[u8]) -> Option<Script> {
 
 /// Each of its allocations can be refused in turn, one in a run: what wanted it is done again.
 #[test]
-fn refused_memory_is_told_or_stops_a_script(rt: HostRuntime) {
+fn refused_memory_is_told_to_a_script(rt: HostRuntime) {
     let alloc = rt.alloc();
     let Some((indexed, mut seats)) = seated_at_last(alloc) else {
         panic!(rt; "not opened")
@@ -243,6 +250,6 @@ fn refused_memory_is_told_or_stops_a_script(rt: HostRuntime) {
     let Some(script) = script_at_last(alloc, SCRIPT) else {
         panic!(rt; "no script")
     };
-    assert!(rt; is_told_or_stopped(&rt, alloc, &mut seat, &indexed, &script));
+    assert!(rt; is_each_told(&rt, alloc, &mut seat, &indexed, &script));
     assert!(rt; is_served(&rt, alloc, &mut seat, &indexed));
 }

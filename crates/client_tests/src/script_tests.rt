@@ -3,12 +3,13 @@
 //! `fault_text` appends.
 use crate::fakes::{AMPLE, Broken, Full, InterruptedReader, InterruptedWriter, with_room};
 use client_scripts::{
-    FromRead, FromWrite, ReadCause, ReplayFault, ScriptCause, ScriptRefusal, Tally, Unopened,
+    FromRead, FromWrite, ReadCause, ReplayFault, ScriptCall, ScriptCause, ScriptRefusal, Tally,
     fault_text, read_all, read_script, replay, replay_joint, write_all,
 };
 use inverse_log::Call;
 use moves::Command;
 use rapid_text::{TextCause, TextRefusal};
+use script_language::Lines;
 use std::alloc::Global;
 use std::test::Fail;
 use trace_rules::{RuleCause, RuleRefusal};
@@ -98,7 +99,13 @@ fn two_inputs(rt: HostRuntime) {
 fn a_script_that_could_not_be_opened(rt: HostRuntime) {
     let mut writer = with_room(rt.alloc(), AMPLE);
     let mut trace = FromRead::new(TRACE);
-    let outcome = replay(rt.alloc(), &mut trace, &mut Unopened::new(), &mut writer);
+    let mut script = Broken {
+        left: b"",
+        reads: 0,
+        fails_at: 1,
+        failed: false,
+    };
+    let outcome = replay(rt.alloc(), &mut trace, &mut script, &mut writer);
     assert!(rt; outcome == Err(unread(2)));
     assert!(rt; writer.taken.is_empty());
 }
@@ -117,7 +124,7 @@ fn each_is(alloc: Global, lines: &[u8], why: Option<ScriptCause>) -> bool {
 #[test]
 fn lines_that_are_read(rt: HostRuntime) {
     let lines =
-        b"1 new A\n  1\tnew  A\r\n\n01 add A 4294967295\n32 list\n1 undo\n1 races a_B-9.z\n1 swap A 0\n1 branch A 1 B\n1 drop A\n1 adopt A 0\n1 back A\n1 show A\n1 propose 0 1\n1 propose 0 1 2 3";
+        b"1 new A\n  1\tnew  A\r\n\n01 add A 4294967295\n32 list\n1 undo\n1 undo 007\n1 races a_B-9.z\n1 swap A 0\n1 branch A 1 B\n1 drop A\n1 adopt A 0\n1 back A\n1 show A\n1 propose 0 1\n1 propose 0 1 2 3";
     assert!(rt; each_is(rt.alloc(), lines, None));
 }
 
@@ -127,12 +134,12 @@ fn lines_that_are_refused(rt: HostRuntime) {
     let clients = b"0 list\n33 list\n33\nx list\n4294967297 list\n33 new a/b";
     assert!(rt; each_is(alloc, clients, Some(ScriptCause::BadClient)));
     let words =
-        b"1\n1 list A\n1 undo 1\n1 New A\n1 new\n1 new A B\n1 add A\n1 add A 1 2\n1 branch A 1\n1 propose 0\n1 add a/b";
+        b"1\n1 list A\n1 undo 1 2\n1 undo x y\n1 New A\n1 new\n1 new A B\n1 add A\n1 add A 1 2\n1 branch A 1\n1 propose 0\n1 add a/b";
     assert!(rt; each_is(alloc, words, Some(ScriptCause::BadWord)));
     let names = b"1 new a/b\n1 add a/b x\n1 branch A 1 b/";
     assert!(rt; each_is(alloc, names, Some(ScriptCause::BadName)));
     let numbers =
-        b"1 add A x\n1 add A -1\n1 add A +1\n1 add A 4294967296\n1 branch A x b/\n1 propose 0 1 x";
+        b"1 undo x\n1 undo 4294967296\n1 add A x\n1 add A -1\n1 add A +1\n1 add A 4294967296\n1 branch A x b/\n1 propose 0 1 x";
     assert!(rt; each_is(alloc, numbers, Some(ScriptCause::BadNumber)));
 }
 
@@ -142,15 +149,13 @@ fn adds(alloc: Global, line: &[u8], event: u32) -> Option<bool> {
     if script.len() == 0 {
         return None;
     }
-    match script.call(0) {
-        Ok(
-            Call::Do(
-                Command::Add {
-                    name: _,
-                    event: asked,
-                },
-            ),
-        ) => Some(asked == event),
+    match script.call(0).get() {
+        Call::Do(
+            Command::Add {
+                name: _,
+                event: asked,
+            },
+        ) => Some(*asked == event),
         _ => None,
     }
 }
@@ -162,6 +167,18 @@ fn numbers_at_the_limits(rt: HostRuntime) {
     assert!(rt; adds(alloc, b"1 add A 4294967295", 4_294_967_295) == Some(true));
     assert!(rt; adds(alloc, b"1 add A 4294967296", 0).is_none());
     assert!(rt; adds(alloc, b"1 add A 18446744073709551617", 1).is_none());
+}
+
+// Whether the call proposes these events for this pair.
+fn proposes(call: &ScriptCall<'_>, a: u32, b: u32, list: &[u32]) -> bool {
+    match call.get() {
+        Call::Propose {
+            first,
+            second,
+            events,
+        } => *first == a && *second == b && events.items() == list,
+        _ => false,
+    }
 }
 
 #[test]
@@ -176,9 +193,21 @@ fn look_ups_of_a_script(rt: HostRuntime) {
     }
     assert!(rt; script.line(1) == 3 && script.client(1) == 3);
     assert!(rt; script.line(2) == 4 && script.client(2) == 7);
-    assert!(rt; script.call(2).is_ok());
+    assert!(rt; matches!(script.call(1).get(), Call::Show(_)));
+    assert!(rt; proposes(&script.call(2), 4, 5, &[6, 7]));
     assert!(rt; script.stranger(3) == Some(4));
     assert!(rt; script.stranger(7) == Some(1));
+}
+
+#[test]
+fn lines_of_a_text(rt: HostRuntime) {
+    let mut lines = Lines::of(b"a\n\nb\nc");
+    assert!(rt; lines.next() == Some(b"a".as_slice()));
+    assert!(rt; lines.next() == Some(b"".as_slice()));
+    assert!(rt; lines.text() == b"b\nc".as_slice());
+    assert!(rt; lines.next() == Some(b"b".as_slice()));
+    assert!(rt; lines.next() == Some(b"c".as_slice()));
+    assert!(rt; lines.next().is_none() && lines.text().is_empty());
 }
 
 #[test]

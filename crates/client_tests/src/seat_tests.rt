@@ -8,7 +8,7 @@ use moves::{Command, Name};
 use std::alloc::Global;
 use std::sync::Wait;
 use std::test::Fail;
-use workspace_lock::{CloseRefusal, OpenRefusal, Seat, SeatRefusal, Seats, open};
+use workspace_lock::{CloseRefusal, OpenRefusal, Seat, SeatRefusal, Seats, open, open_with_room};
 
 fn opened(alloc: Global, bench: Bench, clients: u32) -> Option<Seats> {
     match open(alloc, bench, clients) {
@@ -21,6 +21,17 @@ fn opened(alloc: Global, bench: Bench, clients: u32) -> Option<Seats> {
 pub(crate) fn seats_of(alloc: Global, clients: u32) -> Option<Seats> {
     match bench_of(alloc, ONE_LOCK) {
         Some(bench) => opened(alloc, bench, clients),
+        None => None,
+    }
+}
+
+// The same, behind a door with so much room.
+pub(crate) fn seats_with_room(alloc: Global, clients: u32, room: u32) -> Option<Seats> {
+    match bench_of(alloc, ONE_LOCK) {
+        Some(bench) => match open_with_room(alloc, bench, clients, room) {
+            Ok(seats) => Some(seats),
+            Err(_) => None,
+        },
         None => None,
     }
 }

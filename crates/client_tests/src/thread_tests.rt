@@ -1,14 +1,17 @@
-//! What no clause says of seats in two threads: that both are served, that `front` is answered while another seat has the
-//! turn, and that what one thread was told before it ended is there for the next.
+//! What no clause says of seats in two threads: that both are served; that `front` is answered while another seat has the
+//! turn, and no call is; and that what one thread did before it ended is there for the next, so that neither `front` nor a
+//! look is answered from a copy that the seat keeps.
 ghost use Rattle.std.specs.Prelude.{◌≡◌};
 
-use crate::seat_tests::{Own, is_done, seats_of, shows_its_event};
+use crate::seat_tests::{Own, is_done, seats_of, seats_with_room, shows_its_event};
 use inverse_log::{Bench, Call, Entry, Reply};
 use moves::{Command, Name};
 use std::sync::Wait;
-use std::sync::atomic::{AtomicBool, Ordering};
+use std::sync::atomic::{AtomicU64, Ordering};
 use std::test::Fail;
 use std::thread;
+use std::thread::Threads;
+use std::time::Duration;
 use workspace_lock::{Gate, Seat};
 
 // Whether the command is the one of this number among those that `Own::call_in_turn` gives.
@@ -110,93 +113,122 @@ fn each_of_two_threads_has_its_thousand_calls_in_order(rt: HostRuntime) -> Resul
     Ok(())
 }
 
-// A gate that says that its turn is held, and then waits until it is told that the other thread was answered, for at
-// most 10,000,000 looks.
+// What the two threads of a gated call tell each other: each word is 0 until it is so.
+#[derive(Drop)]
+struct Signals {
+    is_held: AtomicU64,
+    was_front_told: AtomicU64,
+    has_run_returned: AtomicU64,
+}
+
+impl Signals {
+    fn new() -> Signals {
+        Signals {
+            is_held: AtomicU64::new(0),
+            was_front_told: AtomicU64::new(0),
+            has_run_returned: AtomicU64::new(0),
+        }
+    }
+}
+
+fn set(word: &AtomicU64) {
+    word.store(1, Ordering::SeqCst);
+    word.wake_all();
+}
+
+// Whether the word is set within some twenty milliseconds for each look.
+fn is_set_soon<R: Wait>(rt: &R, word: &AtomicU64, looks: u32) -> bool {
+    for _ in 0..looks {
+        if word.load(Ordering::SeqCst) == 1 {
+            return true;
+        }
+        word.park_timeout(rt, 0, Duration::from_millis(20));
+    }
+    word.load(Ordering::SeqCst) == 1
+}
+
+// A gate that holds its turn at step 1 until the other thread was told the front, and at step 2 until its call has returned,
+// which it does not. It gives up after some ten seconds at step 1, and a fifth of a second at step 2.
 #[derive(Drop)]
 struct HoldsTurn<'a> {
-    is_held: &'a AtomicBool,
-    was_answered: &'a AtomicBool,
-    was_told: bool,
-    last_step: u32,
+    signals: &'a Signals,
+    was_front_told: bool,
+    has_run_returned: bool,
 }
 
 impl<'a> Gate for HoldsTurn<'a> {
-    fn pass<R: Wait>(&mut self, _rt: &R, step: u32) {
-        self.last_step = step;
+    fn pass<R: Wait>(&mut self, rt: &R, step: u32) {
         if step == 1 {
-            self.is_held.store(true, Ordering::SeqCst);
-            self.was_told = is_set_soon(self.was_answered);
+            set(&self.signals.is_held);
+            self.was_front_told = is_set_soon(rt, &self.signals.was_front_told, 500);
+        } else {
+            self.has_run_returned = is_set_soon(rt, &self.signals.has_run_returned, 10);
         }
     }
 }
 
-// Whether the flag is set within 10,000,000 looks.
-fn is_set_soon(flag: &AtomicBool) -> bool {
-    for _ in 0..10_000_000u32 {
-        if flag.load(Ordering::SeqCst) {
-            return true;
-        }
-        thread::yield_now();
-    }
-    false
-}
-
-// One call through the gate; whether it was accepted, and the gate was told meanwhile.
+// One call through the gate; whether it was accepted, and what the gate saw.
 fn gated_call<R: Wait>(
     rt: &R,
     mut seat: Seat,
     call: &Call,
-    is_held: &AtomicBool,
-    was_answered: &AtomicBool,
-) -> (Seat, bool)
+    signals: &Signals,
+) -> (Seat, bool, bool, bool)
     ensures { result.0.site ≡ seat.site }
 {
     let mut gate = HoldsTurn {
-        is_held,
-        was_answered,
-        was_told: false,
-        last_step: 0,
+        signals,
+        was_front_told: false,
+        has_run_returned: false,
     };
     let done = seat.run_gated(rt, call, &mut gate).is_ok();
-    (seat, done && gate.was_told && gate.last_step == 2)
+    (seat, done, gate.was_front_told, gate.has_run_returned)
 }
 
-// What `front` answers while the other seat's turn is held.
-fn front_meanwhile(
+// What `front` answers while the other seat's turn is held, and how many names there are in the listing that is asked for then.
+fn calls_meanwhile<R: Wait>(
+    rt: &R,
     mut seat: Seat,
-    is_held: &AtomicBool,
-    was_answered: &AtomicBool,
-) -> (Seat, Option<u64>)
-    ensures { result.0.site ≡ seat.site }
-{
-    if !is_set_soon(is_held) {
-        return (seat, None);
+    signals: &Signals,
+) -> (Option<u64>, Option<usize>) {
+    if !is_set_soon(rt, &signals.is_held, 500) {
+        return (None, None);
     }
     let front = seat.front();
-    was_answered.store(true, Ordering::SeqCst);
-    (seat, Some(front))
+    set(&signals.was_front_told);
+    let listed = seat.run(rt, &Call::List);
+    set(&signals.has_run_returned);
+    match listed {
+        Ok(Reply::Listing(names)) => (Some(front), Some(names.items().len())),
+        _ => (Some(front), None),
+    }
 }
 
+// The first seat makes its call through the gate while the second one asks, at a door of this room. With room for one the
+// second seat waits at the door, and with room for all with a ticket.
 #[test]
-fn front_is_answered_while_another_holds_the_turn(rt: HostRuntime) -> Result<(), Fail> {
-    let (Ok(name), Some(mut seats)) = (Name::new(b"A"), seats_of(rt.alloc(), 2)) else {
-        panic!(rt; "not opened")
-    };
-    let (Some(one), Some(two)) = (seats.take(), seats.take()) else {
-        panic!(rt; "no seat")
-    };
-    let call = Call::Do(Command::Fresh { name });
-    let is_held = AtomicBool::new(false);
-    let was_answered = AtomicBool::new(false);
-    let ((one, held), (mut two, front)) = thread::join(
-        &rt,
-        || gated_call(&rt, one, &call, &is_held, &was_answered),
-        || front_meanwhile(two, &is_held, &was_answered),
-    );
-    assert!(rt; held);
-    assert_eq!(rt; front, Some(0));
-    assert_eq!(rt; two.front(), 1);
-    assert_eq!(rt; one.turns(), 1);
+fn front_is_answered_and_no_call_while_another_holds_the_turn(rt: HostRuntime) -> Result<(), Fail> {
+    for room in [1, 32u32] {
+        let (Ok(name), Some(mut seats)) = (Name::new(b"A"), seats_with_room(rt.alloc(), 2, room))
+        else {
+            panic!(rt; "not opened")
+        };
+        let (Some(one), Some(two)) = (seats.take(), seats.take()) else {
+            panic!(rt; "no seat")
+        };
+        let call = Call::Do(Command::Fresh { name });
+        let signals = Signals::new();
+        let ((mut one, done, was_front_told, has_run_returned), (front, listed)) = thread::join(
+            &rt,
+            || gated_call(&rt, one, &call, &signals),
+            || calls_meanwhile(&rt, two, &signals),
+        );
+        assert!(rt; done && was_front_told && !has_run_returned);
+        assert_eq!(rt; front, Some(0));
+        assert_eq!(rt; listed, Some(1));
+        assert_eq!(rt; one.front(), 1);
+        assert_eq!(rt; one.turns(), 1);
+    }
     Ok(())
 }
 
@@ -208,21 +240,47 @@ fn one_call<R: Wait>(rt: &R, mut seat: Seat, call: &Call) -> (Seat, bool)
     (seat, done)
 }
 
+// The first seat makes a call in a thread that has ended.
+fn after_a_joined_call<R: Threads + Wait + Sync>(rt: &R, one: Seat, name: Name) -> bool {
+    let call = Call::Do(Command::Fresh { name });
+    let ((_, done), _) = thread::join(rt, || one_call(rt, one, &call), || 0u32);
+    done
+}
+
+// How many names the seat is listed.
+fn listed<R: Wait>(rt: &R, seat: &mut Seat) -> Option<usize> {
+    match seat.run(rt, &Call::List) {
+        Ok(Reply::Listing(names)) => Some(names.items().len()),
+        _ => None,
+    }
+}
+
+// The length of what the seat has seen already is an old one.
 #[test]
-fn what_a_joined_thread_did_is_there(rt: HostRuntime) -> Result<(), Fail> {
+fn front_from_a_copy(rt: HostRuntime) -> Result<(), Fail> {
     let (Ok(name), Some(mut seats)) = (Name::new(b"A"), seats_of(rt.alloc(), 2)) else {
         panic!(rt; "not opened")
     };
     let (Some(one), Some(mut two)) = (seats.take(), seats.take()) else {
         panic!(rt; "no seat")
     };
-    let call = Call::Do(Command::Fresh { name });
-    let ((_, done), _) = thread::join(&rt, || one_call(&rt, one, &call), || 0u32);
-    assert!(rt; done);
+    assert_eq!(rt; two.front(), 0);
+    assert!(rt; after_a_joined_call(&rt, one, name));
     assert_eq!(rt; two.front(), 1);
-    let Ok(Reply::Listing(names)) = two.run(&rt, &Call::List) else {
-        panic!(rt; "no listing")
+    Ok(())
+}
+
+// The answer to a look that the seat made before is an old one.
+#[test]
+fn looks_from_a_copy(rt: HostRuntime) -> Result<(), Fail> {
+    let (Ok(name), Some(mut seats)) = (Name::new(b"A"), seats_of(rt.alloc(), 2)) else {
+        panic!(rt; "not opened")
     };
-    assert!(rt; names.items() == [name].as_slice());
+    let (Some(one), Some(mut two)) = (seats.take(), seats.take()) else {
+        panic!(rt; "no seat")
+    };
+    assert_eq!(rt; listed(&rt, &mut two), Some(0));
+    assert!(rt; after_a_joined_call(&rt, one, name));
+    assert_eq!(rt; listed(&rt, &mut two), Some(1));
     Ok(())
 }

@@ -19,6 +19,7 @@ enum Ask {
     Drop(u8),
     Adopt(u8, u32),
     Undo,
+    UndoAt(u64),
     Propose(u32, u32, &'static [u32]),
     Show(u8),
     List,
@@ -84,6 +85,7 @@ fn command_of(ask: Ask) -> Option<Command> {
 fn call_of(alloc: Global, ask: Ask) -> Option<Call> {
     match ask {
         Ask::Undo => Some(Call::Undo),
+        Ask::UndoAt(entry) => Some(Call::UndoAt { entry }),
         Ask::Propose(first, second, events) => Some(Call::Propose {
             first,
             second,
@@ -123,6 +125,9 @@ fn number_of(refusal: &Refusal) -> u32 {
         Refusal::NotShown => 54,
         Refusal::LogFull => 55,
         Refusal::OutOfMemory => 56,
+        Refusal::NoSuchEntry => 57,
+        Refusal::NotOwn => 58,
+        Refusal::NotLive => 59,
     }
 }
 
@@ -251,6 +256,27 @@ fn memory_undo_rests_on_a_branch(rt: HostRuntime) -> Result<(), Fail> {
 }
 
 #[test]
+fn memory_undo_by_number(rt: HostRuntime) -> Result<(), Fail> {
+    let rows = [
+        (1, Ask::New(b'A'), Told::Done(0)),
+        (1, Ask::New(b'B'), Told::Done(1)),
+        (1, Ask::Add(b'A', 0), Told::Done(2)),
+        (1, Ask::UndoAt(1), Told::Undone(3, 1)),
+        (1, Ask::List, Told::Names(b"A")),
+        (1, Ask::UndoAt(0), Told::RestsOn(2, b'A')),
+        (1, Ask::UndoAt(1), Told::Refused(59)),
+        (1, Ask::UndoAt(3), Told::Refused(58)),
+        (2, Ask::UndoAt(2), Told::Refused(58)),
+        (1, Ask::UndoAt(4), Told::Refused(57)),
+        (1, Ask::UndoAt(2), Told::Undone(4, 2)),
+        (1, Ask::Undo, Told::Undone(5, 0)),
+        (1, Ask::List, Told::Names(b"")),
+    ];
+    assert_eq!(rt; wrong_row(rt.alloc(), &rows), None);
+    Ok(())
+}
+
+#[test]
 fn memory_a_drop_taken_back_keeps_its_place(rt: HostRuntime) -> Result<(), Fail> {
     let rows = [
         (1, Ask::New(b'A'), Told::Done(0)),
@@ -316,7 +342,7 @@ fn wrong_count(
 fn is_row(workspace: &Workspace, at: usize, byte: u8, born: u64, events: &[u32]) -> bool {
     if at < workspace.len() {
         let (name, birth, schedule) = workspace.row(at);
-        name.bytes() == [byte].as_slice() && birth == born && schedule.events() == events
+        name.bytes() == [byte].as_slice() && birth.entry() == born && schedule.events() == events
     } else {
         false
     }
@@ -373,6 +399,7 @@ fn fill(bench: &mut Bench, fresh: &Call, rounds: u32) -> bool {
 fn is_full(bench: &mut Bench, fresh: &Call) -> bool {
     is_answered(bench, 1, fresh, Told::Refused(55))
         && is_answered(bench, 1, &Call::Undo, Told::Refused(55))
+        && is_answered(bench, 1, &Call::UndoAt { entry: 0 }, Told::Refused(55))
         && is_answered(bench, 1, &Call::List, Told::Names(b""))
 }
 

@@ -1,13 +1,13 @@
 -- Numbers put at the end of lists and taken out of them.
-use Rattle.std.proofs.Common.{◌≡◌, ◌≢◌, ◌++◌, All, ℕ, ◌<◌, ◌≤◌, Bool, true, false, eqb, cond, List, [], ◌∷◌, refl, sym, ap, subst, ◌∙◌, arith, inl, inr}
+use Rattle.std.proofs.Common.{◌≡◌, ◌≢◌, ◌++◌, ◌||◌, All, ℕ, ◌<◌, ◌≤◌, Bool, true, false, eqb, cond, List, [], ◌∷◌, refl, sym, ap, subst, ◌∙◌, arith, inl, inr}
 use Rattle.std.proofs.lemmas.Bool.{eq-eqb}
 use Rattle.std.proofs.lemmas.Bool.Decides.{eqb_tells}
 use Rattle.std.proofs.lemmas.List.{append-nil}
 use Rattle.std.proofs.lemmas.List.Elements.{All-head, All-tail, All-weaker, All-push}
 use Rattle.std.proofs.lemmas.Map.Views.{All-remove_key}
 use Rattle.moves.specs.declared.command.Command.{Command}
-use Rattle.moves.specs.Commands.{touches}
-use Rattle.dependence.specs.Lists.{Lists, without, under, Pushed, Removed, Same, AllBelow}
+use Rattle.moves.specs.Commands.{touches, touches_any}
+use Rattle.dependence.specs.Lists.{Lists, without, under, Pushed, PushedAll, Removed, RemovedAll, Same, AllBelow}
 
 -- a number that is not there
 pub without_other : (k : ℕ) (xs : List ℕ) → All (λ j. j ≢ k) xs → without k xs ≡ xs
@@ -43,6 +43,9 @@ below_put false k m t low up = All-weaker (λ j. j < k) (λ j. j < m) (λ j h. o
 pub below_pushed : (k m : ℕ) (d : Command) (T U : Lists) → AllBelow k T → k < m → Pushed k d T U → AllBelow m U
 below_pushed k m d T U low up pushed x = subst (All (λ j. j < m)) (sym (pushed x)) (below_put (touches d x) k m (under T x) (low x) up)
 
+pub below_pushed_all : (k m : ℕ) (D : List Command) (T U : Lists) → AllBelow k T → k < m → PushedAll k D T U → AllBelow m U
+below_pushed_all k m D T U low up pushed x = subst (All (λ j. j < m)) (sym (pushed x)) (below_put (touches_any D x) k m (under T x) (low x) up)
+
 pub below_more : (k m : ℕ) (T : Lists) → AllBelow k T → k ≤ m → AllBelow m T
 below_more k m T low up x = All-weaker (λ j. j < k) (λ j. j < m) (λ j h. omega arith) (under T x) (low x)
 
@@ -55,3 +58,14 @@ below_taken false k m t low = low
 
 pub below_removed : (k m : ℕ) (d : Command) (T U : Lists) → AllBelow m T → Removed k d T U → AllBelow m U
 below_removed k m d T U low removed x = subst (All (λ j. j < m)) (sym (removed x)) (below_taken (touches d x) k m (under T x) (low x))
+
+pub below_removed_all : (k m : ℕ) (D : List Command) (T U : Lists) → AllBelow m T → RemovedAll k D T U → AllBelow m U
+below_removed_all k m D T U low removed x = subst (All (λ j. j < m)) (sym (removed x)) (below_taken (touches_any D x) k m (under T x) (low x))
+
+-- one command touches what it touches
+pub touches_one : (d : Command) (x : List ℕ) → touches_any (d ∷ []) x ≡ touches d x
+touches_one d x = by (touches d x)
+  where
+    by : (b : Bool) → (b || false) ≡ b
+    by true = refl
+    by false = refl

@@ -1,3 +1,4 @@
 pub mod CallerLemmas
+pub mod ManyLemmas
 pub mod PlaceLemmas
 pub mod RisingLemmas

@@ -1,7 +1,8 @@
 -- The list of a name's numbers, changed in its place.
-use Rattle.std.proofs.Common.{◌≡◌, ℕ, Bool, true, false, cond, List, Some, Result, Ok, Err, slice_get, bytes_eq, refl, sym, ap, ◌∙◌, inl, inr}
+use Rattle.std.proofs.Common.{◌≡◌, ℕ, Bool, true, false, cond, eqb, List, Some, Result, Ok, Err, slice_get, bytes_eq, refl, sym, ap, ◌∙◌, inl, inr}
 use Rattle.std.specs.Result.{OnOk, OnErr}
 use Rattle.std.specs.Cmp.Lexicographic.{nat_list_eq_equiv}
+use Rattle.std.specs.List.{list_any}
 use Rattle.std.specs.Map.{lookup}
 use Rattle.indexmap.specs.IndexMap.{IndexMap, with_value_at, IsUnique}
 use Rattle.indexmap.proofs.CallerLemmas.{updates-with_value_at}
@@ -41,6 +42,12 @@ module _ {S : Type 0} (m : IndexMap (List ℕ) (List ℕ) S) (at : ℕ) (x : Lis
           | inr g ↦ ap listed (changed.0 y ∙ ap (λ b. cond b (Some w) (lookup (bytes_eq y) m.entries)) g.0) ∙ sym (ap (λ b. cond b (f (under m.entries y)) (under m.entries y)) h.0)
         ]
       ]
+
+  -- a list without a number that comes in its place
+  pub gone_there : (k : ℕ) (w : List ℕ) → list_any (eqb k) w ≡ false → list_any (eqb k) (under (with_value_at m at w).entries x) ≡ false
+  gone_there k w gone =
+      let now : under (with_value_at m at w).entries x ≡ w = under_changed (λ _. w) w refl x ∙ ap (λ b. cond b w (under m.entries x)) (eq-bytes x x refl) in
+      ap (list_any (eqb k)) now ∙ gone
 
   -- the list that stood there
   pub same_kept : (w : List ℕ) → w ≡ has.list → Same m.entries (with_value_at m at w).entries

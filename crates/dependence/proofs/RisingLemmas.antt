@@ -1,5 +1,5 @@
 -- What the ordered set of numbers does, as lists.
-use Rattle.std.proofs.Common.{◌≡◌, ◌++◌, All, Contains, ℕ, suc, ◌<◌, ◌≤◌, Bool, true, false, ltb, eqb, cond, List, [], ◌∷◌, Option, None, Some, length, refl, sym, ap, subst, ◌∙◌, arith, inl, inr, Bor, find, slice_get}
+use Rattle.std.proofs.Common.{◌≡◌, ◌++◌, All, Contains, ℕ, suc, ◌<◌, ◌≤◌, Bool, true, false, ltb, eqb, cond, List, [], ◌∷◌, Option, None, Some, Result, Ok, Err, length, refl, sym, ap, subst, ◌∙◌, arith, inl, inr, Bor, find, slice_get}
 use Rattle.std.specs.BTreeSet.{insert_key}
 use Rattle.std.specs.List.{filter}
 use Rattle.std.specs.List.Sorted.{IsStrictlySortedBy}
@@ -14,6 +14,7 @@ use Rattle.std.proofs.lemmas.Map.Views.{All-after_first}
 use Rattle.std.specs.BTreeMap.Range.{range_contains}
 use Rattle.std.specs.declared.ops.Bound.TheVariants.{Excluded, Unbounded}
 use Rattle.std.specs.Option.{option_copied}
+use Rattle.std.specs.Result.{OnOk}
 use Rattle.std.specs.Map.Iter.{TakesFirst}
 use Rattle.std.proofs.lemmas.Bool.Decides.{nat_tests}
 use Rattle.dependence.specs.Lists.{IsLeastAbove}
@@ -67,3 +68,8 @@ first_is_least k (x ∷ xs) sorted = elim (cases_lt k x) [
       rw (lt-ltb k x low) ((0, omega arith, refl), low, All-cons (λ j. k < j → x ≤ j) x xs (λ _. omega arith) later)
   | inr high ↦ rw (le-ltb k x high) (past_low k x xs (find (λ j. ltb k j) xs) high (first_is_least k xs (sorted_tail nat_cmp x xs sorted)))
 ]
+
+-- where it is put in its place, it is put at the end
+pub on_last : {A E : Type 0} (k : ℕ) (xs ys : List ℕ) (r : Result A E) → All (λ j. j < k) xs → OnOk r (ys ≡ insert_key nat_cmp xs k) → OnOk r (ys ≡ xs ++ k ∷ [])
+on_last k xs ys (Ok a) low h = h ∙ insert_last k xs low
+on_last k xs ys (Err e) low h = tt

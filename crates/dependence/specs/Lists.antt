@@ -1,9 +1,11 @@
 -- Rising lists of entry numbers, under each name and of each client.
-use Rattle.std.specs.Prelude.{◌≡◌, ◌<◌, ◌≤◌, ◌-◌, ◌++◌, ℕ, List, [], ◌∷◌, Option, None, Some, MatchOption, All, Contains, Bool, nat_eq, bytes_eq, if◌then◌else◌, length, slice_get}
+use Rattle.std.specs.Prelude.{◌≡◌, ◌⊎◌, true, ◌<◌, ◌≤◌, ◌-◌, ◌++◌, ℕ, List, [], ◌∷◌, Option, None, Some, MatchOption, All, Contains, Bool, nat_eq, bytes_eq, if◌then◌else◌, length, slice_get}
 use Rattle.std.specs.Map.{lookup}
 use Rattle.std.specs.Set.{remove_key}
+use Rattle.std.specs.BTreeSet.{insert_key}
+use Rattle.std.specs.Ordering.{nat_cmp}
 use Rattle.moves.specs.declared.command.Command.{Command}
-use Rattle.moves.specs.Commands.{touches}
+use Rattle.moves.specs.Commands.{touches, touches_any}
 
 -- names with the numbers of the entries that touch them
 abbrev pub Lists : Type 0
@@ -40,6 +42,22 @@ Pushed k d T U = (x : List ℕ) → under U x ≡ (if touches d x then under T x
 -- U is T without the number k under each name that the command touches
 abbrev pub Removed : ℕ → Command → Lists → Lists → Type 0
 Removed k d T U = (x : List ℕ) → under U x ≡ (if touches d x then without k (under T x) else under T x)
+
+-- U is T with the number k, at the end, under each name that one of the commands touches
+abbrev pub PushedAll : ℕ → List Command → Lists → Lists → Type 0
+PushedAll k D T U = (x : List ℕ) → under U x ≡ (if touches_any D x then under T x ++ k ∷ [] else under T x)
+
+-- U is T without the number k under each name that one of the commands touches
+abbrev pub RemovedAll : ℕ → List Command → Lists → Lists → Type 0
+RemovedAll k D T U = (x : List ℕ) → under U x ≡ (if touches_any D x then without k (under T x) else under T x)
+
+-- U is T with the number k, where it is not there yet, under each name that the command touches
+abbrev pub Placed : ℕ → Command → Lists → Lists → Type 0
+Placed k d T U = (x : List ℕ) → under U x ≡ (if touches d x then insert_key nat_cmp (under T x) k else under T x)
+
+-- the same, under some of these names
+abbrev pub PlacedSome : ℕ → Command → Lists → Lists → Type 0
+PlacedSome k d T U = (x : List ℕ) → (under U x ≡ under T x) ⊎ ((touches d x ≡ true) × (under U x ≡ insert_key nat_cmp (under T x) k))
 
 -- the same numbers stand under each name
 abbrev pub Same : Lists → Lists → Type 0

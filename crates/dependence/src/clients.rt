@@ -1,5 +1,6 @@
 //! The entries of each client.
-ghost use Rattle.std.specs.Prelude.{◌≡◌, ◌≤◌, ◌<◌, ◌++◌, ◌∷◌, [], ℕ, All, OnOk, OnErr, IfOk};
+ghost use Rattle.std.specs.Prelude.{◌≡◌, ◌≤◌, ◌<◌, ◌++◌, ◌∷◌, [], ℕ, All, OnOk, OnErr, IfOk, nat_eq};
+ghost use Rattle.std.specs.List.{list_any};
 ghost use Rattle.dependence.specs.Lists.{of_client, last_of, Entered, Left};
 
 use crate::numbers::Numbers;
@@ -55,6 +56,14 @@ impl Clients {
         ensures { Left client entry self.old self.new }
     {
         self.lists[client as usize].remove(entry);
+    }
+
+    /// Whether the entry is one of the client's.
+    pub fn contains(&self, client: u32, entry: u64) -> bool
+        requires { client ≤ 32 }
+        ensures { result ≡ list_any (nat_eq entry) (of_client self.now client) }
+    {
+        self.lists[client as usize].contains(entry)
     }
 
     /// The client's greatest entry.

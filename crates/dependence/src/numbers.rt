@@ -1,5 +1,8 @@
 //! A rising list of entry numbers.
-ghost use Rattle.std.specs.Prelude.{◌≡◌, ◌<◌, ◌++◌, ◌∷◌, [], All, OnOk, OnErr, IfOk, find, nat_lt};
+ghost use Rattle.std.specs.Prelude.{◌≡◌, ◌<◌, ◌++◌, ◌∷◌, [], All, OnOk, OnErr, IfOk, false, find, nat_eq, nat_lt};
+ghost use Rattle.std.specs.List.{list_any};
+ghost use Rattle.std.specs.BTreeSet.{insert_key};
+ghost use Rattle.std.specs.Ordering.{nat_cmp};
 ghost use Rattle.dependence.specs.Lists.{without, last_of, IsLeastAbove};
 
 use rapid_text::OutOfMemory;
@@ -37,14 +40,29 @@ impl Numbers {
         ensures ok { OnOk result (self.new ≡ self.old ++ entry ∷ []) }
         ensures err { OnErr result (self.new ≡ self.old) }
     {
+        self.place(entry)
+    }
+
+    // Puts the number in its place, if it is not there yet.
+    pub(crate) fn place(&mut self, entry: u64) -> Result<(), OutOfMemory>
+        ensures ok { OnOk result (self.new ≡ insert_key nat_cmp self.old entry) }
+        ensures err { OnErr result (self.new ≡ self.old) }
+    {
         self.items.insert(entry)?;
         Ok(())
     }
 
     pub(crate) fn remove(&mut self, entry: u64)
-        ensures { self.new ≡ without entry self.old }
+        ensures taken { self.new ≡ without entry self.old }
+        ensures gone { list_any (nat_eq entry) self.new ≡ false }
     {
         self.items.remove(&entry);
+    }
+
+    pub(crate) fn contains(&self, entry: u64) -> bool
+        ensures { result ≡ list_any (nat_eq entry) self.now }
+    {
+        self.items.contains(&entry)
     }
 
     pub(crate) fn last(&self) -> Option<u64>

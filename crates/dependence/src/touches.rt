@@ -1,7 +1,11 @@
 //! The entries that touch each name.
-ghost use Rattle.std.specs.Prelude.{◌≡◌, ◌++◌, ◌∷◌, [], ℕ, All, ◌<◌, List, OnOk, OnErr, IfOk, IsOk, IfNone, IfSome, None, IsTrue, find, nat_lt, bytes_eq, if◌then◌else◌};
+ghost use Rattle.std.specs.Prelude.{◌≡◌, ◌++◌, ◌∷◌, [], ℕ, All, ◌<◌, List, OnOk, OnErr, IfOk, IsOk, IfNone, IfSome, None, IsTrue, true, false, find, nat_eq, nat_lt, bytes_eq, if◌then◌else◌};
+ghost use Rattle.std.specs.BTreeSet.{insert_key};
+ghost use Rattle.std.specs.List.{list_any};
 ghost use Rattle.std.specs.Map.{lookup};
-ghost use Rattle.dependence.specs.Lists.{under, without, Pushed, Removed, Same, AllBelow, IsLeastAbove};
+ghost use Rattle.moves.specs.Commands.{touches};
+ghost use Rattle.std.specs.Ordering.{nat_cmp};
+ghost use Rattle.dependence.specs.Lists.{under, without, Placed, PlacedSome, Pushed, PushedAll, Removed, RemovedAll, Same, AllBelow, IsLeastAbove};
 ghost use Rattle.dependence.specs.Places.{HasAt};
 
 use crate::numbers::Numbers;
@@ -10,6 +14,7 @@ use moves::{Command, Name};
 use rapid_text::{OutOfMemory, TextKeyed};
 use std::alloc::Global;
 use std::marker::Model;
+use std::slice;
 
 type ByName = IndexMap<Name, Numbers, TextKeyed>;
 
@@ -39,45 +44,86 @@ impl Touches {
         ensures ok { IfOk result (λ t. (x : List ℕ) → under t x ≡ []) }
         ensures succeeds { IsOk result }
     {
-        Touches::keyed(alloc, TextKeyed::of(&[]))
+        Ok(Touches::keyed(alloc, TextKeyed::of(&[])))
     }
 
     /// The same, with the hashers that are to find the names.
-    pub fn keyed(alloc: Global, hashers: TextKeyed) -> Result<Touches, OutOfMemory>
-        ensures ok { IfOk result (λ t. (x : List ℕ) → under t x ≡ []) }
-        ensures succeeds { IsOk result }
+    pub fn keyed(alloc: Global, hashers: TextKeyed) -> Touches
+        ensures { (x : List ℕ) → under result x ≡ [] }
     {
-        Ok(Touches {
+        Touches {
             lists: IndexMap::with_hasher(alloc, hashers),
             recent: 0,
             alloc,
-        })
+        }
     }
 
-    fn push_name(&mut self, entry: u64, name: Name) -> Result<(), OutOfMemory>
-        requires { All (λ k. k < entry) (under self.old name) }
-        ensures ok { OnOk result ((x : List ℕ) → under self.new x ≡ (if bytes_eq x name then under self.old x ++ entry ∷ [] else under self.old x)) }
+    // Puts the entry under the name, where it is not there yet.
+    fn place_name(&mut self, entry: u64, name: Name) -> Result<(), OutOfMemory>
+        ensures ok { OnOk result ((x : List ℕ) → under self.new x ≡ (if bytes_eq x name then insert_key nat_cmp (under self.old x) entry else under self.old x)) }
         ensures err { OnErr result (Same self.old self.new) }
     {
         if let Some(at) = place_of(&self.lists, self.recent, &name) {
             self.recent = at;
             let (_, list) = self.lists.pair_mut(at);
-            return list.push(entry);
+            return list.place(entry);
         }
         let mut list = Numbers::empty(self.alloc);
-        list.push(entry)?;
+        list.place(entry)?;
         let (at, _) = self.lists.insert_full(name, list)?;
         self.recent = at;
         Ok(())
     }
 
     fn remove_name(&mut self, entry: u64, name: &Name)
-        ensures { (x : List ℕ) → under self.new x ≡ (if bytes_eq x name.now then without entry (under self.old x) else under self.old x) }
+        ensures taken { (x : List ℕ) → under self.new x ≡ (if bytes_eq x name.now then without entry (under self.old x) else under self.old x) }
+        ensures gone { list_any (nat_eq entry) (under self.new name.now) ≡ false }
     {
         if let Some(at) = place_of(&self.lists, self.recent, name) {
             self.recent = at;
             let (_, list) = self.lists.pair_mut(at);
             list.remove(entry);
+        }
+    }
+
+    // Puts the entry under each name that the command touches, where it is not there yet; or under some of them.
+    fn place(&mut self, entry: u64, command: &Command) -> Result<(), OutOfMemory>
+        ensures ok { OnOk result (Placed entry command.now self.old self.new) }
+        ensures err { OnErr result (PlacedSome entry command.now self.old self.new) }
+    {
+        let written = command.writes();
+        let read = command.reads();
+        self.place_name(entry, written)?;
+        if read == written {
+            return Ok(());
+        }
+        let Ok(()) = self.place_name(entry, read) else {
+            return Err(OutOfMemory);
+        };
+        Ok(())
+    }
+
+    /// Puts the entry, once, under each name that one of the commands touches, or leaves everything as it was.
+    pub fn push_all(&mut self, entry: u64, commands: &[Command]) -> Result<(), OutOfMemory>
+        requires { AllBelow entry self.old }
+        ensures ok { OnOk result (PushedAll entry commands.now self.old self.new) }
+        ensures err { OnErr result (Same self.old self.new) }
+    {
+        for command in commands {
+            let Ok(()) = self.place(entry, command) else {
+                self.remove_all(entry, commands);
+                return Err(OutOfMemory);
+            };
+        }
+        Ok(())
+    }
+
+    /// Takes the entry away under each name that one of the commands touches.
+    pub fn remove_all(&mut self, entry: u64, commands: &[Command])
+        ensures { RemovedAll entry commands.now self.old self.new }
+    {
+        for command in commands {
+            self.remove(entry, command);
         }
     }
 
@@ -87,22 +133,14 @@ impl Touches {
         ensures ok { OnOk result (Pushed entry command.now self.old self.new) }
         ensures err { OnErr result (Same self.old self.new) }
     {
-        let written = command.writes();
-        let read = command.reads();
-        self.push_name(entry, written)?;
-        if read == written {
-            return Ok(());
-        }
-        let Ok(()) = self.push_name(entry, read) else {
-            self.remove_name(entry, &written);
-            return Err(OutOfMemory);
-        };
-        Ok(())
+        self.push_all(entry, slice::from_ref(command))
     }
 
     /// Takes the entry away under each name that the command touches.
     pub fn remove(&mut self, entry: u64, command: &Command)
-        ensures { Removed entry command.now self.old self.new }
+        ensures removed { Removed entry command.now self.old self.new }
+        ensures gone { (x : List ℕ) → touches command.now x ≡ true
+            → list_any (nat_eq entry) (under self.new x) ≡ false }
     {
         let written = command.writes();
         let read = command.reads();

@@ -1,6 +1,6 @@
 //! An accepted trace with its tables.
-ghost use Rattle.std.specs.Prelude.{◌≡◌, ◌<◌, ◌≤◌, ◌↔◌, length, All, IsTrue, IfOk, IfErr, IfSome, Some};
-ghost use Rattle.rapid_text.specs.Recording.{IsWellFormed};
+ghost use Rattle.std.specs.Prelude.{◌≡◌, ◌<◌, ◌≤◌, ◌↔◌, length, slice_get, All, IsTrue, IfOk, IfErr, IfSome, Some};
+ghost use Rattle.rapid_text.specs.Recording.{IsNamed, IsWellFormed};
 ghost use Rattle.trace_rules.specs.Rules.{IsDisciplined};
 ghost use Rattle.event_index.specs.Events.{thread_at};
 ghost use Rattle.event_index.specs.Lookups.{events_of, place_of, last_writer, fork_of, base_of, section_end};
@@ -8,7 +8,7 @@ ghost use Rattle.event_index.specs.Relations.{IsConflicting, IsIndependent, is_c
 
 use crate::relations::{apart, clash};
 use crate::tables::{Tables, tables_of};
-use rapid_text::OutOfMemory;
+use rapid_text::{Event, OutOfMemory};
 use std::alloc::Global;
 use std::marker::Model;
 use trace_rules::Trace;
@@ -53,13 +53,77 @@ impl Indexed {
         &self.trace
     }
 
-    /// The number of events, at most 65,536.
+    /// The number of events, at most `MAX_EVENTS`.
     pub fn len(&self) -> u32
         ensures len { result ≡ length self.now.events }
         ensures well_formed { IsWellFormed self.now }
         ensures disciplined { IsDisciplined self.now.events }
     {
         self.trace.raw().len()
+    }
+
+    /// The number of threads, at most 64.
+    pub fn threads(&self) -> u32
+        ensures len { result ≡ length self.now.threads }
+        ensures well_formed { IsWellFormed self.now }
+        ensures disciplined { IsDisciplined self.now.events }
+    {
+        self.trace.raw().threads()
+    }
+
+    /// The number of variables, at most 65,536.
+    pub fn variables(&self) -> u32
+        ensures len { result ≡ length self.now.variables }
+        ensures well_formed { IsWellFormed self.now }
+    {
+        self.trace.raw().variables()
+    }
+
+    /// The number of locks, at most 65,536.
+    pub fn locks(&self) -> u32
+        ensures len { result ≡ length self.now.locks }
+        ensures well_formed { IsWellFormed self.now }
+    {
+        self.trace.raw().locks()
+    }
+
+    /// The event with this number.
+    pub fn event(&self, event: u32) -> Event
+        requires { event < length self.now.events }
+        ensures found { slice_get self.now.events event ≡ Some result }
+        ensures named { IsNamed self.now result }
+        ensures well_formed { IsWellFormed self.now }
+        ensures disciplined { IsDisciplined self.now.events }
+    {
+        self.trace.raw().event(event)
+    }
+
+    /// The event with this number, or None where the trace has none.
+    pub fn get(&self, event: u32) -> Option<Event>
+        ensures found { result ≡ slice_get self.now.events event }
+        ensures named { IfSome result (IsNamed self.now) }
+    {
+        if event < self.len() {
+            Some(self.event(event))
+        } else {
+            None
+        }
+    }
+
+    /// The name of the thread.
+    pub fn thread_name(&self, thread: u32) -> &[u8]
+        requires { thread < length self.now.threads }
+        ensures { slice_get self.now.threads thread ≡ Some result.now }
+    {
+        self.trace.raw().thread_name(thread)
+    }
+
+    /// The name of the variable.
+    pub fn variable_name(&self, variable: u32) -> &[u8]
+        requires { variable < length self.now.variables }
+        ensures { slice_get self.now.variables variable ≡ Some result.now }
+    {
+        self.trace.raw().variable_name(variable)
     }
 
     /// The place of the event in its thread, from 0.

@@ -9,19 +9,20 @@ use Rattle.moves.specs.declared.command.Command.{Command}
 use Rattle.moves.specs.declared.refusal.MoveRefusal.{MoveRefusal}
 use Rattle.rapid_text.specs.Recording.{Recording}
 use Rattle.moves.specs.Commands.{writes, touches}
+use Rattle.moves.specs.Ages.{age}
 use Rattle.moves.specs.Moves.{made_at}
 use Rattle.moves.specs.Fold.{Rises}
 use Rattle.inverse_log.specs.declared.entry.Entry.{Entry}
 use Rattle.inverse_log.specs.declared.entry.Entry.TheVariants.{Did, Undid, Proposed}
 use Rattle.inverse_log.specs.declared.call.Call.{Call}
-use Rattle.inverse_log.specs.declared.call.Call.TheVariants.{Do, Undo, Propose, Show, List as ListNames, Races}
+use Rattle.inverse_log.specs.declared.call.Call.TheVariants.{Do, Undo, UndoAt, Propose, Show, List as ListNames, Races}
 use Rattle.inverse_log.specs.declared.reply.Reply.{Reply}
 use Rattle.inverse_log.specs.declared.reply.Reply.TheVariants.{Done, Undone, Proposed as ProposedAs, Shown, Listing, Shows}
 use Rattle.inverse_log.specs.declared.refusal.Refusal.{Refusal}
-use Rattle.inverse_log.specs.declared.refusal.Refusal.TheVariants.{LogFull, Move, NothingToUndo, RestsOn, NotReordering, NotShown, OutOfMemory}
-use Rattle.inverse_log.specs.Log.{Live, client_of, steps_of, live_of, board_of, rows_of, is_by, blocks, blocker_of}
+use Rattle.inverse_log.specs.declared.refusal.Refusal.TheVariants.{LogFull, Move, NothingToUndo, RestsOn, NotReordering, NotShown, OutOfMemory, NoSuchEntry, NotOwn, NotLive}
+use Rattle.inverse_log.specs.Log.{Live, client_of, live_of, board_of, rows_of, is_by, blocks, blocker_of}
 use Rattle.inverse_log.specs.Answer.{answer_of, limited, done_or, undo_or, undone_or, entry_of, logged, log_after, Called, Grown, IsAlone, IsLegal, goes_on}
-use Rattle.inverse_log.proofs.LiveLemmas.{rises_above, rises_live, live_theres}
+use Rattle.inverse_log.proofs.LiveLemmas.{numbers_of, rises_above, rises_live, live_theres}
 use Rattle.inverse_log.proofs.LawLemmas.{HasRows, legal_has}
 use Rattle.inverse_log.proofs.DirectLemmas.{undo_answer, undo_rows, find_missing}
 
@@ -33,10 +34,20 @@ grown_undo L c (Shown P) = inl (append-nil L)
 grown_undo L c (Listing names) = inl (append-nil L)
 grown_undo L c (Shows pairs) = inl (append-nil L)
 
-grown_by : (L : List Entry) (c : ℕ) (call : Call) (a : Result Reply Refusal) → Grown L c (L ++ logged c call a)
+grown_undo_at : (L : List Entry) (c j : ℕ) (reply : Reply) → Grown L c (L ++ entry_of c (UndoAt j) reply)
+grown_undo_at L c j (Undone n k) = inr (Undid c k, refl, refl)
+grown_undo_at L c j (Done n) = inl (append-nil L)
+grown_undo_at L c j (ProposedAs n p) = inl (append-nil L)
+grown_undo_at L c j (Shown P) = inl (append-nil L)
+grown_undo_at L c j (Listing names) = inl (append-nil L)
+grown_undo_at L c j (Shows pairs) = inl (append-nil L)
+
+-- what an answer adds to the log
+pub grown_by : (L : List Entry) (c : ℕ) (call : Call) (a : Result Reply Refusal) → Grown L c (L ++ logged c call a)
 grown_by L c call (Err why) = inl (append-nil L)
 grown_by L c (Do d) (Ok reply) = inr (Did c d, refl, refl)
 grown_by L c Undo (Ok reply) = grown_undo L c reply
+grown_by L c (UndoAt j) (Ok reply) = grown_undo_at L c j reply
 grown_by L c (Propose a b P) (Ok reply) = inr (Proposed c a b P, refl, refl)
 grown_by L c (Show x) (Ok reply) = inl (append-nil L)
 grown_by L c ListNames (Ok reply) = inl (append-nil L)
@@ -52,6 +63,9 @@ called_next T L M c call (Err NothingToUndo) h = inl h.1
 called_next T L M c call (Err (RestsOn k x)) h = inl h.1
 called_next T L M c call (Err (NotReordering p)) h = inl h.1
 called_next T L M c call (Err NotShown) h = inl h.1
+called_next T L M c call (Err NoSuchEntry) h = inl h.1
+called_next T L M c call (Err NotOwn) h = inl h.1
+called_next T L M c call (Err NotLive) h = inl h.1
 
 -- it is the old one, or the old one and one entry of that client
 pub called_grown : (T : Recording) (L M : List Entry) (c : ℕ) (call : Call) (r : Result Reply Refusal) → Called T L c call r M → Grown L c M
@@ -80,7 +94,7 @@ limited_ok L a reply h = elim (cases_Bool (ltb (length L) 1000000)) [
 
 pub done_entry : (T : Recording) (L M : List Entry) (c n : ℕ) (d : Command) → Called T L c (Do d) (Ok (Done n)) M → (n ≡ length L) × (M ≡ L ++ Did c d ∷ [])
 done_entry T L M c n d h = (
-  done_number (length L) n (made_at T (board_of T L) (length L) d (rows_of T L)) (limited_ok L (done_or (length L) (made_at T (board_of T L) (length L) d (rows_of T L))) (Done n) h.0),
+  done_number (length L) n (made_at T (board_of T L) (age (length L) 0) d (rows_of T L)) (limited_ok L (done_or (length L) (made_at T (board_of T L) (age (length L) 0) d (rows_of T L))) (Done n) h.0),
   h.1 ∙ ap (λ a. L ++ logged c (Do d) a) h.0,
 )
 
@@ -96,10 +110,10 @@ undo_restores T L M N c n d low high legal h room after =
     let now : IsLegal T M = called_legal T L M c (Do d) (Ok (Done n)) low high legal h in
     let has : HasRows T (L ++ Did c d ∷ []) = subst (HasRows T) e.1 (legal_has T M now) in
     let is : N ≡ (L ++ Did c d ∷ []) ++ Undid c (length L) ∷ [] = after ∙ ap (λ a. M ++ logged c Undo a) (undo_directly T L M c n d h room) ∙ ap (λ k. M ++ Undid c k ∷ []) e.0 ∙ ap (λ X. X ++ Undid c (length L) ∷ []) e.1 in
-    ap (rows_of T) is ∙ undo_rows T L c d (legal_has T L legal) has
+    ap (rows_of T) is ∙ undo_rows T L c d c (legal_has T L legal) has
 
 -- A client alone is never answered 52.
-rises_last : (E : List Live) (g : Live) (low high : ℕ) → Rises low (steps_of (E ++ g ∷ [])) high → All (λ (p : Live). p.number ≤ g.number) (E ++ g ∷ [])
+rises_last : (E : List Live) (g : Live) (low high : ℕ) → Rises low (numbers_of (E ++ g ∷ [])) high → All (λ (p : Live). p.number ≤ g.number) (E ++ g ∷ [])
 rises_last [] g low high r = All-cons (λ (p : Live). p.number ≤ g.number) g [] (le_refl g.number) (All-nil (λ (p : Live). p.number ≤ g.number))
 rises_last (e ∷ E) g low high r =
     let up : e.number + 1 ≤ g.number = ends E (rises_above (E ++ g ∷ []) (e.number + 1) high r.1) in
@@ -128,7 +142,7 @@ module _ (T : Recording) (L : List Entry) (c : ℕ) (alone : IsAlone c L) where
   undo_case [] is all k x h = absurd cc
   undo_case (g ∷ R) is all k x h =
       let split : live_of L ≡ reverse R ++ g ∷ [] = sym (reverse-reverse (live_of L)) ∙ ap reverse is ∙ reverse-append (g ∷ []) R in
-      let low : All (λ (p : Live). p.number ≤ g.number) (live_of L) = subst (All (λ (p : Live). p.number ≤ g.number)) (sym split) (rises_last (reverse R) g 0 (length L) (subst (λ X. Rises 0 (steps_of X) (length L)) split (rises_live L))) in
+      let low : All (λ (p : Live). p.number ≤ g.number) (live_of L) = subst (All (λ (p : Live). p.number ≤ g.number)) (sym split) (rises_last (reverse R) g 0 (length L) (subst (λ X. Rises 0 (numbers_of X) (length L)) split (rises_live L))) in
       let none : blocker_of L g ≡ None = find_missing (blocks g) (live_of L) (All-weaker (λ (p : Live). p.number ≤ g.number) (λ p. blocks g p ≡ false) (λ p le. and_left (ltb g.number p.number) (touches p.command (writes g.command)) (le-ltb g.number p.number le)) (live_of L) low) in
       let here : is_by c g ≡ true = All-head (λ (p : Live). is_by c p ≡ true) g R all in
       let answer : undo_or L (find (is_by c) (g ∷ R)) ≡ Ok (Undone (length L) g.number) = rw here (ap (undone_or (length L) g) none) in

@@ -46,12 +46,11 @@ module _ (T : Recording) (L : List Entry) (c : ℕ) (d : Command) where
   undo_answer room =
       ap (limited M) (ap (undo_or M) last_did ∙ ap (undone_or (length M) g) none_blocks) ∙ rw (lt-ltb (length M) 1000000 (omega (arith, length_push L (Did c d)))) refl
 
-  -- and the rows are those before the command
-  pub undo_rows : HasRows T L → HasRows T M → rows_of T (M ++ Undid c (length L) ∷ []) ≡ rows_of T L
-  undo_rows before after =
-      let u = comes_undid T Nothing M c g (rows_of T M) (live_of L) [] (live_did L c d) none_blocks after in
-      let N : List Entry = M ++ Undid c (length L) ∷ [] in
-      let live' : live_of N ≡ live_of L = live_without M c g (live_of L) [] (live_did L c d) ∙ append-nil (live_of L) in
-      let board : board_of T N ≡ board_of T L = board_undid T M c (length L) ∙ board_did T L c d in
+  -- and the rows are those before the command, whoever takes it back
+  pub undo_rows : (a : ℕ) → HasRows T L → HasRows T M → rows_of T (M ++ Undid a (length L) ∷ []) ≡ rows_of T L
+  undo_rows a before after =
+      let N : List Entry = M ++ Undid a (length L) ∷ [] in
+      let live' : live_of N ≡ live_of L = live_without M a g (live_of L) [] (live_did L c d) ∙ append-nil (live_of L) in
+      let board : board_of T N ≡ board_of T L = board_undid T M a (length L) ∙ board_did T L c d in
       let again : Comes T Nothing N (rows_of T L) = rw (live', board) before in
       rows_come T Nothing N (rows_of T L) again

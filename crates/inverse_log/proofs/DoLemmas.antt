@@ -18,6 +18,8 @@ use Rattle.moves.specs.declared.row.Row.{Row}
 use Rattle.moves.specs.Applied.{IsApplied}
 use Rattle.moves.specs.Boards.{IsBoardOf}
 use Rattle.moves.specs.Commands.{writes, touches}
+use Rattle.moves.specs.Ages.{age}
+use Rattle.moves.specs.Inverses.{IsStepOf}
 use Rattle.moves.specs.Moves.{made_at}
 use Rattle.moves.specs.Rows.{Rows, IsOfTrace}
 use Rattle.moves.proofs.CallerLemmas.{applied_parts, IsOfTrace-kept}
@@ -76,7 +78,7 @@ module _ (own : Inside) (b : Keeps own) where
   L = own.log.items
 
   abbrev W : Rows
-  W = own.workspace
+  W = own.rows.rows
 
   abbrev B : List Proposal
   B = own.board
@@ -92,7 +94,7 @@ module _ (own : Inside) (b : Keeps own) where
 
   -- another way to keep the same
   pub bench_same : (L' : List Entry) (W' : Rows) (steps' : List (Option Step)) (N' : Lists) (C' : List (List ℕ)) (k : ℕ) → L' ≡ L → W' ≡ W → steps' ≡ steps → Same N N'
-      → ((a : ℕ) → of_client C' a ≡ of_client C a) → k ≡ own.edits → IsBench T L' W' B steps' N' C' k
+      → ((a : ℕ) → of_client C' a ≡ of_client C a) → k ≡ own.rows.edits → IsBench T L' W' B steps' N' C' k
   bench_same L' W' steps' N' C' k log rows inv names clients edits = record {
     kept = rw (log, rows, inv) b.kept;
     listed = record { names = λ x. rw log (names x ∙ b.listed.names x); clients = λ a. rw log (clients a ∙ b.listed.clients a) };
@@ -115,37 +117,37 @@ module _ (own : Inside) (b : Keeps own) where
 
   -- the rows and the board are of the trace
   pub of_trace : (J : Recording) → J ≡ T → IsOfTrace J W
-  of_trace J is = rw is (IsOfTrace-kept T W (comes_kept T b.disciplined (HasStep steps) L W b.legal b.kept.rows))
+  of_trace J is = rw is (IsOfTrace-kept T W (comes_kept T b.disciplined (HasStep T steps) L W b.legal b.kept.rows))
 
   pub board_is_of : (J : Recording) → J ≡ T → IsBoardOf J B
   board_is_of J is = rw (is, b.kept.board) (board_of_trace T L)
 
-  pub edits_few : (n : ℕ) → n ≡ length L → n < 1000000 → own.edits < 1000000
+  pub edits_few : (n : ℕ) → n ≡ length L → n < 1000000 → own.rows.edits < 1000000
   edits_few n is room = let fewer = few L in omega (arith, b.counted)
     where
       few : (M : List Entry) → edits_of M ≤ length M
       few M = rw (length-filter is_edit M) (count_by-le-length is_edit M)
 
-  made_same : (J : Recording) (d : Command) → J ≡ T → made_at T (board_of T L) (length L) d (rows_of T L) ≡ made_at J B (length L) d W
+  made_same : (J : Recording) (d : Command) → J ≡ T → made_at T (board_of T L) (age (length L) 0) d (rows_of T L) ≡ made_at J B (age (length L) 0) d W
   made_same J d trace =
-      ap (made_at T (board_of T L) (length L) d) (kept_rows T L W B steps b.kept) ∙ ap (λ X. made_at T X (length L) d W) (sym b.kept.board) ∙ ap (λ X. made_at X B (length L) d W) (sym trace)
+      ap (made_at T (board_of T L) (age (length L) 0) d) (kept_rows T L W B steps b.kept) ∙ ap (λ X. made_at T X (age (length L) 0) d W) (sym b.kept.board) ∙ ap (λ X. made_at X B (age (length L) 0) d W) (sym trace)
 
   pub do_refused : (J : Recording) (n c : ℕ) (d : Command) (why : MoveRefusal) → J ≡ T → n ≡ length L → n < 1000000 → ((m : ℕ) → made_at J B m d W ≡ Err why) → answer_of T L c (Do d) ≡ Err (Move why)
-  do_refused J n c d why trace is room h = rw (lt-ltb (length L) 1000000 (omega (arith, room, is))) (ap (done_or (length L)) (made_same J d trace ∙ h (length L)))
+  do_refused J n c d why trace is room h = rw (lt-ltb (length L) 1000000 (omega (arith, room, is))) (ap (done_or (length L)) (made_same J d trace ∙ h (age (length L) 0)))
 
   pub do_accepted : (J : Recording) (n c : ℕ) (d : Command) → J ≡ T → n ≡ length L → n < 1000000 → ((m : ℕ) → IsOk (made_at J B m d W)) → may_want (answer_of T L c (Do d)) ≡ true
-  do_accepted J n c d trace is room h = rw (lt-ltb (length L) 1000000 (omega (arith, room, is))) (ok_may (done_or (length L) _) (ok_done (length L) _ (subst IsOk (sym (made_same J d trace)) (h (length L)))))
+  do_accepted J n c d trace is room h = rw (lt-ltb (length L) 1000000 (omega (arith, room, is))) (ok_may (done_or (length L) _) (ok_done (length L) _ (subst IsOk (sym (made_same J d trace)) (h (age (length L) 0)))))
 
-  pub do_answer : (J : Recording) (n c : ℕ) (d : Command) (V : Rows) (i : Inverse) → J ≡ T → n ≡ length L → n < 1000000 → IsApplied J B n d W V (Ok i) → answer_of T L c (Do d) ≡ Ok (Done n)
+  pub do_answer : (J : Recording) (n c : ℕ) (d : Command) (V : Rows) (i : Inverse) → J ≡ T → n ≡ length L → n < 1000000 → IsApplied J B (age n 0) d W V (Ok i) → answer_of T L c (Do d) ≡ Ok (Done n)
   do_answer J n c d V i trace is room done =
-      let parts = applied_parts J B n d W V done.0 in
-      let makes : made_at J B (length L) d W ≡ Ok parts.0 = rw (← is) parts.1 in
+      let parts = applied_parts J B (age n 0) d W V done.0 in
+      let makes : made_at J B (age (length L) 0) d W ≡ Ok parts.0 = rw (← is) parts.1 in
       rw (lt-ltb (length L) 1000000 (omega (arith, room, is))) (ap (done_or (length L)) (made_same J d trace ∙ makes) ∙ ap (λ m. Ok (Done m)) (sym is))
 
-  pub did_bench : (M : List Entry) (J : Recording) (n c : ℕ) (d : Command) (V : Rows) (i : Inverse) (later : List (Option Step)) (N' : Lists) (C' : List (List ℕ)) (k : ℕ) → J ≡ T → n ≡ length L → n < 1000000 → IsApplied J B n d W V (Ok i)
-      → later ≡ steps ++ Some i.step ∷ [] → M ≡ L ++ Did c d ∷ [] → Pushed n d N N' → Entered c n C C' → k ≡ own.edits + 1 → 1 ≤ c → c ≤ 32 → IsBench T M V B later N' C' k
-  did_bench M J n c d V i later N' C' k trace is room done inv log names clients edits low high = record {
-    kept = kept_did T L W B steps b.kept M V n c d i later is (rw (← trace) done) inv log;
+  pub did_bench : (M : List Entry) (J : Recording) (n c : ℕ) (d : Command) (V : Rows) (i : Inverse) (later : List (Option Step)) (N' : Lists) (C' : List (List ℕ)) (k : ℕ) → J ≡ T → n ≡ length L → n < 1000000 → IsApplied J B (age n 0) d W V (Ok i) → IsStepOf J i.step
+      → later ≡ steps ++ Some i.step ∷ [] → M ≡ L ++ Did c d ∷ [] → Pushed n d N N' → Entered c n C C' → k ≡ own.rows.edits + 1 → 1 ≤ c → c ≤ 32 → IsBench T M V B later N' C' k
+  did_bench M J n c d V i later N' C' k trace is room done of inv log names clients edits low high = record {
+    kept = kept_did T L W B steps b.kept M V n c d i later is (rw (← trace) done) (subst (λ (X : Recording). IsStepOf X i.step) trace of) inv log;
     listed = record {
       names = λ y. names y ∙ rw (log, is, b.listed.names y) (sym (numbers_did (touches_name y) L c d));
       clients = λ a. clients a ∙ rw (log, is, b.listed.clients a, eqb_turn a c) (sym (numbers_did (is_by a) L c d));

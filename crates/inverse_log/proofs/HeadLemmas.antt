@@ -1,6 +1,6 @@
 -- The laws of specs/Headline.antt.
 use Rattle.std.proofs.Common.{◌≡◌, ◌≢◌, ◌↔◌, inl, inr, ℕ, zero, suc, ◌+◌, ◌<◌, ◌≤◌, Bool, true, false, ltb, ◌&&◌, List, [], ◌∷◌, ◌++◌, Option, Some, None, Result, Ok, Err, All, Contains, length, find, slice_get, refl, sym, ap, ◌∙◌, subst, arith}
-use Rattle.std.proofs.lemmas.Bool.{cases_Bool, and_parts, and_from, lt-ltb, ltb-true, false≢true}
+use Rattle.std.proofs.lemmas.Bool.{cases_Bool, and_parts, and_from, lt-ltb, eq-eqb, ltb-true, false≢true}
 use Rattle.std.proofs.lemmas.List.Elements.{All-nil, All-cons, All-head, All-tail, All-weaker}
 use Rattle.rapid_text.specs.Recording.{Recording}
 use Rattle.trace_rules.specs.Rules.{IsDisciplined}
@@ -9,29 +9,32 @@ use Rattle.moves.specs.declared.command.Command.{Command}
 use Rattle.moves.specs.declared.refusal.MoveRefusal.{MoveRefusal}
 use Rattle.moves.specs.declared.row.Row.{Row}
 use Rattle.moves.specs.Commands.{writes, reads, touches}
+use Rattle.moves.specs.Ages.{age}
 use Rattle.moves.specs.Fold.{Rises}
 use Rattle.moves.specs.Moves.{made_at, applied, put_made}
 use Rattle.moves.specs.Rows.{Rows, row_of}
 use Rattle.moves.proofs.CallerLemmas.{applied_parts, made_longer, plain_end, plain_nil, Nothing}
-use Rattle.inverse_log.specs.declared.call.Call.TheVariants.{Undo}
+use Rattle.inverse_log.specs.declared.call.Call.TheVariants.{Undo, UndoAt}
 use Rattle.inverse_log.specs.declared.entry.Entry.{Entry}
+use Rattle.inverse_log.specs.declared.entry.Entry.TheVariants.{Did}
 use Rattle.inverse_log.specs.declared.refusal.Refusal.{Refusal}
 use Rattle.inverse_log.specs.declared.refusal.Refusal.TheVariants.{RestsOn}
 use Rattle.inverse_log.specs.declared.reply.Reply.{Reply}
-use Rattle.inverse_log.specs.declared.reply.Reply.TheVariants.{Undone}
-use Rattle.inverse_log.specs.Answer.{answer_of, undo_or, undone_or, IsLegal}
-use Rattle.inverse_log.specs.Headline.{IsFoldOfLive, IsSound, RowsAreTheFold, Blocks, IsLeastBlocker, UndoIsRefusedExactly, UndoDirectlyRestores, OneClientIsNeverBlocked, LongerBoardsAcceptTheSame}
-use Rattle.inverse_log.specs.Log.{Live, steps_of, live_of, board_of, rows_of, last_live, blocks, blocker_of}
+use Rattle.inverse_log.specs.declared.reply.Reply.TheVariants.{Done, Undone, Proposed, Shown, Listing, Shows}
+use Rattle.inverse_log.specs.Answer.{answer_of, limited, undo_or, undo_at_or, undo_own_or, undo_live_or, undone_or, entry_of, logged, log_after, IsLegal}
+use Rattle.inverse_log.specs.Headline.{IsFoldOfLive, IsSound, RowsAreTheFold, Blocks, IsLeastBlocker, UndoIsRefusedExactly, UndoAtIsRefusedExactly, UndoAtOfLatestIsUndo, UndoDirectlyRestores, OneClientIsNeverBlocked, LongerBoardsAcceptTheSame}
+use Rattle.inverse_log.specs.Log.{Live, own_command_of, steps_of, live_of, live_at, board_of, rows_of, last_live, blocks, blocker_of}
 use Rattle.inverse_log.proofs.CallerLemmas.{undo_directly, undo_restores, never_rests}
 use Rattle.inverse_log.proofs.LawLemmas.{legal_has, legal_fold}
-use Rattle.inverse_log.proofs.LiveLemmas.{find_none, rises_live, rises_above}
+use Rattle.inverse_log.proofs.LiveLemmas.{numbers_of, rises_steps, find_none, last_split, last_mine, rises_live, rises_above}
+use Rattle.inverse_log.proofs.NumberedLemmas.{among_lives, lives_at, at_there, at_number}
 use Rattle.inverse_log.proofs.SoundLemmas as sound
 
 pub fold_law : RowsAreTheFold
 fold_law T L rules legal = (
   record {
     fold = legal_fold T L legal;
-    listing = (plain_end T (board_of T L) Nothing (steps_of (live_of L)) [] (rows_of T L) 0 (length L) plain_nil (rises_live L) (legal_has T L legal)).listing;
+    listing = (plain_end T (board_of T L) Nothing (steps_of (live_of L)) [] (rows_of T L) 0 (age (length L) 0) plain_nil (rises_steps L (live_of L) refl) (legal_has T L legal)).listing;
     reorderings = sound.legal_kept T rules L legal;
   },
   boards (board_of T L) (sound.board_of_trace T L) (sound.legal_sound T rules L legal),
@@ -61,7 +64,7 @@ longer_law T B C n d W V h =
 All-at : (P : Live → Type 0) (E : List Live) (b : Live) → All P E → Contains E b → P b
 All-at P E b all there = subst P there.2 (all there.0 b there.1)
 
-first_least : (q : Live → Bool) (E : List Live) (low high : ℕ) (b : Live) → Rises low (steps_of E) high → find q E ≡ Some b → Contains E b × (q b ≡ true) × All (λ (d : Live). q d ≡ true → b.number ≤ d.number) E
+first_least : (q : Live → Bool) (E : List Live) (low high : ℕ) (b : Live) → Rises low (numbers_of E) high → find q E ≡ Some b → Contains E b × (q b ≡ true) × All (λ (d : Live). q d ≡ true → b.number ≤ d.number) E
 first_least q [] low high b r h = absurd cc
 first_least q (x ∷ E) low high b r h = elim (cases_Bool (q x)) [
   | inl t ↦
@@ -137,3 +140,43 @@ exact_law T L c e room last =
         λ h. answer ∙ free_from T L c e (blocker_of L e) refl h,
       ),
     )
+
+-- the client's live command of a number, asked for
+asked_at : (T : Recording) (L : List Entry) (c k : ℕ) (e : Live) → live_at L k ≡ Some e → e.client ≡ c → answer_of T L c (UndoAt k) ≡ limited L (undone_or (length L) e (blocker_of L e))
+asked_at T L c k e at own =
+    let there : slice_get L k ≡ Some (Did e.client e.command) = at_there L k e at in
+    let mine : own_command_of c (Some (Did e.client e.command)) ≡ Some e.command = rw (eq-eqb e.client c own) refl in
+    ap (limited L) (ap (undo_at_or L c k) there ∙ ap (undo_own_or L k) mine ∙ ap (undo_live_or L) at)
+
+pub at_exact_law : UndoAtIsRefusedExactly
+at_exact_law T L c k e room at own =
+    let answer : answer_of T L c (UndoAt k) ≡ undone_or (length L) e (blocker_of L e) = asked_at T L c k e at own ∙ rw (lt-ltb (length L) 1000000 room) refl in
+    let number : Ok (Undone (length L) e.number) ≡ Ok (Undone (length L) k) = ap (λ j. Ok (Undone (length L) j)) (at_number L k e at) in (
+      λ j x. (
+        λ h. rests_to T L c e j x (blocker_of L e) refl (sym answer ∙ h),
+        λ h. answer ∙ rests_from T L c e j x (blocker_of L e) refl h,
+      ),
+      (
+        λ h. free_to T L c e (blocker_of L e) refl (sym answer ∙ h ∙ sym number),
+        λ h. answer ∙ free_from T L c e (blocker_of L e) refl h ∙ number,
+      ),
+    )
+
+pub at_latest_law : UndoAtOfLatestIsUndo
+at_latest_law T L c e last =
+    let s = last_split L c e last in
+    let at : live_at L e.number ≡ Some e = among_lives (λ (p : Live). live_at L p.number ≡ Some p) s.0 s.1 e (subst (All (λ (p : Live). live_at L p.number ≡ Some p)) s.2 (lives_at L)) in
+    let same : answer_of T L c (UndoAt e.number) ≡ answer_of T L c Undo = asked_at T L c e.number e at (last_mine L c e last) ∙ sym (ap (λ o. limited L (undo_or L o)) last) in
+    (same, ap (λ a. L ++ logged c (UndoAt e.number) a) same ∙ sym (by (answer_of T L c Undo) refl))
+  where
+    entered : (reply : Reply) → entry_of c Undo reply ≡ entry_of c (UndoAt e.number) reply
+    entered (Undone n k) = refl
+    entered (Done n) = refl
+    entered (Proposed n p) = refl
+    entered (Shown P) = refl
+    entered (Listing names) = refl
+    entered (Shows pairs) = refl
+
+    by : (a : Result Reply Refusal) → answer_of T L c Undo ≡ a → L ++ logged c Undo (answer_of T L c Undo) ≡ L ++ logged c (UndoAt e.number) (answer_of T L c Undo)
+    by (Ok reply) is = rw is (ap (λ X. L ++ X) (entered reply))
+    by (Err why) is = rw is refl

@@ -5,4 +5,4 @@ use Rattle.inverse_log.specs.Kept.{IsBench}
 
 -- its invariant
 abbrev pub Keeps : Inside → Type 0
-Keeps s = IsBench (arc_value s.indexed) s.log.items s.workspace s.board s.steps.items s.touches s.clients s.edits
+Keeps s = IsBench (arc_value s.indexed) s.log.items s.rows.rows s.board s.steps.items s.touches s.clients s.rows.edits

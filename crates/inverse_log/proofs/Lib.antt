@@ -5,11 +5,14 @@ pub mod EditLemmas
 pub mod HeadLemmas
 pub mod Inner
 pub mod KeptLemmas
+pub mod LastLemmas
 pub mod LawLemmas
 pub mod LiveLemmas
 pub mod NextLemmas
+pub mod NumberedLemmas
 pub mod OtherLemmas
 pub mod PairLemmas
+pub mod ProposalLemmas
 pub mod SoundLemmas
 pub mod TouchingLemmas
 pub mod UndoneLemmas

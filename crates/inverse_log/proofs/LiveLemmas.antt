@@ -1,7 +1,7 @@
 -- The live commands after one more entry.
-use Rattle.std.proofs.Common.{◌≡◌, ◌≢◌, inl, inr, ℕ, zero, suc, ◌+◌, ◌<◌, ◌≤◌, Bool, true, false, eqb, ltb, cond, not, ◌&&◌, ◌||◌, List, [], ◌∷◌, ◌++◌, Option, Some, None, All, length, drop, reverse, slice_get, filter, refl, sym, ap, ◌∙◌, subst, arith}
+use Rattle.std.proofs.Common.{◌≡◌, ◌≢◌, inl, inr, ℕ, zero, suc, ◌+◌, ◌<◌, ◌≤◌, Bool, true, false, eqb, ltb, cond, not, ◌&&◌, ◌||◌, List, [], ◌∷◌, ◌++◌, Option, Some, None, All, length, map, drop, reverse, slice_get, filter, refl, sym, ap, ◌∙◌, subst, arith}
 use Rattle.std.specs.List.{range_with_len, filter_map, find, cons_option}
-use Rattle.std.proofs.lemmas.Bool.{cases_Bool, eqb-true, lt-ltb, eq-eqb}
+use Rattle.std.proofs.lemmas.Bool.{cases_Bool, cases_lt, eqb-true, lt-ltb, eq-eqb}
 use Rattle.std.proofs.lemmas.Bool.Decides.{eqb_tells}
 use Rattle.std.proofs.lemmas.List.{length_push, append_assoc, append-nil, drop-append-le, reverse-append, reverse-reverse}
 use Rattle.std.proofs.lemmas.List.Elements.{All-nil, All-cons, All-head, All-tail, All-weaker, All-from_get_or, filter_map-append, filter-append}
@@ -10,11 +10,16 @@ use Rattle.std.proofs.lemmas.List.Folds.{list_any-append}
 use Rattle.std.proofs.lemmas.List.FromFn.{get_or-range_with_len, length-range_with_len}
 use Rattle.std.specs.Option.{option_to_list, IfSome}
 use Rattle.moves.specs.Commands.{writes, touches}
-use Rattle.moves.specs.Fold.{Rises}
+use Rattle.moves.specs.Ages.{age}
+use Rattle.moves.specs.Fold.{Numbered, Rises}
 use Rattle.moves.specs.declared.command.Command.{Command}
 use Rattle.inverse_log.specs.declared.entry.Entry.{Entry}
 use Rattle.inverse_log.specs.declared.entry.Entry.TheVariants.{Did, Undid, Proposed}
-use Rattle.inverse_log.specs.Log.{Live, live, steps_of, undoes, is_undone, live_by, live_at, live_of, is_by, blocks, last_live, blocker_of}
+use Rattle.inverse_log.specs.Log.{Live, live, step_of, steps_of, undoes, is_undone, live_by, live_at, live_of, is_by, blocks, last_live, blocker_of}
+
+-- the live commands by the numbers of their entries
+abbrev pub numbers_of : List Live → List Numbered
+numbers_of E = map (λ (e : Live). (e.number, e.command)) E
 
 or_none : (b : Bool) → (b || false) ≡ b
 or_none true = refl
@@ -122,28 +127,28 @@ live_undid L c k = live_push L (Undid c k) ∙ rw (last_at L (Undid c k)) (appen
 live_number : (L : List Entry) (k : ℕ) → IfSome (live_at L k) (λ (p : Live). p.number ≡ k)
 live_number L k = live_by_number k (is_undone L k) (slice_get L k)
 
-rises_lower : (E : List Live) (a b high : ℕ) → a ≤ b → Rises b (steps_of E) high → Rises a (steps_of E) high
+rises_lower : (E : List Live) (a b high : ℕ) → a ≤ b → Rises b (numbers_of E) high → Rises a (numbers_of E) high
 rises_lower [] a b high h r = omega arith
 rises_lower (e ∷ E) a b high h r = (omega arith, r.1)
 
-rises_cons : (o : Option Live) (E : List Live) (a high : ℕ) → IfSome o (λ (p : Live). p.number ≡ a) → Rises (a + 1) (steps_of E) high → Rises a (steps_of (cons_option o E)) high
+rises_cons : (o : Option Live) (E : List Live) (a high : ℕ) → IfSome o (λ (p : Live). p.number ≡ a) → Rises (a + 1) (numbers_of E) high → Rises a (numbers_of (cons_option o E)) high
 rises_cons None E a high at r = rises_lower E a (a + 1) high (omega arith) r
 rises_cons (Some p) E a high at r = (omega arith, rises_lower E (p.number + 1) (a + 1) high (omega arith) r)
 
-rises_range : (f : ℕ → Option Live) (a n high : ℕ) → a + n ≡ high → ((k : ℕ) → IfSome (f k) (λ (p : Live). p.number ≡ k)) → Rises a (steps_of (filter_map f (range_with_len a n))) high
+rises_range : (f : ℕ → Option Live) (a n high : ℕ) → a + n ≡ high → ((k : ℕ) → IfSome (f k) (λ (p : Live). p.number ≡ k)) → Rises a (numbers_of (filter_map f (range_with_len a n))) high
 rises_range f a zero high h all = omega arith
 rises_range f a (suc n) high h all = rises_cons (f a) (filter_map f (range_with_len (a + 1) n)) a high (all a) (rises_range f (a + 1) n high (omega arith) all)
 
-pub rises_live : (L : List Entry) → Rises 0 (steps_of (live_of L)) (length L)
+pub rises_live : (L : List Entry) → Rises 0 (numbers_of (live_of L)) (length L)
 rises_live L = rises_range (live_at L) 0 (length L) (length L) (omega arith) (live_number L)
 
 -- the numbers before and after one
-pub rises_above : (E : List Live) (low high : ℕ) → Rises low (steps_of E) high → All (λ (p : Live). low ≤ p.number) E
+pub rises_above : (E : List Live) (low high : ℕ) → Rises low (numbers_of E) high → All (λ (p : Live). low ≤ p.number) E
 rises_above [] low high r = All-nil (λ (p : Live). low ≤ p.number)
 rises_above (e ∷ E) low high r =
     All-cons (λ (p : Live). low ≤ p.number) e E r.0 (All-weaker (λ (p : Live). e.number + 1 ≤ p.number) (λ (p : Live). low ≤ p.number) (λ p h. omega (arith, r.0)) E (rises_above E (e.number + 1) high r.1))
 
-pub rises_below : (E : List Live) (low high : ℕ) → Rises low (steps_of E) high → All (λ (p : Live). p.number < high) E × (low ≤ high)
+pub rises_below : (E : List Live) (low high : ℕ) → Rises low (numbers_of E) high → All (λ (p : Live). p.number < high) E × (low ≤ high)
 rises_below [] low high r = (All-nil (λ (p : Live). p.number < high), r)
 rises_below (e ∷ E) low high r =
     let rest = rises_below E (e.number + 1) high r.1 in
@@ -151,7 +156,7 @@ rises_below (e ∷ E) low high r =
     (All-cons (λ (p : Live). p.number < high) e E (omega arith) rest.0, omega (arith, r.0))
 
 -- each other command of a rising list has another number
-pub others_numbered : (E F : List Live) (g : Live) (low high : ℕ) → Rises low (steps_of (E ++ g ∷ F)) high → All (λ (p : Live). p.number ≢ g.number) (E ++ F)
+pub others_numbered : (E F : List Live) (g : Live) (low high : ℕ) → Rises low (numbers_of (E ++ g ∷ F)) high → All (λ (p : Live). p.number ≢ g.number) (E ++ F)
 others_numbered [] F g low high r = All-weaker (λ (p : Live). g.number + 1 ≤ p.number) (λ (p : Live). p.number ≢ g.number) (λ p h e. absurd (omega arith)) F (rises_above F (g.number + 1) high r.1)
 others_numbered (e ∷ E) F g low high r =
     let rest = others_numbered E F g (e.number + 1) high r.1 in
@@ -166,8 +171,8 @@ others_numbered (e ∷ E) F g low high r =
 without_number : (k : ℕ) (p : Live) → p.number ≢ k → not (eqb k p.number) ≡ true
 without_number k p h = elim (eqb_tells k p.number) [ inl g ↦ absurd (h (sym g.1)) | inr g ↦ rw g.0 refl ]
 
-pub rises_split : (L : List Entry) (E F : List Live) (g : Live) → live_of L ≡ E ++ g ∷ F → Rises 0 (steps_of (E ++ g ∷ F)) (length L)
-rises_split L E F g is = subst (λ X. Rises 0 (steps_of X) (length L)) is (rises_live L)
+pub rises_split : (L : List Entry) (E F : List Live) (g : Live) → live_of L ≡ E ++ g ∷ F → Rises 0 (numbers_of (E ++ g ∷ F)) (length L)
+rises_split L E F g is = subst (λ X. Rises 0 (numbers_of X) (length L)) is (rises_live L)
 
 pub live_without : (L : List Entry) (c : ℕ) (g : Live) (E F : List Live) → live_of L ≡ E ++ g ∷ F → live_of (L ++ Undid c g.number ∷ []) ≡ E ++ F
 live_without L c g E F is =
@@ -176,6 +181,20 @@ live_without L c g E F is =
     let out : q g ≡ false = rw (eq-eqb g.number g.number refl) refl in
     let middle : filter q (g ∷ F) ≡ filter q F = rw out refl in
     live_undid L c g.number ∙ ap (filter q) is ∙ filter-append q E (g ∷ F) ∙ ap (λ xs. filter q E ++ xs) middle ∙ sym (filter-append q E F) ∙ filter_every q (E ++ F) apart
+
+-- and so do their births
+lower : (E : List Numbered) (a b high : ℕ) → a ≤ b → Rises b E high → Rises a E high
+lower [] a b high h r = omega (arith, h, r)
+lower (e ∷ E) a b high h r = (omega (arith, h, r.0), r.1)
+
+pub rises_ages : (E : List Live) (low high : ℕ) → Rises low (numbers_of E) high → Rises (age low 0) (steps_of E) (age high 0)
+rises_ages [] low high r = let up : low ≤ high = r in omega arith
+rises_ages (e ∷ E) low high r =
+    let here : low ≤ e.number = r.0 in
+    (omega arith, lower (steps_of E) (age e.number 0 + 1) (age (e.number + 1) 0) (age high 0) (omega arith) (rises_ages E (e.number + 1) high r.1))
+
+pub rises_steps : (L : List Entry) (E : List Live) → live_of L ≡ E → Rises 0 (steps_of E) (age (length L) 0)
+rises_steps L E is = lower (steps_of E) 0 (age 0 0) (age (length L) 0) (omega arith) (rises_ages E 0 (length L) (subst (λ X. Rises 0 (numbers_of X) (length L)) is (rises_live L)))
 
 -- where `find` finds
 pub find_split : (q : Live → Bool) (xs : List Live) (e : Live) → find q xs ≡ Some e → (A : List Live) × (C : List Live) × (xs ≡ A ++ e ∷ C) × (q e ≡ true)
@@ -211,7 +230,7 @@ clear_after L g E F is none =
     let back : All (λ p. blocks g p ≡ false) F = All-back (λ p. blocks g p ≡ false) (g ∷ []) F (All-back (λ p. blocks g p ≡ false) E (g ∷ F) all) in
     both F back (above E 0 (rises_split L E F g is))
   where
-    above : (E : List Live) (low : ℕ) → Rises low (steps_of (E ++ g ∷ F)) (length L) → All (λ (p : Live). g.number + 1 ≤ p.number) F
+    above : (E : List Live) (low : ℕ) → Rises low (numbers_of (E ++ g ∷ F)) (length L) → All (λ (p : Live). g.number + 1 ≤ p.number) F
     above [] low r = rises_above F (g.number + 1) (length L) r.1
     above (e ∷ E) low r = above E (e.number + 1) r.1
 
@@ -236,7 +255,7 @@ All-more : (P : Live → Type 0) (o : Option Live) (E : List Live) → IfSome o 
 All-more P None E h all = all
 All-more P (Some p) E h all = All-cons P p E h all
 
-All-kept : (P : Live → Type 0) (f : ℕ → Option Live) (ks : List ℕ) → ((k : ℕ) → IfSome (f k) P) → All P (filter_map f ks)
+pub All-kept : (P : Live → Type 0) (f : ℕ → Option Live) (ks : List ℕ) → ((k : ℕ) → IfSome (f k) P) → All P (filter_map f ks)
 All-kept P f [] all = All-nil P
 All-kept P f (k ∷ ks) all = All-more P (f k) (filter_map f ks) (all k) (All-kept P f ks all)
 
@@ -250,3 +269,24 @@ live_there L g E F is =
 
 pub last_mine : (L : List Entry) (c : ℕ) (g : Live) → last_live L c ≡ Some g → g.client ≡ c
 last_mine L c g h = let s = find_split (is_by c) (reverse (live_of L)) g h in eqb-true g.client c s.3
+
+-- a live command stands among the live ones
+abbrev pub IsAmong : List Live → Live → Type 0
+IsAmong E g = (A : List Live) × (C : List Live) × (E ≡ A ++ g ∷ C)
+
+pub among_more : (o : Option Live) (E : List Live) (g : Live) → IsAmong E g → IsAmong (cons_option o E) g
+among_more None E g h = h
+among_more (Some p) E g h = (p ∷ h.0, h.1, ap (λ X. p ∷ X) h.2)
+
+among_range : (f : ℕ → Option Live) (a n k : ℕ) (g : Live) → a ≤ k → k < a + n → f k ≡ Some g → IsAmong (filter_map f (range_with_len a n)) g
+among_range f a zero k g low high at = absurd (omega arith)
+among_range f a (suc n) k g low high at = elim (cases_lt a k) [
+  | inl h ↦ among_more (f a) (filter_map f (range_with_len (a + 1) n)) g (among_range f (a + 1) n k g (omega arith) (omega arith) at)
+  | inr h ↦
+      let is : a ≡ k = omega arith in
+      let here : f a ≡ Some g = ap f is ∙ at in
+      ([], filter_map f (range_with_len (a + 1) n), ap (λ o. cons_option o (filter_map f (range_with_len (a + 1) n))) here)
+]
+
+pub among_live : (L : List Entry) (k : ℕ) (g : Live) → k < length L → live_at L k ≡ Some g → IsAmong (live_of L) g
+among_live L k g within at = among_range (live_at L) 0 (length L) k g (omega arith) (omega arith) at

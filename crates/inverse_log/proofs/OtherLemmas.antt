@@ -11,7 +11,7 @@ use Rattle.rapid_text.specs.Recording.{Recording}
 use Rattle.schedule.specs.Faults.{first_fault, IsFirstFault}
 use Rattle.schedule.specs.Reordering.{IsCorrectReordering}
 use Rattle.schedule.specs.Scheduled.{Scheduled}
-use Rattle.schedule.specs.Shows.{does_show}
+use Rattle.schedule.specs.Shows.{Shows as ShowsPair, does_show}
 use Rattle.schedule.proofs.CallerLemmas.{first_fault-correct, first_fault-is}
 use Rattle.moves.specs.declared.board.Proposal.{Proposal}
 use Rattle.moves.specs.declared.inverse.Step.{Step}
@@ -23,11 +23,12 @@ use Rattle.inverse_log.specs.declared.bench.Bench.TheInside.{Inside}
 use Rattle.inverse_log.specs.declared.call.Call.TheVariants.{Propose, Show, List as ListNames, Races}
 use Rattle.inverse_log.specs.declared.entry.Entry.{Entry}
 use Rattle.inverse_log.specs.declared.entry.Entry.TheVariants.{Proposed}
-use Rattle.inverse_log.specs.declared.refusal.Refusal.TheVariants.{Move, NotReordering, NotShown}
+use Rattle.inverse_log.specs.declared.refusal.Refusal.{Refusal}
+use Rattle.inverse_log.specs.declared.refusal.Refusal.TheVariants.{Move, NothingToUndo, RestsOn, NotReordering, NotShown, LogFull, OutOfMemory, NoSuchEntry, NotOwn, NotLive}
 use Rattle.inverse_log.specs.declared.reply.Reply.{Reply}
 use Rattle.inverse_log.specs.declared.reply.Reply.TheVariants.{Proposed as ProposedAs, Shown, Listing, Shows}
-use Rattle.inverse_log.specs.Answer.{answer_of, seen_or, proposed_or, may_want, IsLegal, goes_on}
-use Rattle.inverse_log.specs.Kept.{IsBench}
+use Rattle.inverse_log.specs.Answer.{answer_of, seen_or, proposed_or, may_want, Called, IsLegal, goes_on}
+use Rattle.inverse_log.specs.Kept.{IsBench, IsJudged}
 use Rattle.inverse_log.specs.Log.{board_of, is_by, is_edit, edits_of}
 use Rattle.inverse_log.specs.Pairs.{shown_pairs}
 use Rattle.inverse_log.specs.Touching.{touches_name}
@@ -35,6 +36,7 @@ use Rattle.inverse_log.proofs.DoLemmas.{after_ok, of_trace}
 use Rattle.inverse_log.proofs.Inner.{Keeps}
 use Rattle.inverse_log.proofs.KeptLemmas.{kept_rows, kept_proposed}
 use Rattle.inverse_log.proofs.LawLemmas.{proposal}
+use Rattle.inverse_log.proofs.SoundLemmas.{shown}
 use Rattle.inverse_log.proofs.TouchingLemmas.{numbers_proposed}
 
 -- a call that changes nothing
@@ -62,7 +64,7 @@ module _ (own : Inside) (b : Keeps own) where
   L = own.log.items
 
   abbrev W : Rows
-  W = own.workspace
+  W = own.rows.rows
 
   abbrev B : List Proposal
   B = own.board
@@ -95,8 +97,28 @@ module _ (own : Inside) (b : Keeps own) where
   pub propose_may : (n c x y : ℕ) (P : List ℕ) → n ≡ length L → n < 1000000 → may_want (answer_of T L c (Propose x y P)) ≡ true
   propose_may n c x y P is room = rw (lt-ltb (length L) 1000000 (omega (arith, room, is))) (may_propose T L x y P (first_fault T.events P))
 
+  -- a list that is judged a good one shows its pair
+  pub judged_shows : (J : Recording) (x y : ℕ) (P : List ℕ) (s : Scheduled) → J ≡ T → IsJudged J x y P (Ok s) → ShowsPair s.trace.events s.events x y
+  judged_shows J x y P s trace h =
+      let sound : IsCorrectReordering T.events P = subst (λ (X : Recording). IsCorrectReordering X.events P) trace h.2 in
+      let test : does_show T.events P x y ≡ true = subst (λ (X : Recording). does_show X.events P x y ≡ true) trace h.3 in
+      rw (h.0 ∙ trace, h.1) (shown T b.disciplined P x y sound test)
+
+  -- a list that is not is refused
+  pub propose_refused : (J : Recording) (n c x y : ℕ) (P : List ℕ) (why : Refusal) → J ≡ T → n ≡ length L → n < 1000000 → IsJudged J x y P (Err why) → Called T L c (Propose x y P) (Err why) L
+  propose_refused J n c x y P (NotReordering p) trace is room h = (propose_fault J n c x y p P trace is room h, refl)
+  propose_refused J n c x y P NotShown trace is room h = (propose_unshown J n c x y P trace is room h.0 h.1, refl)
+  propose_refused J n c x y P OutOfMemory trace is room h = (propose_may n c x y P is room, refl)
+  propose_refused J n c x y P (Move why) trace is room h = absurd h
+  propose_refused J n c x y P NothingToUndo trace is room h = absurd h
+  propose_refused J n c x y P (RestsOn k z) trace is room h = absurd h
+  propose_refused J n c x y P LogFull trace is room h = absurd h
+  propose_refused J n c x y P NoSuchEntry trace is room h = absurd h
+  propose_refused J n c x y P NotOwn trace is room h = absurd h
+  propose_refused J n c x y P NotLive trace is room h = absurd h
+
   pub proposed_bench : (M : List Entry) (J : Recording) (c x y : ℕ) (P : List ℕ) (s : Scheduled) (D : List Proposal) (later : List (Option Step)) → J ≡ T → length L < 1000000 → IsCorrectReordering J.events P → does_show J.events P x y ≡ true
-      → s.trace ≡ J → s.events ≡ P → D ≡ B ++ record { first = x; second = y; schedule = s } ∷ [] → later ≡ steps ++ None ∷ [] → M ≡ L ++ Proposed c x y P ∷ [] → 1 ≤ c → c ≤ 32 → IsBench T M W D later N C own.edits
+      → s.trace ≡ J → s.events ≡ P → D ≡ B ++ record { first = x; second = y; schedule = s } ∷ [] → later ≡ steps ++ None ∷ [] → M ≡ L ++ Proposed c x y P ∷ [] → 1 ≤ c → c ≤ 32 → IsBench T M W D later N C own.rows.edits
   proposed_bench M J c x y P s D later trace room sound shown of events board inv log low high =
       let copy : s ≡ record { trace = T; events = P } = λ i. record { trace = (of ∙ trace) i; events = events i } in
       let put : D ≡ B ++ proposal T x y P ∷ [] = board ∙ ap (λ q. B ++ record { first = x; second = y; schedule = q } ∷ []) copy in

@@ -19,7 +19,7 @@ use Rattle.moves.specs.Fold.{Numbered}
 use Rattle.moves.specs.Rows.{Rows, IsOfTrace, AreReorderings}
 use Rattle.moves.proofs.CallerLemmas.{Nothing, leads_kept, AreReorderings-nil}
 use Rattle.inverse_log.specs.declared.call.Call.{Call}
-use Rattle.inverse_log.specs.declared.call.Call.TheVariants.{Do, Undo, Propose, Show, List as ListNames, Races}
+use Rattle.inverse_log.specs.declared.call.Call.TheVariants.{Do, Undo, UndoAt, Propose, Show, List as ListNames, Races}
 use Rattle.inverse_log.specs.declared.entry.Entry.{Entry}
 use Rattle.inverse_log.specs.declared.entry.Entry.TheVariants.{Did, Undid, Proposed}
 use Rattle.inverse_log.specs.declared.refusal.Refusal.{Refusal}
@@ -45,7 +45,8 @@ module _ (T : Recording) (rules : IsDisciplined T.events) where
   abbrev pub AreSound : List Entry → Type 0
   AreSound L = All IsSound (board_of T L)
 
-  shown : (P : List ℕ) (a b : ℕ) → IsCorrectReordering T.events P → does_show T.events P a b ≡ true → Shows T.events P a b
+  -- a list that passes the test shows the pair
+  pub shown : (P : List ℕ) (a b : ℕ) → IsCorrectReordering T.events P → does_show T.events P a b ≡ true → Shows T.events P a b
   shown P a b is h =
       let both = and_parts (is_conflict T.events a b) _ h in
       let ready = and_parts (is_ready T.events P a) (is_ready T.events P b) both.1 in
@@ -66,6 +67,14 @@ module _ (T : Recording) (rules : IsDisciplined T.events) where
   sound_undo L c (Listing names) all = same L all
   sound_undo L c (ShowsPairs pairs) all = same L all
 
+  sound_undo_at : (L : List Entry) (c j : ℕ) (reply : Reply) → AreSound L → AreSound (L ++ entry_of c (UndoAt j) reply)
+  sound_undo_at L c j (Undone n k) all = rw (board_undid T L c k) all
+  sound_undo_at L c j (Done n) all = same L all
+  sound_undo_at L c j (ProposedAs n p) all = same L all
+  sound_undo_at L c j (Shown P) all = same L all
+  sound_undo_at L c j (Listing names) all = same L all
+  sound_undo_at L c j (ShowsPairs pairs) all = same L all
+
   sound_proposed : (L : List Entry) (c a b : ℕ) (P : List ℕ) (o : Option ℕ) → first_fault T.events P ≡ o → AreSound L → AreSound (L ++ logged c (Propose a b P) (proposed_or T L a b P o))
   sound_proposed L c a b P (Some p) fault all = same L all
   sound_proposed L c a b P None fault all = elim (cases_Bool (does_show T.events P a b)) [
@@ -85,6 +94,7 @@ module _ (T : Recording) (rules : IsDisciplined T.events) where
   sound_logged L c call (Err why) is all = same L all
   sound_logged L c (Do d) (Ok reply) is all = rw (board_did T L c d) all
   sound_logged L c Undo (Ok reply) is all = sound_undo L c reply all
+  sound_logged L c (UndoAt j) (Ok reply) is all = sound_undo_at L c j reply all
   sound_logged L c (Propose a b P) (Ok reply) is all =
       subst (λ r. AreSound (L ++ logged c (Propose a b P) r)) is (sound_limited L c (Propose a b P) (proposed_or T L a b P (first_fault T.events P)) all (sound_proposed L c a b P (first_fault T.events P) refl all))
   sound_logged L c (Show x) (Ok reply) is all = same L all

@@ -1,42 +1,63 @@
 -- What a call is answered after a log, and the log after it. All notions here are this project's own. `T` is
 -- the trace, `L` is the log.
-use Rattle.std.specs.Prelude.{◌≡◌, ◌⊎◌, ◌≤◌, ℕ, Bool, true, false, List, [], ◌∷◌, ◌++◌, Option, Some, None, Result, Ok, Err, All, length, nat_lt, if◌then◌else◌}
+use Rattle.std.specs.Prelude.{◌≡◌, ◌⊎◌, ◌≤◌, ℕ, Bool, true, false, List, [], ◌∷◌, ◌++◌, Option, Some, None, Result, Ok, Err, All, length, nat_lt, slice_get, if◌then◌else◌}
 use Rattle.rapid_text.specs.Recording.{Recording}
 use Rattle.schedule.specs.Faults.{first_fault}
 use Rattle.schedule.specs.Shows.{does_show}
 use Rattle.moves.specs.declared.refusal.MoveRefusal.{MoveRefusal}
 use Rattle.moves.specs.declared.refusal.MoveRefusal.TheVariants.{NoSuchSchedule}
 use Rattle.moves.specs.Commands.{writes}
+use Rattle.moves.specs.declared.command.Command.{Command}
+use Rattle.moves.specs.Ages.{age}
 use Rattle.moves.specs.Moves.{made_at}
 use Rattle.moves.specs.declared.row.Row.{Row}
 use Rattle.moves.specs.Rows.{row_of, names_of}
 use Rattle.inverse_log.specs.declared.call.Call.{Call}
-use Rattle.inverse_log.specs.declared.call.Call.TheVariants.{Do, Undo, Propose, Show, List as ListNames, Races}
+use Rattle.inverse_log.specs.declared.call.Call.TheVariants.{Do, Undo, UndoAt, Propose, Show, List as ListNames, Races}
 use Rattle.inverse_log.specs.declared.entry.Entry.{Entry}
 use Rattle.inverse_log.specs.declared.entry.Entry.TheVariants.{Did, Undid, Proposed}
 use Rattle.inverse_log.specs.declared.refusal.Refusal.{Refusal}
-use Rattle.inverse_log.specs.declared.refusal.Refusal.TheVariants.{Move, NothingToUndo, RestsOn, NotReordering, NotShown, LogFull, OutOfMemory}
+use Rattle.inverse_log.specs.declared.refusal.Refusal.TheVariants.{Move, NothingToUndo, RestsOn, NotReordering, NotShown, LogFull, OutOfMemory, NoSuchEntry, NotOwn, NotLive}
 use Rattle.inverse_log.specs.declared.reply.Reply.{Reply}
 use Rattle.inverse_log.specs.declared.reply.Reply.TheVariants.{Done, Undone, Proposed as ProposedAs, Shown, Listing, Shows}
-use Rattle.inverse_log.specs.Log.{Live, client_of, board_of, rows_of, last_live, blocker_of}
+use Rattle.inverse_log.specs.Log.{Live, client_of, live_at, own_command_of, board_of, rows_of, last_live, blocker_of}
 use Rattle.inverse_log.specs.Pairs.{shown_pairs}
 
 -- A call that would add an entry is refused first of all where the log holds 1,000,000.
 abbrev pub limited : List Entry → Result Reply Refusal → Result Reply Refusal
 limited L answer = if nat_lt (length L) 1000000 then answer else Err LogFull
 
+-- the answer to a command, by what it makes of its row
 abbrev pub done_or : ℕ → Result (Option Row) MoveRefusal → Result Reply Refusal
 done_or n (Ok o) = Ok (Done n)
 done_or n (Err why) = Err (Move why)
 
+-- the answer to an undo of e, by what blocks it
 abbrev pub undone_or : ℕ → Live → Option Live → Result Reply Refusal
 undone_or n e None = Ok (Undone n e.number)
 undone_or n e (Some b) = Err (RestsOn b.number (writes e.command))
 
+-- an undo of the client's greatest live command
 abbrev pub undo_or : List Entry → Option Live → Result Reply Refusal
 undo_or L None = Err NothingToUndo
 undo_or L (Some e) = undone_or (length L) e (blocker_of L e)
 
+-- an undo by number: of what is live there, where anything is
+abbrev pub undo_live_or : List Entry → Option Live → Result Reply Refusal
+undo_live_or L None = Err NotLive
+undo_live_or L (Some e) = undone_or (length L) e (blocker_of L e)
+
+-- and before that of the client's command there, where there is one
+abbrev pub undo_own_or : List Entry → ℕ → Option Command → Result Reply Refusal
+undo_own_or L k None = Err NotOwn
+undo_own_or L k (Some d) = undo_live_or L (live_at L k)
+
+-- and before that of the entry there, where there is one
+abbrev pub undo_at_or : List Entry → ℕ → ℕ → Option Entry → Result Reply Refusal
+undo_at_or L c k None = Err NoSuchEntry
+undo_at_or L c k (Some e) = undo_own_or L k (own_command_of c (Some e))
+
+-- the answer to a proposal, by the first place at which its list is no correct reordering
 abbrev pub proposed_or : Recording → List Entry → ℕ → ℕ → List ℕ → Option ℕ → Result Reply Refusal
 proposed_or T L a b P None =
     if does_show T.events P a b then Ok (ProposedAs (length L) (length (board_of T L))) else Err NotShown
@@ -49,8 +70,9 @@ seen_or look (Some r) = Ok (look r)
 
 -- what the client's call is answered, where there is memory
 abbrev pub answer_of : Recording → List Entry → ℕ → Call → Result Reply Refusal
-answer_of T L c (Do d) = limited L (done_or (length L) (made_at T (board_of T L) (length L) d (rows_of T L)))
+answer_of T L c (Do d) = limited L (done_or (length L) (made_at T (board_of T L) (age (length L) 0) d (rows_of T L)))
 answer_of T L c Undo = limited L (undo_or L (last_live L c))
+answer_of T L c (UndoAt k) = limited L (undo_at_or L c k (slice_get L k))
 answer_of T L c (Propose a b P) = limited L (proposed_or T L a b P (first_fault T.events P))
 answer_of T L c (Show x) = seen_or (λ r. Shown r.schedule.events) (row_of (rows_of T L) x)
 answer_of T L c ListNames = Ok (Listing (names_of (rows_of T L)))
@@ -60,9 +82,11 @@ answer_of T L c (Races x) = seen_or (λ r. Shows (shown_pairs T.events r.schedul
 abbrev pub entry_of : ℕ → Call → Reply → List Entry
 entry_of c (Do d) reply = Did c d ∷ []
 entry_of c Undo (Undone n k) = Undid c k ∷ []
+entry_of c (UndoAt j) (Undone n k) = Undid c k ∷ []
 entry_of c (Propose a b P) reply = Proposed c a b P ∷ []
 entry_of c call reply = []
 
+-- the entry that the answer adds to the log, if it adds one
 abbrev pub logged : ℕ → Call → Result Reply Refusal → List Entry
 logged c call (Ok reply) = entry_of c call reply
 logged c call (Err why) = []

@@ -2,6 +2,7 @@
 use Rattle.std.specs.Prelude.{◌≡◌, ◌≢◌, ◌↔◌, ℕ, ◌+◌, ◌<◌, ◌≤◌, true, List, [], ◌∷◌, ◌++◌, Option, Some, Result, Ok, Err, All, Contains, length}
 use Rattle.rapid_text.specs.Recording.{Recording}
 use Rattle.trace_rules.specs.Rules.{IsDisciplined}
+use Rattle.schedule.specs.Faults.{IsFirstFault}
 use Rattle.schedule.specs.Reordering.{IsCorrectReordering}
 use Rattle.schedule.specs.Shows.{Shows}
 use Rattle.moves.specs.declared.board.Proposal.{Proposal}
@@ -11,14 +12,15 @@ use Rattle.moves.specs.Fold.{fold_of}
 use Rattle.moves.specs.Moves.{applied}
 use Rattle.moves.specs.Rows.{Rows, IsListing, AreReorderings}
 use Rattle.inverse_log.specs.declared.call.Call.{Call}
-use Rattle.inverse_log.specs.declared.call.Call.TheVariants.{Do, Undo}
+use Rattle.inverse_log.specs.declared.call.Call.TheVariants.{Do, Undo, UndoAt, Propose}
 use Rattle.inverse_log.specs.declared.entry.Entry.{Entry}
+use Rattle.inverse_log.specs.declared.entry.Entry.TheVariants.{Undid}
 use Rattle.inverse_log.specs.declared.refusal.Refusal.{Refusal}
-use Rattle.inverse_log.specs.declared.refusal.Refusal.TheVariants.{RestsOn}
+use Rattle.inverse_log.specs.declared.refusal.Refusal.TheVariants.{RestsOn, NotReordering, NotShown}
 use Rattle.inverse_log.specs.declared.reply.Reply.{Reply}
-use Rattle.inverse_log.specs.declared.reply.Reply.TheVariants.{Done, Undone}
+use Rattle.inverse_log.specs.declared.reply.Reply.TheVariants.{Done, Undone, Proposed}
 use Rattle.inverse_log.specs.Answer.{answer_of, log_after, IsLegal, Called, IsAlone}
-use Rattle.inverse_log.specs.Log.{Live, steps_of, live_of, board_of, rows_of, last_live, edits_of}
+use Rattle.inverse_log.specs.Log.{Live, steps_of, live_of, live_at, board_of, rows_of, last_live, edits_of}
 
 -- The rows are what the live commands, in their order, make of the empty workspace; no command is refused
 -- there. Names differ and births rise, and each row's list is a correct reordering of the trace.
@@ -63,6 +65,25 @@ UndoIsRefusedExactly =
     → ((k : ℕ) (x : List ℕ) → (answer_of T L c Undo ≡ Err (RestsOn k x)) ↔ ((x ≡ writes e.command) × IsLeastBlocker L e k))
     × ((answer_of T L c Undo ≡ Ok (Undone (length L) e.number)) ↔ All (λ (b : Live). ¬ Blocks e b) (live_of L))
 
+-- An undo by number takes back the client's live command e of that number, whenever it was made, with the same
+-- refusals.
+abbrev pub UndoAtIsRefusedExactly : Type 0
+UndoAtIsRefusedExactly =
+    (T : Recording) (L : List Entry) (c k : ℕ) (e : Live)
+    → length L < 1000000
+    → live_at L k ≡ Some e
+    → e.client ≡ c
+    → ((j : ℕ) (x : List ℕ) → (answer_of T L c (UndoAt k) ≡ Err (RestsOn j x)) ↔ ((x ≡ writes e.command) × IsLeastBlocker L e j))
+    × ((answer_of T L c (UndoAt k) ≡ Ok (Undone (length L) k)) ↔ All (λ (b : Live). ¬ Blocks e b) (live_of L))
+
+-- An undo by the number of the client's latest live command is the undo without a number: so what is said of an undo
+-- directly after its command holds of both.
+abbrev pub UndoAtOfLatestIsUndo : Type 0
+UndoAtOfLatestIsUndo =
+    (T : Recording) (L : List Entry) (c : ℕ) (e : Live)
+    → last_live L c ≡ Some e
+    → (answer_of T L c (UndoAt e.number) ≡ answer_of T L c Undo) × (log_after T L c (UndoAt e.number) ≡ log_after T L c Undo)
+
 -- An undo directly after its command is answered Undone, where the log has room, and the rows are again those
 -- before the command.
 abbrev pub UndoDirectlyRestores : Type 0
@@ -73,6 +94,25 @@ UndoDirectlyRestores =
     → Called T L c (Do d) (Ok (Done n)) M
     → n + 1 < 1000000
     → (answer_of T M c Undo ≡ Ok (Undone (n + 1) n)) × (rows_of T (log_after T M c Undo) ≡ rows_of T L)
+
+-- Where a legal log ends with an undo of the entry before it, the rows are those of the log before both.
+abbrev pub UndoOfTheLastRestores : Type 0
+UndoOfTheLastRestores =
+    (T : Recording) (L : List Entry) (e : Entry) (c : ℕ)
+    → IsLegal T (L ++ e ∷ Undid c (length L) ∷ [])
+    → rows_of T (L ++ e ∷ Undid c (length L) ∷ []) ≡ rows_of T L
+
+-- A proposal is refused at place p exactly where p is the first place up to which its list is no correct reordering, that place
+-- included; as not shown exactly where the list is one and does not show the pair; and is put on the board exactly where the list
+-- is one and does.
+abbrev pub ProposalsAreJudgedExactly : Type 0
+ProposalsAreJudgedExactly =
+    (T : Recording) (L : List Entry) (c a b : ℕ) (P : List ℕ)
+    → IsDisciplined T.events
+    → length L < 1000000
+    → ((p : ℕ) → (answer_of T L c (Propose a b P) ≡ Err (NotReordering p)) ↔ IsFirstFault T.events P p)
+    × ((answer_of T L c (Propose a b P) ≡ Err NotShown) ↔ (IsCorrectReordering T.events P × ¬ Shows T.events P a b))
+    × ((answer_of T L c (Propose a b P) ≡ Ok (Proposed (length L) (length (board_of T L)))) ↔ (IsCorrectReordering T.events P × Shows T.events P a b))
 
 -- a client whose entries alone stand in the log is never told that its command rests under another
 abbrev pub OneClientIsNeverBlocked : Type 0

@@ -1,29 +1,61 @@
 -- What a bench keeps: its rows, board, steps back and lists are those of its log. No public clause cites this
 -- module. `T` is the trace, `L` is the log.
-use Rattle.std.specs.Prelude.{◌≡◌, ℕ, List, [], ◌∷◌, ◌++◌, Option, Some, None, length, slice_get}
+use Rattle.std.specs.Prelude.{◌≡◌, ℕ, true, false, List, [], ◌∷◌, ◌++◌, Option, Some, None, Result, Ok, Err, IsOk, length, slice_get}
 use Rattle.rapid_text.specs.Recording.{Recording}
 use Rattle.trace_rules.specs.Rules.{IsDisciplined}
+use Rattle.schedule.specs.Faults.{IsFirstFault}
+use Rattle.schedule.specs.Reordering.{IsCorrectReordering}
+use Rattle.schedule.specs.Scheduled.{Scheduled}
+use Rattle.schedule.specs.Shows.{does_show}
 use Rattle.moves.specs.declared.board.Proposal.{Proposal}
 use Rattle.moves.specs.declared.inverse.Step.{Step}
 use Rattle.moves.specs.declared.row.Row.{Row}
 use Rattle.moves.specs.Fold.{Numbered, Leads}
-use Rattle.moves.specs.Inverses.{Fits}
+use Rattle.moves.specs.Ages.{age}
+use Rattle.moves.specs.Inverses.{Fits, IsStepOf}
 use Rattle.moves.specs.Rows.{Rows}
 use Rattle.dependence.specs.Lists.{Lists, under, of_client}
 use Rattle.inverse_log.specs.declared.entry.Entry.{Entry}
-use Rattle.inverse_log.specs.Answer.{IsLegal}
+use Rattle.inverse_log.specs.declared.entry.Entry.TheVariants.{Undid}
+use Rattle.inverse_log.specs.declared.refusal.Refusal.{Refusal}
+use Rattle.inverse_log.specs.declared.refusal.Refusal.TheVariants.{OutOfMemory, NotReordering, NotShown}
+use Rattle.inverse_log.specs.declared.reply.Reply.{Reply}
+use Rattle.inverse_log.specs.Answer.{undone_or, IsLegal}
 use Rattle.inverse_log.specs.Log.{Live, live_of, steps_of, board_of, blocker_of, edits_of}
 use Rattle.inverse_log.specs.Touching.{touching, own_live}
 
 -- the step that is kept for a command fits the row that it writes, as it was before it and after it
-abbrev pub HasStep : List (Option Step) → Numbered → Option Row → Option Row → Type 0
-HasStep steps e before after = (s : Step) × (slice_get steps e.0 ≡ Some (Some s)) × Fits s before after
+abbrev pub HasStep : Recording → List (Option Step) → Numbered → Option Row → Option Row → Type 0
+HasStep T steps e before after =
+    (k : ℕ) × (e.0 ≡ age k 0) × (s : Step) × (slice_get steps k ≡ Some (Some s)) × Fits s before after × IsStepOf T s
 
 pub record IsKept (T : Recording) (L : List Entry) (W : Rows) (B : List Proposal) (steps : List (Option Step)) : Type 0 where
   -- the rows are the fold of the live commands, and each one's step back fits at its own place
-  pub rows : Leads T (board_of T L) (HasStep steps) [] (steps_of (live_of L)) W
+  pub rows : Leads T (board_of T L) (HasStep T steps) [] (steps_of (live_of L)) W
   pub board : B ≡ board_of T L
   pub long : length steps ≡ length L
+
+-- e is live
+pub record IsLive (L : List Entry) (e : Live) : Type 0 where
+  pub earlier : List Live
+  pub later : List Live
+  pub split : live_of L ≡ earlier ++ e ∷ later
+
+-- What an undo of the live command e is answered, and the log that it leaves.
+abbrev pub IsUndone : List Entry → ℕ → Live → Result Reply Refusal → List Entry → Type 0
+IsUndone L c e (Ok reply) M = (undone_or (length L) e (blocker_of L e) ≡ Ok reply) × (M ≡ L ++ Undid c e.number ∷ [])
+IsUndone L c e (Err OutOfMemory) M = IsOk (undone_or (length L) e (blocker_of L e)) × (M ≡ L)
+IsUndone L c e (Err why) M = (undone_or (length L) e (blocker_of L e) ≡ Err why) × (M ≡ L)
+
+-- What the judge of a proposed list says: its schedule, where it is a correct reordering that shows the pair; else the first place
+-- at which it is none, or that it does not show the pair; or want of memory.
+abbrev pub IsJudged : Recording → ℕ → ℕ → List ℕ → Result Scheduled Refusal → Type 0
+IsJudged T a b P (Ok s) =
+    (s.trace ≡ T) × (s.events ≡ P) × IsCorrectReordering T.events P × (does_show T.events P a b ≡ true)
+IsJudged T a b P (Err (NotReordering p)) = IsFirstFault T.events P p
+IsJudged T a b P (Err NotShown) = IsCorrectReordering T.events P × (does_show T.events P a b ≡ false)
+IsJudged T a b P (Err OutOfMemory) = Unit {0}
+IsJudged T a b P (Err why) = ⊥
 
 -- e is live, and none blocks it
 pub record IsUnblocked (L : List Entry) (e : Live) : Type 0 where

@@ -1,4 +1,5 @@
 pub mod Answer
+pub mod Counted
 pub mod Headline
 pub mod Kept
 pub mod Log

@@ -6,6 +6,7 @@ use Rattle.rapid_text.specs.Recording.{Recording}
 use Rattle.moves.specs.declared.command.Command.{Command}
 use Rattle.moves.specs.declared.board.Proposal.{Proposal}
 use Rattle.moves.specs.Commands.{writes, touches}
+use Rattle.moves.specs.Ages.{age}
 use Rattle.moves.specs.Fold.{Numbered, fold_of}
 use Rattle.moves.specs.Rows.{Rows}
 use Rattle.inverse_log.specs.declared.entry.Entry.{Entry}
@@ -56,9 +57,9 @@ live_at L k = live_by k (is_undone L k) (slice_get L k)
 abbrev pub live_of : List Entry → List Live
 live_of L = filter_map (live_at L) (range_with_len 0 (length L))
 
--- the live commands as the workspace takes them, each with its number as birth
+-- the live commands as the workspace takes them, each with the birth of its entry's first place
 abbrev pub step_of : Live → Numbered
-step_of e = (e.number, e.command)
+step_of e = (age e.number 0, e.command)
 
 abbrev pub steps_of : List Live → List Numbered
 steps_of E = map step_of E
@@ -72,8 +73,8 @@ proposal_of T e = None
 abbrev pub board_of : Recording → List Entry → List Proposal
 board_of T L = filter_map (proposal_of T) L
 
--- The rows: what the live commands make of the empty workspace, in their order, each with its own number
--- as birth. That none of them is refused there is a law of legal logs.
+-- The rows: what the live commands make of the empty workspace, in their order, each with the birth
+-- of its entry. That none of them is refused there is a law of legal logs.
 abbrev pub rows_of : Recording → List Entry → Rows
 rows_of T L = unwrap_or (fold_of T (board_of T L) (steps_of (live_of L))) []
 
@@ -99,6 +100,15 @@ is_edit e = true
 -- how often a row was changed, put in, taken out or replaced: once for each entry that does or undoes
 abbrev pub edits_of : List Entry → ℕ
 edits_of L = length (filter is_edit L)
+
+abbrev pub owned : Bool → Command → Option Command
+owned true d = Some d
+owned false d = None
+
+-- the command of an entry of this client that did one
+abbrev pub own_command_of : ℕ → Option Entry → Option Command
+own_command_of c (Some (Did a d)) = owned (a == c) d
+own_command_of c e = None
 
 -- the command of an entry that did one
 abbrev pub command_of : Option Entry → Option Command

@@ -1,18 +1,20 @@
 //! The bench: a workspace and its board, and the log of what clients did to them.
-ghost use Rattle.std.specs.Prelude.{◌≡◌, ◌<◌, ◌≤◌, ◌++◌, ◌∷◌, [], All, length, slice_get, Some, OnOk, OnErr, IfOk, IfErr};
+ghost use Rattle.std.specs.Prelude.{◌≡◌, ◌<◌, ◌≤◌, ◌++◌, ◌∷◌, [], All, length, slice_get, Some, None, OnOk, OnErr, IfOk, IfErr};
 ghost use Rattle.std.specs.Arc.{arc_value};
 ghost use Rattle.inverse_log.specs.Answer.{Called, IsLegal};
-ghost use Rattle.inverse_log.specs.Kept.{IsUnblocked};
+ghost use Rattle.inverse_log.specs.Kept.{IsLive, IsUnblocked, IsUndone};
 ghost use Rattle.inverse_log.specs.Headline.{IsFoldOfLive, IsSound};
-ghost use Rattle.inverse_log.specs.Log.{live, board_of, edits_of};
+ghost use Rattle.inverse_log.specs.Log.{live, blocker_of, board_of, edits_of};
 
 use crate::call::Call;
+use crate::counted::Counted;
 use crate::entry::Entry;
 use crate::kept::{Kept, Spare};
 use crate::parts::{
-    add_entry, add_no_step, add_step, apply, command_at, copied, enter, leave, make_room, put_back,
-    take_out, turn_back,
+    add_entry, add_no_step, add_step, command_at, copied, enter, leave, make_room, own_command_at,
+    put_back, take_out,
 };
+use crate::proposals::judge;
 use crate::races::shown_pairs;
 use crate::refusal::Refusal;
 use crate::reply::Reply;
@@ -20,7 +22,6 @@ use dependence::{Clients, Touches};
 use event_index::Indexed;
 use moves::{Board, Command, Inverse, MoveRefusal, Name, Workspace};
 use rapid_text::{OutOfMemory, TextKeyed};
-use schedule::{ListRefusal, Schedule};
 use std::alloc::Global;
 use std::marker::Model;
 use std::sync::Arc;
@@ -34,7 +35,7 @@ const MAX_ENTRIES: u64 = 1_000_000;
 pub struct Bench {
     alloc: Global,
     indexed: Arc<Indexed, Global>,
-    workspace: Workspace,
+    rows: Counted,
     board: Board,
     log: Vec<Entry>,
     // for each entry what takes it back, where it is a command that was not undone
@@ -43,7 +44,6 @@ pub struct Bench {
     spare: Spare,
     touches: Touches,
     clients: Clients,
-    edits: u64,
 }
 
 impl Model for Bench {
@@ -56,7 +56,7 @@ impl Model for Bench {
     ghost view = { λ b. record { trace = arc_value b.indexed; log = b.log.items } };
 
     ghost invariant = { λ b.
-        IsBench (arc_value b.indexed) b.log.items b.workspace b.board b.steps.items b.touches b.clients b.edits };
+        IsBench (arc_value b.indexed) b.log.items b.rows.rows b.board b.steps.items b.touches b.clients b.rows.edits };
 }
 
 impl Bench {
@@ -85,26 +85,19 @@ impl Bench {
         ensures returned { IfErr result (λ refused. arc_value refused.0 ≡ arc_value indexed) }
     {
         let _ = indexed.len();
-        let Ok(workspace) = Workspace::keyed(alloc, hashers) else {
-            return Err((indexed, OutOfMemory));
-        };
-        let Ok(touches) = Touches::keyed(alloc, hashers) else {
-            return Err((indexed, OutOfMemory));
-        };
         let Ok(clients) = Clients::empty(alloc) else {
             return Err((indexed, OutOfMemory));
         };
         Ok(Bench {
             alloc,
             indexed,
-            workspace,
+            rows: Counted::new(Workspace::keyed(alloc, hashers)),
             board: Board::empty(alloc),
             log: Vec::new(alloc),
             steps: Vec::new(alloc),
             spare: None,
-            touches,
+            touches: Touches::keyed(alloc, hashers),
             clients,
-            edits: 0,
         })
     }
 
@@ -137,14 +130,14 @@ impl Bench {
     pub fn edits(&self) -> u64
         ensures { result ≡ edits_of self.now.log }
     {
-        self.edits
+        self.rows.edits()
     }
 
     /// The workspace: what the commands that were not undone make of the empty one, in their order.
     pub fn workspace(&self) -> &Workspace
         ensures { IsFoldOfLive self.now.trace self.now.log result.now }
     {
-        &self.workspace
+        self.rows.workspace()
     }
 
     /// The proposals, in the order in which they came.
@@ -165,6 +158,7 @@ impl Bench {
         match call {
             Call::Do(command) => self.perform(client, command),
             Call::Undo => self.undo(client),
+            Call::UndoAt { entry } => self.undo_at(client, *entry),
             Call::Propose {
                 first,
                 second,
@@ -186,7 +180,11 @@ impl Bench {
         if number >= MAX_ENTRIES {
             return Err(Refusal::LogFull);
         }
-        if let Err(why) = self.workspace.check(&self.indexed, &self.board, command) {
+        if let Err(why) = self
+            .rows
+            .workspace()
+            .check(&self.indexed, &self.board, command)
+        {
             return Err(Refusal::Move(why));
         }
         let Ok(()) = make_room(self.alloc, &mut self.log, &mut self.steps, &mut self.spare) else {
@@ -201,14 +199,7 @@ impl Bench {
         ) else {
             return Err(Refusal::OutOfMemory);
         };
-        let Ok(inverse) = apply(
-            &mut self.workspace,
-            &mut self.edits,
-            &self.indexed,
-            &self.board,
-            number,
-            command,
-        ) else {
+        let Ok(inverse) = self.rows.apply(&self.indexed, &self.board, number, command) else {
             leave(
                 &mut self.touches,
                 &mut self.clients,
@@ -245,6 +236,42 @@ impl Bench {
         let Some(command) = command_at(&self.log, entry) else {
             return Err(Refusal::NothingToUndo);
         };
+        self.undo_live(client, entry, &command)
+    }
+
+    fn undo_at(&mut self, client: u32, entry: u64) -> Result<Reply, Refusal>
+        requires low { 1 ≤ client }
+        requires high { client ≤ 32 }
+        ensures trace { self.new.trace ≡ self.old.trace }
+        ensures call { Called self.old.trace self.old.log client (Call.UndoAt entry) result self.new.log }
+    {
+        let number = self.log.len() as u64;
+        if number >= MAX_ENTRIES {
+            return Err(Refusal::LogFull);
+        }
+        if entry >= number {
+            return Err(Refusal::NoSuchEntry);
+        }
+        let Some(command) = own_command_at(&self.log, client, entry) else {
+            return Err(Refusal::NotOwn);
+        };
+        if !self.clients.contains(client, entry) {
+            return Err(Refusal::NotLive);
+        }
+        self.undo_live(client, entry, &command)
+    }
+
+    // Takes back a client's live command, or tells what blocks it.
+    fn undo_live(&mut self, client: u32, entry: u64, command: &Command) -> Result<Reply, Refusal>
+        requires client { client ≤ 32 }
+        requires room { length self.old.log < 1000000 }
+        requires live { IsLive self.old.log (live entry client command.now) }
+        requires legal { blocker_of self.old.log (live entry client command.now) ≡ None
+            → IsLegal self.old.trace (self.old.log ++ Entry.Undid client entry ∷ []) }
+        ensures trace { self.new.trace ≡ self.old.trace }
+        ensures undone { IsUndone self.old.log client (live entry client command.now) result self.new.log }
+    {
+        let number = self.log.len() as u64;
         let name = command.writes();
         if let Some(blocker) = self.touches.first_after(entry, &name) {
             return Err(Refusal::RestsOn {
@@ -252,7 +279,7 @@ impl Bench {
                 name,
             });
         }
-        let Ok(()) = self.take_back(client, entry, &command) else {
+        let Ok(()) = self.take_back(client, entry, command) else {
             return Err(Refusal::OutOfMemory);
         };
         Ok(Reply::Undone { number, entry })
@@ -276,8 +303,7 @@ impl Bench {
         };
         let name = command.writes();
         let inverse = Inverse { name, step };
-        let Err(step) = turn_back(&mut self.workspace, &mut self.edits, &self.indexed, inverse)
-        else {
+        let Err(step) = self.rows.take_back(&self.indexed, inverse) else {
             leave(&mut self.touches, &mut self.clients, client, command, entry);
             add_no_step(&mut self.steps);
             add_entry(&mut self.log, Entry::Undid { client, entry });
@@ -303,16 +329,10 @@ impl Bench {
         if number >= MAX_ENTRIES {
             return Err(Refusal::LogFull);
         }
-        let schedule = match Schedule::from_list(self.alloc, &self.indexed, events) {
+        let schedule = match judge(self.alloc, &self.indexed, first, second, events) {
             Ok(schedule) => schedule,
-            Err(ListRefusal::NotReordering { position, cause: _ }) => {
-                return Err(Refusal::NotReordering { position });
-            }
-            Err(ListRefusal::OutOfMemory) => return Err(Refusal::OutOfMemory),
+            Err(why) => return Err(why),
         };
-        if !schedule.shows(&self.indexed, first, second) {
-            return Err(Refusal::NotShown);
-        }
         let Ok(events) = copied(self.alloc, events) else {
             return Err(Refusal::OutOfMemory);
         };
@@ -340,7 +360,7 @@ impl Bench {
         ensures { Called self.now.trace self.now.log client (Call.Show name.now) result self.now.log }
     {
         let _ = client;
-        let Some(schedule) = self.workspace.get(name) else {
+        let Some(schedule) = self.rows.workspace().get(name) else {
             return Err(Refusal::Move(MoveRefusal::NoSuchSchedule));
         };
         let Ok(events) = copied(self.alloc, schedule.events()) else {
@@ -353,7 +373,7 @@ impl Bench {
         ensures { Called self.now.trace self.now.log client Call.List result self.now.log }
     {
         let _ = client;
-        let Ok(names) = self.workspace.names(self.alloc) else {
+        let Ok(names) = self.rows.workspace().names(self.alloc) else {
             return Err(Refusal::OutOfMemory);
         };
         Ok(Reply::Listing(names))
@@ -363,7 +383,7 @@ impl Bench {
         ensures { Called self.now.trace self.now.log client (Call.Races name.now) result self.now.log }
     {
         let _ = client;
-        let Some(schedule) = self.workspace.get(name) else {
+        let Some(schedule) = self.rows.workspace().get(name) else {
             return Err(Refusal::Move(MoveRefusal::NoSuchSchedule));
         };
         let Ok(pairs) = shown_pairs(self.alloc, &self.indexed, schedule) else {

@@ -10,6 +10,11 @@ pub enum Call {
     Do(Command),
     /// The client's latest command that was not undone is taken back.
     Undo,
+    /// The client's command of this entry, if it was not undone, is taken back.
+    UndoAt {
+        /// The entry's number.
+        entry: u64,
+    },
     /// A list of events that shows the pair `first`, `second` is put on the board.
     Propose {
         /// One event of the pair.

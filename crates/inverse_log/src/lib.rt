@@ -3,10 +3,12 @@
 
 mod bench;
 mod call;
+mod counted;
 mod entry;
 pub mod headline;
 mod kept;
 mod parts;
+mod proposals;
 mod races;
 mod refusal;
 mod reply;
@@ -14,5 +16,5 @@ mod reply;
 pub use bench::Bench;
 pub use call::Call;
 pub use entry::Entry;
-pub use refusal::Refusal;
+pub use refusal::{Refusal, SeatRefusal};
 pub use reply::Reply;

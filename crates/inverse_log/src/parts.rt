@@ -1,66 +1,15 @@
 //! Steps on the parts of a bench.
 ghost use Rattle.std.specs.Prelude.{◌≡◌, ℕ, ◌+◌, ◌++◌, ◌∷◌, [], ◌<◌, ◌≤◌, All, OnOk, OnErr, IfOk, IfErr, IsSome, Some, None, vec_len, vec_capacity, slice_get, slice_set};
-ghost use Rattle.moves.specs.Applied.{IsApplied};
-ghost use Rattle.moves.specs.Boards.{IsBoardOf};
-ghost use Rattle.moves.specs.Inverses.{CanTurn, IsTurned};
-ghost use Rattle.moves.specs.Rows.{Below, IsOfTrace};
 ghost use Rattle.dependence.specs.Lists.{AllBelow, Entered, Left, of_client, Pushed, Removed, Same};
-ghost use Rattle.inverse_log.specs.Log.{command_of};
+ghost use Rattle.inverse_log.specs.Log.{command_of, own_command_of};
 
 use crate::entry::Entry;
 use crate::kept::{Kept, Spare};
 use dependence::{Clients, Touches};
-use event_index::{EventList, Indexed};
-use moves::{Board, Command, Inverse, MoveRefusal, Step, Workspace};
+use event_index::EventList;
+use moves::{Command, Step};
 use rapid_text::OutOfMemory;
 use std::alloc::Global;
-
-/// Applies the command, and counts the change.
-pub(crate) fn apply(
-    workspace: &mut Workspace,
-    edits: &mut u64,
-    indexed: &Indexed,
-    board: &Board,
-    birth: u64,
-    command: &Command,
-) -> Result<Inverse, MoveRefusal>
-    requires of_trace { IsOfTrace indexed.now workspace.old }
-    requires board { IsBoardOf indexed.now board.now }
-    requires late { Below birth workspace.old }
-    requires few { edits.old < 1000000 }
-    ensures applied { IsApplied indexed.now board.now birth command.now workspace.old workspace.new result }
-    ensures counted { OnOk result (edits.new ≡ edits.old + 1) }
-    ensures same { OnErr result (edits.new ≡ edits.old) }
-{
-    let inverse = workspace.apply(indexed, board, birth, command)?;
-    *edits += 1;
-    Ok(inverse)
-}
-
-/// Takes a command back, and counts the change.
-pub(crate) fn turn_back(
-    workspace: &mut Workspace,
-    edits: &mut u64,
-    indexed: &Indexed,
-    inverse: Inverse,
-) -> Result<(), Step>
-    requires of_trace { IsOfTrace indexed.now workspace.old }
-    requires fits { CanTurn inverse.name inverse.step workspace.old }
-    requires few { edits.old < 1000000 }
-    ensures ok { OnOk result (IsTurned inverse.name inverse.step workspace.old workspace.new) }
-    ensures err { OnErr result (workspace.new ≡ workspace.old) }
-    ensures back { IfErr result (λ step. step ≡ inverse.step) }
-    ensures counted { OnOk result (edits.new ≡ edits.old + 1) }
-    ensures same { OnErr result (edits.new ≡ edits.old) }
-{
-    match workspace.take_back(indexed, inverse) {
-        Ok(()) => {
-            *edits += 1;
-            Ok(())
-        }
-        Err((inverse, _)) => Err(inverse.step),
-    }
-}
 
 /// Room for one more entry and step.
 pub(crate) fn make_room(
@@ -188,6 +137,23 @@ pub(crate) fn command_at(log: &[Entry], entry: u64) -> Option<Command>
     }
     match log[entry] {
         Entry::Did { client: _, command } => Some(command),
+        _ => None,
+    }
+}
+
+/// The command that an entry of this client did.
+pub(crate) fn own_command_at(log: &[Entry], client: u32, entry: u64) -> Option<Command>
+    ensures { result ≡ own_command_of client (slice_get log.now entry) }
+{
+    let entry = entry as usize;
+    if entry >= log.len() {
+        return None;
+    }
+    match log[entry] {
+        Entry::Did {
+            client: of,
+            command,
+        } if of == client => Some(command),
         _ => None,
     }
 }

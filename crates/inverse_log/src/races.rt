@@ -79,7 +79,7 @@ fn sorted_next(
         ≡ filter (is_next indexed.now.events schedule.now.events) (before (length indexed.now.events))) }
 {
     let mut next = BTreeSet::new(alloc);
-    for thread in 0..indexed.trace().raw().threads() {
+    for thread in 0..indexed.threads() {
         if let Some(event) = schedule.next_of(indexed, thread) {
             next.insert(event)?;
         }

@@ -1,4 +1,4 @@
-//! Why a call was refused.
+//! Why a call was refused, of a bench or through a seat of one.
 
 use moves::{MoveRefusal, Name};
 
@@ -9,7 +9,7 @@ pub enum Refusal {
     Move(MoveRefusal),
     /// 51: the client has no command that was not undone.
     NothingToUndo,
-    /// 52: a later command that was not undone touches the name that the client's latest one wrote.
+    /// 52: a later command that was not undone touches the name that was written by the one to take back.
     RestsOn {
         /// The number of the first such command's entry.
         entry: u64,
@@ -27,4 +27,20 @@ pub enum Refusal {
     LogFull,
     /// 56: a growth was refused.
     OutOfMemory,
+    /// 57: the log has no entry of the number.
+    NoSuchEntry,
+    /// 58: the entry is no command of the client.
+    NotOwn,
+    /// 59: the command was taken back already.
+    NotLive,
+}
+
+/// Why a call through a seat of a bench was refused. The seats are those of `workspace_lock`; what refuses a call stands here, so that
+/// a printer of refusals needs no lock.
+#[derive(Clone, Copy, PartialEq, Eq)]
+pub enum SeatRefusal {
+    /// 42 to 56: what the bench refused the call for. The seat has had its turn, and has seen the log.
+    Bench(Refusal),
+    /// 73: the seat has made 4,294,967,295 calls. It is as before.
+    SeatSpent,
 }

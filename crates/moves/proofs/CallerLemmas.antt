@@ -13,3 +13,12 @@ pub use Rattle.moves.proofs.UndoLemmas.{plain_nil, rises_split, leads_push, IsUn
 pub use Rattle.moves.proofs.TurnLemmas.{applied_parts, refused_same, listing-applied, listing-turned}
 -- commands lead from correct reorderings of the trace to correct reorderings of it
 pub use Rattle.moves.proofs.KeepLemmas.{leads_kept, AreReorderings-nil, IsOfTrace-kept}
+-- batches: all were applied; the next one is refused; births stay below the next; all stays of the trace; taken back at once
+pub use Rattle.moves.proofs.BatchLemmas.{runs_all, runs_plain, runs_of_trace, runs_traced, runs_below, runs_back, numbered, runs_leads, below_as, below_more}
+-- commands that touch only some names do the same on other rows that agree there
+pub use Rattle.moves.proofs.BatchLemmas.{IsCarried, carried}
+-- several commands that no later one touches can be taken back
+pub use Rattle.moves.proofs.ManyLemmas.{StepsBack, Clear, many_undone, rises_without}
+-- what a step puts in; rows after a step, and after the steps of a batch
+pub use Rattle.moves.proofs.BackLemmas.{of_trace-turned, below-turned, step_traced, step_below, traced_made}
+pub use Rattle.moves.proofs.TurnAllLemmas.{of_trace-all, below-all, turn_can, turn_rest, turn_done}

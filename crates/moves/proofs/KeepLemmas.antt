@@ -25,12 +25,8 @@ use Rattle.moves.specs.Boards.{AreProposed}
 use Rattle.moves.specs.Commands.{writes, reads}
 use Rattle.moves.specs.Moves.{made, added, swapped, adopted}
 use Rattle.moves.specs.Fold.{Numbered, Leads}
+use Rattle.moves.proofs.JudgeLemmas.{All-got}
 use Rattle.moves.proofs.RowLemmas.{All-removed, All-put}
-
-got : {X : Type 0} (P : X → Type 0) (xs : List X) (k : ℕ) → All P xs → IfSome (slice_get xs k) P
-got P [] k all = tt
-got P (x ∷ xs) zero all = All-head P x xs all
-got P (x ∷ xs) (suc k) all = got P xs k (All-tail P x xs all)
 
 -- a list of reorderings is one of schedules of the trace
 pub IsOfTrace-kept : (T : Recording) (W : Rows) → AreReorderings T W → IsOfTrace T W
@@ -70,7 +66,7 @@ module _ (T : Recording) (B : List Proposal) (disciplined : IsDisciplined T.even
   made_kept n (Drop x) None theirs km kt = tt
   made_kept n (Drop x) (Some r) theirs km kt = tt
   made_kept n (Adopt x p) None theirs km kt = tt
-  made_kept n (Adopt x p) (Some r) theirs km kt = adopted_kept r (slice_get B p) (got (λ (p : Proposal). IsCorrectReordering T.events p.schedule.events) B p proposed) km
+  made_kept n (Adopt x p) (Some r) theirs km kt = adopted_kept r (slice_get B p) (All-got (λ (p : Proposal). IsCorrectReordering T.events p.schedule.events) B p proposed) km
 
   with_kept : (W : Rows) (x : List ℕ) (o : Option Row) → AreReorderings T W → Kept o → AreReorderings T (with_row W x o)
   with_kept W x None all k = All-removed (λ (q : List ℕ × Row). IsReordering T q.1) W x all

@@ -1,58 +1,94 @@
--- A step back, taken on a listing; the rows are listed after a command and after a step back.
-use Rattle.std.proofs.Common.{◌≡◌, inl, inr, ℕ, eqb, List, [], ◌∷◌, ◌++◌, Option, Some, None, Result, Ok, Err, length, sym, ap, subst, ◌∙◌, refl}
-use Rattle.std.proofs.lemmas.Bool.{cases_Bool}
+-- A step of a row, told by a step of its schedule; what a judged command is once its step is taken.
+use Rattle.std.proofs.Common.{◌≡◌, ◌≢◌, ℕ, true, eqb, List, [], ◌∷◌, ◌++◌, Option, Some, None, Result, Ok, Err, length, sym, ap, subst, ◌∙◌, refl}
+use Rattle.std.specs.BTreeMap.{is_at}
+use Rattle.std.specs.Map.{lookup, set_value, values_of}
+use Rattle.std.specs.Ordering.{nat_cmp}
+use Rattle.std.specs.Result.{IsOk, IfOk, OnOk, OnErr}
+use Rattle.std.proofs.lemmas.Map.Steps.{set_value_same}
 use Rattle.rapid_text.specs.Recording.{Recording}
-use Rattle.schedule.specs.Scheduled.{Scheduled}
-use Rattle.schedule.specs.declared.refusal.SwapRefusal.{SwapRefusal}
 use Rattle.schedule.specs.Refusals.{refusal_of}
-use Rattle.schedule.specs.Swaps.{exchanged, swap_refusal}
+use Rattle.schedule.specs.Reordering.{IsCorrectReordering}
+use Rattle.schedule.specs.Scheduled.{Scheduled}
+use Rattle.schedule.specs.Swaps.{swap_refusal}
 use Rattle.moves.specs.declared.row.Row.{Row}
 use Rattle.moves.specs.declared.board.Proposal.{Proposal}
 use Rattle.moves.specs.declared.command.Command.{Command}
+use Rattle.moves.specs.declared.judged.Judged.{Judged}
 use Rattle.moves.specs.declared.refusal.MoveRefusal.{MoveRefusal}
 use Rattle.moves.specs.declared.refusal.MoveRefusal.TheVariants.{NoSuchSchedule, NameTaken, NoSuchProposal, NothingToRetract, Disabled, Swap, TooShort, OutOfMemory}
 use Rattle.moves.specs.declared.inverse.Step.{Step}
-use Rattle.moves.specs.declared.inverse.Step.TheVariants.{Comes, Was, Loses, Gains, Exchanges}
+use Rattle.moves.specs.declared.inverse.Step.TheVariants.{Goes, Comes, Was, Loses, Gains, Exchanges}
 use Rattle.moves.specs.declared.inverse.Inverse.{Inverse}
+use Rattle.moves.specs.Applied.{IsAt, IsApplied, IsChecked}
+use Rattle.moves.specs.Births.{IsHeld}
 use Rattle.moves.specs.Rows.{Rows, row_of, put_in, with_row, IsListing, IsFree, Below}
 use Rattle.moves.specs.Commands.{writes}
-use Rattle.moves.specs.Moves.{made_at, applied, put_made, with_events, front}
-use Rattle.moves.specs.Inverses.{CanTurn, IsTurned}
-use Rattle.moves.specs.Applied.{IsAt, IsApplied, IsTakenOff}
-use Rattle.moves.proofs.ChainLemmas.{IsPlain, plain_step}
-use Rattle.moves.proofs.RowLemmas.{listing-with_row, removed_none}
+use Rattle.moves.specs.Judged.{Makes, IsJudged}
+use Rattle.moves.specs.Moves.{made_at, applied, put_made, front}
+use Rattle.moves.specs.Inverses.{stepped, in_row, turned, IsReordered, Fits, CanTurn, IsTurned}
+use Rattle.moves.proofs.BirthLemmas.{in_tree, held_set}
+use Rattle.moves.proofs.ChainLemmas.{IsPlain, plain_step, made_free}
+use Rattle.moves.proofs.RowLemmas.{listing-with_row, with_row-same, put_same, removed_none}
 
+-- the row with this schedule
+abbrev pub with_schedule : Row → Scheduled → Row
+with_schedule r s = record { birth = r.birth; schedule = s }
+
+pub turned_stepped : (step : Step) (r : Row) (t : Scheduled) → stepped step r.schedule ≡ Some t → turned step (Some r) ≡ Some (Some (with_schedule r t))
+turned_stepped Goes r t is = absurd cc
+turned_stepped (Comes q) r t is = absurd cc
+turned_stepped (Was s) r t is = ap (in_row r) is
+turned_stepped Loses r t is = ap (in_row r) is
+turned_stepped (Gains e) r t is = ap (in_row r) is
+turned_stepped (Exchanges k) r t is = ap (in_row r) is
+
+-- a row that comes
 pub comes_turned : (W V : Rows) (x : List ℕ) (r : Row) (step : Step) → row_of W x ≡ None → step ≡ Comes r → V ≡ put_in x r W → IsTurned x step W V
 comes_turned W V x r step none s is = (Some r, rw (s, none) refl, is ∙ ap (put_in x r) (sym (removed_none W x none)))
 
-module _ (W V : Rows) (i : ℕ) (x : List ℕ) (at : IsAt W i x) (l : IsListing W) where
-  abbrev P : List ℕ
-  P = at.0.schedule.events
+pub comes_fits : (W V : Rows) (x : List ℕ) (r : Row) → row_of W x ≡ None → V ≡ put_in x r W → Fits Goes (row_of W x) (row_of V x)
+comes_fits W V x r none is = (ap (turned Goes) (ap (λ S. row_of S x) is ∙ put_same W x r none) ∙ ap Some (sym none), subst IsReordered (sym none) tt)
 
-  abbrev with_list : List ℕ → Scheduled
-  with_list Q = record { trace = at.0.schedule.trace; events = Q }
+-- The row of x, which lies at `slot` in the tree, gets another schedule; `old` are the rows before.
+module _ (N : List (List ℕ × ℕ)) (M : List (ℕ × (List ℕ × Row))) (held : IsHeld N M) (old : Rows) (is_old : values_of M ≡ old) (x : List ℕ) (b a : ℕ) (age : a ≡ b) (found : IsAt old b x)
+    (slot : List ℕ × Row) (there : lookup (is_at (nat_cmp a)) M ≡ Some slot) where
+  at : IsAt (values_of M) a x
+  at = subst (λ S. IsAt S a x) (sym is_old) (subst (λ n. IsAt old n x) (sym age) found)
 
-  pub was_turned : (p : Scheduled) (step : Step) → step ≡ Was p → V ≡ with_row W x (Some (record { birth = at.0.birth; schedule = p })) → IsTurned x step W V
-  was_turned p step s is = (Some (record { birth = at.0.birth; schedule = p }), rw (s, at.2) refl, is)
+  slot_is : (x, at.0) ≡ slot
+  slot_is = let e : Some (x, at.0) ≡ Some slot = sym at.1 ∙ sym (in_tree N M held a) ∙ there in cc
 
-  pub gains_turned : (e : ℕ) (step : Step) → step ≡ Gains e → refusal_of at.0.schedule.trace.events P e ≡ None → V ≡ with_row W x (Some (with_events at.0 (P ++ e ∷ []))) → IsTurned x step W V
-  gains_turned e step s may is = (Some (with_events at.0 (P ++ e ∷ [])), rw (s, at.2, may) refl, is)
+  slot_row : row_of old x ≡ Some slot.1
+  slot_row = sym (ap (λ S. row_of S x) is_old) ∙ at.2 ∙ ap (λ (p : List ℕ × Row). Some p.1) slot_is
 
-  pub exchanges_turned : (k : ℕ) (step : Step) → step ≡ Exchanges k → swap_refusal at.0.schedule.trace.events P k ≡ None → V ≡ with_row W x (Some (with_events at.0 (exchanged P k))) → IsTurned x step W V
-  exchanges_turned k step s may is = (Some (with_events at.0 (exchanged P k)), rw (s, at.2, may) refl, is)
+  module _ (t : Scheduled) (U : List (ℕ × (List ℕ × Row))) (set : U ≡ set_value (is_at (nat_cmp a)) M (slot.0, with_schedule slot.1 t)) where
+    is_set : (values_of U ≡ with_row (values_of M) slot.0 (Some (with_schedule slot.1 t))) × IsHeld N U
+    is_set = held_set N M held U a slot (with_schedule slot.1 t) there refl set
 
-  -- a step that can be taken is not refused
-  pub never_tied : (k : ℕ) (why : SwapRefusal) (step : Step) → CanTurn x step W → step ≡ Exchanges k → ¬ (swap_refusal at.0.schedule.trace.events P k ≡ Some why)
-  never_tied k why step can s tied = let none : None ≡ Some can.0 = rw (s, at.2, tied) at can.1 in absurd cc
+    pub change_held : IsHeld N U
+    change_held = is_set.1
 
-  pub loses_turned : (o : Option ℕ) (step : Step) → CanTurn x step W → step ≡ Loses → IsTakenOff x at.0 W V o → IsTurned x step W V
-  loses_turned None step can s (empty, same) = let none : None ≡ Some can.0 = rw (s, at.2, ap (λ (Q : List ℕ). eqb (length Q) 0) empty) at can.1 in absurd cc
-  loses_turned (Some e) step can s (is, last, may) = elim (cases_Bool (eqb (length P) 0)) [
-    | inl h ↦ let none : None ≡ Some can.0 = rw (s, at.2, h) at can.1 in absurd cc
-    | inr h ↦ (Some (with_events at.0 (front P)), rw (s, at.2, h) refl, is)
-  ]
+    rows_set : values_of U ≡ with_row old x (Some (with_schedule slot.1 t))
+    rows_set = is_set.0 ∙ ap (λ (p : List ℕ × Row). with_row (values_of M) p.0 (Some (with_schedule slot.1 t))) (sym slot_is) ∙ ap (λ S. with_row S x (Some (with_schedule slot.1 t))) is_old
 
--- the rows are listed after a command
+    pub change_turned : (step : Step) (q : Result Step Step) → IfOk q (λ back. stepped step slot.1.schedule ≡ Some t) → OnOk q (IsTurned x step old (values_of U))
+    change_turned step (Ok back) is = (Some (with_schedule slot.1 t), ap (turned step) slot_row ∙ turned_stepped step slot.1 t is, rows_set)
+    change_turned step (Err e) is = tt
+
+    pub change_fits : (q : Result Step Step) → IfOk q (λ back. stepped back t ≡ Some slot.1.schedule) → IsCorrectReordering slot.1.schedule.trace.events slot.1.schedule.events
+        → IfOk q (λ back. Fits back (row_of old x) (row_of (values_of U) x))
+    change_fits (Ok back) is reordering =
+        let listed : IsListing old = subst IsListing is_old held.listing in
+        let now : row_of (values_of U) x ≡ Some (with_schedule slot.1 t) = ap (λ S. row_of S x) rows_set ∙ with_row-same old x (Some (with_schedule slot.1 t)) listed in
+        (ap (turned back) now ∙ turned_stepped back (with_schedule slot.1 t) slot.1.schedule is ∙ ap Some (sym slot_row), subst IsReordered (sym slot_row) reordering)
+    change_fits (Err e) is reordering = tt
+
+    pub change_none : (q : Result Step Step) → OnErr q (t ≡ slot.1.schedule) → OnErr q (values_of U ≡ old)
+    change_none (Ok back) same = tt
+    change_none (Err e) same =
+        ap values_of (set ∙ ap (λ (s : Scheduled). set_value (is_at (nat_cmp a)) M (slot.0, with_schedule slot.1 s)) same ∙ set_value_same (is_at (nat_cmp a)) M slot there) ∙ is_old
+
+-- a command that is accepted
 applied_made : (T : Recording) (B : List Proposal) (n : ℕ) (d : Command) (W V : Rows) (q : Result (Option Row) MoveRefusal) → made_at T B n d W ≡ q → put_made W (writes d) q ≡ Ok V
     → (o : Option Row) × (made_at T B n d W ≡ Ok o) × (with_row W (writes d) o ≡ V)
 applied_made T B n d W V (Ok o) is h = (o, is, cc)
@@ -60,6 +96,44 @@ applied_made T B n d W V (Err why) is h = absurd cc
 
 pub applied_parts : (T : Recording) (B : List Proposal) (n : ℕ) (d : Command) (W V : Rows) → applied T B n d W ≡ Ok V → (o : Option Row) × (made_at T B n d W ≡ Ok o) × (with_row W (writes d) o ≡ V)
 applied_parts T B n d W V h = applied_made T B n d W V (made_at T B n d W) refl h
+
+module _ (T : Recording) (B : List Proposal) (n : ℕ) (d : Command) (W : Rows) where
+  -- the step of a judged command can be taken
+  pub makes_turns : (step : Step) (x : List ℕ) → IsPlain n W → Makes T B n d W step → x ≡ writes d → CanTurn x step W
+  makes_turns step x plain makes is = subst (λ y. CanTurn y step W) (sym is) (makes.0, makes.2, made_free T B n d W makes.0 plain makes.1)
+
+  -- and then the command is applied
+  pub makes_applied : (step back : Step) (x : List ℕ) (V : Rows) → Makes T B n d W step → x ≡ writes d → IsTurned x step W V → Fits back (row_of W x) (row_of V x)
+      → IsApplied T B n d W V (Ok (record { name = x; step = back }))
+  makes_applied step back x V makes is done fits =
+      let there : IsTurned (writes d) step W V = subst (λ y. IsTurned y step W V) is done in
+      let same : makes.0 ≡ there.0 = let e : Some makes.0 ≡ Some there.0 = sym makes.2 ∙ there.1 in cc in
+      (ap (put_made W (writes d)) makes.1 ∙ ap (λ o. Ok (with_row W (writes d) o)) same ∙ ap Ok (sym there.2), is, subst (λ y. Fits back (row_of W y) (row_of V y)) is fits)
+
+  -- or memory was wanted
+  pub makes_wanting : (step : Step) (V : Rows) → Makes T B n d W step → V ≡ W → IsApplied T B n d W V (Err OutOfMemory)
+  makes_wanting step V makes same = (subst IsOk (sym (ap (put_made W (writes d)) makes.1)) refl, same)
+
+  -- a refusal of the judge is the command's
+  pub judged_refused : (why : MoveRefusal) → IsJudged T B d W (Err why) → IsApplied T B n d W W (Err why)
+  judged_refused NoSuchSchedule h = (ap (put_made W (writes d)) (h n), refl)
+  judged_refused NameTaken h = (ap (put_made W (writes d)) (h n), refl)
+  judged_refused NoSuchProposal h = (ap (put_made W (writes d)) (h n), refl)
+  judged_refused NothingToRetract h = (ap (put_made W (writes d)) (h n), refl)
+  judged_refused (Disabled cause) h = (ap (put_made W (writes d)) (h n), refl)
+  judged_refused (Swap cause) h = (ap (put_made W (writes d)) (h n), refl)
+  judged_refused TooShort h = (ap (put_made W (writes d)) (h n), refl)
+  judged_refused OutOfMemory h = absurd h
+
+  pub judged_checked : (why : MoveRefusal) → IsJudged T B d W (Err why) → made_at T B n d W ≡ Err why
+  judged_checked NoSuchSchedule h = h n
+  judged_checked NameTaken h = h n
+  judged_checked NoSuchProposal h = h n
+  judged_checked NothingToRetract h = h n
+  judged_checked (Disabled cause) h = h n
+  judged_checked (Swap cause) h = h n
+  judged_checked TooShort h = h n
+  judged_checked OutOfMemory h = absurd h
 
 module _ (T : Recording) (B : List Proposal) (n : ℕ) (d : Command) (W V : Rows) where
   -- a refusal leaves the rows
@@ -73,6 +147,7 @@ module _ (T : Recording) (B : List Proposal) (n : ℕ) (d : Command) (W V : Rows
   refused_same TooShort h = h.1
   refused_same OutOfMemory h = h.1
 
+  -- the rows are listed after a command
   pub listing-applied : (r : Result Inverse MoveRefusal) → IsListing W → Below n W → IsApplied T B n d W V r → IsListing V
   listing-applied (Ok inverse) l low h =
       let p = applied_parts T B n d W V h.0 in
@@ -80,6 +155,7 @@ module _ (T : Recording) (B : List Proposal) (n : ℕ) (d : Command) (W V : Rows
       subst IsListing p.2 (plain_step T B n d W p.0 plain p.1).listing
   listing-applied (Err why) l low h = subst IsListing (sym (refused_same why h)) l
 
+-- and after a step
 pub listing-turned : (x : List ℕ) (step : Step) (W V : Rows) → IsListing W → CanTurn x step W → IsTurned x step W V → IsListing V
 listing-turned x step W V l can is =
     let same : can.0 ≡ is.0 = let e : Some can.0 ≡ Some is.0 = sym can.1 ∙ is.1 in cc in

@@ -1,5 +1,5 @@
 -- What `apply`, `check` and `take_back` answer.
-use Rattle.std.specs.Prelude.{◌≡◌, ℕ, List, [], ◌∷◌, ◌++◌, Option, Some, None, Result, Ok, Err, IsOk}
+use Rattle.std.specs.Prelude.{◌≡◌, ℕ, List, Option, Some, Result, Ok, Err, IsOk}
 use Rattle.rapid_text.specs.Recording.{Recording}
 use Rattle.moves.specs.declared.row.Row.{Row}
 use Rattle.moves.specs.declared.board.Proposal.{Proposal}
@@ -8,10 +8,9 @@ use Rattle.moves.specs.declared.inverse.Inverse.{Inverse}
 use Rattle.moves.specs.declared.refusal.MoveRefusal.{MoveRefusal}
 use Rattle.moves.specs.declared.refusal.MoveRefusal.TheVariants.{OutOfMemory}
 use Rattle.moves.specs.Commands.{writes}
-use Rattle.moves.specs.Rows.{Rows, row_of, with_row}
+use Rattle.moves.specs.Rows.{Rows, row_of}
 use Rattle.moves.specs.Births.{born}
-use Rattle.schedule.specs.Refusals.{refusal_of}
-use Rattle.moves.specs.Moves.{made_at, applied, with_events, front}
+use Rattle.moves.specs.Moves.{made_at, applied}
 use Rattle.moves.specs.Inverses.{Fits, CanTurn, IsTurned}
 
 -- The command is accepted, with an inverse that is the written name's and fits its rows before and after;
@@ -34,11 +33,3 @@ IsChecked T B n d W (Err why) = made_at T B n d W ≡ Err why
 -- the row of x has the birth b
 abbrev pub IsAt : Rows → ℕ → List ℕ → Type 0
 IsAt W b x = (r : Row) × (born W b ≡ Some (x, r)) × (row_of W x ≡ Some r)
-
--- The last event of x, whose row is r, was taken off: the rest may be extended by it again. Or it has none.
-abbrev pub IsTakenOff : List ℕ → Row → Rows → Rows → Option ℕ → Type 0
-IsTakenOff x r W V None = (r.schedule.events ≡ []) × (V ≡ W)
-IsTakenOff x r W V (Some e) =
-    (V ≡ with_row W x (Some (with_events r (front r.schedule.events))))
-    × (r.schedule.events ≡ front r.schedule.events ++ e ∷ [])
-    × (refusal_of r.schedule.trace.events (front r.schedule.events) e ≡ None)

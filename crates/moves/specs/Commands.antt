@@ -1,4 +1,5 @@
 -- Which names a command writes, reads and touches: this project's own.
+use Rattle.std.specs.List.{list_any}
 use Rattle.std.specs.Str.{bytes_eq}
 use Rattle.std.specs.Prelude.{ℕ, Bool, false, ◌||◌, List, Option, Some, None}
 use Rattle.moves.specs.declared.command.Command.{Command}
@@ -41,3 +42,11 @@ is_name_of (Some y) x = bytes_eq y x
 -- whether x is one of the names
 abbrev pub is_touched : Touched → List ℕ → Bool
 is_touched t x = is_name_of t.second x || bytes_eq t.first x
+
+-- whether one of the commands touches x
+abbrev pub touches_any : List Command → List ℕ → Bool
+touches_any D x = list_any (λ d. touches d x) D
+
+-- whether one of them writes x
+abbrev pub writes_any : List Command → List ℕ → Bool
+writes_any D x = list_any (λ d. bytes_eq (writes d) x) D

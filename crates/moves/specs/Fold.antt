@@ -6,7 +6,7 @@ use Rattle.moves.specs.declared.row.Row.{Row}
 use Rattle.moves.specs.declared.board.Proposal.{Proposal}
 use Rattle.moves.specs.declared.command.Command.{Command}
 use Rattle.moves.specs.Commands.{writes}
-use Rattle.moves.specs.Rows.{Rows, row_of, with_row, age}
+use Rattle.moves.specs.Rows.{Rows, row_of, with_row}
 use Rattle.moves.specs.Moves.{made_at, applied}
 
 -- a birth and a command
@@ -32,4 +32,4 @@ Leads T B R W (e ∷ E) V =
 -- births rise from low on, and stay below high
 abbrev pub Rises : ℕ → List Numbered → ℕ → Type 0
 Rises low [] high = low ≤ high
-Rises low (e ∷ E) high = (low ≤ age e.0) × Rises (age e.0 + 1) E high
+Rises low (e ∷ E) high = (low ≤ e.0) × Rises (e.0 + 1) E high

@@ -1,9 +1,12 @@
+pub mod Ages
 pub mod Applied
+pub mod Batches
 pub mod Births
 pub mod Boards
 pub mod Commands
 pub mod Fold
 pub mod Inverses
+pub mod Judged
 pub mod Layout
 pub mod Moves
 pub mod Names

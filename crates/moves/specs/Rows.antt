@@ -14,19 +14,15 @@ Rows = List (List ℕ × Row)
 abbrev pub row_of : Rows → List ℕ → Option Row
 row_of W x = lookup (bytes_eq x) W
 
--- births are compared by this number alone
-abbrev pub age : ℕ → ℕ
-age birth = birth
-
 -- names differ and births rise
 abbrev pub IsListing : Rows → Type 0
 IsListing [] = Unit {0}
-IsListing (p ∷ W) = (row_of W p.0 ≡ None) × All (λ (q : List ℕ × Row). age p.1.birth < age q.1.birth) W × IsListing W
+IsListing (p ∷ W) = (row_of W p.0 ≡ None) × All (λ (q : List ℕ × Row). p.1.birth < q.1.birth) W × IsListing W
 
 -- W with a row put before the first of a later birth
 abbrev pub put_in : List ℕ → Row → Rows → Rows
 put_in x r [] = (x, r) ∷ []
-put_in x r (p ∷ W) = if nat_lt (age r.birth) (age p.1.birth) then (x, r) ∷ p ∷ W else p ∷ put_in x r W
+put_in x r (p ∷ W) = if nat_lt r.birth p.1.birth then (x, r) ∷ p ∷ W else p ∷ put_in x r W
 
 -- W where the name x has this row, or none
 abbrev pub with_row : Rows → List ℕ → Option Row → Rows
@@ -36,11 +32,11 @@ with_row W x (Some r) = put_in x r (remove_entry (bytes_eq x) W)
 -- no other name's row has the birth of this one
 abbrev pub IsFree : Rows → List ℕ → Option Row → Type 0
 IsFree W x None = Unit {0}
-IsFree W x (Some r) = (y : List ℕ) (s : Row) → y ≢ x → row_of W y ≡ Some s → age s.birth ≢ age r.birth
+IsFree W x (Some r) = (y : List ℕ) (s : Row) → y ≢ x → row_of W y ≡ Some s → s.birth ≢ r.birth
 
 -- all births are below n
 abbrev pub Below : ℕ → Rows → Type 0
-Below n W = All (λ (q : List ℕ × Row). age q.1.birth < age n) W
+Below n W = All (λ (q : List ℕ × Row). q.1.birth < n) W
 
 -- each row's schedule is one of the trace T
 abbrev pub IsOfTrace : Recording → Rows → Type 0

@@ -1,10 +1,16 @@
-//! One step back for each command.
+//! One step of one row: what a command does to the row that it writes, and what takes it back.
+ghost use Rattle.std.specs.Prelude.{◌≡◌, ◌≢◌, false, None, Some, OnErr, IsOk, IfOk, IfErr};
+ghost use Rattle.moves.specs.Inverses.{stepped, wants_memory};
+ghost use Rattle.schedule.specs.Reordering.{IsCorrectReordering};
 
 use crate::name::Name;
 use crate::row::Row;
+use event_index::Indexed;
 use schedule::Schedule;
+use std::mem;
 
-/// One step back of one row. Only a step that puts something in keeps a list, which it owns.
+/// One step of one row. Only a step that puts something in keeps a list, which it owns. A step leads forth where a
+/// command is applied and back where it is taken back.
 #[derive(Drop)]
 pub enum Step {
     /// The row goes.
@@ -28,4 +34,39 @@ pub struct Inverse {
     pub name: Name,
     /// The step back.
     pub step: Step,
+}
+
+/// Takes a step of a schedule and gives the step that leads back; or gives the step where there is no memory.
+pub(crate) fn turn_schedule(
+    schedule: &mut Schedule,
+    indexed: &Indexed,
+    step: Step,
+) -> Result<Step, Step>
+    requires trace { schedule.old.trace ≡ indexed.now }
+    requires fits { stepped step schedule.old ≢ None }
+    ensures ok { IfOk result (λ back. stepped step schedule.old ≡ Some schedule.new) }
+    ensures back { IfOk result (λ back. stepped back schedule.new ≡ Some schedule.old) }
+    ensures err { OnErr result (schedule.new ≡ schedule.old) }
+    ensures returned { IfErr result (λ s. s ≡ step) }
+    ensures succeeds { wants_memory step ≡ false → IsOk result }
+    ensures reordering { IsCorrectReordering schedule.old.trace.events schedule.old.events }
+{
+    // that the whole list is a correct reordering is why its last event may be appended again
+    let _events = schedule.events();
+    match step {
+        Step::Was(other) => Ok(Step::Was(mem::replace(schedule, other))),
+        Step::Loses => match schedule.retract(indexed) {
+            Some(event) => Ok(Step::Gains(event)),
+            None => Err(Step::Loses),
+        },
+        Step::Gains(event) => match schedule.extend(indexed, event) {
+            Ok(()) => Ok(Step::Loses),
+            Err(_) => Err(Step::Gains(event)),
+        },
+        Step::Exchanges(place) => match schedule.swap(indexed, place) {
+            Ok(()) => Ok(Step::Exchanges(place)),
+            Err(_) => Err(Step::Exchanges(place)),
+        },
+        other => Err(other),
+    }
 }

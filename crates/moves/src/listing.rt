@@ -1,31 +1,35 @@
 //! The rows of a workspace: a tree of them by birth, and each name's birth beside it.
-ghost use Rattle.std.specs.Prelude.{◌≡◌, ◌≢◌, ◌<◌, ◌++◌, ◌∷◌, [], ℕ, List, if◌then◌else◌, OnOk, OnErr, IfOk, IfErr, IfSome, IfNone, Some, None, is_some, length, slice_get, option_map};
+ghost use Rattle.std.specs.Prelude.{◌≡◌, ◌≢◌, ◌<◌, ◌++◌, ◌∷◌, [], ℕ, List, true, false, if◌then◌else◌, OnOk, OnErr, IsOk, IfOk, IfErr, IfSome, IfNone, Some, None, is_some, length, slice_get, take, option_map, ◌+◌};
 ghost use Rattle.std.specs.BTreeMap.{get_by, is_at};
 ghost use Rattle.std.specs.Map.{lookup, remove_entry};
 ghost use Rattle.std.specs.Ordering.{nat_cmp};
 ghost use Rattle.std.specs.Str.{bytes_eq};
-ghost use Rattle.schedule.specs.Refusals.{refusal_of, IsRefusalOf};
-ghost use Rattle.schedule.specs.Swaps.{exchanged, swap_refusal};
 ghost use Rattle.moves.specs.declared.row.Row.{Row as RowValue};
-ghost use Rattle.moves.specs.Rows.{row_of, put_in, with_row, names_of, IsListing, IsFree, IsOfTrace};
-ghost use Rattle.moves.specs.Moves.{with_events};
-ghost use Rattle.moves.specs.Births.{born, HasBirth};
-ghost use Rattle.moves.specs.Applied.{IsAt, IsTakenOff};
+ghost use Rattle.moves.specs.Rows.{row_of, put_in, with_row, names_of, IsListing, IsFree, IsOfTrace, Below};
+ghost use Rattle.moves.specs.Births.{HasBirth};
+ghost use Rattle.moves.specs.Applied.{IsAt, IsApplied};
+ghost use Rattle.moves.specs.Boards.{IsBoardOf};
+ghost use Rattle.moves.specs.Inverses.{CanTurn, IsTurned, Fits, wants_memory, is_change};
 
+use crate::birth::Birth;
+use crate::board::Board;
+use crate::command::Command;
+use crate::inverse::{Inverse, Step, turn_schedule};
+use crate::judged::{copy_of, judge};
 use crate::name::Name;
 use crate::names::Names;
+use crate::refusal::MoveRefusal;
 use crate::row::Row;
 use event_index::Indexed;
 use indexmap::IndexMap;
 use rapid_text::{OutOfMemory, TextKeyed};
-use schedule::{ExtendRefusal, Schedule, SwapRefusal};
+use schedule::Schedule;
 use std::alloc::Global;
 use std::collections::BTreeMap;
 use std::marker::Model;
-use std::mem;
 
 /// The birth of each name's row.
-type Births = IndexMap<Name, u64, TextKeyed>;
+type Births = IndexMap<Name, Birth, TextKeyed>;
 
 /// The rows by name. Contracts see it as the list of names and rows, by rising birth.
 #[derive(Drop)]
@@ -33,7 +37,7 @@ pub(crate) struct Listing {
     births: Births,
     // the place among the births of the name that was put in last
     recent: usize,
-    rows: BTreeMap<u64, (Name, Row)>,
+    rows: BTreeMap<u128, (Name, Row)>,
 }
 
 impl Model for Listing {
@@ -77,6 +81,22 @@ impl Listing {
         (*name, row)
     }
 
+    /// The same, of the trace of the tables.
+    fn row_of_trace_at(&self, indexed: &Indexed, at: usize) -> (Name, &Row)
+        requires of_trace { IsOfTrace indexed.now self.now }
+        requires at { at < length self.now }
+        ensures row { slice_get self.now at ≡ Some (result.0, result.1.now) }
+        ensures trace { result.1.now.schedule.trace ≡ indexed.now }
+        ensures new { row_of (take at self.now) result.0 ≡ None }
+        ensures free { IsFree (take at self.now) result.0 (Some result.1.now) }
+        ensures end { put_in result.0 result.1.now (take at self.now) ≡ take (at + 1) self.now }
+    {
+        let _ = indexed;
+        let _ = self.len();
+        let (name, row) = self.row_at(at);
+        (name, row)
+    }
+
     /// The names, by rising birth.
     pub(crate) fn names(&self, alloc: Global) -> Result<Names, OutOfMemory>
         ensures { IfOk result (λ names. names ≡ names_of self.now) }
@@ -88,6 +108,22 @@ impl Listing {
         Ok(names)
     }
 
+    /// A listing of its own with the same rows.
+    pub(crate) fn copied(&self, alloc: Global, indexed: &Indexed) -> Result<Listing, OutOfMemory>
+        requires { IsOfTrace indexed.now self.now }
+        ensures { IfOk result (λ copy. copy ≡ self.now) }
+    {
+        let mut copy = Listing::new(alloc, *self.births.hasher());
+        for at in 0..self.len() {
+            let (name, row) = self.row_of_trace_at(indexed, at);
+            let row = copy_of_row(row, alloc, indexed)?;
+            let Ok(()) = copy.put(name, row) else {
+                return Err(OutOfMemory);
+            };
+        }
+        Ok(copy)
+    }
+
     /// Whether the name has a row.
     pub(crate) fn contains(&self, name: Name) -> bool
         ensures { result ≡ is_some (row_of self.now name) }
@@ -96,7 +132,7 @@ impl Listing {
     }
 
     /// The birth of a name's row.
-    pub(crate) fn find(&self, name: Name) -> Option<u64>
+    pub(crate) fn find(&self, name: Name) -> Option<Birth>
         ensures none { IfNone result (row_of self.now name ≡ None) }
         ensures some { IfSome result (λ birth. IsAt self.now birth name) }
     {
@@ -111,7 +147,7 @@ impl Listing {
             (λ s. option_map (λ (r : RowValue). r.schedule) (row_of self.now name) ≡ Some s.now) }
     {
         let birth = self.find(name)?;
-        let (_, row) = self.rows.get(&birth)?;
+        let (_, row) = self.rows.get(&birth.age())?;
         Some(&row.schedule)
     }
 
@@ -141,7 +177,7 @@ impl Listing {
             return Err(row);
         };
         let birth = row.birth;
-        let Err(failed) = self.rows.insert(birth, (name, row)) else {
+        let Err(failed) = self.rows.insert(birth.age(), (name, row)) else {
             self.recent = self.births.len();
             let _ = self.births.insert(name, birth);
             return Ok(());
@@ -157,87 +193,98 @@ impl Listing {
         ensures unchanged { IfNone result (self.new ≡ self.old) }
     {
         let birth = take_birth(&mut self.births, self.recent, &name)?;
-        let (_, row) = take_out(&mut self.rows, birth).unwrap();
+        let (_, row) = take_out(&mut self.rows, birth.age()).unwrap();
         Some(row)
     }
 
-    /// Appends an event to the row of this birth.
-    pub(crate) fn push_at(
+    /// Applies the command, and gives what takes it back.
+    pub(crate) fn apply(
         &mut self,
+        alloc: Global,
         indexed: &Indexed,
-        birth: u64,
-        event: u32,
-    ) -> Result<(), ExtendRefusal>
-        requires there { born self.old birth ≢ None }
+        board: &Board,
+        birth: Birth,
+        command: &Command,
+    ) -> Result<Inverse, MoveRefusal>
+        requires listing { IsListing self.old }
         requires of_trace { IsOfTrace indexed.now self.old }
-        ensures ok { OnOk result
-            (IfSome (born self.old birth) (λ p.
-            (self.new ≡ with_row self.old p.0 (Some (with_events p.1 (p.1.schedule.events ++ event ∷ []))))
-            × (refusal_of p.1.schedule.trace.events p.1.schedule.events event ≡ None))) }
+        requires board { IsBoardOf indexed.now board.now }
+        requires late { Below birth self.old }
+        ensures { IsApplied indexed.now board.now birth command.now self.old self.new result }
+    {
+        let judged = judge(self, indexed, board, command)?;
+        let Ok(step) = judged.step(alloc, indexed, birth) else {
+            return Err(MoveRefusal::OutOfMemory);
+        };
+        let name = command.writes();
+        let Ok(step) = self.turn(indexed, name, step) else {
+            return Err(MoveRefusal::OutOfMemory);
+        };
+        Ok(Inverse { name, step })
+    }
+
+    /// Takes one step of the row of this name, and gives the step that leads back; or gives the step itself where
+    /// there is no memory.
+    pub(crate) fn turn(&mut self, indexed: &Indexed, name: Name, step: Step) -> Result<Step, Step>
+        requires listing { IsListing self.old }
+        requires of_trace { IsOfTrace indexed.now self.old }
+        requires fits { CanTurn name step self.old }
+        ensures ok { OnOk result (IsTurned name step self.old self.new) }
+        ensures back { IfOk result (λ back. Fits back (row_of self.old name) (row_of self.new name)) }
         ensures err { OnErr result (self.new ≡ self.old) }
-        ensures refused { IfErr result (λ why. IfSome (born self.old birth) (λ p.
-            IsRefusalOf p.1.schedule.trace.events p.1.schedule.events event why)) }
+        ensures returned { IfErr result (λ s. s ≡ step) }
+        ensures succeeds { wants_memory step ≡ false → IsOk result }
     {
-        let (_, row) = self.rows.get_mut(&birth).unwrap();
-        let Err(why) = row.schedule.extend(indexed, event) else {
-            return Ok(());
-        };
-        Err(why)
+        match step {
+            Step::Comes(row) => match self.put(name, row) {
+                Ok(()) => Ok(Step::Goes),
+                Err(row) => Err(Step::Comes(row)),
+            },
+            Step::Goes => {
+                let Some(row) = self.take(name) else {
+                    return Err(Step::Goes);
+                };
+                let _events = row.schedule.events();
+                Ok(Step::Comes(row))
+            },
+            other => self.change(indexed, name, other),
+        }
     }
 
-    /// Takes the last event off the row of this birth.
-    pub(crate) fn pop_at(&mut self, indexed: &Indexed, birth: u64) -> Option<u32>
-        requires there { born self.old birth ≢ None }
+    /// The same of a step that leaves a row there.
+    fn change(&mut self, indexed: &Indexed, name: Name, step: Step) -> Result<Step, Step>
+        requires listing { IsListing self.old }
         requires of_trace { IsOfTrace indexed.now self.old }
-        ensures row { IfSome (born self.old birth) (λ p. IsTakenOff p.0 p.1 self.old self.new result) }
-    {
-        let (_, row) = self.rows.get_mut(&birth).unwrap();
-        // that the whole list is a correct reordering is why its last event may be appended again
-        let _events = row.schedule.events();
-        let Some(event) = row.schedule.retract(indexed) else {
-            return None;
-        };
-        Some(event)
-    }
-
-    /// Exchanges two neighbours of the row of this birth.
-    pub(crate) fn swap_at(
-        &mut self,
-        indexed: &Indexed,
-        birth: u64,
-        place: u32,
-    ) -> Result<(), SwapRefusal>
-        requires there { born self.old birth ≢ None }
-        requires of_trace { IsOfTrace indexed.now self.old }
-        ensures ok { OnOk result
-            (IfSome (born self.old birth) (λ p.
-            (self.new ≡ with_row self.old p.0 (Some (with_events p.1 (exchanged p.1.schedule.events place))))
-            × (swap_refusal p.1.schedule.trace.events p.1.schedule.events place ≡ None))) }
+        requires fits { CanTurn name step self.old }
+        requires stays { is_change step ≡ true }
+        ensures ok { OnOk result (IsTurned name step self.old self.new) }
+        ensures back { IfOk result (λ back. Fits back (row_of self.old name) (row_of self.new name)) }
         ensures err { OnErr result (self.new ≡ self.old) }
-        ensures refused { IfErr result (λ why. IfSome (born self.old birth) (λ p.
-            swap_refusal p.1.schedule.trace.events p.1.schedule.events place ≡ Some why)) }
+        ensures returned { IfErr result (λ s. s ≡ step) }
+        ensures succeeds { wants_memory step ≡ false → IsOk result }
     {
-        let (_, row) = self.rows.get_mut(&birth).unwrap();
-        let Err(why) = row.schedule.swap(indexed, place) else {
-            return Ok(());
+        let Some(birth) = self.find(name) else {
+            return Err(step);
         };
-        Err(why)
-    }
-
-    /// Gives the row of this birth another schedule, and gives back its own.
-    pub(crate) fn replace_at(&mut self, birth: u64, schedule: Schedule) -> Schedule
-        requires { born self.old birth ≢ None }
-        ensures { IfSome (born self.old birth) (λ p.
-            (self.new ≡ with_row self.old p.0 (Some (record { birth = p.1.birth; schedule = schedule })))
-            × (result ≡ p.1.schedule)) }
-    {
-        let (_, row) = self.rows.get_mut(&birth).unwrap();
-        mem::replace(&mut row.schedule, schedule)
+        let (_, row) = self.rows.get_mut(&birth.age()).unwrap();
+        turn_schedule(&mut row.schedule, indexed, step)
     }
 }
 
+/// A row of its own with the same birth and events.
+pub(crate) fn copy_of_row(row: &Row, alloc: Global, indexed: &Indexed) -> Result<Row, OutOfMemory>
+    requires { row.now.schedule.trace ≡ indexed.now }
+    ensures { IfOk result (λ copy. copy ≡ row.now) }
+{
+    let schedule = copy_of(&row.schedule, alloc, indexed)?;
+    Ok(Row {
+        birth: row.birth,
+        schedule,
+    })
+}
+
 /// Takes out what lies under the birth. What lies under the others stays where it is.
-fn take_out(rows: &mut BTreeMap<u64, (Name, Row)>, birth: u64) -> Option<(Name, Row)>
+fn take_out(rows: &mut BTreeMap<u128, (Name, Row)>, birth: u128) -> Option<(Name, Row)>
     ensures value { result ≡ get_by (nat_cmp birth) rows.old }
     ensures entries { rows.new.entries ≡ remove_entry (is_at (nat_cmp birth)) rows.old.entries }
 {
@@ -245,7 +292,7 @@ fn take_out(rows: &mut BTreeMap<u64, (Name, Row)>, birth: u64) -> Option<(Name, 
 }
 
 /// The birth of the name, where its place is the recent one.
-fn recent_birth(births: &Births, recent: usize, name: &Name) -> Option<u64>
+fn recent_birth(births: &Births, recent: usize, name: &Name) -> Option<Birth>
     ensures { IfSome result (λ birth. HasBirth births.now.entries recent name.now birth) }
 {
     match births.get_index(recent) {
@@ -255,7 +302,7 @@ fn recent_birth(births: &Births, recent: usize, name: &Name) -> Option<u64>
 }
 
 /// The birth of the name's row. Where its place is the recent one the name has not to be hashed.
-fn birth_of(births: &Births, recent: usize, name: &Name) -> Option<u64>
+fn birth_of(births: &Births, recent: usize, name: &Name) -> Option<Birth>
     ensures value { result ≡ lookup (bytes_eq name.now) births.now.entries }
 {
     if let Some(birth) = recent_birth(births, recent, name) {
@@ -265,7 +312,7 @@ fn birth_of(births: &Births, recent: usize, name: &Name) -> Option<u64>
 }
 
 /// Takes out the birth of the name's row, in the same way.
-fn take_birth(births: &mut Births, recent: usize, name: &Name) -> Option<u64>
+fn take_birth(births: &mut Births, recent: usize, name: &Name) -> Option<Birth>
     ensures value { result ≡ lookup (bytes_eq name.now) births.old.entries }
     ensures updates { (y : List ℕ) → lookup (bytes_eq y) births.new.entries
         ≡ (if bytes_eq name.now y then None else lookup (bytes_eq y) births.old.entries) }

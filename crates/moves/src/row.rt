@@ -1,12 +1,13 @@
 //! What a name has in a workspace.
 
+use crate::birth::Birth;
 use schedule::Schedule;
 
-/// A named schedule, and the number under which it was made.
+/// A named schedule, and when it was made.
 #[derive(Drop)]
 pub struct Row {
-    /// The number of the command that made it: no two rows of a workspace have the same.
-    pub birth: u64,
+    /// When it was made: no two rows of a workspace have the same birth.
+    pub birth: Birth,
     /// The schedule.
     pub schedule: Schedule,
 }

@@ -3,17 +3,21 @@ ghost use Rattle.std.specs.Prelude.{◌≡◌, ◌+◌, ◌<◌, ℕ, [], length
 ghost use Rattle.moves.specs.declared.row.Row.{Row as RowValue};
 ghost use Rattle.moves.specs.Rows.{Rows, row_of, IsListing, IsOfTrace, Below, names_of};
 ghost use Rattle.moves.specs.Boards.{IsBoardOf};
-ghost use Rattle.moves.specs.Inverses.{CanTurn, IsTurned, wants_memory};
+ghost use Rattle.moves.specs.Inverses.{CanTurn, IsTurned, IsStepOf, IsStepBelow, wants_memory};
 ghost use Rattle.moves.specs.Applied.{IsApplied, IsChecked, TakesBack};
+ghost use Rattle.moves.specs.Ages.{age};
+ghost use Rattle.moves.specs.Batches.{IsAppliedAll, TakesAllBack, CanTurnAll, IsTurnedAll, AreOfTrace, AreBelow};
 
+use crate::batch::{self, BatchRefusal, Inverses};
+use crate::birth::Birth;
 use crate::board::Board;
 use crate::command::Command;
 use crate::inverse::Inverse;
+use crate::judged::judge;
 use crate::listing::Listing;
 use crate::name::Name;
 use crate::names::Names;
 use crate::refusal::MoveRefusal;
-use crate::{checks, effects, turning};
 use event_index::Indexed;
 use rapid_text::{OutOfMemory, TextKeyed};
 use schedule::Schedule;
@@ -43,18 +47,17 @@ impl Workspace {
         ensures ok { IfOk result (λ w. w ≡ []) }
         ensures succeeds { IsOk result }
     {
-        Workspace::keyed(alloc, TextKeyed::of(b""))
+        Ok(Workspace::keyed(alloc, TextKeyed::of(b"")))
     }
 
     /// The same, with hashers for the names under a key of the caller's.
-    pub fn keyed(alloc: Global, hashers: TextKeyed) -> Result<Workspace, OutOfMemory>
-        ensures ok { IfOk result (λ w. w ≡ []) }
-        ensures succeeds { IsOk result }
+    pub fn keyed(alloc: Global, hashers: TextKeyed) -> Workspace
+        ensures { result ≡ [] }
     {
-        Ok(Workspace {
+        Workspace {
             alloc,
             rows: Listing::new(alloc, hashers),
-        })
+        }
     }
 
     /// The number of schedules.
@@ -67,7 +70,7 @@ impl Workspace {
     }
 
     /// The name, the birth and the schedule at this place, by rising birth.
-    pub fn row(&self, at: usize) -> (Name, u64, &Schedule)
+    pub fn row(&self, at: usize) -> (Name, Birth, &Schedule)
         requires { at < length self.now }
         ensures { slice_get self.now at
             ≡ Some (result.0, record { birth = result.1; schedule = result.2.now }) }
@@ -102,7 +105,10 @@ impl Workspace {
         requires { IsOfTrace indexed.now self.now }
         ensures { (n : ℕ) → IsChecked indexed.now board.now n command.now self.now result }
     {
-        checks::check(&self.rows, indexed, board, command)
+        match judge(&self.rows, indexed, board, command) {
+            Ok(_) => Ok(()),
+            Err(why) => Err(why),
+        }
     }
 
     /// Applies the command, and gives what takes it back. A row that it makes has this birth.
@@ -110,7 +116,7 @@ impl Workspace {
         &mut self,
         indexed: &Indexed,
         board: &Board,
-        birth: u64,
+        birth: Birth,
         command: &Command,
     ) -> Result<Inverse, MoveRefusal>
         requires of_trace { IsOfTrace indexed.now self.old }
@@ -122,8 +128,10 @@ impl Workspace {
         // What the next call asks for.
         ensures of_trace { IsOfTrace indexed.now self.new }
         ensures late { Below (birth + 1) self.new }
+        ensures step_of_trace { IfOk result (λ inverse. IsStepOf indexed.now inverse.step) }
+        ensures step_late { IfOk result (λ inverse. IsStepBelow birth inverse.step) }
     {
-        effects::effect(&mut self.rows, self.alloc, indexed, board, birth, command)
+        self.rows.apply(self.alloc, indexed, board, birth, command)
     }
 
     /// Takes back a command whose written name still has what the command left there. Other rows may have
@@ -134,17 +142,140 @@ impl Workspace {
         inverse: Inverse,
     ) -> Result<(), (Inverse, OutOfMemory)>
         requires of_trace { IsOfTrace indexed.now self.old }
+        requires step { IsStepOf indexed.now inverse.step }
         requires fits { CanTurn inverse.name inverse.step self.old }
         ensures ok { OnOk result (IsTurned inverse.name inverse.step self.old self.new) }
         ensures err { OnErr result (self.new ≡ self.old) }
         ensures back { IfErr result (λ refused. refused.0 ≡ inverse) }
         // It fails only where a row comes or an event is appended.
         ensures succeeds { wants_memory inverse.step ≡ false → IsOk result }
+        // What the next call asks for. A row that comes may be as late as its birth says.
+        ensures of_trace { IsOfTrace indexed.now self.new }
+        ensures late { (n : ℕ) → Below n self.old → IsStepBelow n inverse.step → Below n self.new }
     {
         let name = inverse.name;
-        let Err(step) = turning::turn(&mut self.rows, indexed, name, inverse.step) else {
+        let Err(step) = self.rows.turn(indexed, name, inverse.step) else {
             return Ok(());
         };
         Err((Inverse { name, step }, OutOfMemory))
+    }
+
+    /// Applies all of the commands, one after another, or none. What the command at a place makes has the birth of
+    /// this entry and that place.
+    pub fn apply_all(
+        &mut self,
+        indexed: &Indexed,
+        board: &Board,
+        entry: u64,
+        commands: &[Command],
+    ) -> Result<Inverses, BatchRefusal>
+        requires of_trace { IsOfTrace indexed.now self.old }
+        requires board { IsBoardOf indexed.now board.now }
+        requires late { Below (age entry 0) self.old }
+        requires few { length commands.now < 4294967296 }
+        ensures applied { IsAppliedAll indexed.now board.now (age entry 0) commands.now self.old self.new result }
+        // Taken back at once, the inverses give the rows that were there before.
+        ensures back { IfOk result (λ inverses. TakesAllBack inverses self.new self.old) }
+        // What the next call asks for.
+        ensures of_trace { IsOfTrace indexed.now self.new }
+        ensures late { Below (age (entry + 1) 0) self.new }
+        ensures steps_of_trace { IfOk result (λ inverses. AreOfTrace indexed.now inverses) }
+        ensures steps_late { IfOk result (λ inverses. AreBelow (age (entry + 1) 0) inverses) }
+    {
+        let _ = self.len();
+        self.run_all(indexed, board, entry, commands)
+    }
+
+    // A batch of one command is done in place. Another is done on a copy, which takes the place of the rows at its end:
+    // what takes a command back may want memory, so it can't be promised to take back what stands before a refusal.
+    fn run_all(
+        &mut self,
+        indexed: &Indexed,
+        board: &Board,
+        entry: u64,
+        commands: &[Command],
+    ) -> Result<Inverses, BatchRefusal>
+        requires of_trace { IsOfTrace indexed.now self.old }
+        requires board { IsBoardOf indexed.now board.now }
+        requires late { Below (age entry 0) self.old }
+        requires few { length commands.now < 4294967296 }
+        ensures { IsAppliedAll indexed.now board.now (age entry 0) commands.now self.old self.new result }
+    {
+        let Ok(mut items) = Vec::with_capacity(self.alloc, commands.len()) else {
+            return Err(BatchRefusal::OutOfMemory);
+        };
+        if commands.len() <= 1 {
+            batch::run(self, &mut items, indexed, board, entry, commands)?;
+            return Ok(Inverses { items });
+        }
+        let Ok(mut copy) = self.copied(indexed) else {
+            return Err(BatchRefusal::OutOfMemory);
+        };
+        batch::run(&mut copy, &mut items, indexed, board, entry, commands)?;
+        *self = copy;
+        Ok(Inverses { items })
+    }
+
+    /// Takes back all of a batch, the last command first, or nothing. Each written name still has what the batch left
+    /// there; other rows may have changed, come or gone.
+    pub fn take_back_all(
+        &mut self,
+        indexed: &Indexed,
+        inverses: Inverses,
+    ) -> Result<(), (Inverses, OutOfMemory)>
+        requires of_trace { IsOfTrace indexed.now self.old }
+        requires steps { AreOfTrace indexed.now inverses }
+        requires fits { CanTurnAll inverses self.old }
+        ensures ok { OnOk result (IsTurnedAll inverses self.old self.new) }
+        ensures err { OnErr result (self.new ≡ self.old) }
+        ensures back { IfErr result (λ refused. refused.0 ≡ inverses) }
+        // What the next call asks for.
+        ensures of_trace { IsOfTrace indexed.now self.new }
+        ensures late { (n : ℕ) → Below n self.old → AreBelow n inverses → Below n self.new }
+    {
+        self.turn_all(indexed, inverses)
+    }
+
+    // In place where there is one inverse at the most, else on a copy, in the same way as `run_all`.
+    fn turn_all(
+        &mut self,
+        indexed: &Indexed,
+        mut inverses: Inverses,
+    ) -> Result<(), (Inverses, OutOfMemory)>
+        requires of_trace { IsOfTrace indexed.now self.old }
+        requires steps { AreOfTrace indexed.now inverses }
+        requires fits { CanTurnAll inverses self.old }
+        ensures ok { OnOk result (IsTurnedAll inverses self.old self.new) }
+        ensures err { OnErr result (self.new ≡ self.old) }
+        ensures back { IfErr result (λ refused. refused.0 ≡ inverses) }
+    {
+        if inverses.items.len() == 1 {
+            let inverse = inverses.items.pop().unwrap();
+            let Err((inverse, why)) = self.take_back(indexed, inverse) else {
+                return Ok(());
+            };
+            inverses.items.push_reserved(inverse);
+            return Err((inverses, why));
+        }
+        let Ok(mut copy) = self.copied(indexed) else {
+            return Err((inverses, OutOfMemory));
+        };
+        let Ok(()) = batch::turn_back(&mut copy, self.alloc, indexed, &inverses.items) else {
+            return Err((inverses, OutOfMemory));
+        };
+        *self = copy;
+        Ok(())
+    }
+
+    // A workspace of its own with the same rows.
+    fn copied(&self, indexed: &Indexed) -> Result<Workspace, OutOfMemory>
+        requires { IsOfTrace indexed.now self.now }
+        ensures { IfOk result (λ copy. copy ≡ self.now) }
+    {
+        let rows = self.rows.copied(self.alloc, indexed)?;
+        Ok(Workspace {
+            alloc: self.alloc,
+            rows,
+        })
     }
 }

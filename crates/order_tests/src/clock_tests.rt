@@ -1,5 +1,5 @@
-//! What no clause says and the program does not tell: which events are ordered, and the candidates up to another limit than the
-//! program's, in worked examples that are read from their texts.
+//! That the definitions behind the clocks are those meant: which events are ordered, which pairs are candidates, and the first of
+//! them up to a limit, in worked examples that are read from their texts.
 ghost use Rattle.std.specs.Prelude.{◌≡◌};
 
 use crate::fixtures::{clocks_of, indexed_of};
@@ -46,6 +46,42 @@ fn are_ordered_in(alloc: Global, indexed: &Indexed, pairs: &[(u32, u32, bool)]) 
 
 fn are_ordered(alloc: Global, text: &[u8], pairs: &[(u32, u32, bool)]) -> Option<bool> {
     are_ordered_in(alloc, &indexed_of(alloc, text)?, pairs)
+}
+
+// Whether the pair is a candidate; None where it has not two events.
+fn is_candidate_by(clocks: &Clocks, indexed: &Indexed, first: u32, second: u32) -> Option<bool>
+    requires { clocks.now ≡ indexed.now }
+{
+    let len = indexed.len();
+    if first < len && second < len {
+        Some(clocks.candidate(indexed, first, second))
+    } else {
+        None
+    }
+}
+
+fn is_candidate_in(alloc: Global, indexed: &Indexed, first: u32, second: u32) -> Option<bool> {
+    let clocks = clocks_of(alloc, indexed)?;
+    is_candidate_by(&clocks, indexed, first, second)
+}
+
+fn is_candidate(alloc: Global, text: &[u8], first: u32, second: u32) -> Option<bool> {
+    is_candidate_in(alloc, &indexed_of(alloc, text)?, first, second)
+}
+
+#[test]
+fn candidates_of_worked_examples(rt: HostRuntime) {
+    let alloc = rt.alloc();
+    // The lock orders the two.
+    assert_eq!(rt; is_candidate(alloc, ONE_LOCK, 0, 5), Some(false));
+    assert_eq!(rt; is_candidate(alloc, TWO_PAIRS, 0, 1), Some(true));
+    assert_eq!(rt; is_candidate(alloc, TWO_PAIRS, 2, 3), Some(true));
+    assert_eq!(rt; is_candidate(alloc, TWO_PAIRS, 3, 2), Some(true));
+    // They are of different variables.
+    assert_eq!(rt; is_candidate(alloc, TWO_PAIRS, 0, 2), Some(false));
+    // A join, and a fork, stand between the two.
+    assert_eq!(rt; is_candidate(alloc, FORK_AND_JOIN, 1, 3), Some(false));
+    assert_eq!(rt; is_candidate(alloc, FORK_AFTER_WRITE, 0, 2), Some(false));
 }
 
 // Whether the first candidates up to the limit are these.

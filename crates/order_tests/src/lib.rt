@@ -1,5 +1,5 @@
-//! Tests of trace texts, of the index, of the order SHB, of schedules and of the search for witnesses, in a crate over theirs: with
-//! tests in it a crate would be proved twice, and the tests with its types seen from inside.
+//! Tests of trace texts, of the index, of the order SHB, of schedules and of the search for witnesses, in a
+//! crate over theirs: with tests in it a crate would be proved twice, and the tests with its types seen from inside.
 #![tactic(auto)]
 
 #[cfg(test)]

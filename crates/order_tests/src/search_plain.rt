@@ -2,27 +2,19 @@
 //! event, with no table and no clock. It judges them in the tests.
 
 use event_index::Indexed;
-use rapid_text::{Event, Op};
+use rapid_text::Op;
 use std::alloc::Global;
 use witness_search::SliceRefusal;
 
-fn event_of(indexed: &Indexed, event: u32) -> Option<Event> {
-    if event < indexed.len() {
-        Some(indexed.trace().raw().event(event))
-    } else {
-        None
-    }
-}
-
 fn does(indexed: &Indexed, event: u32, op: Op) -> bool {
-    match event_of(indexed, event) {
+    match indexed.get(event) {
         Some(found) => found.op == op,
         None => false,
     }
 }
 
 fn is_of(indexed: &Indexed, event: u32, thread: u32) -> bool {
-    match event_of(indexed, event) {
+    match indexed.get(event) {
         Some(found) => found.thread == thread,
         None => false,
     }
@@ -41,7 +33,7 @@ fn last_write(indexed: &Indexed, events: &[u32], variable: u32) -> Option<u32> {
 
 // The last write before the event, where it is a read.
 fn writer_of(indexed: &Indexed, event: u32) -> Option<u32> {
-    let Op::Read(variable) = event_of(indexed, event)?.op else {
+    let Op::Read(variable) = indexed.get(event)?.op else {
         return None;
     };
     let mut last = None;
@@ -55,7 +47,7 @@ fn writer_of(indexed: &Indexed, event: u32) -> Option<u32> {
 
 // The event before it in its thread, or else the fork of its thread.
 fn base_of(indexed: &Indexed, event: u32) -> Option<u32> {
-    let thread = event_of(indexed, event)?.thread;
+    let thread = indexed.get(event)?.thread;
     let mut base = None;
     for earlier in 0..event {
         if is_of(indexed, earlier, thread) {
@@ -70,7 +62,7 @@ fn base_of(indexed: &Indexed, event: u32) -> Option<u32> {
 
 // The first later release at which its thread holds the lock as often as before the acquire.
 fn section_of(indexed: &Indexed, event: u32) -> Option<u32> {
-    let found = event_of(indexed, event)?;
+    let found = indexed.get(event)?;
     let Op::Acquire(lock) = found.op else {
         return None;
     };
@@ -94,10 +86,10 @@ fn section_of(indexed: &Indexed, event: u32) -> Option<u32> {
 
 /// Whether the two access one variable from two threads, and one of them writes it.
 pub(crate) fn is_conflict(indexed: &Indexed, first: u32, second: u32) -> bool {
-    let Some(one) = event_of(indexed, first) else {
+    let Some(one) = indexed.get(first) else {
         return false;
     };
-    let Some(other) = event_of(indexed, second) else {
+    let Some(other) = indexed.get(second) else {
         return false;
     };
     if one.thread == other.thread {
@@ -114,10 +106,10 @@ pub(crate) fn is_conflict(indexed: &Indexed, first: u32, second: u32) -> bool {
 
 // Whether an edge leads from the first event to the second, which stands later.
 fn is_edge(indexed: &Indexed, first: u32, second: u32) -> bool {
-    let Some(from) = event_of(indexed, first) else {
+    let Some(from) = indexed.get(first) else {
         return false;
     };
-    let Some(to) = event_of(indexed, second) else {
+    let Some(to) = indexed.get(second) else {
         return false;
     };
     if from.thread == to.thread || to.op == Op::Join(from.thread) {
@@ -220,7 +212,7 @@ fn take_in_asked(indexed: &Indexed, event: u32, list: &mut Vec<u32>) -> Option<(
     take_in(list, base_of(indexed, event))?;
     take_in(list, writer_of(indexed, event))?;
     take_in(list, section_of(indexed, event))?;
-    let Op::Join(thread) = event_of(indexed, event)?.op else {
+    let Op::Join(thread) = indexed.get(event)?.op else {
         return Some(());
     };
     for other in 0..indexed.len() {
@@ -247,7 +239,7 @@ fn wanted_of(alloc: Global, indexed: &Indexed, first: u32, second: u32) -> Optio
 
 // Whether the event is not in the list, but all earlier events of its thread are, and its thread's fork.
 fn is_ready(indexed: &Indexed, list: &[u32], event: u32) -> bool {
-    let Some(found) = event_of(indexed, event) else {
+    let Some(found) = indexed.get(event) else {
         return false;
     };
     if list.contains(&event) {
@@ -281,7 +273,7 @@ fn holds(indexed: &Indexed, list: &[u32], thread: u32, lock: u32) -> u32 {
 
 /// Whether the list and then the event are a correct reordering, where the list is one.
 pub(crate) fn is_enabled(indexed: &Indexed, list: &[u32], event: u32) -> bool {
-    let Some(found) = event_of(indexed, event) else {
+    let Some(found) = indexed.get(event) else {
         return false;
     };
     if !is_ready(indexed, list, event) {
@@ -290,7 +282,7 @@ pub(crate) fn is_enabled(indexed: &Indexed, list: &[u32], event: u32) -> bool {
     match found.op {
         Op::Read(variable) => { last_write(indexed, list, variable) == writer_of(indexed, event) },
         Op::Acquire(lock) => {
-            for thread in 0..indexed.trace().raw().threads() {
+            for thread in 0..indexed.threads() {
                 if thread != found.thread && holds(indexed, list, thread, lock) != 0 {
                     return false;
                 }

@@ -2,15 +2,15 @@
 use Rattle.std.proofs.Common.{◌≡◌, ◌⊎◌, ◌==◌, ℕ, suc, ◌+◌, not, cond, List, [], ◌∷◌, ◌++◌, length, All, Option, Some, None, option_map, find, Err, refl, sym, ap, ◌∙◌, subst, arith, inl, inr, append_assoc}
 use Rattle.std.proofs.lemmas.Bool.{cases_Bool, eqb-true}
 use Rattle.std.proofs.lemmas.List.Elements.{All-cons}
-use Rattle.client_scripts.specs.Scripts.{Asked, no_memory}
+use Rattle.script_language.specs.Scripts.{Asked, no_memory}
 use Rattle.client_scripts.specs.Steps.{IsInput}
 use Rattle.client_scripts.specs.declared.fault.ReadCause.TheVariants.{Device, TooLong}
 use Rattle.client_scripts.specs.declared.fault.ReplayFault.{ReplayFault}
 use Rattle.client_scripts.specs.declared.fault.ReplayFault.TheVariants.{Text, Rule, Script as ScriptRefused, Read, Write, OutOfMemory}
-use Rattle.client_scripts.specs.declared.fault.ScriptCause.{ScriptCause}
-use Rattle.client_scripts.specs.declared.fault.ScriptCause.TheVariants.{BadWord, BadNumber, BadClient, BadName, LineTooLong, OutOfMemory as NoScriptMemory}
-use Rattle.client_scripts.specs.declared.fault.ScriptRefusal.{ScriptRefusal}
-use Rattle.program_calls.specs.ScriptInputs.{IsTold, IsScriptOf, AreScripts, IsRefused, IsTextFault, IsScriptFault, IsFirstFault, refused_as}
+use Rattle.script_language.specs.declared.refusal.ScriptCause.{ScriptCause}
+use Rattle.script_language.specs.declared.refusal.ScriptCause.TheVariants.{BadWord, BadNumber, BadClient, BadName, LineTooLong, OutOfMemory as NoScriptMemory}
+use Rattle.script_language.specs.declared.refusal.ScriptRefusal.{ScriptRefusal}
+use Rattle.program_calls.specs.ScriptInputs.{IsReadAs, IsScriptOf, AreScripts, IsRefused, IsTextFault, IsScriptFault, IsFirstFault, refused_as}
 use Rattle.program_calls.specs.declared.fault.BenchFault.{BenchFault}
 use Rattle.program_calls.specs.declared.fault.BenchFault.TheVariants.{Replay, Script, NoThread, TooManyScripts}
 
@@ -54,7 +54,7 @@ input_fault client input rest (ScriptRefused refusal) e h = absurd h
 input_fault client input rest Write e h = absurd h
 
 -- the text of the input is at fault
-pub text_fault_of : (client : ℕ) (rest : Option (List ℕ)) (text : List ℕ) (fault : BenchFault) → IsTold rest text → IsTextFault client text fault → IsScriptFault client rest fault
+pub text_fault_of : (client : ℕ) (rest : Option (List ℕ)) (text : List ℕ) (fault : BenchFault) → IsReadAs rest text → IsTextFault client text fault → IsScriptFault client rest fault
 text_fault_of client rest text (Script place refusal) told h = (h.0, (text, told, h.1))
 text_fault_of client rest text (Replay OutOfMemory) told h = tt
 text_fault_of client rest text (Replay (Read place why)) told h = absurd h
@@ -66,7 +66,7 @@ text_fault_of client rest text NoThread told h = absurd h
 text_fault_of client rest text TooManyScripts told h = absurd h
 
 -- one script more was read
-pub scripts_more : (n : ℕ) (rests : List (Option (List ℕ))) (scripts : List (List Asked)) (rest : Option (List ℕ)) (script : List Asked) → AreScripts n rests scripts → ((text : List ℕ) × IsTold rest text × IsScriptOf (n + length rests) text script)
+pub scripts_more : (n : ℕ) (rests : List (Option (List ℕ))) (scripts : List (List Asked)) (rest : Option (List ℕ)) (script : List Asked) → AreScripts n rests scripts → ((text : List ℕ) × IsReadAs rest text × IsScriptOf (n + length rests) text script)
     → AreScripts n (rests ++ rest ∷ []) (scripts ++ script ∷ [])
 scripts_more n [] [] rest script h one = ((one.0, one.1, subst (λ m. IsScriptOf m one.0 script) (omega arith) one.2), tt)
 scripts_more n [] (s ∷ scripts) rest script h one = absurd h
@@ -85,7 +85,7 @@ module _ (rests before left : List (Option (List ℕ))) (rest : Option (List ℕ
   place : n + 1 ≡ 1 + length before
   place = let same = scripts_len 1 before scripts read in omega arith
 
-  pub scripts_next : (now : List (List Asked)) → ((text : List ℕ) × (asked : List Asked) × IsTold rest text × IsScriptOf (n + 1) text asked × (now ≡ scripts ++ asked ∷ []))
+  pub scripts_next : (now : List (List Asked)) → ((text : List ℕ) × (asked : List Asked) × IsReadAs rest text × IsScriptOf (n + 1) text asked × (now ≡ scripts ++ asked ∷ []))
       → (done : List (Option (List ℕ))) × (done ++ left ≡ rests) × AreScripts 1 done now
   scripts_next now one = (
     before ++ rest ∷ [],

@@ -10,7 +10,7 @@ use Rattle.inverse_log.specs.Log.{Benched}
 use Rattle.report.specs.Log.{log_text}
 use Rattle.workspace_lock.specs.Turns.{Sees}
 use Rattle.workspace_lock.specs.Seating.{Site, SeatView, SeatsView, TakesFirst, mark_in, fresh_seat, fresh_rows, Closes}
-use Rattle.client_scripts.specs.Scripts.{Asked}
+use Rattle.script_language.specs.Scripts.{Asked}
 use Rattle.client_scripts.specs.Seats.{RunsScript}
 use Rattle.program_calls.specs.Jobs.{Job, Told, lines_of, told_text, AnswersJob, AnswerJobs, AreSeated, Numbered, AllLines}
 use Rattle.program_calls.specs.Told.{client_text, clients_text, fresh_bench, AreAnswered, AreTold}

@@ -4,7 +4,7 @@ use Rattle.std.specs.declared.alloc.Global.{Global}
 use Rattle.rapid_text.specs.Recording.{Recording}
 use Rattle.rapid_text.specs.declared.memory.OutOfMemory.{OutOfMemory}
 use Rattle.workspace_lock.specs.Seating.{Site, SeatView, fresh_rows}
-use Rattle.client_scripts.specs.Scripts.{Asked}
+use Rattle.script_language.specs.Scripts.{Asked}
 use Rattle.client_scripts.specs.Seats.{RunsScript}
 use Rattle.program_calls.specs.Told.{client_text}
 

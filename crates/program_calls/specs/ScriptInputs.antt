@@ -1,17 +1,22 @@
 -- The scripts that are to run at once: input i + 1 is the script of client i. All notions here are this project's own.
 use Rattle.std.specs.Prelude.{◌≡◌, ◌⊎◌, ◌==◌, ◌<◌, ℕ, suc, ◌+◌, not, find, option_map, List, [], ◌∷◌, ◌++◌, length, All, Option, Some, Ok, Err, IfSome, ⊤}
-use Rattle.client_scripts.specs.Scripts.{Asked, IsScript}
+use Rattle.script_language.specs.Scripts.{Asked, IsScript}
+use Rattle.client_scripts.specs.Replay.{IsShort}
 use Rattle.client_scripts.specs.declared.fault.ReadCause.TheVariants.{Device, TooLong}
 use Rattle.client_scripts.specs.declared.fault.ReplayFault.TheVariants.{Read, OutOfMemory}
-use Rattle.client_scripts.specs.declared.fault.ScriptCause.{ScriptCause}
-use Rattle.client_scripts.specs.declared.fault.ScriptCause.TheVariants.{BadClient, OutOfMemory as NoScriptMemory}
-use Rattle.client_scripts.specs.declared.fault.ScriptRefusal.{ScriptRefusal}
+use Rattle.script_language.specs.declared.refusal.ScriptCause.{ScriptCause}
+use Rattle.script_language.specs.declared.refusal.ScriptCause.TheVariants.{BadClient, OutOfMemory as NoScriptMemory}
+use Rattle.script_language.specs.declared.refusal.ScriptRefusal.{ScriptRefusal}
 use Rattle.program_calls.specs.declared.fault.BenchFault.{BenchFault}
 use Rattle.program_calls.specs.declared.fault.BenchFault.TheVariants.{Replay, Script}
 
 -- the bytes are those that the reader tells, where it tells them
 abbrev pub IsTold : Option (List ℕ) → List ℕ → Type 0
 IsTold rest bytes = IfSome rest (λ told. bytes ≡ told)
+
+-- the bytes are within the limit of an input, and those that the reader tells, where it tells them
+abbrev pub IsReadAs : Option (List ℕ) → List ℕ → Type 0
+IsReadAs rest bytes = IsShort bytes × IsTold rest bytes
 
 -- the text says these calls, all of this client
 abbrev pub IsScriptOf : ℕ → List ℕ → List Asked → Type 0
@@ -22,7 +27,7 @@ abbrev pub AreScripts : ℕ → List (Option (List ℕ)) → List (List Asked) �
 AreScripts n [] [] = ⊤
 AreScripts n [] (s ∷ scripts) = ⊥
 AreScripts n (r ∷ rests) [] = ⊥
-AreScripts n (r ∷ rests) (s ∷ scripts) = ((text : List ℕ) × IsTold r text × IsScriptOf n text s) × AreScripts (suc n) rests scripts
+AreScripts n (r ∷ rests) (s ∷ scripts) = ((text : List ℕ) × IsReadAs r text × IsScriptOf n text s) × AreScripts (suc n) rests scripts
 
 -- the script is refused, or the first call of another client is
 abbrev pub IsRefused : ℕ → List ℕ → ScriptRefusal → Type 0
@@ -41,7 +46,7 @@ IsTextFault client text fault = ⊥
 
 -- and why not from its reader
 abbrev pub IsScriptFault : ℕ → Option (List ℕ) → BenchFault → Type 0
-IsScriptFault client rest (Script place refusal) = (place ≡ client) × ((text : List ℕ) × IsTold rest text × IsRefused client text refusal)
+IsScriptFault client rest (Script place refusal) = (place ≡ client) × ((text : List ℕ) × IsReadAs rest text × IsRefused client text refusal)
 IsScriptFault client rest (Replay (Read input Device)) = input ≡ client + 1
 IsScriptFault client rest (Replay (Read input TooLong)) = (input ≡ client + 1) × IfSome rest (λ told. 268435456 < length told)
 IsScriptFault client rest (Replay OutOfMemory) = ⊤

@@ -2,7 +2,7 @@
 use Rattle.std.specs.Prelude.{◌≡◌, ◌⊎◌, ℕ, List, Bool, true, Option, Ok}
 use Rattle.rapid_text.specs.Recording.{Recording}
 use Rattle.client_scripts.specs.Replay.{IsAccepted, IsFault, IsShort, of_trace}
-use Rattle.client_scripts.specs.Scripts.{Asked}
+use Rattle.script_language.specs.Scripts.{Asked}
 use Rattle.client_scripts.specs.Traces.{trace_of}
 use Rattle.client_scripts.specs.declared.fault.ReplayFault.{ReplayFault}
 use Rattle.client_scripts.specs.declared.fault.ReplayFault.TheVariants.{Write, OutOfMemory}

@@ -6,7 +6,7 @@ use Rattle.inverse_log.specs.Log.{Benched}
 use Rattle.workspace_lock.specs.Turns.{Sees}
 use Rattle.workspace_lock.specs.Seating.{Site, SeatView, mark_in, fresh_seat}
 use Rattle.report.specs.Log.{log_text}
-use Rattle.client_scripts.specs.Scripts.{Asked}
+use Rattle.script_language.specs.Scripts.{Asked}
 use Rattle.client_scripts.specs.Seats.{RunsScript}
 
 -- the line of a client's number, and then the lines of its answers

@@ -1,11 +1,14 @@
-//! Why a command of the program stopped, and what is printed of that.
+//! Why a command of the program stopped, what is printed of that, and how the faults below become this one.
 ghost use Rattle.std.specs.Prelude.{◌≡◌, ◌++◌, OnOk, OnErr};
-ghost use Rattle.program_calls.specs.BenchFaultTexts.{bench_fault_words, refusal_words, script_refusal_words};
+ghost use Rattle.client_scripts.specs.Messages.{words_in};
+ghost use Rattle.program_calls.specs.BenchFaultTexts.{bench_fault_words, script_refusal_words, words_in_script};
+ghost use Rattle.program_calls.specs.ScriptInputs.{refused_as};
 
 use client_scripts::{ReplayFault, ScriptCause, ScriptRefusal, fault_text, script_words};
 use rapid_text::OutOfMemory;
 use report::{Piece, append_pieces};
 use std::alloc::{AllocError, AllocFailed};
+use std::fmt;
 use thiserror::Error;
 
 /// Why a command of the program stopped. Its message is what `bench_fault_text` appends.
@@ -15,7 +18,7 @@ pub enum BenchFault {
     #[error("{0}")]
     Replay(ReplayFault),
     /// 93: a script is refused, of several that run in threads.
-    #[error("script {place} line {}: {}", .refusal.line, words_of(.refusal.why))]
+    #[error("{}", in_script(.place, .refusal))]
     Script {
         /// The script among them, counted from 1.
         place: u32,
@@ -77,11 +80,68 @@ impl<T: Drop> From<AllocFailed<T>> for BenchFault {
     }
 }
 
-/// The number and the words of what is wrong with a script line.
-fn words_of(why: ScriptCause) -> &'static str
-    ensures { result.now ≡ refusal_words why }
+impl BenchFault {
+    /// The fault of the script at this place that is refused; want of memory is a fault of its own.
+    pub(crate) fn of_script(place: u32, refusal: ScriptRefusal) -> BenchFault
+        ensures { result ≡ refused_as place refusal refusal.why }
+    {
+        match refusal.why {
+            ScriptCause::OutOfMemory => BenchFault::Replay(ReplayFault::OutOfMemory),
+            _ => BenchFault::Script { place, refusal },
+        }
+    }
+}
+
+/// What is wrong with a line of a script, which is one of several; no words are want of memory.
+#[derive(Clone, Copy)]
+struct InScript {
+    place: u32,
+    line: u64,
+    words: Option<&'static str>,
+}
+
+impl fmt::Display for InScript {
+    fn fmt<W: fmt::Write>(&self, f: &mut fmt::Formatter<W>) -> fmt::Result {
+        match self.words {
+            Some(words) => write!(f, "script {} line {}: {words}", self.place, self.line),
+            None => write!(f, "out of memory"),
+        }
+    }
+}
+
+/// What is wrong with the script at this place.
+fn in_script(place: &u32, refusal: &ScriptRefusal) -> InScript {
+    InScript {
+        place: *place,
+        line: refusal.line,
+        words: script_words(refusal.why),
+    }
+}
+
+/// Appends these words at a line of a script, or those of want of memory.
+fn append_in_script(
+    out: &mut Vec<u8>,
+    place: u32,
+    line: u64,
+    words: Option<&'static str>,
+) -> Result<(), OutOfMemory>
+    ensures ok { OnOk result (out.new.items ≡ out.old.items ++ words_in_script place line (words_in words.entry)) }
+    ensures err { OnErr result (out.new.items ≡ out.old.items) }
 {
-    script_words(why).unwrap_or("out of memory")
+    match words {
+        Some(words) => append_pieces(
+            out,
+            &[
+                Piece::Words(b"script "),
+                Piece::Number(u64::from(place)),
+                Piece::Words(b" line "),
+                Piece::Number(line),
+                Piece::Words(b": "),
+                Piece::Words(words.as_bytes()),
+            ],
+        ),
+        None => append_pieces(out, &[Piece::Words(b"out of memory")]),
+    }
 }
 
 /// Appends the text of a refused script, which names the script and the line.
@@ -89,17 +149,7 @@ fn append_refusal(out: &mut Vec<u8>, place: u32, refusal: &ScriptRefusal) -> Res
     ensures ok { OnOk result (out.new.items ≡ out.old.items ++ script_refusal_words place refusal.now) }
     ensures err { OnErr result (out.new.items ≡ out.old.items) }
 {
-    append_pieces(
-        out,
-        &[
-            Piece::Words(b"script "),
-            Piece::Number(u64::from(place)),
-            Piece::Words(b" line "),
-            Piece::Number(refusal.line),
-            Piece::Words(b": "),
-            Piece::Words(words_of(refusal.why).as_bytes()),
-        ],
-    )
+    append_in_script(out, place, refusal.line, script_words(refusal.why))
 }
 
 /// Appends the text of a fault, without a line end. Where memory is refused `out` stays as it was.

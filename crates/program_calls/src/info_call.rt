@@ -1,5 +1,6 @@
 //! Prints what a trace holds: reads the trace, makes the text, and writes it.
-ghost use Rattle.std.specs.Prelude.{◌≡◌, ℕ, List, false, true, IfSome, OnOk, Err};
+ghost use Rattle.std.specs.Prelude.{◌≡◌, ◌≢◌, ℕ, List, false, true, IfSome, OnOk, Err};
+ghost use Rattle.client_scripts.specs.declared.fault.ReadCause.{ReadCause};
 ghost use Rattle.client_scripts.specs.declared.fault.ReadCause.TheVariants.{Device};
 ghost use Rattle.client_scripts.specs.declared.fault.ReplayFault.TheVariants.{Write, Read};
 ghost use Rattle.program_calls.specs.Info.{AppendsCandidates, IsInfo, IsWritten};
@@ -60,6 +61,8 @@ pub fn info<S: Source, K: Sink>(
     ensures info { (bytes : List ℕ)
         × IfSome (S.rest reader.old) (λ told. bytes ≡ told)
         × IsInfo bytes (K.taken writer.old) (K.taken writer.new) result }
+    // There is one input, and no second one is named.
+    ensures input { (why : ReadCause) → result ≢ Err (Replay (Read 2 why)) }
     // The device is at fault exactly where a read failed, and the writer exactly where a write failed.
     ensures device { result ≡ Err (Replay (Read 1 Device)) → S.has_failed reader.new ≡ true }
     ensures read_failed { S.has_failed reader.new ≡ true → result ≡ Err (Replay (Read 1 Device)) }

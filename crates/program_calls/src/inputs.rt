@@ -1,18 +1,16 @@
 //! Reads the scripts that are to run at once, each for a client of its own.
 ghost use Rattle.std.specs.Prelude.{◌≡◌, ◌≤◌, ◌+◌, ◌++◌, ◌∷◌, [], ℕ, List, All, map, false, vec_len, IfOk, IfErr, OnOk};
-ghost use Rattle.client_scripts.specs.Scripts.{Asked};
-ghost use Rattle.program_calls.specs.ScriptInputs.{AreScripts, IsFirstFault, IsScriptFault, IsScriptOf, IsTextFault, IsTold, refused_as};
+ghost use Rattle.script_language.specs.Scripts.{Asked};
+ghost use Rattle.program_calls.specs.ScriptInputs.{AreScripts, IsFirstFault, IsScriptFault, IsScriptOf, IsReadAs, IsTextFault};
 
 use crate::fault::BenchFault;
-use client_scripts::{
-    ReplayFault, Script, ScriptCause, ScriptRefusal, Source, read_input, read_script,
-};
+use client_scripts::{Script, ScriptCause, ScriptRefusal, Source, read_input, read_script};
 use rapid_text::TextKeyed;
 use std::alloc::Global;
 use std::hash::{DefaultHasher, Hasher};
 
 /// The most scripts, so that one of 32 clients is left for what a search finds.
-pub(crate) const MAX_SCRIPTS: usize = 31;
+pub const MAX_SCRIPTS: usize = 31;
 
 /// Scripts, in the order of their clients, and hashers for the names that they choose.
 #[derive(Drop)]
@@ -22,16 +20,6 @@ pub(crate) struct Scripts {
     texts: DefaultHasher,
 }
 
-/// The fault of a script that is refused.
-fn refused(place: u32, refusal: ScriptRefusal) -> BenchFault
-    ensures { result ≡ refused_as place refusal refusal.why }
-{
-    match refusal.why {
-        ScriptCause::OutOfMemory => BenchFault::from(ReplayFault::OutOfMemory),
-        _ => BenchFault::Script { place, refusal },
-    }
-}
-
 /// A script whose every line is of the client of this number.
 fn script_of(alloc: Global, text: &[u8], client: u32) -> Result<Script, BenchFault>
     ensures ok { IfOk result (λ asked. IsScriptOf client text.now asked) }
@@ -39,10 +27,10 @@ fn script_of(alloc: Global, text: &[u8], client: u32) -> Result<Script, BenchFau
 {
     let script = match read_script(alloc, text) {
         Ok(script) => script,
-        Err(refusal) => return Err(refused(client, refusal)),
+        Err(refusal) => return Err(BenchFault::of_script(client, refusal)),
     };
     match script.stranger(client) {
-        Some(line) => Err(refused(
+        Some(line) => Err(BenchFault::of_script(
             client,
             ScriptRefusal {
                 line,
@@ -70,7 +58,7 @@ impl Scripts {
         requires reader { S.has_failed reader.old ≡ false }
         requires few { vec_len self.old.scripts ≤ 30 }
         ensures count { OnOk result (vec_len self.new.scripts ≡ vec_len self.old.scripts + 1) }
-        ensures read { OnOk result ((text : List ℕ) × (asked : List Asked) × IsTold (S.rest reader.old) text × IsScriptOf (vec_len self.old.scripts + 1) text asked
+        ensures read { OnOk result ((text : List ℕ) × (asked : List Asked) × IsReadAs (S.rest reader.old) text × IsScriptOf (vec_len self.old.scripts + 1) text asked
             × (self.new.scripts.items ≡ self.old.scripts.items ++ asked ∷ [])) }
         ensures fault { IfErr result (λ fault. IsScriptFault (vec_len self.old.scripts + 1) (S.rest reader.old) fault) }
     {

@@ -10,4 +10,6 @@ mod threads_call;
 
 pub use fault::{BenchFault, bench_fault_text};
 pub use info_call::info;
-pub use threads_call::threads;
+pub use inputs::MAX_SCRIPTS;
+pub use threads_call::{threads, threads_with_room};
+pub use workspace_lock::BEST_ROOM;

@@ -19,7 +19,7 @@ use std::alloc::{AllocError, Global};
 use std::sync::{Arc, Wait};
 use std::thread;
 use std::thread::Threads;
-use workspace_lock::{Seat, Seats, open};
+use workspace_lock::{Seat, Seats, open_with_room};
 
 /// What a thread is given: a seat, and the script whose calls it makes there.
 type Job = (Seat, Script);
@@ -155,12 +155,13 @@ fn append_log(seats: Seats, out: &mut Vec<u8>) -> Result<(), OutOfMemory>
     }
 }
 
-/// A bench of the trace with an empty log, and a seat for each of so many clients.
+/// A bench of the trace with an empty log, and a seat for each of so many clients behind a door with so much room.
 fn open_seats(
     alloc: Global,
     indexed: &Arc<Indexed, Global>,
     names: TextKeyed,
     clients: u32,
+    room: u32,
 ) -> Result<Seats, OutOfMemory>
     ensures { IfOk result (λ s. Opened (fresh_bench (arc_value indexed.now)) clients s) }
 {
@@ -168,7 +169,7 @@ fn open_seats(
     let Ok(bench) = Bench::keyed(alloc, theirs, names) else {
         return Err(OutOfMemory);
     };
-    match open(alloc, bench, clients) {
+    match open_with_room(alloc, bench, clients, room) {
         Ok(seats) => Ok(seats),
         Err(_) => Err(OutOfMemory),
     }
@@ -181,13 +182,14 @@ pub(crate) fn run_scripts<R: Threads + Wait + Sync>(
     indexed: Indexed,
     names: TextKeyed,
     scripts: Vec<Script>,
+    room: u32,
 ) -> Result<Vec<u8>, BenchFault>
     requires { (0 < vec_len scripts) × (vec_len scripts ≤ 31) }
     ensures told { IfOk result (λ text. AreTold indexed scripts.items text.items) }
     ensures fault { IfErr result (λ fault. fault ≡ Replay NoMemory) }
 {
     let shared = Arc::new(alloc, indexed)?;
-    let mut seats = open_seats(alloc, &shared, names, scripts.len() as u32)?;
+    let mut seats = open_seats(alloc, &shared, names, scripts.len() as u32, room)?;
     let jobs = seat_all(alloc, &mut seats, scripts)?;
     let told = run_all(rt, alloc, &shared, jobs)?;
     let mut out = Vec::new(alloc);

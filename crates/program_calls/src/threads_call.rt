@@ -14,6 +14,7 @@ use client_scripts::{ReplayFault, Sink, Source, load, read_input, write_all};
 use std::alloc::Global;
 use std::sync::Wait;
 use std::thread::Threads;
+use workspace_lock::BEST_ROOM;
 
 /// Reads a trace and scripts, each whole, of which script i is client i's; then makes the calls of each script on
 /// the trace in a thread of its own, joins all threads, and writes for each script a line `client i` and the lines
@@ -21,11 +22,15 @@ use std::thread::Threads;
 ///
 /// Nothing is written before all threads have ended, so nothing where there is another fault than that of the
 /// writer. A call that finds no memory is answered by its line, and the script goes on.
-pub fn threads<R: Threads + Wait + Sync, S: Source, Q: Source + Drop, K: Sink>(
+///
+/// The scripts' seats pass a door with so much room (`workspace_lock::open_with_room`): more room, up to 32, mixes the clients'
+/// calls more, and takes longer. Nothing that is promised rests on it.
+pub fn threads_with_room<R: Threads + Wait + Sync, S: Source, Q: Source + Drop, K: Sink>(
     rt: &R,
     alloc: Global,
     trace: &mut S,
     scripts: Vec<Q>,
+    room: u32,
     writer: &mut K,
 ) -> Result<(), BenchFault>
     requires trace { S.has_failed trace.old ≡ false }
@@ -62,7 +67,7 @@ pub fn threads<R: Threads + Wait + Sync, S: Source, Q: Source + Drop, K: Sink>(
         Err(fault) => return Err(fault),
     };
     let names = read.keyed();
-    let told = match run_scripts(rt, alloc, indexed, names, read.scripts) {
+    let told = match run_scripts(rt, alloc, indexed, names, read.scripts, room) {
         Ok(told) => told,
         Err(fault) => return Err(fault),
     };
@@ -70,4 +75,29 @@ pub fn threads<R: Threads + Wait + Sync, S: Source, Q: Source + Drop, K: Sink>(
         return Err(BenchFault::Replay(ReplayFault::Write));
     }
     Ok(())
+}
+
+/// The same with the room that is fastest.
+pub fn threads<R: Threads + Wait + Sync, S: Source, Q: Source + Drop, K: Sink>(
+    rt: &R,
+    alloc: Global,
+    trace: &mut S,
+    scripts: Vec<Q>,
+    writer: &mut K,
+) -> Result<(), BenchFault>
+    requires trace { S.has_failed trace.old ≡ false }
+    requires scripts { All (λ q. Q.has_failed q ≡ false) scripts.items }
+    requires some { 0 < vec_len scripts }
+    requires writer { K.has_failed writer.old ≡ false }
+    ensures unwritten { OnErr result (K.has_failed writer.new ≡ false → K.taken writer.new ≡ K.taken writer.old) }
+    ensures write_failed { K.has_failed writer.new ≡ true → result ≡ Err (Replay Write) }
+    ensures device { result ≡ Err (Replay (Read 1 Device)) → S.has_failed trace.new ≡ true }
+    ensures read_failed { S.has_failed trace.new ≡ true → result ≡ Err (Replay (Read 1 Device)) }
+    ensures told { OnOk result ((bytes : List ℕ) × IsTold (S.rest trace.old) bytes × (text : List ℕ)
+        × RunsTogether bytes (map (λ q. Q.rest q) scripts.items) text × Appends (K.taken writer.old) (K.taken writer.new) text) }
+    ensures most { 31 < vec_len scripts → result ≡ Err TooManyScripts }
+    ensures too_many { result ≡ Err TooManyScripts → 31 < vec_len scripts }
+    ensures fault { IfErr result (λ fault. StopsRun (S.rest trace.old) (map (λ q. Q.rest q) scripts.items) (K.has_failed writer.new) fault) }
+{
+    threads_with_room(rt, alloc, trace, scripts, BEST_ROOM, writer)
 }

@@ -1,8 +1,11 @@
-//! A file that the words name, which may not have been opened.
-ghost use Rattle.std.specs.Prelude.{◌≡◌, false};
+//! What the program reads: files that the words name, which may not have been opened, and standard input, whose bytes are looked at
+//! as they pass.
+ghost use Rattle.std.specs.Prelude.{◌≡◌, All, IfOk, false, length, vec_len};
 
 use client_scripts::{Failed, FromRead, Source};
+use std::alloc::{AllocError, Global};
 use std::fs::File;
+use std::io;
 
 /// A file; where it could not be opened each read fails.
 #[derive(Drop)]
@@ -39,5 +42,133 @@ pub(crate) fn input_at(rt: &HostRuntime, path: &str) -> Input
     Input {
         file,
         failed: false,
+    }
+}
+
+/// The files at these paths.
+pub(crate) fn inputs_at(rt: &HostRuntime, paths: &[&str]) -> Result<Vec<Input>, AllocError>
+    ensures count { IfOk result (λ inputs. vec_len inputs ≡ length paths.now) }
+    ensures fresh { IfOk result (λ inputs. All (λ input. input.failed ≡ false) inputs.items) }
+{
+    let mut inputs = Vec::new(rt.alloc());
+    for path in paths {
+        inputs.push(input_at(rt, path))?;
+    }
+    Ok(inputs)
+}
+
+/// How many of the first bytes of standard input are kept, so that a note can show a line of them.
+const MAX_KEPT: usize = 1_048_576;
+
+/// The room that is made for them at once, so that little input never wants more.
+const FIRST_ROOM: usize = 65_536;
+
+/// What a line holds so far.
+#[derive(Clone, Copy, PartialEq, Eq)]
+enum Line {
+    /// Blanks alone.
+    Blank,
+    /// One hyphen.
+    One,
+    /// Two hyphens side by side.
+    Two,
+    /// Three hyphens side by side, and blanks: a divider, if the line ends so.
+    Divider,
+    /// Anything else.
+    Other,
+}
+
+/// What the line holds with one byte more.
+fn with_byte(line: Line, byte: u8) -> Line {
+    match byte {
+        b'\n' => Line::Blank,
+        b' ' | b'\t' | b'\r' => match line {
+            Line::Blank => Line::Blank,
+            Line::Divider => Line::Divider,
+            _ => Line::Other,
+        },
+        b'-' => match line {
+            Line::Blank => Line::One,
+            Line::One => Line::Two,
+            Line::Two => Line::Divider,
+            _ => Line::Other,
+        },
+        _ => Line::Other,
+    }
+}
+
+/// Standard input, and what was seen of it.
+#[derive(Drop)]
+pub(crate) struct Watched<R: io::Read> {
+    reader: FromRead<R>,
+    /// Its first bytes.
+    pub(crate) kept: Vec<u8>,
+    /// Whether these are all bytes that came.
+    pub(crate) is_whole: bool,
+    // whether a line `---` has ended, and what the last line holds
+    is_divided: bool,
+    line: Line,
+}
+
+impl<R: io::Read + Drop> Watched<R> {
+    /// A reader of which nothing was seen yet.
+    pub(crate) fn new(alloc: Global, reader: R) -> Result<Watched<R>, AllocError>
+        ensures { IfOk result (λ watched. watched.reader.1 ≡ false) }
+    {
+        let kept = Vec::with_capacity(alloc, FIRST_ROOM)?;
+        Ok(Watched {
+            reader: FromRead::new(reader),
+            kept,
+            is_whole: true,
+            is_divided: false,
+            line: Line::Blank,
+        })
+    }
+
+    /// Whether there was a line `---`.
+    pub(crate) fn has_divider(&self) -> bool {
+        self.is_divided || self.line == Line::Divider
+    }
+
+    // Takes in the bytes that came.
+    fn note(&mut self, bytes: &[u8])
+        ensures { self.new.reader ≡ self.old.reader }
+    {
+        self.keep(bytes);
+        for byte in bytes {
+            self.is_divided = self.is_divided || (*byte == b'\n' && self.line == Line::Divider);
+            self.line = with_byte(self.line, *byte);
+        }
+    }
+
+    // Keeps them while they are among the first. Where there is no memory for that, the rest is not kept.
+    fn keep(&mut self, bytes: &[u8])
+        ensures { self.new.reader ≡ self.old.reader }
+    {
+        if !self.is_whole {
+            return;
+        }
+        let room = MAX_KEPT.saturating_sub(self.kept.len());
+        let count = bytes.len().min(room);
+        let is_kept = self.kept.extend_from_slice(&bytes[..count]).is_ok();
+        self.is_whole = is_kept && count == bytes.len();
+    }
+}
+
+impl<R: io::Read + Drop> Source for Watched<R> {
+    ghost use Rattle.std.specs.Prelude.{None};
+
+    ghost rest = { λ s. None };
+
+    ghost has_failed = { λ s. s.reader.1 };
+
+    fn read(&mut self, buf: &mut [u8]) -> Result<usize, Failed> {
+        match self.reader.read(buf) {
+            Ok(count) => {
+                self.note(&buf[..count]);
+                Ok(count)
+            }
+            Err(failed) => Err(failed),
+        }
     }
 }

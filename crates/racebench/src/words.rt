@@ -2,6 +2,7 @@
 
 use clap::error::{Error, ErrorKind};
 use clap::{Arg, ArgAction, ArgMatches, Command, value_parser};
+use program_calls::BEST_ROOM;
 use std::alloc::{AllocError, Global};
 
 /// What the words ask for.
@@ -12,9 +13,11 @@ pub(crate) enum Task<'a> {
     Info(&'a str),
     /// The script in the second file, on the trace in the first.
     Replay(&'a str, &'a str),
-    /// The scripts in the other files at once, on the trace in the first.
-    Threads(&'a str, Vec<&'a str>),
+    /// The scripts in the other files at once, on the trace in the first, with so much room before the lock.
+    Threads(Vec<&'a str>, u32),
 }
+
+const VERSION: &str = "0.1.0";
 
 const ABOUT: &str =
     "Checks a recorded execution, lists candidates for races, builds correct reorderings";
@@ -50,7 +53,10 @@ log, in whose order the calls were made. That order may be another at each run."
 
 const WORKERS: &str = "How many workers search for witnesses; so far only 0 is taken";
 
-const JOINT: &str =
+/// The line of the help behind which the commands of a script stand, each with its arguments and what it does.
+pub(crate) const LISTED_BEHIND: &[u8] = b"Behind the client a line of a script has one of";
+
+pub(crate) const JOINT: &str =
     "Without a command, standard input holds a trace, a line `---` and a script. The first word of a
 script line is the number of a client, and events are counted from 0. The answer to each call of
 the script is printed. For example, of
@@ -63,11 +69,43 @@ the script is printed. For example, of
   1 add A 1
 
 the answers are `0: done`, `pairs 0-1` and `1: done`. The formats of traces and scripts stand in
-docs/FORMATS.md.";
+docs/FORMATS.md.
+
+Behind the client a line of a script has one of
+
+  new NAME                    makes an empty schedule of this name
+  add NAME EVENT              appends an event to a schedule
+  back NAME                   takes the last event off
+  swap NAME POSITION          exchanges the event at this position, from 0, and the next
+  branch NAME LENGTH NAME     makes a schedule of the first LENGTH events of another
+  drop NAME                   takes a schedule away
+  adopt NAME PROPOSAL         puts a proposal's events in place of the schedule's own
+  undo [ENTRY]                takes back the client's latest command that stands, or this one
+  propose EVENT EVENT EVENT*  puts a list on the board that shows the pair of the first two
+  show NAME                   shows a schedule's events
+  list                        shows the names of all schedules
+  races NAME                  shows the pairs that a schedule shows";
 
 /// A file that the words name.
 fn file<'a>(alloc: Global, name: &'a str, holds: &'a str) -> Arg<'a> {
     Arg::new(alloc, name).required(true).help(holds)
+}
+
+/// The words of `info`.
+fn info_words<'a>(alloc: Global) -> Result<Command<'a>, AllocError> {
+    Command::new(alloc, "info")
+        .about(INFO)
+        .after_help(INFO_EXAMPLE)
+        .arg(file(alloc, "TRACE", "A file that holds a trace"))
+}
+
+/// The words of `replay`.
+fn replay_words<'a>(alloc: Global) -> Result<Command<'a>, AllocError> {
+    Command::new(alloc, "replay")
+        .about(REPLAY)
+        .after_help(REPLAY_EXAMPLE)
+        .arg(file(alloc, "TRACE", "A file that holds a trace"))?
+        .arg(file(alloc, "SCRIPT", "A file that holds a script"))
 }
 
 /// The words of `threads`.
@@ -78,6 +116,12 @@ fn threads_words<'a>(alloc: Global) -> Result<Command<'a>, AllocError> {
         .value_parser(value_parser!(u32).range(0..=0))
         .default_value("0")
         .help(WORKERS);
+    // It is for the tests, which judge how calls are mixed: help does not name it.
+    let room = Arg::new(alloc, "room")
+        .long("room")
+        .value_name("N")
+        .value_parser(value_parser!(u32).range(1..=32))
+        .hide(true);
     Command::new(alloc, "threads")
         .about(THREADS)
         .after_help(THREADS_EXAMPLE)
@@ -87,62 +131,76 @@ fn threads_words<'a>(alloc: Global) -> Result<Command<'a>, AllocError> {
                 .action(ArgAction::Append)
                 .num_args(1..),
         )?
-        .arg(workers)
+        .arg(workers)?
+        .arg(room)
 }
 
 /// The words that the program takes.
 fn words_taken<'a>(alloc: Global) -> Result<Command<'a>, AllocError> {
-    let info = Command::new(alloc, "info")
-        .about(INFO)
-        .after_help(INFO_EXAMPLE)
-        .arg(file(alloc, "TRACE", "A file that holds a trace"))?;
-    let replay = Command::new(alloc, "replay")
-        .about(REPLAY)
-        .after_help(REPLAY_EXAMPLE)
-        .arg(file(alloc, "TRACE", "A file that holds a trace"))?
-        .arg(file(alloc, "SCRIPT", "A file that holds a script"))?;
     Command::new(alloc, "racebench")
         .bin_name("racebench")?
+        .version(VERSION)
         .about(ABOUT)
         .after_help(JOINT)
         .disable_help_subcommand(true)
-        .subcommand(info)?
-        .subcommand(replay)?
+        .subcommand(info_words(alloc)?)?
+        .subcommand(replay_words(alloc)?)?
         .subcommand(threads_words(alloc)?)
 }
 
-/// The words that name scripts.
-fn scripts_of<'a>(alloc: Global, given: &ArgMatches<'a>) -> Result<Vec<&'a str>, AllocError> {
-    let mut scripts = Vec::new(alloc);
-    if let Some(words) = given.get_strs("SCRIPT") {
-        scripts.extend_from_slice(words)?;
+/// A refusal of the words that `clap` itself does not make, in its form.
+fn refusal(alloc: Global, kind: ErrorKind, text: &str) -> Result<Error, AllocError> {
+    words_taken(alloc)?.error(kind, text)
+}
+
+/// The word of this name, which `clap` has seen to be there.
+fn word<'a>(given: &ArgMatches<'a>, name: &str) -> &'a str {
+    given.get_str(name).unwrap_or("")
+}
+
+/// Whether the word is one or more decimal digits. `clap` takes a sign before them.
+fn is_number(word: &str) -> bool {
+    !word.is_empty() && word.as_bytes().iter().all(|byte| byte.is_ascii_digit())
+}
+
+/// What `threads` is asked for.
+fn threads_task<'a>(alloc: Global, given: &ArgMatches<'a>) -> Result<Task<'a>, Error> {
+    if !is_number(word(given, "workers")) {
+        let text = "`--workers` takes a number in decimal digits";
+        return Err(refusal(alloc, ErrorKind::InvalidValue, text)?);
     }
-    Ok(scripts)
+    let mut paths = Vec::new(alloc);
+    paths.push(word(given, "TRACE"))?;
+    paths.extend_from_slice(given.get_strs("SCRIPT").unwrap_or(&[]))?;
+    let room = given.get_one::<u32>("room").unwrap_or(BEST_ROOM);
+    Ok(Task::Threads(paths, room))
 }
 
 /// What the words ask for, of which the first is the program's name; or why they are refused, or help.
 pub(crate) fn task_of<'a>(alloc: Global, words: &'a [String]) -> Result<Task<'a>, Error> {
     let given = words_taken(alloc)?.try_get_matches_from(words)?;
     match given.subcommand() {
-        Some(("replay", files)) => Ok(Task::Replay(
-            files.get_str("TRACE").unwrap_or(""),
-            files.get_str("SCRIPT").unwrap_or(""),
-        )),
-        Some(("threads", files)) => Ok(Task::Threads(
-            files.get_str("TRACE").unwrap_or(""),
-            scripts_of(alloc, files)?,
-        )),
-        Some((_, files)) => Ok(Task::Info(files.get_str("TRACE").unwrap_or(""))),
         None => Ok(Task::Joint),
+        Some(("info", given)) => Ok(Task::Info(word(given, "TRACE"))),
+        Some(("replay", given)) => Ok(Task::Replay(word(given, "TRACE"), word(given, "SCRIPT"))),
+        Some(("threads", given)) => threads_task(alloc, given),
+        Some(_) => {
+            let text = "nothing is done at this command";
+            Err(refusal(alloc, ErrorKind::InvalidSubcommand, text)?)
+        }
     }
 }
 
 /// The refusal of words that name no script.
 pub(crate) fn no_script(alloc: Global) -> Result<Error, AllocError> {
-    words_taken(alloc)?.error(ErrorKind::MissingRequiredArgument, "there is no script")
+    refusal(
+        alloc,
+        ErrorKind::MissingRequiredArgument,
+        "there is no script",
+    )
 }
 
 /// The refusal of words that are no text.
 pub(crate) fn no_text(alloc: Global) -> Result<Error, AllocError> {
-    words_taken(alloc)?.error(ErrorKind::InvalidValue, "the words are no text")
+    refusal(alloc, ErrorKind::InvalidValue, "the words are no text")
 }

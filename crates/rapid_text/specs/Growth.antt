@@ -1,12 +1,12 @@
 -- How a recording grows by one event more. No public clause cites this module.
-use Rattle.std.specs.Prelude.{◌≡◌, ℕ, ◌<◌, ◌≤◌, ◌^◌, nat_le, nat_lt, if◌then◌else◌, List, [], ◌∷◌, ◌++◌, length, map, All, Option, Some, None, position, bytes_eq, Vec}
+use Rattle.std.specs.Prelude.{◌≡◌, ℕ, ◌<◌, ◌≤◌, nat_le, nat_lt, if◌then◌else◌, List, [], ◌∷◌, ◌++◌, length, map, All, Option, Some, None, position, bytes_eq, Vec}
 use Rattle.std.specs.List.{list_any}
 use Rattle.std.specs.HashSet.{HashSet}
 use Rattle.rapid_text.specs.declared.event.Kind.{Kind}
 use Rattle.rapid_text.specs.declared.event.Kind.TheVariants.{Reads, Writes, Acquires, Releases, Forks, Joins}
 use Rattle.rapid_text.specs.declared.refusal.TextCause.{TextCause}
 use Rattle.rapid_text.specs.declared.refusal.TextCause.TheVariants.{TooManyEvents, TooManyNames}
-use Rattle.rapid_text.specs.Limits.{event_limit, thread_limit}
+use Rattle.rapid_text.specs.Limits.{event_limit, thread_limit, name_count_limit}
 use Rattle.rapid_text.specs.Reading.{NamedEvent, LineReading, Skipped, Refused, Says, numbered}
 use Rattle.rapid_text.specs.Recording.{Recording, IsNamed}
 
@@ -68,9 +68,9 @@ line_fault r (Says e) = fault_beyond r e
 
 -- the tables are so small that each number is a u32
 pub record HasRoom (r : Recording) : Type 0 where
-  pub threads : length r.threads < 2 ^ 17
-  pub variables : length r.variables < 2 ^ 17
-  pub locks : length r.locks < 2 ^ 17
+  pub threads : length r.threads < name_count_limit
+  pub variables : length r.variables < name_count_limit
+  pub locks : length r.locks < name_count_limit
 
 -- A recording within the limits; each variable and each lock has an event of its own.
 pub record IsTight (r : Recording) : Type 0 where

@@ -1,6 +1,6 @@
 -- How long a line and a name may be, and how large a trace. The constants of the code are measured
 -- against these numbers.
-use Rattle.std.specs.Prelude.{ℕ}
+use Rattle.std.specs.Prelude.{ℕ, ◌*◌}
 
 -- the most events of a trace
 abbrev pub event_limit : ℕ
@@ -9,6 +9,11 @@ event_limit = 65536
 -- the most threads of a trace
 abbrev pub thread_limit : ℕ
 thread_limit = 64
+
+-- A table of names has fewer names than this: each event brings two names at most, so the number of each
+-- name fits into a u32.
+abbrev pub name_count_limit : ℕ
+name_count_limit = 2 * event_limit
 
 -- the most bytes of a line, without the blanks at its ends
 abbrev pub line_limit : ℕ

@@ -1,7 +1,8 @@
 //! Numbers names by their first uses.
-ghost use Rattle.std.specs.Prelude.{◌≡◌, ◌<◌, ◌^◌, [], bytes_eq, length, OnOk, IfOk, IsTrue};
+ghost use Rattle.std.specs.Prelude.{◌≡◌, ◌<◌, [], bytes_eq, length, OnOk, IfOk, IsTrue};
 ghost use Rattle.std.specs.List.{list_any};
 ghost use Rattle.rapid_text.specs.Growth.{names_of, with_name, IsNumber};
+ghost use Rattle.rapid_text.specs.Limits.{name_count_limit};
 
 use crate::memory::OutOfMemory;
 use crate::recent::{Recent, mix_of};
@@ -44,7 +45,7 @@ impl NameTable {
 
     /// The number of the name, which is noted as the last one if it is new.
     pub(crate) fn number(&mut self, alloc: Global, name: &[u8]) -> Result<u32, OutOfMemory>
-        requires { length (names_of self.old.names) < 2 ^ 17 }
+        requires { length (names_of self.old.names) < name_count_limit }
         ensures names { OnOk result
             (names_of self.new.names ≡ with_name (names_of self.old.names) name.now) }
         ensures number { IfOk result (IsNumber (names_of self.new.names) name.now) }
@@ -94,7 +95,7 @@ impl BuildHasher for TextKeyed {
 
 /// How many names there are with this one.
 pub(crate) fn count_with(table: &NameTable, name: &[u8]) -> usize
-    requires { length (names_of table.now.names) < 2 ^ 17 }
+    requires { length (names_of table.now.names) < name_count_limit }
     ensures { result ≡ length (with_name (names_of table.now.names) name.now) }
 {
     if table.contains(name) {
@@ -106,7 +107,7 @@ pub(crate) fn count_with(table: &NameTable, name: &[u8]) -> usize
 
 /// How many names there are with these two.
 pub(crate) fn count_with_both(table: &NameTable, first: &[u8], second: &[u8]) -> usize
-    requires { length (names_of table.now.names) < 2 ^ 17 }
+    requires { length (names_of table.now.names) < name_count_limit }
     ensures { result ≡ length (with_name (with_name (names_of table.now.names) first.now) second.now) }
 {
     let with_first = count_with(table, first);
@@ -133,7 +134,7 @@ fn is_at(names: &Names, place: u32, name: &[u8]) -> bool
 
 // The number of the name by its hash; it is noted as the last one if it is new.
 fn number(names: &mut Names, alloc: Global, name: &[u8]) -> Result<u32, OutOfMemory>
-    requires { length (names_of names.old) < 2 ^ 17 }
+    requires { length (names_of names.old) < name_count_limit }
     ensures names { OnOk result (names_of names.new ≡ with_name (names_of names.old) name.now) }
     ensures number { IfOk result (IsNumber (names_of names.new) name.now) }
 {

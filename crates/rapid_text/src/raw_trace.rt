@@ -48,7 +48,7 @@ impl Model for RawTrace {
 }
 
 impl RawTrace {
-    /// The number of events, at most 65,536.
+    /// The number of events, at most `MAX_EVENTS`.
     pub fn len(&self) -> u32
         ensures len { result ≡ length self.now.events }
         ensures well_formed { IsWellFormed self.now }
@@ -56,7 +56,7 @@ impl RawTrace {
         self.events.len() as u32
     }
 
-    /// The number of threads, at most 64.
+    /// The number of threads, at most `MAX_THREADS`.
     pub fn threads(&self) -> u32
         ensures len { result ≡ length self.now.threads }
         ensures well_formed { IsWellFormed self.now }

@@ -12,13 +12,13 @@ pub enum TextCause {
     UnknownOperation,
     /// 4: the thread or the operation's name is empty.
     EmptyName,
-    /// 5: the thread or the operation's name is longer than 255 bytes.
+    /// 5: the thread or the operation's name is longer than a name may be, `MAX_NAME` bytes.
     NameTooLong,
-    /// 6: the line, without the blanks at both ends, is longer than 4,096 bytes.
+    /// 6: the line, without the blanks at both ends, is longer than a line may be, `MAX_LINE` bytes.
     LineTooLong,
-    /// 7: 65,536 events were read already.
+    /// 7: as many events were read already as a trace may have.
     TooManyEvents,
-    /// 8: the event would need a 65th thread.
+    /// 8: the event would need one thread more than a trace may have.
     TooManyNames,
     /// 9: a growth was refused.
     OutOfMemory,

@@ -1,8 +1,8 @@
 -- What is printed of a call through a seat that is refused: what the bench refused it for, or that the seat is spent.
 use Rattle.std.specs.Prelude.{ℕ, List, codes}
 use Rattle.rapid_text.specs.Recording.{Recording}
-use Rattle.workspace_lock.specs.declared.seat.SeatRefusal.{SeatRefusal}
-use Rattle.workspace_lock.specs.declared.seat.SeatRefusal.TheVariants.{Bench as ByBench, SeatSpent}
+use Rattle.inverse_log.specs.declared.refusal.SeatRefusal.{SeatRefusal}
+use Rattle.inverse_log.specs.declared.refusal.SeatRefusal.TheVariants.{Bench as ByBench, SeatSpent}
 use Rattle.report.specs.Causes.{refused_line}
 use Rattle.report.specs.Refusals.{refusal_text}
 

@@ -67,9 +67,8 @@ fn variable_of(indexed: &Indexed, event: u32) -> &[u8]
     requires { event < length indexed.now.events }
     ensures { result.now ≡ variable_words indexed.now event }
 {
-    let raw = indexed.trace().raw();
-    match raw.event(event).op {
-        Op::Read(variable) | Op::Write(variable) => raw.variable_name(variable),
+    match indexed.event(event).op {
+        Op::Read(variable) | Op::Write(variable) => indexed.variable_name(variable),
         Op::Acquire(_) | Op::Release(_) | Op::Fork(_) | Op::Join(_) => &[],
     }
 }

@@ -22,9 +22,8 @@ fn event_piece(event: Option<u32>) -> Piece<'static>
 fn thread_piece(indexed: &Indexed, thread: u32) -> Piece<'_>
     ensures { piece_bytes result ≡ thread_words indexed.now thread }
 {
-    let raw = indexed.trace().raw();
-    if thread < raw.threads() {
-        Piece::Words(raw.thread_name(thread))
+    if thread < indexed.threads() {
+        Piece::Words(indexed.thread_name(thread))
     } else {
         Piece::Number(u64::from(thread))
     }

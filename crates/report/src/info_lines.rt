@@ -24,11 +24,10 @@ pub fn info(indexed: &Indexed, out: &mut Vec<u8>) -> Result<(), OutOfMemory>
 fn append_counts(out: &mut Vec<u8>, indexed: &Indexed) -> Result<(), OutOfMemory>
     ensures { OnOk result (out.new.items ≡ out.old.items ++ counts_text indexed.now) }
 {
-    let raw = indexed.trace().raw();
-    append_count(out, b"events", u64::from(raw.len()))?;
-    append_count(out, b"threads", u64::from(raw.threads()))?;
-    append_count(out, b"variables", u64::from(raw.variables()))?;
-    append_count(out, b"locks", u64::from(raw.locks()))?;
+    append_count(out, b"events", u64::from(indexed.len()))?;
+    append_count(out, b"threads", u64::from(indexed.threads()))?;
+    append_count(out, b"variables", u64::from(indexed.variables()))?;
+    append_count(out, b"locks", u64::from(indexed.locks()))?;
     Ok(())
 }
 
@@ -36,7 +35,7 @@ fn append_counts(out: &mut Vec<u8>, indexed: &Indexed) -> Result<(), OutOfMemory
 fn append_threads(out: &mut Vec<u8>, indexed: &Indexed) -> Result<(), OutOfMemory>
     ensures { OnOk result (out.new.items ≡ out.old.items ++ thread_lines indexed.now (length indexed.now.threads)) }
 {
-    for thread in 0..indexed.trace().raw().threads() {
+    for thread in 0..indexed.threads() {
         append_thread(out, indexed, thread)?;
     }
     Ok(())
@@ -68,5 +67,5 @@ fn name_of(indexed: &Indexed, thread: u32) -> &[u8]
     requires { thread < length indexed.now.threads }
     ensures { result.now ≡ name_at indexed.now.threads thread }
 {
-    indexed.trace().raw().thread_name(thread)
+    indexed.thread_name(thread)
 }

@@ -73,5 +73,8 @@ pub fn refusal(indexed: &Indexed, refusal: &Refusal, out: &mut Vec<u8>) -> Resul
         Refusal::NotShown => append_words(out, b"54 not shown"),
         Refusal::LogFull => append_words(out, b"55 log full"),
         Refusal::OutOfMemory => append_words(out, b"56 out of memory"),
+        Refusal::NoSuchEntry => append_words(out, b"57 no such entry"),
+        Refusal::NotOwn => append_words(out, b"58 not own"),
+        Refusal::NotLive => append_words(out, b"59 not live"),
     }
 }

@@ -5,8 +5,8 @@ ghost use Rattle.report.specs.Seats.{seat_refusal_text};
 use crate::causes::append_words;
 use crate::refusals::refusal;
 use event_index::Indexed;
+use inverse_log::SeatRefusal;
 use rapid_text::OutOfMemory;
-use workspace_lock::SeatRefusal;
 
 /// Appends the line of a call through a seat that is refused, of the trace that `indexed` has. Where memory is
 /// refused `out` stays as it was.

@@ -1,6 +1,7 @@
 //! The latest event of each variable and lock.
 ghost use Rattle.std.specs.Prelude.{◌≡◌, ◌≤◌, OnOk, OnErr, if◌then◌else◌};
 ghost use Rattle.std.specs.HashMap.{get};
+ghost use Rattle.rapid_text.specs.Limits.{event_limit};
 ghost use Rattle.schedule.specs.Keys.{key_eq};
 ghost use Rattle.schedule.specs.Tables.{event_of, depth_of, covered, lowered, raised, uncovered, stepped, stepped_back, shadow_of_op};
 ghost use Rattle.schedule.specs.declared.latest.Key.{Key};
@@ -72,7 +73,7 @@ pub(crate) fn shadow_of(latest: &LatestTable, op: Op) -> Option<u32>
 }
 
 fn cover(latest: &mut LatestTable, key: Key, event: u32) -> Result<(), AllocError>
-    requires { (q : Key) → depth_of (get key_eq latest.old q) ≤ 65536 }
+    requires { (q : Key) → depth_of (get key_eq latest.old q) ≤ event_limit }
     ensures ok { OnOk result ((q : Key) → get key_eq latest.new q
         ≡ (if key_eq key q then covered event (get key_eq latest.old key) else get key_eq latest.old q)) }
     ensures err { OnErr result ((q : Key) → get key_eq latest.new q ≡ get key_eq latest.old q) }
@@ -101,7 +102,7 @@ fn lower(latest: &mut LatestTable, key: Key)
 }
 
 fn raise(latest: &mut LatestTable, key: Key)
-    requires { (q : Key) → depth_of (get key_eq latest.old q) ≤ 65536 }
+    requires { (q : Key) → depth_of (get key_eq latest.old q) ≤ event_limit }
     ensures { (q : Key) → get key_eq latest.new q
         ≡ (if key_eq key q then raised (get key_eq latest.old key) else get key_eq latest.old q) }
 {
@@ -128,7 +129,7 @@ fn uncover(latest: &mut LatestTable, key: Key, shadow: Option<u32>)
 
 /// Sets or frees the key of the operation.
 pub(crate) fn step(latest: &mut LatestTable, op: Op, event: u32) -> Result<(), AllocError>
-    requires { (q : Key) → depth_of (get key_eq latest.old q) ≤ 65536 }
+    requires { (q : Key) → depth_of (get key_eq latest.old q) ≤ event_limit }
     ensures ok { OnOk result ((q : Key) → get key_eq latest.new q ≡ stepped op event q (get key_eq latest.old q)) }
     ensures err { OnErr result ((q : Key) → get key_eq latest.new q ≡ get key_eq latest.old q) }
 {
@@ -145,7 +146,7 @@ pub(crate) fn step(latest: &mut LatestTable, op: Op, event: u32) -> Result<(), A
 
 /// Takes back what the operation did, where it shadows this event.
 pub(crate) fn step_back(latest: &mut LatestTable, op: Op, shadow: Option<u32>)
-    requires { (q : Key) → depth_of (get key_eq latest.old q) ≤ 65536 }
+    requires { (q : Key) → depth_of (get key_eq latest.old q) ≤ event_limit }
     ensures { (q : Key) → get key_eq latest.new q ≡ stepped_back op shadow q (get key_eq latest.old q) }
 {
     match op {

@@ -1,7 +1,6 @@
 //! One correct reordering of a trace, which grows event by event.
 #![tactic(auto)]
 
-mod events;
 mod latest;
 mod reads;
 mod refusal;

@@ -7,7 +7,6 @@ ghost use Rattle.schedule.specs.Reordering.{IsCorrectReordering};
 ghost use Rattle.schedule.specs.Tables.{AreTables};
 ghost use Rattle.trace_rules.specs.Rules.{IsDisciplined};
 
-use crate::events::{event_at, event_of};
 use crate::latest::{Key, latest_event};
 use crate::tables::{Tables, count_at};
 use event_index::Indexed;
@@ -20,7 +19,7 @@ pub(crate) fn is_in(indexed: &Indexed, tables: &Tables, events: &[u32], event: u
     ensures { result ≡ is_in events.now event }
 {
     let _ = events;
-    let found = event_of(indexed, event);
+    let found = indexed.event(event);
     indexed.place(event) < count_at(&tables.counts, found.thread)
 }
 
@@ -104,7 +103,7 @@ pub(crate) fn other_holder(
     let Some(kept) = tables.latest.get(&Key::Lock(lock)) else {
         return None;
     };
-    let Some(found) = event_at(indexed, kept.event) else {
+    let Some(found) = indexed.get(kept.event) else {
         return None;
     };
     if found.thread == thread {

@@ -7,7 +7,6 @@ ghost use Rattle.schedule.specs.Reordering.{IsCorrectReordering};
 ghost use Rattle.schedule.specs.Tables.{AreTables};
 ghost use Rattle.trace_rules.specs.Rules.{IsDisciplined};
 
-use crate::events::event_at;
 use crate::reads::{is_ended, is_forked, is_next, last_write, other_holder};
 use crate::refusal::Disabled;
 use crate::tables::Tables;
@@ -26,7 +25,7 @@ pub(crate) fn refusal_of(
     requires reordering { IsCorrectReordering indexed.now.events events.now }
     ensures { result ≡ refusal_of indexed.now.events events.now event }
 {
-    let Some(found) = event_at(indexed, event) else {
+    let Some(found) = indexed.get(event) else {
         return Some(Disabled::NoSuchEvent);
     };
     if !is_next(indexed, tables, events, found.thread, event) {

@@ -2,6 +2,7 @@
 ghost use Rattle.std.specs.Prelude.{◌≡◌, ℕ, ◌+◌, ◌<◌, ◌≤◌, ◌↔◌, length, take, [], ◌∷◌, ◌++◌, IsOk, IsTrue, IfOk, OnOk, OnErr, IfErr, Err, IfSome, None, Some};
 ghost use Rattle.rapid_text.specs.Recording.{IsWellFormed};
 ghost use Rattle.trace_rules.specs.Rules.{IsDisciplined};
+ghost use Rattle.event_index.specs.Events.{thread_at};
 ghost use Rattle.schedule.specs.Faults.{IsListRefusal};
 ghost use Rattle.schedule.specs.Refusals.{next_of, refusal_of, IsRefusalOf, NamesHolder};
 ghost use Rattle.schedule.specs.Reordering.{IsCorrectReordering, IsEnabled};
@@ -76,27 +77,6 @@ impl Schedule {
         Ok(Schedule {
             trace: Snapshot::of(indexed),
             events: Vec::new(alloc),
-            tables,
-        })
-    }
-
-    /// The schedule of these events. What it takes, besides the list itself, is in the order of their number.
-    pub fn from_reordering(
-        alloc: Global,
-        indexed: &Indexed,
-        events: Vec<u32>,
-    ) -> Result<Schedule, OutOfMemory>
-        requires { IsCorrectReordering indexed.now.events events.items }
-        ensures trace { IfOk result (λ s. s.trace ≡ indexed.now) }
-        ensures events { IfOk result (λ s. s.events ≡ events.items) }
-    {
-        let _len = indexed.len();
-        let Ok(tables) = tables_of(alloc, indexed, &events) else {
-            return Err(OutOfMemory);
-        };
-        Ok(Schedule {
-            trace: Snapshot::of(indexed),
-            events,
             tables,
         })
     }
@@ -267,6 +247,7 @@ impl Schedule {
         requires trace { self.now.trace ≡ indexed.now }
         requires thread { thread < length self.now.trace.threads }
         ensures next { result ≡ next_of self.now.trace.events self.now.events thread }
+        ensures thread { IfSome result (λ e. thread_at self.now.trace.events e ≡ Some thread) }
         ensures within { IfSome result (λ e. e < length self.now.trace.events) }
     {
         let of_thread = indexed.thread_events(thread);

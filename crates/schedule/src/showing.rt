@@ -4,7 +4,6 @@ ghost use Rattle.schedule.specs.Reordering.{IsCorrectReordering};
 ghost use Rattle.schedule.specs.Tables.{AreTables};
 ghost use Rattle.schedule.specs.Shows.{IsReady, is_ready};
 
-use crate::events::event_at;
 use crate::reads::{is_forked, is_next};
 use crate::tables::Tables;
 use event_index::Indexed;
@@ -17,7 +16,7 @@ pub(crate) fn is_ready(indexed: &Indexed, tables: &Tables, events: &[u32], event
     ensures test { result ≡ is_ready indexed.now.events events.now event }
     ensures ready { IsTrue result ↔ IsReady indexed.now.events events.now event }
 {
-    let Some(found) = event_at(indexed, event) else {
+    let Some(found) = indexed.get(event) else {
         return false;
     };
     is_next(indexed, tables, events, found.thread, event)

@@ -1,9 +1,9 @@
 //! What a schedule keeps beside its list, so that no call goes over the list.
 ghost use Rattle.std.specs.Prelude.{◌≡◌, ℕ, ◌<◌, ◌≤◌, length, [], ◌∷◌, ◌++◌, OnOk, OnErr, IfOk, take, slice_index_or, slice_set, ◌+◌, ◌-◌};
+ghost use Rattle.rapid_text.specs.Limits.{event_limit};
 ghost use Rattle.schedule.specs.Reordering.{IsCorrectReordering, IsEnabled};
 ghost use Rattle.schedule.specs.Tables.{AreTables};
 
-use crate::events::event_of;
 use crate::latest::{LatestTable, shadow_of, step, step_back};
 use event_index::Indexed;
 use std::alloc::{AllocError, Global};
@@ -47,7 +47,7 @@ fn make_room(counts: &mut Vec<u32>, thread: u32) -> Result<(), AllocError>
 
 fn count_up(counts: &mut Vec<u32>, thread: u32)
     requires room { thread < length counts.old.items }
-    requires small { slice_index_or counts.old.items thread 0 ≤ 65536 }
+    requires small { slice_index_or counts.old.items thread 0 ≤ event_limit }
     ensures { counts.new.items
         ≡ slice_set counts.old.items thread (slice_index_or counts.old.items thread 0 + 1) }
 {
@@ -88,7 +88,7 @@ pub(crate) fn note(
     ensures err { OnErr result (AreTables indexed.now.events events.now tables.new) }
 {
     let _ = events;
-    let found = event_of(indexed, event);
+    let found = indexed.event(event);
     let Ok(()) = make_room(&mut tables.counts, found.thread) else {
         return Err(AllocError);
     };
@@ -111,7 +111,7 @@ pub(crate) fn forget(tables: &mut Tables, indexed: &Indexed, events: &[u32], eve
     ensures { AreTables indexed.now.events events.now tables.new }
 {
     let _ = events;
-    let found = event_of(indexed, event);
+    let found = indexed.event(event);
     let Some(shadow) = tables.shadows.pop() else {
         return;
     };

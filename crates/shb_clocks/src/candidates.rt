@@ -8,7 +8,6 @@ ghost use Rattle.shb_clocks.specs.Search.{sought_by, IsSought, IsKept, AreChains
 
 use crate::chains::Chains;
 use crate::clocks::Clocks;
-use crate::events::event_at;
 use event_index::{Indexed, Pairs};
 use rapid_text::{Op, OutOfMemory};
 use std::alloc::Global;
@@ -33,7 +32,7 @@ pub(crate) fn first_candidates(
         }
         accesses.pass(indexed, first);
         writes.pass(indexed, first);
-        let op = event_at(indexed, first).op;
+        let op = indexed.event(first).op;
         if let Some((chains, variable)) = sought(op, &accesses, &writes) {
             seek(&mut partners, clocks, indexed, chains, first, variable)?;
             list(

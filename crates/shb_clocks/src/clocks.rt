@@ -6,7 +6,6 @@ ghost use Rattle.shb_clocks.specs.HappensBefore.{IsShbBefore};
 ghost use Rattle.shb_clocks.specs.Candidates.{IsApart, IsCandidatePair, AreFirstCandidates};
 
 use crate::candidates::first_candidates;
-use crate::events::threads_in;
 use crate::rows::{counts_of, threads_of};
 use event_index::{Indexed, Pairs};
 use rapid_text::OutOfMemory;
@@ -47,7 +46,7 @@ impl Clocks {
         Ok(Clocks {
             trace: Snapshot::of(indexed),
             threads,
-            width: threads_in(indexed) as usize,
+            width: indexed.threads() as usize,
             counts,
         })
     }

@@ -4,7 +4,6 @@
 mod candidates;
 mod chains;
 mod clocks;
-mod events;
 mod rows;
 mod spots;
 

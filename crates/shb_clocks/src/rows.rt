@@ -3,7 +3,6 @@ ghost use Rattle.std.specs.Prelude.{◌≡◌, ◌+◌, ◌*◌, ◌<◌, ◌≤
 ghost use Rattle.event_index.specs.Tables.{IsTable};
 ghost use Rattle.shb_clocks.specs.Layout.{AreThreads, AreCounts, last_release, counterpart_of, row_count, IsRow};
 
-use crate::events::event_at;
 use event_index::Indexed;
 use rapid_text::{Op, OutOfMemory};
 use std::alloc::Global;
@@ -13,10 +12,9 @@ pub(crate) fn threads_of(alloc: Global, indexed: &Indexed) -> Result<Vec<u32>, O
     ensures { IfOk result
         (λ threads. AreThreads indexed.now.events (length indexed.now.events) threads.items) }
 {
-    let raw = indexed.trace().raw();
-    let mut threads = Vec::with_capacity(alloc, raw.len() as usize)?;
-    for event in 0..raw.len() {
-        threads.push(raw.event(event).thread)?;
+    let mut threads = Vec::with_capacity(alloc, indexed.len() as usize)?;
+    for event in 0..indexed.len() {
+        threads.push(indexed.event(event).thread)?;
     }
     Ok(threads)
 }
@@ -28,11 +26,13 @@ pub(crate) fn counts_of(alloc: Global, indexed: &Indexed) -> Result<Vec<u32>, Ou
     ensures counts { IfOk result
         (λ counts. AreCounts indexed.now.events (length indexed.now.threads) counts.items) }
 {
-    let raw = indexed.trace().raw();
-    let mut counts = Vec::with_capacity(alloc, raw.len() as usize * raw.threads() as usize)?;
-    let mut row = vec![in alloc; 0u32; raw.threads() as usize]?;
-    let mut releases = vec![in alloc; None; raw.locks() as usize]?;
-    for event in 0..raw.len() {
+    let mut counts = Vec::with_capacity(
+        alloc,
+        indexed.len() as usize * indexed.threads() as usize,
+    )?;
+    let mut row = vec![in alloc; 0u32; indexed.threads() as usize]?;
+    let mut releases = vec![in alloc; None; indexed.locks() as usize]?;
+    for event in 0..indexed.len() {
         let counterpart = counterpart_at(&mut releases, indexed, event);
         fill_row(&mut row, counts.as_slice(), indexed, event, counterpart);
         counts.extend_from_slice(row.as_slice())?;
@@ -48,7 +48,7 @@ fn counterpart_at(releases: &mut Vec<Option<u32>>, indexed: &Indexed, event: u32
     ensures counterpart { result ≡ counterpart_of indexed.now.events event }
     ensures table { IsTable (last_release indexed.now.events (event + 1)) (length indexed.now.locks) releases.new.items }
 {
-    match event_at(indexed, event).op {
+    match indexed.event(event).op {
         Op::Read(_) => indexed.last_writer(event),
         Op::Acquire(lock) => releases[lock as usize],
         Op::Release(lock) => {
@@ -81,7 +81,7 @@ fn fill_row(
     ensures len { length row.new.items ≡ length indexed.now.threads }
     ensures row { IsRow indexed.now.events event row.new.items }
 {
-    let own = event_at(indexed, event).thread as usize;
+    let own = indexed.event(event).thread as usize;
     copy_row(row, counts, indexed.base(event));
     raise_row(row, counts, counterpart);
     row[own] = indexed.place(event) + 1;

@@ -10,14 +10,14 @@ use Rattle.event_index.specs.Events.{op_at, thread_at, is_of_thread}
 use Rattle.event_index.specs.Lookups.{base_of, fork_of}
 use Rattle.event_index.specs.Relations.{IsConflicting}
 use Rattle.event_index.proofs.CallerLemmas.{base_by-some, base_of-earlier, base_of-within, fork_of-op, find_last_is, IsConflicting-sym}
-use Rattle.shb_clocks.specs.HappensBefore.{Edge, by_fork, IsShbBefore, same, chain}
+use Rattle.shb_clocks.specs.HappensBefore.{Edge, by_fork, same, chain}
 use Rattle.shb_clocks.specs.Candidates.{IsCandidate, IsCandidatePair}
 use Rattle.shb_clocks.proofs.CallerLemmas.{IsShbBefore-trans, IsShbBefore-le, along_thread, base-after, base-after_fork, is_of_thread-thread, thread_here}
 use Rattle.schedule.specs.Refusals.{is_in}
 use Rattle.schedule.specs.Reordering.{IsCorrectReordering}
 use Rattle.schedule.specs.Shows.{IsReady, Shows}
 use Rattle.schedule.proofs.CallerLemmas.{is_in-true, is_in-member, Shows-sym}
-use Rattle.witness_search.specs.Closed.{IsClosed, IsClosedBelow}
+use Rattle.witness_search.specs.Closed.{IsClosed, IsShbClosed, IsClosedBelow}
 use Rattle.witness_search.specs.Slices.{IsBelowBase, IsBelowPair, IsSlice, IsLeast, IsNeverShown, AreThere, IsRefusalOf}
 use Rattle.witness_search.specs.declared.refusal.SliceRefusal.{SliceRefusal}
 use Rattle.witness_search.specs.declared.refusal.SliceRefusal.TheVariants.{NoSuchEvent, NotConflicting, NotCandidate, OutOfMemory}
@@ -90,11 +90,11 @@ IsCorrectReordering-closed T rules P is =
     (sym (rising-kept P (length T) is.rising (λ e m. All-contains (λ (d : ℕ). d < length T) P e is.in_trace m)))
     (IsCorrectReordering-kept T rules (is_in P) (λ d e edge within. is_in-member P d (is.closed d e edge (is_in-true P e within))))
 
--- A conflicting pair that such a list shows is a candidate.
+-- A list that is closed along edges is closed under the order; a conflicting pair that it shows is a candidate.
 module _ (T : List Event) (P : List ℕ) (is : IsClosed T P) where
-  closed-along : (d e : ℕ) → IsShbBefore T d e → Contains P e → Contains P d
-  closed-along d e (same _ one) m = subst (Contains P) (sym one) m
-  closed-along d e (chain k _ before edge) m = closed-along d k before (is k e edge m)
+  pub IsShbClosed-closed : IsShbClosed T P
+  IsShbClosed-closed d e (same _ one) m = subst (Contains P) (sym one) m
+  IsShbClosed-closed d e (chain k _ before edge) m = IsShbClosed-closed d k before (is k e edge m)
 
   -- what is below the base of a ready event is in the list
   ready_has_base : (a : ℕ) → IsReady T P a → (c : ℕ) → base_of T a ≡ Some c → Contains P c
@@ -109,7 +109,7 @@ module _ (T : List Event) (P : List ℕ) (is : IsClosed T P) where
       ]
 
   pub ready_has_below : (a e : ℕ) → IsReady T P a → IsBelowBase T a e → Contains P e
-  ready_has_below a e ready (c, base, before) = closed-along e c before (ready_has_base a ready c base)
+  ready_has_below a e ready (c, base, before) = IsShbClosed-closed e c before (ready_has_base a ready c base)
 
   pub IsCandidate-shown : (a b : ℕ) → a < b → Shows T P a b → IsCandidate T a b
   IsCandidate-shown a b early shows = record {
@@ -147,6 +147,9 @@ module _ (T : List Event) (rules : IsDisciplined T) (a b : ℕ) (P : List ℕ) (
     in_trace = λ k d low. IsBelowPair-within T rules a b (get_or P k d) ((is.members (get_or P k d)).0 (Contains-get_or P k d low));
     closed = λ d e edge m. (is.members d).1 (IsBelowPair-edge T a b d e edge ((is.members e).0 m));
   }
+
+  pub IsShbClosed-slice : IsShbClosed T P
+  IsShbClosed-slice = IsShbClosed-closed T P IsClosedBelow-slice.closed
 
   pub IsCorrectReordering-slice : IsCorrectReordering T P
   IsCorrectReordering-slice = IsCorrectReordering-closed T rules P IsClosedBelow-slice

@@ -1,31 +1,29 @@
 -- The steps of the greedy search. `T` is the events of a trace that keeps the rules, `P` a correct
 -- reordering of it.
-use Rattle.std.proofs.Common.{◌≡◌, ℕ, zero, suc, ◌+◌, ◌-◌, ◌<◌, ◌≤◌, ◌⊎◌, ◌&&◌, ◌==◌, not, cond, Bool, true, false, List, [], ◌∷◌, ◌++◌, length, get_or, set, replicate, count_by, find, option_map, Option, Some, None, Result, Ok, slice_get, sym, refl, ap, ◌∙◌, subst, arith, add-one, eq-eqb, inl, inr, get_or-set_other, length-set}
+use Rattle.std.proofs.Common.{◌≡◌, ℕ, zero, suc, ◌+◌, ◌-◌, ◌<◌, ◌≤◌, ◌⊎◌, ◌&&◌, ◌==◌, not, Bool, true, false, List, [], ◌∷◌, ◌++◌, length, get_or, find, option_map, Option, Some, None, Result, Ok, slice_get, sym, refl, ap, ◌∙◌, subst, arith, add-one, inl, inr}
 use Rattle.std.specs.Option.{is_none}
-use Rattle.std.proofs.lemmas.Bool.{cases_eq, cases_lt, and_parts, true≢false, ne_eqb}
-use Rattle.std.proofs.lemmas.Grind.{get_or-set_at}
-use Rattle.std.proofs.lemmas.List.{length_push, length-replicate, get_or-replicate, get_or_past}
+use Rattle.std.proofs.lemmas.Bool.{cases_eq, cases_lt, and_parts, true≢false}
+use Rattle.std.proofs.lemmas.List.{length_push, get_or_past}
 use Rattle.std.proofs.lemmas.List.Elements.{All-get_or}
-use Rattle.std.proofs.lemmas.List.Sums.{sum_by_push, count_by-le-length}
 use Rattle.std.proofs.lemmas.Option.{same_Some, none-some, slice_get-get_or, get_or_from_slice_get}
 use Rattle.rapid_text.specs.Recording.{Recording, IsNamed, IsWellFormed}
 use Rattle.rapid_text.specs.declared.event.Event.{Event}
 use Rattle.rapid_text.specs.declared.event.Op.TheVariants.{Read}
 use Rattle.trace_rules.specs.Rules.{IsDisciplined}
-use Rattle.event_index.specs.Events.{thread_at, is_of_thread}
+use Rattle.event_index.specs.Events.{thread_at}
 use Rattle.event_index.specs.Lookups.{before}
 use Rattle.event_index.specs.Relations.{is_conflict}
-use Rattle.event_index.proofs.CallerLemmas.{passes_here, find_first_is, Decides-is_conflict}
+use Rattle.event_index.proofs.CallerLemmas.{find_first_is, Decides-is_conflict}
 use Rattle.shb_clocks.proofs.CallerLemmas.{thread_here, thread_within, one_thread}
 use Rattle.schedule.specs.Refusals.{refusal_of, next_of}
 use Rattle.schedule.specs.Reordering.{IsCorrectReordering, IsEnabled, IsPrefix}
 use Rattle.schedule.specs.Shows.{Shows, is_ready, does_show}
-use Rattle.schedule.proofs.CallerLemmas.{Allows, Allows-enabled, IsEnabled-none, IsCorrectReordering-nil, IsCorrectReordering-length, is_ready-true}
+use Rattle.schedule.proofs.CallerLemmas.{Allows, Allows-enabled, IsEnabled-none, is_ready-true}
 use Rattle.witness_search.specs.Greedy.{may_take, next_step, followed_by, after_steps, first_shown}
 use Rattle.witness_search.specs.Wanted.{AreWanted}
 use Rattle.witness_search.proofs.KeptLemmas.{kept_member, kept_passes, kept-rises}
 use Rattle.witness_search.proofs.WantedLemmas.{IsWanted-within}
-use Rattle.witness_search.specs.Searches.{is_marked, marked_events, is_step, lesser, IsLeastOf, IsStepBelow, IsStepOf, TellWanted, IsReached}
+use Rattle.witness_search.specs.Searches.{is_marked, marked_events, is_step, lesser, IsLeastOf, IsStepBelow, IsStepOf, TellWanted}
 use Rattle.witness_search.proofs.FoundLemmas.{IsPrefix-self, IsPrefix-push, IsPrefix-trans}
 use Rattle.witness_search.proofs.LeastLemmas.{IsLeastOf-same, IsLeastOf-lesser, find-least, find-kept, find-passes}
 
@@ -192,53 +190,9 @@ module _ (T : List Event) (a b : ℕ) (N P : List ℕ) where
             ap (λ Q. does_show T Q a b) (ap (after_steps T a b N P) (sym apart) ∙ stays k (j - k) none) ∙ not_here
       ]
 
--- one event more in the schedule
-pub IsReached-push : (T : List Event) (threads e : ℕ) (v : Event) (P places : List ℕ) → slice_get T e ≡ Some v → v.thread < threads → IsEnabled T P e → IsReached T threads P places
-    → IsReached T threads (P ++ e ∷ []) (set places v.thread (get_or places v.thread 0 + 1))
-IsReached-push T threads e v P places found lt enabled are = record {
-  rules = are.rules;
-  reordering = enabled;
-  len = length-set places v.thread (get_or places v.thread 0 + 1) ∙ are.len;
-  at = λ t within.
-      let more : count_by (is_of_thread T t) (P ++ e ∷ []) ≡ count_by (is_of_thread T t) P + cond (is_of_thread T t e) 1 0 =
-      sum_by_push (λ d. cond (is_of_thread T t d) 1 0) P e in
-      let test : is_of_thread T t e ≡ (v.thread == t) = passes_here (λ w. w.thread == t) T e v found in
-      elim (cases_eq t v.thread) [
-        | inl same ↦
-            let yes : is_of_thread T t e ≡ true = test ∙ eq-eqb v.thread t (sym same) in
-            let one : ◌≡◌ {A = ℕ} (cond (is_of_thread T t e) 1 0) 1 = ap (λ (c : Bool). cond c 1 0) yes in
-            let here = get_or-set_at places v.thread t (get_or places v.thread 0 + 1) 0 same (omega (arith, lt, are.len)) in
-            let was : get_or places v.thread 0 ≡ count_by (is_of_thread T t) P = ap (λ u. get_or places u 0) (sym same) ∙ are.at t within in
-            omega (arith, here, was, more, one)
-        | inr other ↦
-            let no : is_of_thread T t e ≡ false = test ∙ ne_eqb v.thread t (λ is. other (sym is)) in
-            let none : ◌≡◌ {A = ℕ} (cond (is_of_thread T t e) 1 0) 0 = ap (λ (c : Bool). cond c 1 0) no in
-            let here = get_or-set_other places v.thread t (get_or places v.thread 0 + 1) 0 other in
-            omega (arith, here, are.at t within, more, none)
-      ];
-}
-
--- no event is in the empty schedule
-pub IsReached-nil : (T : List Event) (threads : ℕ) → IsDisciplined T → IsReached T threads [] (replicate threads 0)
-IsReached-nil T threads rules = record {
-  rules = rules;
-  reordering = IsCorrectReordering-nil T;
-  len = length-replicate threads 0;
-  at = λ t within. get_or-replicate threads t 0 0 within;
-}
-
--- a place is no more than the events of the trace
-pub place-within : (T : List Event) (threads : ℕ) (P places : List ℕ) (t : ℕ) → IsReached T threads P places → t < threads → get_or places t 0 ≤ length T
-place-within T threads P places t are within =
-    omega (arith, are.at t within, count_by-le-length (is_of_thread T t) P, IsCorrectReordering-length T P are.reordering)
-
--- an event that nothing refuses is enabled
-pub IsEnabled-next : (T : List Event) (threads : ℕ) (P places : List ℕ) (e : ℕ) → IsReached T threads P places → refusal_of T P e ≡ None → IsEnabled T P e
-IsEnabled-next T threads P places e are none = IsEnabled-none T P e are.rules are.reordering none
-
 -- nothing refuses the next step
-pub refusal_of-next : (T : List Event) (threads a b : ℕ) (N P places : List ℕ) (e : ℕ) → IsReached T threads P places → next_step T a b N P ≡ Some e → refusal_of T P e ≡ None
-refusal_of-next T threads a b N P places e are next =
+pub refusal_of-next : (T : List Event) (a b : ℕ) (N P : List ℕ) (e : ℕ) → next_step T a b N P ≡ Some e → refusal_of T P e ≡ None
+refusal_of-next T a b N P e next =
     let may : may_take T a b P e ≡ true = find-passes (may_take T a b P) N e next in
     let rest = (and_parts (not (e == a)) (not (e == b) && is_none (refusal_of T P e)) may).1 in
     is_none-true (refusal_of T P e) (and_parts (not (e == b)) (is_none (refusal_of T P e)) rest).1

@@ -1,13 +1,12 @@
 -- What the greedy search knows on its way. No public clause cites this module. `T` is the events of a trace.
-use Rattle.std.specs.Prelude.{◌≡◌, ◌≢◌, ℕ, ◌-◌, ◌<◌, ◌≤◌, ◌⊎◌, ◌↔◌, ◌&&◌, nat_lt, if◌then◌else◌, Bool, true, false, List, length, count_by, slice_get, slice_index, slice_index_or, Option, Some, None, AllPairs, Contains}
+use Rattle.std.specs.Prelude.{◌≡◌, ◌≢◌, ℕ, ◌-◌, ◌<◌, ◌≤◌, ◌⊎◌, ◌↔◌, ◌&&◌, nat_lt, if◌then◌else◌, Bool, true, false, List, length, slice_get, slice_index, slice_index_or, Option, Some, None, AllPairs, Contains}
 use Rattle.rapid_text.specs.declared.event.Event.{Event}
 use Rattle.rapid_text.specs.declared.event.Op.{Op}
 use Rattle.rapid_text.specs.declared.event.Op.TheVariants.{Read, Acquire, Join}
-use Rattle.trace_rules.specs.Rules.{IsDisciplined}
-use Rattle.event_index.specs.Events.{op_at, thread_at, is_of_thread}
+use Rattle.event_index.specs.Events.{op_at, thread_at}
 use Rattle.event_index.specs.Lookups.{events_of, fork_of, or_else, base_of, last_writer, section_end}
 use Rattle.schedule.specs.Refusals.{is_in}
-use Rattle.schedule.specs.Reordering.{IsPrefix, IsCorrectReordering}
+use Rattle.schedule.specs.Reordering.{IsPrefix}
 use Rattle.witness_search.specs.Greedy.{may_take}
 use Rattle.witness_search.specs.Layout.{kept}
 use Rattle.witness_search.specs.Wanted.{IsWanted}
@@ -90,10 +89,3 @@ pub record IsStepBelow (T : List Event) (a b : ℕ) (marks : List Bool) (P : Lis
 pub record IsStepOf (T : List Event) (a b : ℕ) (marks : List Bool) (P : List ℕ) (t e : ℕ) : Type 0 where
   pub step : is_step T a b marks P e ≡ true
   pub of_thread : thread_at T e ≡ Some t
-
--- P is a correct reordering, and the places tell how many events of each thread are in it
-pub record IsReached (T : List Event) (threads : ℕ) (P places : List ℕ) : Type 0 where
-  pub rules : IsDisciplined T
-  pub reordering : IsCorrectReordering T P
-  pub len : length places ≡ threads
-  pub at : (t : ℕ) → t < threads → slice_index places t ≡ count_by (is_of_thread T t) P

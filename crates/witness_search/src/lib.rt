@@ -1,7 +1,6 @@
 //! Schedules that show a candidate for a race.
 #![tactic(auto)]
 
-mod events;
 mod refusal;
 mod searching;
 mod slicing;

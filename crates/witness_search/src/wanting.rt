@@ -2,7 +2,6 @@
 ghost use Rattle.std.specs.Prelude.{◌≡◌, ◌<◌, length, IfOk, OnOk, IfSome, Some};
 ghost use Rattle.witness_search.specs.Searches.{partner_of, IsSought, AreFound, Adds, TellWanted};
 
-use crate::events::event_at;
 use event_index::Indexed;
 use rapid_text::{Op, OutOfMemory};
 use std::alloc::Global;
@@ -87,7 +86,7 @@ fn partner_of(indexed: &Indexed, event: u32) -> Option<u32>
     ensures partner { result ≡ partner_of indexed.now.events event }
     ensures within { IfSome result (λ e. e < length indexed.now.events) }
 {
-    match event_at(indexed, event).op {
+    match indexed.event(event).op {
         Op::Read(_) => indexed.last_writer(event),
         Op::Acquire(_) => indexed.section(event),
         Op::Join(thread) => {

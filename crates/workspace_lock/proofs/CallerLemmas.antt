@@ -8,8 +8,8 @@ use Rattle.inverse_log.specs.declared.reply.Reply.{Reply}
 use Rattle.inverse_log.specs.Answer.{Grown}
 use Rattle.inverse_log.specs.Log.{own_entries, client_of}
 use Rattle.inverse_log.proofs.CallerLemmas.{called_grown}
-use Rattle.workspace_lock.specs.declared.seat.SeatRefusal.{SeatRefusal}
-use Rattle.workspace_lock.specs.declared.seat.SeatRefusal.TheVariants.{Bench as ByBench, SeatSpent}
+use Rattle.inverse_log.specs.declared.refusal.SeatRefusal.{SeatRefusal}
+use Rattle.inverse_log.specs.declared.refusal.SeatRefusal.TheVariants.{Bench as ByBench, SeatSpent}
 use Rattle.workspace_lock.specs.Runs.{RanAt, Ran, Runs}
 use Rattle.workspace_lock.specs.Seating.{SeatView}
 

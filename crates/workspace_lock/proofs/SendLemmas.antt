@@ -26,6 +26,8 @@ use Rattle.inverse_log.proofs.entry.Entry.TheSendSync as EntrySend
 use Rattle.inverse_log.specs.contracts.kept.Form as Form
 use Rattle.inverse_log.specs.contracts.kept.Kept as Kept
 use Rattle.inverse_log.specs.contracts.kept.Kept.TheInside as KeptInside
+use Rattle.inverse_log.specs.contracts.counted.Counted as Counted
+use Rattle.inverse_log.specs.contracts.counted.Counted.TheInside as CountedInside
 use Rattle.inverse_log.specs.contracts.bench.Bench as Bench
 use Rattle.inverse_log.specs.contracts.bench.Bench.TheInside as BenchInside
 use Rattle.atomic_table.proofs.owned.Table.TheSendSync as TableSend
@@ -121,6 +123,20 @@ workspace_inside =
 workspace_send : IsSend Workspace.the_row
 workspace_send = view_send WorkspaceInside.the_row _ _ _ _ workspace_inside
 
+counted_inside : IsSend CountedInside.the_row
+counted_inside =
+    recorded_send (CountedInside.the_field).row _ _ (CountedInside.the_type).to_one
+    (struct_send (shape CountedInside.the_type) (
+      search (workspace_send, sendable, crosses) depth 20,
+      (
+        search (sendable, crosses) depth 20,
+        tt,
+      ),
+    ))
+
+counted_send : IsSend Counted.the_row
+counted_send = view_send CountedInside.the_row _ _ _ _ counted_inside
+
 bench_inside : IsSend BenchInside.the_row
 bench_inside =
     recorded_send (BenchInside.the_field).row _ _ (BenchInside.the_type).to_one
@@ -129,7 +145,7 @@ bench_inside =
       (
         search (IndexedSend.the_send, IndexedSend.the_sync, sendable, crosses) depth 20,
         (
-          search (workspace_send, sendable, crosses) depth 20,
+          search (counted_send, sendable, crosses) depth 20,
           (
             search (board_send, sendable, crosses) depth 20,
             (
@@ -142,10 +158,7 @@ bench_inside =
                     search (TouchesSend.the_send, sendable, crosses) depth 20,
                     (
                       search (ClientsSend.the_send, sendable, crosses) depth 20,
-                      (
-                        search (sendable, crosses) depth 20,
-                        tt,
-                      ),
+                      tt,
                     ),
                   ),
                 ),

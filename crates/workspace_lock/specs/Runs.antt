@@ -1,12 +1,13 @@
 -- What one call through a seat is, and what several are. This project's own.
-use Rattle.std.specs.Prelude.{◌≡◌, ℕ, ◌+◌, ◌<◌, length, List, [], ◌∷◌, Result, Ok, Err}
+use Rattle.std.specs.Prelude.{◌≡◌, ℕ, ◌+◌, ◌<◌, length, List, [], ◌∷◌, Option, Result, Ok, Err}
+use Rattle.std.specs.Io.KnownBytes.{Appends}
 use Rattle.inverse_log.specs.declared.entry.Entry.{Entry}
 use Rattle.inverse_log.specs.declared.call.Call.{Call}
 use Rattle.inverse_log.specs.declared.reply.Reply.{Reply}
 use Rattle.inverse_log.specs.declared.refusal.Refusal.{Refusal}
 use Rattle.inverse_log.specs.Answer.{Called}
-use Rattle.workspace_lock.specs.declared.seat.SeatRefusal.{SeatRefusal}
-use Rattle.workspace_lock.specs.declared.seat.SeatRefusal.TheVariants.{Bench as ByBench, SeatSpent}
+use Rattle.inverse_log.specs.declared.refusal.SeatRefusal.{SeatRefusal}
+use Rattle.inverse_log.specs.declared.refusal.SeatRefusal.TheVariants.{Bench as ByBench, SeatSpent}
 use Rattle.workspace_lock.specs.Turns.{Sees}
 use Rattle.workspace_lock.specs.Seating.{SeatView, mark_in}
 
@@ -23,6 +24,12 @@ abbrev pub Ran : SeatView → Call → Result Reply SeatRefusal → SeatView →
 Ran s call (Ok reply) n = RanAt s call (Ok reply) n
 Ran s call (Err (ByBench refusal)) n = RanAt s call (Err refusal) n
 Ran s call (Err SeatSpent) n = (s.turns ≡ 4294967295) × (n ≡ s)
+
+-- what the gate of a call passed: step 1 and then step 2, and nothing where the seat is spent
+abbrev pub Passes : Result Reply SeatRefusal → Option (List ℕ) → Option (List ℕ) → Type 0
+Passes (Ok reply) old new = Appends old new (1 ∷ 2 ∷ [])
+Passes (Err (ByBench refusal)) old new = Appends old new (1 ∷ 2 ∷ [])
+Passes (Err SeatSpent) old new = new ≡ old
 
 -- one look at the front: the length of a legal log that begins with all that the seat had seen
 abbrev pub Fronted : SeatView → ℕ → SeatView → Type 0

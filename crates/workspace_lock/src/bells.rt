@@ -1,4 +1,5 @@
 //! Where a call sleeps until its turn has come.
+use crate::lock::MAX_CLIENTS;
 use std::array::from_fn;
 use std::sync::Wait;
 use std::thread::Parker;
@@ -7,7 +8,7 @@ use std::thread::Parker;
 /// before the wait is kept for it.
 #[derive(Drop)]
 pub struct Bells {
-    bells: [Parker; 32],
+    bells: [Parker; MAX_CLIENTS as usize],
 }
 
 impl Bells {
@@ -19,7 +20,7 @@ impl Bells {
 
     // No two tickets of as many seats as there are bells, each the only one of its seat, have the same.
     fn bell(&self, ticket: u64) -> &Parker {
-        &self.bells[(ticket % 32) as usize]
+        &self.bells[(ticket % u64::from(MAX_CLIENTS)) as usize]
     }
 
     /// Sleeps until the ticket's bell has rung. It may return for an earlier ring.

@@ -2,9 +2,12 @@
 #![tactic(auto)]
 
 mod bells;
+mod door;
 mod lock;
 mod seat;
 mod seats;
 
-pub use seat::{Gate, Seat, SeatRefusal};
-pub use seats::{CloseRefusal, OpenRefusal, Seats, open};
+pub use door::BEST_ROOM;
+pub use inverse_log::SeatRefusal;
+pub use seat::{Gate, Seat};
+pub use seats::{CloseRefusal, OpenRefusal, Seats, open, open_with_room};

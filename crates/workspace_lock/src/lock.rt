@@ -3,11 +3,15 @@ ghost use Rattle.std.specs.Prelude.{List, []};
 ghost use Rattle.inverse_log.specs.declared.entry.Entry.{Entry};
 
 use crate::bells::Bells;
+use crate::door::Door;
 use atomic_table::{Join, Play, Seat, Split, Table, TableRule};
 use inverse_log::Bench;
 use std::alloc::Global;
 use std::marker::{Brand, Model, PhantomData};
 use std::snapshot::Snapshot;
+
+/// The most clients, and so the most seats and the most tickets that wait at a time.
+pub const MAX_CLIENTS: u32 = 32;
 
 /// What a place knows. No value of it is made.
 pub struct View {
@@ -48,6 +52,7 @@ pub type Lock = Table<Option<Bench>, View, Opening, Order, Global>;
 pub struct Hall {
     pub lock: Lock,
     pub bells: Bells,
+    pub door: Door,
 }
 
 /// One client's place at the lock.

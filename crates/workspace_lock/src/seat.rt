@@ -1,32 +1,31 @@
 //! A client's seat, and a call through it.
-ghost use Rattle.std.specs.Prelude.{◌≡◌, ℕ, ◌+◌, ◌*◌, ◌<◌, ◌≤◌, [], ◌∷◌, None, length};
+ghost use Rattle.std.specs.Prelude.{◌≡◌, ℕ, ◌+◌, ◌*◌, ◌<◌, ◌≤◌, [], ◌∷◌, None, Err, length};
+ghost use Rattle.std.specs.Io.KnownBytes.{Appends};
 ghost use Rattle.std.specs.Arc.{arc_value};
 ghost use Rattle.inverse_log.specs.Answer.{IsLegal, Grown};
 ghost use Rattle.workspace_lock.specs.Sights.{idle, holds};
 ghost use Rattle.workspace_lock.specs.Turns.{mark_of, saw, solo, ticket_in};
 ghost use Rattle.workspace_lock.specs.Seating.{mark_in, IsSized, IsResting, IsWaiting, IsBusy, GotTurn, TookBench, Looked, seat_view};
-ghost use Rattle.workspace_lock.specs.Runs.{Ran, Fronted};
+ghost use Rattle.workspace_lock.specs.Runs.{Ran, Fronted, Passes};
+ghost use Rattle.inverse_log.specs.declared.refusal.SeatRefusal.TheVariants.{SeatSpent};
 
 use crate::lock::{Draw, Hall, Lock, Look, Named, PassOn, Place, Publish, Watch};
-use inverse_log::{Bench, Call, Refusal, Reply};
+use inverse_log::{Bench, Call, Reply, SeatRefusal};
 use std::alloc::Global;
 use std::marker::{Brand, Model};
 use std::sync::{Arc, Wait};
 
-/// Why a call through a seat was refused.
-#[derive(Clone, Copy, PartialEq, Eq)]
-pub enum SeatRefusal {
-    /// 42 to 56: what the bench refused the call for. The seat has had its turn, and has seen the log.
-    Bench(Refusal),
-    /// 73: the seat has made 4,294,967,295 calls. It is as before.
-    SeatSpent,
-}
-
 /// What a call passes while it has its turn. A gate that does not let it pass holds up every later call, of other
 /// seats too.
 pub trait Gate {
+    ghost use Rattle.std.specs.Prelude.{List, None, ℕ, Option};
+
+    // The steps that it has passed, in their order, where its type tells them.
+    ghost passed: { Self → Option (List ℕ) } = { λ _. None };
+
     /// Step 1 is passed when the turn is held, and step 2 after the call was answered, before the turn goes on.
-    fn pass<R: Wait>(&mut self, rt: &R, step: u32);
+    fn pass<R: Wait>(&mut self, rt: &R, step: u32)
+        ensures passed { Appends (passed self.old) (passed self.new) (step ∷ []) };
 }
 
 // A gate that stands open.
@@ -51,11 +50,12 @@ fn watch<R: Wait>(rt: &R, hall: &Hall, place: &mut Place, ticket: u64)
     unreachable!()
 }
 
-// Draws a ticket, waits for its turn and takes the bench.
+// Passes the door, draws a ticket, waits for its turn and takes the bench.
 fn take_bench<R: Wait>(rt: &R, hall: &Hall, place: &mut Place) -> Bench
     requires { (place.old.table_id ≡ hall.now.lock.shared.table_id) × IsSized place.old.table_id × IsResting place.old.me × (place.old.me.0.turns < 4294967295) }
     ensures { (place.new.table_id ≡ place.old.table_id) × (place.new.id ≡ place.old.id) × TookBench place.old.me result place.new.me }
 {
+    hall.door.enter(rt);
     let ticket = hall.lock.shared.fetch_add::<Draw>(place, 0, 1);
     watch(rt, hall, place, ticket);
     hall.lock.shared.exchange(place, 0, None).unwrap()
@@ -72,7 +72,7 @@ fn publish<N: Named>(lock: &Lock, place: &mut Place, bench: &Bench)
     lock.shared.fetch_add::<Publish<N>>(place, 2, 1);
 }
 
-// Publishes what was logged, puts the bench back, passes the turn on, and wakes whom it waits for.
+// Publishes what was logged, puts the bench back, passes the turn on, wakes the one whose it is, and leaves the door.
 fn give_back(hall: &Hall, place: &mut Place, bench: Bench, before: u64)
     requires place { (place.old.table_id ≡ hall.now.lock.shared.table_id) × IsSized place.old.table_id × IsBusy place.old.me }
     requires bench { IsLegal (mark_of place.old.me.0).start.trace bench.log × Grown (mark_of place.old.me.0).seen (mark_of place.old.me.0).number bench.log × (bench.trace ≡ (mark_of place.old.me.0).start.trace) }
@@ -85,6 +85,7 @@ fn give_back(hall: &Hall, place: &mut Place, bench: Bench, before: u64)
     drop(hall.lock.shared.exchange(place, 0, Some(bench)));
     let served = hall.lock.shared.fetch_add::<PassOn>(place, 1, 1);
     hall.bells.ring(served.wrapping_add(1));
+    hall.door.leave();
 }
 
 // One load of FRONT.
@@ -184,6 +185,9 @@ impl Seat {
     ) -> Result<Reply, SeatRefusal>
         ensures run { Ran self.old call.now result self.new }
         ensures seat { (self.new.site ≡ self.old.site) × (self.new.number ≡ self.old.number) }
+        // The gate has passed 1 and then 2, once each; and nothing where the seat is spent.
+        ensures gate { Passes result (G.passed gate.old) (G.passed gate.new) }
+        ensures spent { result ≡ Err SeatSpent → gate.new ≡ gate.old }
     {
         if self.turns == u32::MAX {
             return Err(SeatRefusal::SeatSpent);

@@ -8,7 +8,8 @@ ghost use Rattle.workspace_lock.specs.Seating.{IsSized, IsEnd, Gathers, mark_in,
 ghost use Rattle.workspace_lock.specs.Counts.{IsBadCount};
 
 use crate::bells::Bells;
-use crate::lock::{Deal, Draw, Finish, Gather, Hall, Lock, Opening, Place};
+use crate::door::{BEST_ROOM, Door};
+use crate::lock::{Deal, Draw, Finish, Gather, Hall, Lock, MAX_CLIENTS, Opening, Place};
 use crate::seat::Seat;
 use atomic_table::{Refused, Table};
 use inverse_log::Bench;
@@ -183,13 +184,14 @@ fn deal(
     Ok(Seats { hall, rows })
 }
 
-// The lock and its bells go where all seats can reach them.
+// The lock, its bells and its door go where all seats can reach them.
 fn share(
     alloc: Global,
     lock: Lock,
     mut place: Place,
     rows: Vec<Option<Seat>>,
     clients: u32,
+    room: u32,
 ) -> Result<Seats, (Bench, OpenRefusal)>
     requires place { (place.table_id ≡ lock.shared.table_id) × IsSized place.table_id × (place.me ≡ dealt lock.shared.key.bench.value clients 0) }
     requires clients { (clients ≡ lock.shared.key.clients) × (0 < clients) × (clients ≤ 32) }
@@ -201,6 +203,7 @@ fn share(
     let hall = Hall {
         lock,
         bells: Bells::new(),
+        door: Door::new(room),
     };
     match Arc::new(alloc, hall) {
         Ok(shared) => deal(shared, place, rows, clients),
@@ -217,7 +220,22 @@ pub fn open(alloc: Global, bench: Bench, clients: u32) -> Result<Seats, (Bench, 
     // It is refused for the count exactly where that is bad.
     ensures count { IfErr result (λ e. IsBadCount clients e.1) }
 {
-    if clients == 0 || clients > 32 {
+    open_with_room(alloc, bench, clients, BEST_ROOM)
+}
+
+/// The same, and how many seats at a time may queue for a turn: fewer change threads less often, and so make calls in longer
+/// runs of one client. Room for none is room for one; room for 32 is no door at all. No answer rests on it.
+pub fn open_with_room(
+    alloc: Global,
+    bench: Bench,
+    clients: u32,
+    room: u32,
+) -> Result<Seats, (Bench, OpenRefusal)>
+    ensures ok { IfOk result (λ s. (0 < clients) × (clients ≤ 32) × Opened bench clients s) }
+    ensures err { IfErr result (λ e. e.0 ≡ bench) }
+    ensures count { IfErr result (λ e. IsBadCount clients e.1) }
+{
+    if clients == 0 || clients > MAX_CLIENTS {
         return Err((bench, OpenRefusal::BadCount));
     }
     let Ok(rows) = Vec::with_capacity(alloc, clients as usize) else {
@@ -233,7 +251,7 @@ pub fn open(alloc: Global, bench: Bench, clients: u32) -> Result<Seats, (Bench, 
     let length = bench.log_len();
     slots.push_reserved(Some(bench));
     match Table::new(alloc, &[0, 0, length], slots, &opening) {
-        Ok((lock, place)) => share(alloc, lock, place, rows, clients),
+        Ok((lock, place)) => share(alloc, lock, place, rows, clients, room),
         Err(Refused { mut slots }) => match slots.pop() {
             Some(Some(bench)) => Err((bench, OpenRefusal::OutOfMemory)),
             _ => unreachable!(),

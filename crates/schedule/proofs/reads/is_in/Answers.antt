@@ -7,7 +7,7 @@ pub returns : goal.returns
 returns c =
     let T = c.args.indexed.now.events in
     let P = c.args.events.now in
-    let v = c.event_of-found.result in
+    let v = c.event-found.result in
     ap (nat_lt c.place.result) (c.count_at.ensures ∙ ap (λ l. slice_index_or l v.thread 0) c.deref.ensures.value ∙ c.requires.tables.counts v.thread)
     ∙ ap (λ k. nat_lt k (count_of T P v.thread)) c.place.ensures.place
-    ∙ is_in-count T P c.args.event v c.event_of-found.ensures.found c.requires.reordering.thread_order
+    ∙ is_in-count T P c.args.event v c.event-found.ensures.found c.requires.reordering.thread_order

@@ -16,8 +16,8 @@ returns-in_default c =
     let none : get key_eq c.args.tables.now.latest (Lock c.args.lock) ≡ None = search rules in
     sym (other_holder-no_taker T P c.args.thread c.args.lock c.requires.reordering.locks (no_taker T P c.args.tables.now c.requires.tables c.args.lock none))
 
-pub returns-in_default-event_at : goal.returns-in_default-event_at
-returns-in_default-event_at c =
+pub returns-in_default-get : goal.returns-in_default-get
+returns-in_default-get c =
     let T = c.args.indexed.now.events in
     let P = c.args.events.now in
     let m = c.in-Some.kept.now in
@@ -30,7 +30,7 @@ returns-then-found-thread c =
     let T = c.args.indexed.now.events in
     let P = c.args.events.now in
     let m = c.in-Some.kept.now in
-    let v = c.in-Some-event_at.found in
+    let v = c.in-Some-get.found in
     let is : get key_eq c.args.tables.now.latest (Lock c.args.lock) ≡ Some m = search rules in
     let taker : last_taker T P c.args.lock ≡ Some v.thread = taker_named T P c.args.tables.now c.requires.tables c.args.lock m is (Some v) (search rules) in
     sym (other_holder-own T P c.args.thread c.args.lock v.thread c.requires.reordering.locks taker c.if-found-thread.true)
@@ -40,7 +40,7 @@ returns-then-kept-eq0 c =
     let T = c.args.indexed.now.events in
     let P = c.args.events.now in
     let m = c.in-Some.kept.now in
-    let v = c.in-Some-event_at.found in
+    let v = c.in-Some-get.found in
     let is : get key_eq c.args.tables.now.latest (Lock c.args.lock) ≡ Some m = search rules in
     let taker : last_taker T P c.args.lock ≡ Some v.thread = taker_named T P c.args.tables.now c.requires.tables c.args.lock m is (Some v) (search rules) in
     let free : hold_count (events_at T P) v.thread c.args.lock ≡ 0 =
@@ -52,7 +52,7 @@ returns c =
     let T = c.args.indexed.now.events in
     let P = c.args.events.now in
     let m = c.in-Some.kept.now in
-    let v = c.in-Some-event_at.found in
+    let v = c.in-Some-get.found in
     let is : get key_eq c.args.tables.now.latest (Lock c.args.lock) ≡ Some m = search rules in
     let taker : last_taker T P c.args.lock ≡ Some v.thread = taker_named T P c.args.tables.now c.requires.tables c.args.lock m is (Some v) (search rules) in
     let depth = holds_named T P c.args.tables.now c.requires.tables c.args.lock m is c.requires.disciplined c.requires.reordering v.thread taker in

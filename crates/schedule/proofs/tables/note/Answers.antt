@@ -1,6 +1,7 @@
 use Rattle.std.proofs.Common.{◌≡◌, ◌≤◌, ◌++◌, ◌∷◌, [], ◌-◌, length, take, refl, ap, sym, subst, ◌∙◌, arith, rules}
 use Rattle.std.proofs.lemmas.List.{length_push, take_at}
 use Rattle.event_index.specs.Tables.{IsTable}
+use Rattle.rapid_text.specs.Limits.{event_limit}
 use Rattle.schedule.specs.Reordering.{IsCorrectReordering}
 use Rattle.schedule.specs.Tables.{shadow_of}
 use Rattle.schedule.proofs.CallerLemmas.{IsCorrectReordering-length}
@@ -13,25 +14,25 @@ step-requires c =
     let T = c.args.indexed.now.events in
     let P = c.args.events.now in
     let long = IsCorrectReordering-length T (P ++ c.args.event ∷ []) c.requires.enabled in
-    let few : length P ≤ 65536 = omega (arith, long, length_push P c.args.event, c.event_of-found.ensures.few) in
-    depth_of-small T P c.args.tables.now 65536 few c.requires.tables
+    let few : length P ≤ event_limit = omega (arith, long, length_push P c.args.event, c.event-found.ensures.well_formed.events) in
+    depth_of-small T P c.args.tables.now event_limit few c.requires.tables
 
 pub count_up-requires-clause-small : goal.count_up-requires-clause-small
 count_up-requires-clause-small c =
     let T = c.args.indexed.now.events in
     let P = c.args.events.now in
-    let t = c.event_of-found.result.thread in
+    let t = c.event-found.result.thread in
     let long = IsCorrectReordering-length T (P ++ c.args.event ∷ []) c.requires.enabled in
-    let few : length P ≤ 65536 = omega (arith, long, length_push P c.args.event, c.event_of-found.ensures.few) in
-    omega (arith, count_of-small T P c.args.tables.now 65536 t few c.requires.tables, c.make_room.ensures.same t)
+    let few : length P ≤ event_limit = omega (arith, long, length_push P c.args.event, c.event-found.ensures.well_formed.events) in
+    omega (arith, count_of-small T P c.args.tables.now event_limit t few c.requires.tables, c.make_room.ensures.same t)
 
 pub returns-clause-ok : goal.returns-clause-ok
 returns-clause-ok c =
     let T = c.args.indexed.now.events in
     let P = c.args.events.now in
-    let v = c.event_of-found.result in
+    let v = c.event-found.result in
     let is : IsCorrectReordering T P = front_is T P (c.args.event ∷ []) c.requires.enabled in
-    AreTables-push T P c.args.event v c.event_of-found.ensures.found c.event_of-found.ensures.disciplined is c.args.tables.now _ c.requires.tables
+    AreTables-push T P c.args.event v c.event-found.ensures.found c.event-found.ensures.disciplined is c.args.tables.now _ c.requires.tables
     c.make_room.new.counts.items (search rules) c.make_room.ensures.same c.count_up.ensures c.in-Ok-step.ensures.ok c.shadow_of-shadow.result c.shadow_of-shadow.ensures (search rules)
 
 pub returns-in_default-step-clause-err : goal.returns-in_default-step-clause-err

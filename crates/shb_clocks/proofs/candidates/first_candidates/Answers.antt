@@ -35,7 +35,7 @@ loop-first-preserved c =
             of_accesses = of_accesses;
             writes = c.pass-in-loop-first.ensures.chains;
             of_writes = of_writes;
-            listed = rw w.pairs-is (AreFirstBelow-none c.args.indexed.now.events c.loop-first.first c.args.limit c.loop-first.pairs i.listed room (λ b. no_partner c.args.indexed.now.events c.loop-first.first b c.event_at-op.result c.event_at-op.ensures.found (c.sought.ensures.none w.in_default.is)));
+            listed = rw w.pairs-is (AreFirstBelow-none c.args.indexed.now.events c.loop-first.first c.args.limit c.loop-first.pairs i.listed room (λ b. no_partner c.args.indexed.now.events c.loop-first.first b c.event-op.result c.event-op.ensures.found (c.sought.ensures.none w.in_default.is)));
           }
     ]
 

@@ -7,15 +7,15 @@ pub raise_row-requires : goal.raise_row-requires
 raise_row-requires c =
     record {
       within = row_within c.args.counterpart c.args.event (length c.args.indexed.now.threads) (length c.copy_row.new.row.items) (length c.args.counts.now)
-          (counterpart_of-earlier c.args.indexed.now.events c.event_at-own.ensures.disciplined c.args.event c.args.counterpart c.requires.counterpart)
+          (counterpart_of-earlier c.args.indexed.now.events c.event-own.ensures.disciplined c.args.event c.args.counterpart c.requires.counterpart)
           (c.copy_row.ensures.len ∙ c.requires.row) (omega (arith, c.requires.len));
     }
 
 pub returns-clause-row : goal.returns-clause-row
 returns-clause-row c =
-    IsRow-made c.args.indexed.now.events c.event_at-own.ensures.disciplined c.args.event c.event_at-own.result c.event_at-own.ensures.found
+    IsRow-made c.args.indexed.now.events c.event-own.ensures.disciplined c.args.event c.event-own.result c.event-own.ensures.found
     (length c.args.indexed.now.threads) c.args.counts.now c.args.row.now.items c.copy_row.new.row.items c.raise_row.new.row.items c.base.result c.args.counterpart
     c.requires.counts (omega (arith, c.requires.len)) c.base.ensures.earlier c.base.ensures.base c.requires.counterpart
     c.requires.row c.copy_row.ensures.len c.raise_row.ensures.len c.copy_row.ensures.counts c.raise_row.ensures.counts
-    (omega (arith, c.event_at-own.ensures.named.0, c.requires.row, c.copy_row.ensures.len, c.raise_row.ensures.len))
+    (omega (arith, c.event-own.ensures.named.0, c.requires.row, c.copy_row.ensures.len, c.raise_row.ensures.len))
     (c.place.result + 1) (ap (λ k. k + 1) c.place.ensures.place)

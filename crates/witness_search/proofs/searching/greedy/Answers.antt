@@ -12,11 +12,11 @@ returns-then-not-branch-clause-answer c =
     let b = c.args.second in
     let N = marked_events T c.in_ok-wanted.wanted.items in
     let missed : c.in_ok-search.field-0 ≡ false = search rules in
-    let none : first_shown T a b N c.in_ok-reached.reached.schedule.events c.args.budget ≡ None = c.in_ok-search.ensures.none (ap Ok missed) in
+    let none : first_shown T a b N c.in_ok-schedule.schedule.events c.args.budget ≡ None = c.in_ok-search.ensures.none (ap Ok missed) in
     λ _. record {
       wanted = N;
-      are_wanted = AreWanted-marked T c.in_ok-reached.ensures.reached.rules a b c.in_ok-wanted.wanted.items c.in_ok-wanted.ensures;
-      is = sym none ∙ ap (λ P. first_shown T a b N P c.args.budget) c.in_ok-reached.ensures.events;
+      are_wanted = AreWanted-marked T c.in_ok-schedule.ensures.disciplined a b c.in_ok-wanted.wanted.items c.in_ok-wanted.ensures;
+      is = sym none ∙ ap (λ P. first_shown T a b N P c.args.budget) c.in_ok-schedule.ensures.events;
     }
 
 pub returns-clause-answer : goal.returns-clause-answer
@@ -26,12 +26,12 @@ returns-clause-answer c =
     let b = c.args.second in
     let N = marked_events T c.in_ok-wanted.wanted.items in
     let shown : c.in_ok-search.field-0 ≡ true = search rules in
-    let some : first_shown T a b N c.in_ok-reached.reached.schedule.events c.args.budget ≡ Some c.search.new.self.schedule.events = c.in_ok-search.ensures.shown (ap Ok shown) in
-    let list : c.from.result ≡ c.search.new.self.schedule.events = c.from.ensures ∙ c.in_ok-events.ensures.items ∙ c.events.ensures.same in
+    let some : first_shown T a b N c.in_ok-schedule.schedule.events c.args.budget ≡ Some c.search.new.schedule.events = c.in_ok-search.ensures.shown (ap Ok shown) in
+    let list : c.from.result ≡ c.search.new.schedule.events = c.from.ensures ∙ c.in_ok-events.ensures.items ∙ c.events.ensures.same in
     λ _. record {
       wanted = N;
-      are_wanted = AreWanted-marked T c.in_ok-reached.ensures.reached.rules a b c.in_ok-wanted.wanted.items c.in_ok-wanted.ensures;
-      is = ap Some list ∙ sym some ∙ ap (λ P. first_shown T a b N P c.args.budget) c.in_ok-reached.ensures.events;
+      are_wanted = AreWanted-marked T c.in_ok-schedule.ensures.disciplined a b c.in_ok-wanted.wanted.items c.in_ok-wanted.ensures;
+      is = ap Some list ∙ sym some ∙ ap (λ P. first_shown T a b N P c.args.budget) c.in_ok-schedule.ensures.events;
     }
 
 pub returns-clause-shows : goal.returns-clause-shows
@@ -41,10 +41,10 @@ returns-clause-shows c =
     let b = c.args.second in
     let N = marked_events T c.in_ok-wanted.wanted.items in
     let shown : c.in_ok-search.field-0 ≡ true = search rules in
-    let some : first_shown T a b N c.in_ok-reached.reached.schedule.events c.args.budget ≡ Some c.search.new.self.schedule.events = c.in_ok-search.ensures.shown (ap Ok shown) in
-    let list : c.from.result ≡ c.search.new.self.schedule.events = c.from.ensures ∙ c.in_ok-events.ensures.items ∙ c.events.ensures.same in
+    let some : first_shown T a b N c.in_ok-schedule.schedule.events c.args.budget ≡ Some c.search.new.schedule.events = c.in_ok-search.ensures.shown (ap Ok shown) in
+    let list : c.from.result ≡ c.search.new.schedule.events = c.from.ensures ∙ c.in_ok-events.ensures.items ∙ c.events.ensures.same in
     let reordering : IsCorrectReordering T c.from.result = search rules in
-    first_shown-shows T a b N c.in_ok-reached.reached.schedule.events c.args.budget c.from.result (some ∙ ap Some (sym list)) reordering
+    first_shown-shows T a b N c.in_ok-schedule.schedule.events c.args.budget c.from.result (some ∙ ap Some (sym list)) reordering
 
 pub returns-clause-begins : goal.returns-clause-begins
 returns-clause-begins c =
@@ -53,10 +53,10 @@ returns-clause-begins c =
     let b = c.args.second in
     let N = marked_events T c.in_ok-wanted.wanted.items in
     let shown : c.in_ok-search.field-0 ≡ true = search rules in
-    let some : first_shown T a b N c.in_ok-reached.reached.schedule.events c.args.budget ≡ Some c.search.new.self.schedule.events = c.in_ok-search.ensures.shown (ap Ok shown) in
-    let list : c.from.result ≡ c.search.new.self.schedule.events = c.from.ensures ∙ c.in_ok-events.ensures.items ∙ c.events.ensures.same in
-    subst (λ (P : List ℕ). IsPrefix P c.from.result) c.in_ok-reached.ensures.events
-    (first_shown-begins T a b N c.in_ok-reached.reached.schedule.events c.args.budget c.from.result (some ∙ ap Some (sym list)))
+    let some : first_shown T a b N c.in_ok-schedule.schedule.events c.args.budget ≡ Some c.search.new.schedule.events = c.in_ok-search.ensures.shown (ap Ok shown) in
+    let list : c.from.result ≡ c.search.new.schedule.events = c.from.ensures ∙ c.in_ok-events.ensures.items ∙ c.events.ensures.same in
+    subst (λ (P : List ℕ). IsPrefix P c.from.result) c.in_ok-schedule.ensures.events
+    (first_shown-begins T a b N c.in_ok-schedule.schedule.events c.args.budget c.from.result (some ∙ ap Some (sym list)))
 
 pub returns-clause-budget : goal.returns-clause-budget
 returns-clause-budget c =
@@ -65,6 +65,6 @@ returns-clause-budget c =
     let b = c.args.second in
     let N = marked_events T c.in_ok-wanted.wanted.items in
     let shown : c.in_ok-search.field-0 ≡ true = search rules in
-    let some : first_shown T a b N c.in_ok-reached.reached.schedule.events c.args.budget ≡ Some c.search.new.self.schedule.events = c.in_ok-search.ensures.shown (ap Ok shown) in
-    let list : c.from.result ≡ c.search.new.self.schedule.events = c.from.ensures ∙ c.in_ok-events.ensures.items ∙ c.events.ensures.same in
-    omega (arith, ap length c.in_ok-reached.ensures.events, first_shown-length T a b N c.in_ok-reached.reached.schedule.events c.args.budget c.from.result (some ∙ ap Some (sym list)))
+    let some : first_shown T a b N c.in_ok-schedule.schedule.events c.args.budget ≡ Some c.search.new.schedule.events = c.in_ok-search.ensures.shown (ap Ok shown) in
+    let list : c.from.result ≡ c.search.new.schedule.events = c.from.ensures ∙ c.in_ok-events.ensures.items ∙ c.events.ensures.same in
+    omega (arith, ap length c.in_ok-schedule.ensures.events, first_shown-length T a b N c.in_ok-schedule.schedule.events c.args.budget c.from.result (some ∙ ap Some (sym list)))

@@ -11,5 +11,5 @@ pub returns : goal.returns
 returns c =
     let s = c.self.inside in
     let v = c.args.self.now in
-    let answer = subst (λ (v : Benched). answer_of v.trace v.log c.args.client ListNames ≡ Ok (Listing c.in-Ok.names)) c.self.view_is (list_answer s c.self.invariant c.args.client c.in-Ok.names c.in-Ok.ensures) in
+    let answer = subst (λ (v : Benched). answer_of v.trace v.log c.args.client ListNames ≡ Ok (Listing c.in-Ok.names)) c.self.view_is (list_answer s c.self.invariant c.args.client c.in-Ok.names (rw (c.workspace.ensures) at c.in-Ok.ensures)) in
     (answer, after_ok v.trace v.log v.log c.args.client ListNames (Listing c.in-Ok.names) answer (after_none v.log))

@@ -1,5 +1,6 @@
 use Rattle.std.proofs.Common.{◌≡◌, true, ◌<◌, ◌∙◌, ◌++◌, ◌∷◌, [], Ok, Err, ap, subst, refl, arith, length}
 use Rattle.dependence.specs.Lists.{of_client}
+use Rattle.moves.specs.Ages.{age}
 use Rattle.moves.proofs.CallerLemmas.{refused_same}
 use Rattle.inverse_log.specs.declared.call.Call.TheVariants.{Do}
 use Rattle.inverse_log.specs.declared.entry.Entry.TheVariants.{Did}
@@ -12,7 +13,7 @@ use Rattle.inverse_log.proofs.KeptLemmas.{stays_below}
 use Rattle.inverse_log.proofs.bench.Bench.perform.Goals as goal
 
 pub check-requires : goal.check-requires
-check-requires c = of_trace c.self.inside c.self.invariant c.deref.result.now c.deref.ensures
+check-requires c = rw c.workspace.ensures (of_trace c.self.inside c.self.invariant c.deref.result.now c.deref.ensures)
 
 pub returns-in-Err-clause-call : goal.returns-in-Err-clause-call
 returns-in-Err-clause-call c =
@@ -20,7 +21,7 @@ returns-in-Err-clause-call c =
     let number : c.len-number.result ≡ length s.log.items = omega (arith, c.len-number.ensures) in
     let room : c.len-number.result < 1000000 = omega arith in (
       subst (λ (v : Benched). answer_of v.trace v.log c.args.client (Do c.args.command.now) ≡ Err (Move c.in-Err.why)) c.self.view_is
-          (do_refused s c.self.invariant c.deref.result.now c.len-number.result c.args.client c.args.command.now c.in-Err.why c.deref.ensures number room c.in-Err.ensures),
+          (do_refused s c.self.invariant c.deref.result.now c.len-number.result c.args.client c.args.command.now c.in-Err.why c.deref.ensures number room (rw (c.workspace.ensures) at c.in-Err.ensures)),
       refl,
     )
 
@@ -30,7 +31,7 @@ returns-in_default-make_room-clause-call c =
     let number : c.len-number.result ≡ length s.log.items = omega (arith, c.len-number.ensures) in
     let room : c.len-number.result < 1000000 = omega arith in (
       subst (λ (v : Benched). may_want (answer_of v.trace v.log c.args.client (Do c.args.command.now)) ≡ true) c.self.view_is
-          (do_accepted s c.self.invariant c.deref.result.now c.len-number.result c.args.client c.args.command.now c.deref.ensures number room c.in_default.ensures),
+          (do_accepted s c.self.invariant c.deref.result.now c.len-number.result c.args.client c.args.command.now c.deref.ensures number room (rw (c.workspace.ensures) at c.in_default.ensures)),
       c.in_default-make_room.ensures.log ∙ ap (λ (v : Benched). v.log) c.self.view_is,
     )
 
@@ -44,7 +45,7 @@ pub invariant_of-self-in_default-enter : goal.invariant_of-self-in_default-enter
 invariant_of-self-in_default-enter c =
     let s = c.self.inside in
     let same = c.in_default-enter.ensures.err in
-    bench_same s c.self.invariant c.make_room.new.log.items s.workspace c.make_room.new.steps.items c.enter.new.touches c.enter.new.clients s.edits c.in-Ok.ensures.log refl c.in-Ok.ensures.steps same.0 (λ a. ap (λ X. of_client X a) same.1) refl
+    bench_same s c.self.invariant c.make_room.new.log.items s.rows.rows c.make_room.new.steps.items c.enter.new.touches c.enter.new.clients s.rows.edits c.in-Ok.ensures.log refl c.in-Ok.ensures.steps same.0 (λ a. ap (λ X. of_client X a) same.1) refl
 
 pub returns-in_default-enter-clause-call : goal.returns-in_default-enter-clause-call
 returns-in_default-enter-clause-call c =
@@ -52,7 +53,7 @@ returns-in_default-enter-clause-call c =
     let number : c.len-number.result ≡ length s.log.items = omega (arith, c.len-number.ensures) in
     let room : c.len-number.result < 1000000 = omega arith in (
       subst (λ (v : Benched). may_want (answer_of v.trace v.log c.args.client (Do c.args.command.now)) ≡ true) c.self.view_is
-          (do_accepted s c.self.invariant c.deref.result.now c.len-number.result c.args.client c.args.command.now c.deref.ensures number room c.in_default.ensures),
+          (do_accepted s c.self.invariant c.deref.result.now c.len-number.result c.args.client c.args.command.now c.deref.ensures number room (rw (c.workspace.ensures) at c.in_default.ensures)),
       c.in-Ok.ensures.log ∙ ap (λ (v : Benched). v.log) c.self.view_is,
     )
 
@@ -65,7 +66,7 @@ apply-requires-clause-board c = board_is_of c.self.inside c.self.invariant c.der
 pub apply-requires-clause-late : goal.apply-requires-clause-late
 apply-requires-clause-late c =
     let s = c.self.inside in
-    stays_below _ s.log.items s.workspace s.board s.steps.items c.self.invariant.kept c.len-number.result (omega (arith, c.len-number.ensures))
+    stays_below _ s.log.items s.rows.rows s.board s.steps.items c.self.invariant.kept c.len-number.result (omega (arith, c.len-number.ensures))
 
 pub apply-requires-clause-few : goal.apply-requires-clause-few
 apply-requires-clause-few c =
@@ -80,8 +81,8 @@ invariant_of-self-in_default-apply c =
     let number : c.len-number.result ≡ length s.log.items = omega (arith, c.len-number.ensures) in
     let entered = c.in-Ok-enter.ensures.ok in
     let same = left_same s c.self.invariant c.len-number.result c.args.client c.args.command.now c.enter.new.touches c.leave.new.touches c.enter.new.clients c.leave.new.clients number entered.0 entered.1 c.leave.ensures.names c.leave.ensures.clients in
-    let rows = refused_same c.deref-2.result.now s.board c.len-number.result c.args.command.now s.workspace c.apply.new.workspace c.in_default-apply.field-0 c.in_default-apply.ensures.applied in
-    bench_same s c.self.invariant c.make_room.new.log.items c.apply.new.workspace c.make_room.new.steps.items c.leave.new.touches c.leave.new.clients c.apply.new.edits
+    let rows = refused_same c.deref-2.result.now s.board (age c.len-number.result 0) c.args.command.now s.rows.rows c.apply.new.self.rows c.in_default-apply.field-0 c.in_default-apply.ensures.applied in
+    bench_same s c.self.invariant c.make_room.new.log.items c.apply.new.self.rows c.make_room.new.steps.items c.leave.new.touches c.leave.new.clients c.apply.new.self.edits
     c.in-Ok.ensures.log rows c.in-Ok.ensures.steps same.0 same.1 c.in_default-apply.ensures.same
 
 pub returns-in_default-apply-clause-call : goal.returns-in_default-apply-clause-call
@@ -90,7 +91,7 @@ returns-in_default-apply-clause-call c =
     let number : c.len-number.result ≡ length s.log.items = omega (arith, c.len-number.ensures) in
     let room : c.len-number.result < 1000000 = omega arith in (
       subst (λ (v : Benched). may_want (answer_of v.trace v.log c.args.client (Do c.args.command.now)) ≡ true) c.self.view_is
-          (do_accepted s c.self.invariant c.deref.result.now c.len-number.result c.args.client c.args.command.now c.deref.ensures number room c.in_default.ensures),
+          (do_accepted s c.self.invariant c.deref.result.now c.len-number.result c.args.client c.args.command.now c.deref.ensures number room (rw (c.workspace.ensures) at c.in_default.ensures)),
       c.in-Ok.ensures.log ∙ ap (λ (v : Benched). v.log) c.self.view_is,
     )
 
@@ -100,15 +101,15 @@ invariant_of-self-2 c =
     let number : c.len-number.result ≡ length s.log.items = omega (arith, c.len-number.ensures) in
     let room : c.len-number.result < 1000000 = omega arith in
     let entered = c.in-Ok-enter.ensures.ok in
-    did_bench s c.self.invariant c.add_entry.new.log.items c.deref-2.result.now c.len-number.result c.args.client c.args.command.now c.apply.new.workspace c.in-Ok-apply.inverse c.add_step.new.steps.items c.enter.new.touches c.enter.new.clients c.apply.new.edits
-    c.deref-2.ensures number room c.in-Ok-apply.ensures.applied (rw (c.in-Ok.ensures.steps) at c.add_step.ensures) (rw (c.in-Ok.ensures.log) at c.add_entry.ensures) entered.0 entered.1 c.in-Ok-apply.ensures.counted c.requires.low c.requires.high
+    did_bench s c.self.invariant c.add_entry.new.log.items c.deref-2.result.now c.len-number.result c.args.client c.args.command.now c.apply.new.self.rows c.in-Ok-apply.inverse c.add_step.new.steps.items c.enter.new.touches c.enter.new.clients c.apply.new.self.edits
+    c.deref-2.ensures number room c.in-Ok-apply.ensures.applied c.in-Ok-apply.ensures.step (rw (c.in-Ok.ensures.steps) at c.add_step.ensures) (rw (c.in-Ok.ensures.log) at c.add_entry.ensures) entered.0 entered.1 c.in-Ok-apply.ensures.counted c.requires.low c.requires.high
 
 pub returns-clause-call : goal.returns-clause-call
 returns-clause-call c =
     let s = c.self.inside in
     let number : c.len-number.result ≡ length s.log.items = omega (arith, c.len-number.ensures) in
     let room : c.len-number.result < 1000000 = omega arith in
-    let answer = do_answer s c.self.invariant c.deref-2.result.now c.len-number.result c.args.client c.args.command.now c.apply.new.workspace c.in-Ok-apply.inverse c.deref-2.ensures number room c.in-Ok-apply.ensures.applied in
+    let answer = do_answer s c.self.invariant c.deref-2.result.now c.len-number.result c.args.client c.args.command.now c.apply.new.self.rows c.in-Ok-apply.inverse c.deref-2.ensures number room c.in-Ok-apply.ensures.applied in
     let log : c.add_entry.new.log.items ≡ s.log.items ++ Did c.args.client c.args.command.now ∷ [] = rw (c.in-Ok.ensures.log) at c.add_entry.ensures in (
       subst (λ (v : Benched). answer_of v.trace v.log c.args.client (Do c.args.command.now) ≡ Ok (Done c.len-number.result)) c.self.view_is answer,
       subst (λ (v : Benched). c.add_entry.new.log.items ≡ log_after v.trace v.log c.args.client (Do c.args.command.now)) c.self.view_is

@@ -1,13 +1,11 @@
-use Rattle.std.proofs.Common.{◌≡◌, true, ◌<◌, ◌∙◌, ◌++◌, ◌∷◌, [], Ok, Err, Some, None, ap, subst, refl, arith, length, slice_get}
+use Rattle.std.proofs.Common.{◌≡◌, ◌<◌, ◌++◌, ◌∷◌, [], Err, Some, None, sym, subst, refl, arith, length, slice_get}
 use Rattle.inverse_log.specs.declared.call.Call.TheVariants.{Undo}
 use Rattle.inverse_log.specs.declared.entry.Entry.TheVariants.{Undid}
-use Rattle.inverse_log.specs.declared.refusal.Refusal.TheVariants.{NothingToUndo, RestsOn}
-use Rattle.inverse_log.specs.declared.reply.Reply.TheVariants.{Undone}
-use Rattle.inverse_log.specs.Answer.{may_want, answer_of, log_after, IsLegal}
-use Rattle.inverse_log.specs.Kept.{IsUnblocked}
-use Rattle.inverse_log.specs.Log.{Benched, live, command_of}
-use Rattle.inverse_log.proofs.DoLemmas.{after_ok, ok_answer}
-use Rattle.inverse_log.proofs.UndoneLemmas.{undo_none, undo_lost, undo_found, undo_rests, undo_free, undo_answers, undo_legal}
+use Rattle.inverse_log.specs.declared.refusal.Refusal.TheVariants.{NothingToUndo}
+use Rattle.inverse_log.specs.Answer.{answer_of, Called, IsLegal}
+use Rattle.inverse_log.specs.Kept.{IsLive, IsUndone}
+use Rattle.inverse_log.specs.Log.{Benched, live, blocker_of, command_of}
+use Rattle.inverse_log.proofs.UndoneLemmas.{undo_none, undo_lost, undo_found, last_lives, last_answers, undo_legal, undo_called}
 use Rattle.inverse_log.proofs.bench.Bench.undo.Goals as goal
 
 pub returns-in_default-clause-call : goal.returns-in_default-clause-call
@@ -26,58 +24,36 @@ returns-in_default-command_at-clause-call c =
     let lost : None ≡ command_of (slice_get s.log.items c.in-Some.entry) = rw (← c.deref.ensures.value) c.in_default-command_at.ensures in
     absurd (undo_lost s c.self.invariant c.args.client c.in-Some.entry c.in-Some.ensures lost)
 
-pub returns-in-Some-first_after-clause-call : goal.returns-in-Some-first_after-clause-call
-returns-in-Some-first_after-clause-call c =
+pub undo_live-requires-clause-room : goal.undo_live-requires-clause-room
+undo_live-requires-clause-room c =
     let s = c.self.inside in
-    let number : c.len-number.result ≡ length s.log.items = omega (arith, c.len-number.ensures) in
-    let room : c.len-number.result < 1000000 = omega arith in
-    let there : Some c.in-Some-command_at.command ≡ command_of (slice_get s.log.items c.in-Some.entry) = rw (← c.deref.ensures.value) c.in-Some-command_at.ensures in
-    let last = undo_found s c.self.invariant c.args.client c.in-Some.entry c.in-Some-command_at.command c.in-Some.ensures there in (
-      subst (λ (v : Benched). answer_of v.trace v.log c.args.client Undo ≡ Err (RestsOn c.in-Some-first_after.blocker c.writes-name.result)) c.self.view_is
-          (undo_rests s c.self.invariant c.args.client c.in-Some.entry c.in-Some-command_at.command last c.len-number.result number room c.in-Some-first_after.blocker c.writes-name.result c.writes-name.ensures c.in-Some-first_after.ensures.first),
-      refl,
-    )
+    let room : length s.log.items < 1000000 = omega (arith, c.len-number.ensures) in
+    subst (λ (v : Benched). length v.log < 1000000) c.self.view_is room
 
-pub take_back-requires-clause-free : goal.take_back-requires-clause-free
-take_back-requires-clause-free c =
+pub undo_live-requires-clause-live : goal.undo_live-requires-clause-live
+undo_live-requires-clause-live c =
     let s = c.self.inside in
-    let number : c.len-number.result ≡ length s.log.items = omega (arith, c.len-number.ensures) in
-    let room : c.len-number.result < 1000000 = omega arith in
     let there : Some c.in-Some-command_at.command ≡ command_of (slice_get s.log.items c.in-Some.entry) = rw (← c.deref.ensures.value) c.in-Some-command_at.ensures in
     let last = undo_found s c.self.invariant c.args.client c.in-Some.entry c.in-Some-command_at.command c.in-Some.ensures there in
-    let free = undo_free s c.self.invariant c.args.client c.in-Some.entry c.in-Some-command_at.command last c.len-number.result number room c.writes-name.result c.writes-name.ensures c.in_default-first_after.ensures.first in
-    subst (λ (v : Benched). IsUnblocked v.log (live c.in-Some.entry c.args.client c.in-Some-command_at.command)) c.self.view_is free
+    subst (λ (v : Benched). IsLive v.log (live c.in-Some.entry c.args.client c.in-Some-command_at.command)) c.self.view_is (last_lives s c.self.invariant c.args.client c.in-Some.entry c.in-Some-command_at.command last)
 
-pub take_back-requires-clause-legal : goal.take_back-requires-clause-legal
-take_back-requires-clause-legal c =
+pub undo_live-requires-clause-legal : goal.undo_live-requires-clause-legal
+undo_live-requires-clause-legal c =
     let s = c.self.inside in
-    let number : c.len-number.result ≡ length s.log.items = omega (arith, c.len-number.ensures) in
-    let room : c.len-number.result < 1000000 = omega arith in
+    let room : length s.log.items < 1000000 = omega (arith, c.len-number.ensures) in
     let there : Some c.in-Some-command_at.command ≡ command_of (slice_get s.log.items c.in-Some.entry) = rw (← c.deref.ensures.value) c.in-Some-command_at.ensures in
     let last = undo_found s c.self.invariant c.args.client c.in-Some.entry c.in-Some-command_at.command c.in-Some.ensures there in
-    let free = undo_free s c.self.invariant c.args.client c.in-Some.entry c.in-Some-command_at.command last c.len-number.result number room c.writes-name.result c.writes-name.ensures c.in_default-first_after.ensures.first in
-    subst (λ (v : Benched). IsLegal v.trace (v.log ++ Undid c.args.client c.in-Some.entry ∷ [])) c.self.view_is (undo_legal s c.self.invariant c.args.client c.in-Some.entry c.in-Some-command_at.command last c.len-number.result number room free c.requires.low c.requires.high)
-
-pub returns-in_default-take_back-clause-call : goal.returns-in_default-take_back-clause-call
-returns-in_default-take_back-clause-call c =
-    let s = c.self.inside in
-    let number : c.len-number.result ≡ length s.log.items = omega (arith, c.len-number.ensures) in
-    let room : c.len-number.result < 1000000 = omega arith in
-    let there : Some c.in-Some-command_at.command ≡ command_of (slice_get s.log.items c.in-Some.entry) = rw (← c.deref.ensures.value) c.in-Some-command_at.ensures in
-    let last = undo_found s c.self.invariant c.args.client c.in-Some.entry c.in-Some-command_at.command c.in-Some.ensures there in
-    let free = undo_free s c.self.invariant c.args.client c.in-Some.entry c.in-Some-command_at.command last c.len-number.result number room c.writes-name.result c.writes-name.ensures c.in_default-first_after.ensures.first in (
-      subst (λ (v : Benched). may_want (answer_of v.trace v.log c.args.client Undo) ≡ true) c.self.view_is
-          (ok_answer _ (Undone c.len-number.result c.in-Some.entry) (undo_answers s c.self.invariant c.args.client c.in-Some.entry c.in-Some-command_at.command last c.len-number.result number room free)),
-      c.in_default-take_back.ensures.err,
-    )
+    let asks = last_answers s c.self.invariant c.args.client c.in-Some.entry c.in-Some-command_at.command last in
+    subst (λ (v : Benched). blocker_of v.log (live c.in-Some.entry c.args.client c.in-Some-command_at.command) ≡ None → IsLegal v.trace (v.log ++ Undid c.args.client c.in-Some.entry ∷ [])) c.self.view_is
+    (undo_legal s c.self.invariant c.args.client c.in-Some.entry c.in-Some-command_at.command Undo asks (λ n j. refl) room c.requires.low c.requires.high)
 
 pub returns-clause-call : goal.returns-clause-call
 returns-clause-call c =
     let s = c.self.inside in
-    let number : c.len-number.result ≡ length s.log.items = omega (arith, c.len-number.ensures) in
-    let room : c.len-number.result < 1000000 = omega arith in
+    let room : length s.log.items < 1000000 = omega (arith, c.len-number.ensures) in
     let there : Some c.in-Some-command_at.command ≡ command_of (slice_get s.log.items c.in-Some.entry) = rw (← c.deref.ensures.value) c.in-Some-command_at.ensures in
     let last = undo_found s c.self.invariant c.args.client c.in-Some.entry c.in-Some-command_at.command c.in-Some.ensures there in
-    let free = undo_free s c.self.invariant c.args.client c.in-Some.entry c.in-Some-command_at.command last c.len-number.result number room c.writes-name.result c.writes-name.ensures c.in_default-first_after.ensures.first in
-    let answer = subst (λ (v : Benched). answer_of v.trace v.log c.args.client Undo ≡ Ok (Undone c.len-number.result c.in-Some.entry)) c.self.view_is (undo_answers s c.self.invariant c.args.client c.in-Some.entry c.in-Some-command_at.command last c.len-number.result number room free) in
-    (answer, after_ok c.args.self.now.trace c.args.self.now.log c.take_back.new.self.log c.args.client Undo (Undone c.len-number.result c.in-Some.entry) answer c.in-Ok.ensures.ok)
+    let asks = last_answers s c.self.invariant c.args.client c.in-Some.entry c.in-Some-command_at.command last in
+    let done = subst (λ (v : Benched). IsUndone v.log c.args.client (live c.in-Some.entry c.args.client c.in-Some-command_at.command) c.undo_live.result c.undo_live.new.self.log) (sym c.self.view_is) c.undo_live.ensures.undone in
+    subst (λ (v : Benched). Called v.trace v.log c.args.client Undo c.undo_live.result c.undo_live.new.self.log) c.self.view_is
+    (undo_called s c.self.invariant c.args.client c.in-Some.entry c.in-Some-command_at.command Undo asks (λ n j. refl) room c.undo_live.new.self.log c.undo_live.result done)

@@ -9,4 +9,4 @@ pub returns : goal.returns
 returns c =
     let s = c.self.inside in
     let b = c.self.invariant in
-    subst (λ (v : Benched). IsFoldOfLive v.trace v.log s.workspace) c.self.view_is (subst (IsFoldOfLive _ s.log.items) (kept_rows _ s.log.items s.workspace s.board s.steps.items b.kept) (fold_law _ s.log.items b.disciplined b.legal).0)
+    rw c.workspace.ensures (subst (λ (v : Benched). IsFoldOfLive v.trace v.log s.rows.rows) c.self.view_is (subst (IsFoldOfLive _ s.log.items) (kept_rows _ s.log.items s.rows.rows s.board s.steps.items b.kept) (fold_law _ s.log.items b.disciplined b.legal).0))

@@ -15,7 +15,7 @@ invariant_of-self-in_default-insert c =
     let put = is_done there.result _ (there.ensures.succeeds c.in-Ok.ensures.ok) there.ensures.updates in
     let names : (y : List ℕ) → lookup (bytes_eq y) there.new.self.entries ≡ cond (bytes_eq c.args.name y) (Some c.args.row.birth) (lookup (bytes_eq y) N) =
     λ y. put.0 y ∙ ap (λ es. cond (bytes_eq c.args.name y) (Some c.args.row.birth) (lookup (bytes_eq y) es)) c.in-Ok.ensures.entries in
-    let done = held_put N T c.self.invariant there.new.self.entries c.insert.new.self.entries c.args.name c.args.row none free c.in_default-insert.ensures.entries names in
+    let done = held_put N T c.self.invariant there.new.self.entries c.insert.new.self.entries c.args.name c.args.row none free (rw c.age.ensures at c.in_default-insert.ensures.entries) names in
     done.1
 
 pub returns-in_default-insert-clause-ok : goal.returns-in_default-insert-clause-ok
@@ -28,5 +28,5 @@ returns-in_default-insert-clause-ok c =
     let put = is_done there.result _ (there.ensures.succeeds c.in-Ok.ensures.ok) there.ensures.updates in
     let names : (y : List ℕ) → lookup (bytes_eq y) there.new.self.entries ≡ cond (bytes_eq c.args.name y) (Some c.args.row.birth) (lookup (bytes_eq y) N) =
     λ y. put.0 y ∙ ap (λ es. cond (bytes_eq c.args.name y) (Some c.args.row.birth) (lookup (bytes_eq y) es)) c.in-Ok.ensures.entries in
-    let done = held_put N T c.self.invariant there.new.self.entries c.insert.new.self.entries c.args.name c.args.row none free c.in_default-insert.ensures.entries names in
+    let done = held_put N T c.self.invariant there.new.self.entries c.insert.new.self.entries c.args.name c.args.row none free (rw c.age.ensures at c.in_default-insert.ensures.entries) names in
     rw (← c.self.view_is) done.0

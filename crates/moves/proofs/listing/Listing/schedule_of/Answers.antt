@@ -1,4 +1,4 @@
-use Rattle.moves.proofs.EffectLemmas.{schedule_trace}
+use Rattle.moves.proofs.JudgeLemmas.{schedule_trace}
 use Rattle.moves.proofs.listing.Listing.schedule_of.Goals as goal
 
 pub returns-clause-trace : goal.returns-clause-trace

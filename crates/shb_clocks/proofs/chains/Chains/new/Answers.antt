@@ -20,7 +20,7 @@ loop-done-init c =
     let laid : AreSpots r made.writes made.spots.items starts = AreSpots-laid r made starts c.len-len.ensures.well_formed c.in_ok-made.ensures.noted (table_of made.counts.items c.as_slice.result.now starts (sym c.as_slice.ensures.value) c.in_ok-starts.ensures) in
     let spots : AreSpots r c.args.writes made.spots.items starts = subst (λ w. AreSpots r w made.spots.items starts) c.in_ok-made.ensures.writes laid in
     let variables = c.variables-variables.result in
-    let count : variables ≡ length r.variables = c.variables-variables.ensures.len ∙ ap (λ (p : Recording). length p.variables) (c.raw.ensures.same ∙ c.trace.ensures.same) in
+    let count : variables ≡ length r.variables = c.variables-variables.ensures.len in
     let size : c.index.result.now ≡ get_or starts (length r.variables) 0 =
     get_or_read starts variables c.index.result.now (omega (arith, spots.starts_len, count)) c.index.ensures 0
     ∙ ap (λ (k : ℕ). get_or starts k 0) count

@@ -6,7 +6,7 @@ pub index_mut-requires : goal.index_mut-requires
 index_mut-requires c =
     let s = c.args.self.now in
     let chains = c.requires.chains in
-    omega (arith, s.heads.ok.0, c.slot-slot.ensures, chains.links.heads_len, slot_inside c.args.indexed.now s.writes c.args.event c.event_at-found.result c.event_at-found.ensures.found s.spots.items s.starts.items s.next.items s.heads.items c.event_at-found.ensures.named c.in-Some.variable (sym c.in-Some.ensures) chains.spots)
+    omega (arith, s.heads.ok.0, c.slot-slot.ensures, chains.links.heads_len, slot_inside c.args.indexed.now s.writes c.args.event c.event-found.result c.event-found.ensures.found s.spots.items s.starts.items s.next.items s.heads.items c.event-found.ensures.named c.in-Some.variable (sym c.in-Some.ensures) chains.spots)
 
 pub returns-in-Some-clause-chains : goal.returns-in-Some-clause-chains
 returns-in-Some-clause-chains c =
@@ -14,7 +14,7 @@ returns-in-Some-clause-chains c =
     let chains = c.requires.chains in
     record {
       spots = chains.spots;
-      links = AreLinks-pass c.args.indexed.now s.writes c.args.event c.event_at-found.result c.event_at-found.ensures.found s.spots.items s.starts.items s.next.items s.heads.items c.event_at-found.ensures.named c.in-Some.variable (sym c.in-Some.ensures) chains.spots c.slot-slot.result c.index.result.now c.slot-slot.ensures chains.links c.index.ensures;
+      links = AreLinks-pass c.args.indexed.now s.writes c.args.event c.event-found.result c.event-found.ensures.found s.spots.items s.starts.items s.next.items s.heads.items c.event-found.ensures.named c.in-Some.variable (sym c.in-Some.ensures) chains.spots c.slot-slot.result c.index.result.now c.slot-slot.ensures chains.links c.index.ensures;
     }
 
 pub returns-in_default-clause-chains : goal.returns-in_default-clause-chains
@@ -23,5 +23,5 @@ returns-in_default-clause-chains c =
     let chains = c.requires.chains in
     record {
       spots = chains.spots;
-      links = AreLinks-past c.args.indexed.now s.writes c.args.event c.event_at-found.result c.event_at-found.ensures.found s.spots.items s.starts.items s.next.items s.heads.items (sym c.linked_variable.ensures ∙ c.in_default.is) chains.links;
+      links = AreLinks-past c.args.indexed.now s.writes c.args.event c.event-found.result c.event-found.ensures.found s.spots.items s.starts.items s.next.items s.heads.items (sym c.linked_variable.ensures ∙ c.in_default.is) chains.links;
     }

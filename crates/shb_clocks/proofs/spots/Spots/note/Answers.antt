@@ -15,27 +15,27 @@ pub begin-requires-clause-few : goal.begin-requires-clause-few
 begin-requires-clause-few c =
     let T = c.args.indexed.now.events in
     let room = place_within T c.args.thread c.args.place c.requires.place in
-    omega (arith, room, c.requires.noted.few, c.event_at-found.ensures.well_formed.events)
+    omega (arith, room, c.requires.noted.few, c.event-found.ensures.well_formed.events)
 
 pub returns-in-Some-clause-noted : goal.returns-in-Some-clause-noted
 returns-in-Some-clause-noted c =
     let r = c.args.indexed.now in
     let t = c.args.thread in
-    let v = c.event_at-found.result in
+    let v = c.event-found.result in
     let e = get_or c.thread_events.result.now c.args.place 0 in
     let x = c.in-Some.variable in
     let at = at_place c.thread_events.result.now (events_of r.events t) c.args.place c.thread_events.ensures.events c.requires.place in
-    let of = one_thread r.events e v.thread t (thread_here r.events e v c.event_at-found.ensures.found) (place_of-events_of r.events t c.args.place e at).1 in
+    let of = one_thread r.events e v.thread t (thread_here r.events e v c.event-found.ensures.found) (place_of-events_of r.events t c.args.place e at).1 in
     let is = sym c.in-Some.ensures in
-    let low = linked_named r c.args.self.now.writes x v.op is c.event_at-found.ensures.named.1 in
-    let h = AreNoted-note r t c.args.place e x c.index.result.now v c.args.self.now c.begin.new.self at c.event_at-found.ensures.found is of low c.requires.thread c.requires.noted c.begin.ensures.begun c.begin.ensures.spots c.begin.ensures.writes c.index.ensures in
+    let low = linked_named r c.args.self.now.writes x v.op is c.event-found.ensures.named.1 in
+    let h = AreNoted-note r t c.args.place e x c.index.result.now v c.args.self.now c.begin.new.self at c.event-found.ensures.found is of low c.requires.thread c.requires.noted c.begin.ensures.begun c.begin.ensures.spots c.begin.ensures.writes c.index.ensures in
     record { few = h.few; chains = h.chains }
 
 pub returns-in_default-clause-noted : goal.returns-in_default-clause-noted
 returns-in_default-clause-noted c =
     let r = c.args.indexed.now in
     let t = c.args.thread in
-    let v = c.event_at-found.result in
+    let v = c.event-found.result in
     let e = get_or c.thread_events.result.now c.args.place 0 in
     let at = at_place c.thread_events.result.now (events_of r.events t) c.args.place c.thread_events.ensures.events c.requires.place in
-    AreNoted-past r t c.args.place e v c.args.self.now at c.event_at-found.ensures.found (sym c.linked_variable.ensures ∙ c.in_default.is) c.requires.noted
+    AreNoted-past r t c.args.place e v c.args.self.now at c.event-found.ensures.found (sym c.linked_variable.ensures ∙ c.in_default.is) c.requires.noted

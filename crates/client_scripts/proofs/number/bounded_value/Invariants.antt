@@ -1,7 +1,0 @@
-use Rattle.std.proofs.Common.{◌≡◌, min, take}
-use Rattle.client_scripts.specs.LineWords.{value_of}
-use Rattle.client_scripts.proofs.number.bounded_value.Given as goal
-
--- the value of the digits so far, where it is not too great
-abbrev pub invariant-loop-digit : goal.invariant-loop-digit
-invariant-loop-digit l = l.value ≡ min (value_of (take l.digit-index l.digits)) 4294967296

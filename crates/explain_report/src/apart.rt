@@ -1,0 +1,98 @@
+//! Prints why a pair is no race, or why it is not known whether it is one.
+use crate::chains::append_chains;
+use crate::event_lines::{append_line, append_lock, append_thread, thread_of};
+use crate::holds::Holds;
+use crate::pieces::{append_number, append_words};
+use crate::shb_order::append_shb_chain;
+use crate::verdict::append_access;
+use event_index::Indexed;
+use must_order::Chain;
+use rapid_text::OutOfMemory;
+
+/// Appends that the first event comes before the second, and by which chains.
+pub(crate) fn append_forced(
+    out: &mut Vec<u8>,
+    indexed: &Indexed,
+    chains: &[Chain],
+    first: u32,
+    second: u32,
+) -> Result<(), OutOfMemory> {
+    append_words(out, b"apart: ")?;
+    append_number(out, u64::from(first))?;
+    append_words(out, b" comes before ")?;
+    append_number(out, u64::from(second))?;
+    append_words(out, b" in every correct reordering\n")?;
+    append_line(out, indexed, first)?;
+    append_line(out, indexed, second)?;
+    append_words(out, b"since\n")?;
+    append_chains(out, indexed, chains)
+}
+
+/// Appends that both threads hold the lock, since when and until when.
+pub(crate) fn append_guarded(
+    out: &mut Vec<u8>,
+    indexed: &Indexed,
+    lock: u32,
+    first: u32,
+    second: u32,
+) -> Result<(), OutOfMemory> {
+    append_words(out, b"apart: both threads hold ")?;
+    append_lock(out, indexed, lock)?;
+    append_words(out, b"\n")?;
+    append_access(out, indexed, first)?;
+    append_access(out, indexed, second)?;
+    append_section(out, indexed, lock, first)?;
+    append_section(out, indexed, lock, second)
+}
+
+/// Appends the section of the lock in which the event lies.
+fn append_section(
+    out: &mut Vec<u8>,
+    indexed: &Indexed,
+    lock: u32,
+    event: u32,
+) -> Result<(), OutOfMemory> {
+    let holds = Holds::before(*out.allocator(), indexed, event)?;
+    let Some(acquire) = holds.since(lock) else {
+        return Ok(());
+    };
+    if let Some(thread) = thread_of(indexed, event) {
+        append_thread(out, indexed, thread)?;
+    }
+    append_words(out, b" holds it from ")?;
+    append_line(out, indexed, acquire)?;
+    match end_of(indexed, acquire) {
+        Some(release) => {
+            append_words(out, b"  to ")?;
+            append_line(out, indexed, release)
+        }
+        None => append_words(out, b"  to the end\n"),
+    }
+}
+
+/// The release that ends the section of the acquire.
+fn end_of(indexed: &Indexed, acquire: u32) -> Option<u32> {
+    if acquire < indexed.len() {
+        indexed.section(acquire)
+    } else {
+        None
+    }
+}
+
+/// Appends that no schedule was found and nothing forbids one, and by which events SHB orders the pair.
+pub(crate) fn append_undecided(
+    out: &mut Vec<u8>,
+    indexed: &Indexed,
+    events: &[u32],
+    first: u32,
+    second: u32,
+) -> Result<(), OutOfMemory> {
+    append_words(
+        out,
+        b"undecided: no schedule was found, and neither order nor lock forbids one\n",
+    )?;
+    append_access(out, indexed, first)?;
+    append_access(out, indexed, second)?;
+    append_words(out, b"in SHB\n")?;
+    append_shb_chain(out, indexed, events)
+}

@@ -1,0 +1,171 @@
+//! The lines of events.
+ghost use Rattle.std.specs.Prelude.{◌≡◌, ◌<◌, ◌++◌, length, All, OnOk, IfSome, codes};
+ghost use Rattle.rapid_text.specs.Canonical.{event_text, op_text};
+ghost use Rattle.rapid_text.specs.Recording.{IsNamed, IsNamedOp};
+ghost use Rattle.explain_report.specs.EventLines.{event_line, event_lines, numbered_line, numbered_lines};
+
+use crate::pieces::{append_number, append_words};
+use event_index::Indexed;
+use rapid_text::{Event, Op, OutOfMemory, RawTrace};
+
+/// Appends the canonical line of the event.
+pub(crate) fn append_event(
+    out: &mut Vec<u8>,
+    indexed: &Indexed,
+    event: u32,
+) -> Result<(), OutOfMemory>
+    requires { event < length indexed.now.events }
+    ensures { OnOk result (out.new.items ≡ out.old.items ++ event_line indexed.now event) }
+{
+    let raw = indexed.trace().raw();
+    append_found(out, raw, raw.event(event), raw.location(event))?;
+    Ok(())
+}
+
+/// Appends the canonical line of an event at its location.
+fn append_found(
+    out: &mut Vec<u8>,
+    trace: &RawTrace,
+    event: Event,
+    location: &[u8],
+) -> Result<(), OutOfMemory>
+    requires { IsNamed trace.now event }
+    ensures { OnOk result (out.new.items ≡ out.old.items ++ event_text trace.now event location.now) }
+{
+    out.extend_from_slice(trace.thread_name(event.thread))?;
+    out.push(b'|')?;
+    append_operation(out, trace, event.op)?;
+    out.push(b'|')?;
+    out.extend_from_slice(location)?;
+    out.push(b'\n')?;
+    Ok(())
+}
+
+/// Appends an operation as `word(name)`.
+fn append_operation(out: &mut Vec<u8>, trace: &RawTrace, op: Op) -> Result<(), OutOfMemory>
+    requires { IsNamedOp trace.now op }
+    ensures { OnOk result (out.new.items ≡ out.old.items ++ op_text trace.now op) }
+{
+    match op {
+        Op::Read(variable) => append_call(out, b"r", trace.variable_name(variable)),
+        Op::Write(variable) => append_call(out, b"w", trace.variable_name(variable)),
+        Op::Acquire(lock) => append_call(out, b"acq", trace.lock_name(lock)),
+        Op::Release(lock) => append_call(out, b"rel", trace.lock_name(lock)),
+        Op::Fork(thread) => append_call(out, b"fork", trace.thread_name(thread)),
+        Op::Join(thread) => append_call(out, b"join", trace.thread_name(thread)),
+    }
+}
+
+/// Appends `word(name)`.
+fn append_call(out: &mut Vec<u8>, word: &[u8], name: &[u8]) -> Result<(), OutOfMemory>
+    ensures { OnOk result (out.new.items ≡ out.old.items ++ (word.now ++ codes "(" ++ name.now ++ codes ")")) }
+{
+    out.extend_from_slice(word)?;
+    out.push(b'(')?;
+    out.extend_from_slice(name)?;
+    out.push(b')')?;
+    Ok(())
+}
+
+/// Appends the number of the event and its canonical line.
+pub(crate) fn append_numbered(
+    out: &mut Vec<u8>,
+    indexed: &Indexed,
+    event: u32,
+) -> Result<(), OutOfMemory>
+    requires { event < length indexed.now.events }
+    ensures { OnOk result (out.new.items ≡ out.old.items ++ numbered_line indexed.now event) }
+{
+    append_number(out, u64::from(event))?;
+    append_words(out, b"  ")?;
+    append_event(out, indexed, event)?;
+    Ok(())
+}
+
+/// Appends the canonical lines of the events.
+pub(crate) fn append_events(
+    out: &mut Vec<u8>,
+    indexed: &Indexed,
+    events: &[u32],
+) -> Result<(), OutOfMemory>
+    requires { All (λ e. e < length indexed.now.events) events.now }
+    ensures { OnOk result (out.new.items ≡ out.old.items ++ event_lines indexed.now events.now) }
+{
+    for event in events {
+        append_event(out, indexed, *event)?;
+    }
+    Ok(())
+}
+
+/// Appends the numbered lines of the events.
+pub(crate) fn append_all_numbered(
+    out: &mut Vec<u8>,
+    indexed: &Indexed,
+    events: &[u32],
+) -> Result<(), OutOfMemory>
+    requires { All (λ e. e < length indexed.now.events) events.now }
+    ensures { OnOk result (out.new.items ≡ out.old.items ++ numbered_lines indexed.now events.now) }
+{
+    for event in events {
+        append_numbered(out, indexed, *event)?;
+    }
+    Ok(())
+}
+
+/// Appends the number of the event and its canonical line, where the trace has it.
+pub(crate) fn append_line(
+    out: &mut Vec<u8>,
+    indexed: &Indexed,
+    event: u32,
+) -> Result<(), OutOfMemory> {
+    if event < indexed.len() {
+        append_numbered(out, indexed, event)?;
+    }
+    Ok(())
+}
+
+/// Appends the name of the thread, where the trace has it.
+pub(crate) fn append_thread(
+    out: &mut Vec<u8>,
+    indexed: &Indexed,
+    thread: u32,
+) -> Result<(), OutOfMemory> {
+    let raw = indexed.trace().raw();
+    if thread < raw.threads() {
+        append_words(out, raw.thread_name(thread))?;
+    }
+    Ok(())
+}
+
+/// Appends the name of the lock, where the trace has it.
+pub(crate) fn append_lock(
+    out: &mut Vec<u8>,
+    indexed: &Indexed,
+    lock: u32,
+) -> Result<(), OutOfMemory> {
+    let raw = indexed.trace().raw();
+    if lock < raw.locks() {
+        append_words(out, raw.lock_name(lock))?;
+    }
+    Ok(())
+}
+
+/// The thread of the event, where the trace has it.
+pub(crate) fn thread_of(indexed: &Indexed, event: u32) -> Option<u32>
+    ensures { IfSome result (λ t. t < length indexed.now.threads) }
+{
+    if event < indexed.len() {
+        Some(indexed.trace().raw().event(event).thread)
+    } else {
+        None
+    }
+}
+
+/// What the event does, where the trace has it.
+pub(crate) fn op_of(indexed: &Indexed, event: u32) -> Option<Op> {
+    if event < indexed.len() {
+        Some(indexed.trace().raw().event(event).op)
+    } else {
+        None
+    }
+}

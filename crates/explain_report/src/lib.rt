@@ -1,0 +1,19 @@
+//! What is printed of a pair of conflicting events: why it is a race or is apart, and the schedule that shows it.
+#![tactic(auto)]
+
+mod apart;
+mod chains;
+mod event_lines;
+mod forcing;
+mod holds;
+mod pieces;
+mod runs;
+mod shb_order;
+mod verdict;
+mod waiting;
+mod witness;
+
+pub use forcing::must_chains;
+pub use shb_order::shb_chain;
+pub use verdict::{How, Verdict, explain_text};
+pub use witness::{Form, witness_text};

@@ -1,0 +1,166 @@
+//! Why SHB keeps one event before another: a chain of events, walked back from its end, and its text.
+ghost use Rattle.std.specs.Prelude.{◌≡◌, ◌<◌, length, IfSome};
+
+use crate::event_lines::{append_line, op_of, thread_of};
+use crate::pieces::append_words;
+use crate::waiting::words_between;
+use event_index::Indexed;
+use rapid_text::{Op, OutOfMemory};
+use shb_clocks::Clocks;
+use std::alloc::Global;
+
+/// Events from the first to the second, of which each is an edge of SHB before the next, where SHB keeps the first
+/// before the base of the second; else fewer.
+pub fn shb_chain(
+    alloc: Global,
+    indexed: &Indexed,
+    clocks: &Clocks,
+    first: u32,
+    second: u32,
+) -> Result<Vec<u32>, OutOfMemory>
+    requires { clocks.now ≡ indexed.now }
+{
+    let releases = releases_before(alloc, indexed)?;
+    let mut events = Vec::new(alloc);
+    events.push(second)?;
+    let mut next = base_of(indexed, second);
+    for _step in 0..indexed.len() {
+        let Some(event) = next else { break };
+        events.push(event)?;
+        if event == first {
+            break;
+        }
+        next = step_back(indexed, clocks, releases.as_slice(), first, event);
+    }
+    events.reverse();
+    Ok(events)
+}
+
+pub(crate) fn base_of(indexed: &Indexed, event: u32) -> Option<u32> {
+    if event < indexed.len() {
+        indexed.base(event)
+    } else {
+        None
+    }
+}
+
+/// For each acquire the last release of its lock before it.
+fn releases_before(alloc: Global, indexed: &Indexed) -> Result<Vec<Option<u32>>, OutOfMemory> {
+    let locks = indexed.trace().raw().locks() as usize;
+    let mut last = vec![in alloc; None; locks]?;
+    let mut before = Vec::new(alloc);
+    for event in 0..indexed.len() {
+        match op_of(indexed, event) {
+            Some(Op::Acquire(lock)) => before.push(last.get(lock as usize).copied().flatten())?,
+            Some(Op::Release(lock)) => {
+                before.push(None)?;
+                if let Some(kept) = last.get_mut(lock as usize) {
+                    *kept = Some(event);
+                }
+            }
+            _ => before.push(None)?,
+        }
+    }
+    Ok(before)
+}
+
+/// What comes directly before the event, and is the first event or after it in SHB.
+fn step_back(
+    indexed: &Indexed,
+    clocks: &Clocks,
+    releases: &[Option<u32>],
+    first: u32,
+    event: u32,
+) -> Option<u32>
+    requires { clocks.now ≡ indexed.now }
+{
+    let release = releases.get(event as usize).copied().flatten();
+    is_after(indexed, clocks, first, base_of(indexed, event))
+        .or(is_after(indexed, clocks, first, source_of(indexed, event)))
+        .or(is_after(indexed, clocks, first, release))
+}
+
+/// The write that the event reads, or the end of the thread that it joins.
+pub(crate) fn source_of(indexed: &Indexed, event: u32) -> Option<u32> {
+    match op_of(indexed, event) {
+        Some(Op::Read(_)) => writer_of(indexed, event),
+        Some(Op::Join(thread)) => end_of(indexed, thread),
+        _ => None,
+    }
+}
+
+fn writer_of(indexed: &Indexed, event: u32) -> Option<u32> {
+    if event < indexed.len() {
+        indexed.last_writer(event)
+    } else {
+        None
+    }
+}
+
+fn end_of(indexed: &Indexed, thread: u32) -> Option<u32> {
+    if thread >= indexed.trace().raw().threads() {
+        return None;
+    }
+    let last = indexed.thread_events(thread).last().copied();
+    last.or(indexed.fork_of(thread))
+}
+
+/// The event, where it is the first one or after it in SHB.
+fn is_after(indexed: &Indexed, clocks: &Clocks, first: u32, event: Option<u32>) -> Option<u32>
+    requires { clocks.now ≡ indexed.now }
+{
+    let event = event?;
+    if first >= indexed.len() {
+        return None;
+    }
+    if event >= indexed.len() {
+        return None;
+    }
+    if clocks.ordered(first, event) {
+        return Some(event);
+    }
+    None
+}
+
+/// Appends the chain; events of one thread in a row are drawn together.
+pub(crate) fn append_shb_chain(
+    out: &mut Vec<u8>,
+    indexed: &Indexed,
+    events: &[u32],
+) -> Result<(), OutOfMemory> {
+    let mut before: Option<u32> = None;
+    let mut later: Option<u32> = None;
+    for event in events {
+        let is_later = match before {
+            Some(other) => thread_of(indexed, other) == thread_of(indexed, *event),
+            None => false,
+        };
+        if is_later {
+            later = Some(*event);
+        } else {
+            append_later(out, indexed, later)?;
+            later = None;
+            if let Some(other) = before {
+                append_words(out, b"  ")?;
+                append_words(out, words_between(indexed, other, *event))?;
+                append_words(out, b"\n")?;
+            }
+            append_line(out, indexed, *event)?;
+        }
+        before = Some(*event);
+    }
+    append_later(out, indexed, later)
+}
+
+/// Appends the event to which the thread goes on.
+fn append_later(
+    out: &mut Vec<u8>,
+    indexed: &Indexed,
+    later: Option<u32>,
+) -> Result<(), OutOfMemory> {
+    let Some(event) = later else {
+        return Ok(());
+    };
+    append_words(out, b"  and later in its thread\n")?;
+    append_line(out, indexed, event)
+}

@@ -1,0 +1,109 @@
+//! Prints a schedule that shows a pair.
+ghost use Rattle.std.specs.Prelude.{◌≡◌, ◌<◌, ◌++◌, [], ◌∷◌, length, All, OnOk, OnErr, codes};
+ghost use Rattle.explain_report.specs.EventLines.{event_lines};
+ghost use Rattle.explain_report.specs.Witnesses.{add_line, add_lines, witness_lines};
+
+use crate::event_lines::{append_all_numbered, append_events};
+use crate::pieces::{append_number, append_words};
+use event_index::Indexed;
+use rapid_text::OutOfMemory;
+
+/// In which form a schedule is printed.
+#[derive(Clone, Copy, PartialEq, Eq, Debug)]
+pub enum Form {
+    /// Its events, each behind its number.
+    Events,
+    /// A script of one client that builds it and asks which pairs it shows.
+    Script,
+    /// A trace text: its events, and then the pair.
+    Trace,
+}
+
+/// Appends the schedule of these events, which shows the pair. Where memory is refused `out` stays as it was.
+pub fn witness_text(
+    indexed: &Indexed,
+    events: &[u32],
+    first: u32,
+    second: u32,
+    form: Form,
+    out: &mut Vec<u8>,
+) -> Result<(), OutOfMemory>
+    requires events { All (λ e. e < length indexed.now.events) events.now }
+    requires first { first < length indexed.now.events }
+    requires second { second < length indexed.now.events }
+    ensures ok { OnOk result (out.new.items ≡ out.old.items ++ witness_lines indexed.now events.now first second form) }
+    ensures err { OnErr result (out.new.items ≡ out.old.items) }
+{
+    let mut text = Vec::new(*out.allocator());
+    append_witness(&mut text, indexed, events, first, second, form)?;
+    out.extend_from_slice(&text)?;
+    Ok(())
+}
+
+fn append_witness(
+    out: &mut Vec<u8>,
+    indexed: &Indexed,
+    events: &[u32],
+    first: u32,
+    second: u32,
+    form: Form,
+) -> Result<(), OutOfMemory>
+    requires events { All (λ e. e < length indexed.now.events) events.now }
+    requires first { first < length indexed.now.events }
+    requires second { second < length indexed.now.events }
+    ensures { OnOk result (out.new.items ≡ out.old.items ++ witness_lines indexed.now events.now first second form) }
+{
+    match form {
+        Form::Events => append_all_numbered(out, indexed, events),
+        Form::Script => append_script(out, events),
+        Form::Trace => append_trace(out, indexed, events, first, second),
+    }
+}
+
+/// Appends a script that builds the schedule.
+fn append_script(out: &mut Vec<u8>, events: &[u32]) -> Result<(), OutOfMemory>
+    ensures { OnOk result (out.new.items ≡ out.old.items ++ (codes "1 new S\n" ++ add_lines events.now ++ codes "1 races S\n")) }
+{
+    append_words(out, b"1 new S\n")?;
+    append_adds(out, events)?;
+    append_words(out, b"1 races S\n")?;
+    Ok(())
+}
+
+/// Appends the lines that append the events to the schedule.
+fn append_adds(out: &mut Vec<u8>, events: &[u32]) -> Result<(), OutOfMemory>
+    ensures { OnOk result (out.new.items ≡ out.old.items ++ add_lines events.now) }
+{
+    for event in events {
+        append_add(out, *event)?;
+    }
+    Ok(())
+}
+
+/// Appends the line that appends the event.
+fn append_add(out: &mut Vec<u8>, event: u32) -> Result<(), OutOfMemory>
+    ensures { OnOk result (out.new.items ≡ out.old.items ++ add_line event) }
+{
+    append_words(out, b"1 add S ")?;
+    append_number(out, u64::from(event))?;
+    append_words(out, b"\n")?;
+    Ok(())
+}
+
+/// Appends the events' lines and those of the pair.
+fn append_trace(
+    out: &mut Vec<u8>,
+    indexed: &Indexed,
+    events: &[u32],
+    first: u32,
+    second: u32,
+) -> Result<(), OutOfMemory>
+    requires events { All (λ e. e < length indexed.now.events) events.now }
+    requires first { first < length indexed.now.events }
+    requires second { second < length indexed.now.events }
+    ensures { OnOk result (out.new.items ≡ out.old.items ++ (event_lines indexed.now events.now ++ event_lines indexed.now (first ∷ second ∷ []))) }
+{
+    append_events(out, indexed, events)?;
+    append_events(out, indexed, &[first, second])?;
+    Ok(())
+}

@@ -1,0 +1,11 @@
+pub mod AnswerLemmas
+pub mod CandidateLemmas
+pub mod ClosedLemmas
+pub mod ClosingLemmas
+pub mod ListingLemmas
+pub mod LoopLemmas
+pub mod NeededLemmas
+pub mod RisingLemmas
+pub mod SizeLemmas
+pub mod TakeLemmas
+pub mod TurnLemmas

@@ -1,0 +1,6 @@
+pub mod InOrder
+pub mod Laws
+pub mod Layout
+pub mod Orders
+pub mod Refusals
+pub mod Sizes

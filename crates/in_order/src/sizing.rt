@@ -1,0 +1,63 @@
+//! How long the list in order is, and of how many threads, without making it.
+ghost use Rattle.std.specs.Prelude.{◌≡◌, ◌≢◌, ◌≤◌, ℕ, length, slice_index, IsOk, IfOk, IfErr};
+ghost use Rattle.event_index.specs.Lookups.{events_of};
+ghost use Rattle.in_order.specs.InOrder.{IsBaseOfPair};
+ghost use Rattle.in_order.specs.Layout.{IsListLength, IsThreadCount};
+ghost use Rattle.in_order.specs.Laws.{HasListInOrder};
+ghost use Rattle.in_order.specs.Refusals.{IsNeverShownInOrder, IsRefusalOf};
+ghost use Rattle.in_order.specs.Sizes.{IsSizeInOrder};
+ghost use Rattle.in_order.specs.declared.refusal.InOrderRefusal.TheVariants.{OutOfMemory as NoMemory};
+
+use crate::events::threads_in;
+use crate::listing::{is_counted, row_in_order};
+use crate::refusal::InOrderRefusal;
+use event_index::Indexed;
+use std::alloc::Global;
+
+/// How many events the list in order of the pair has, and of how many threads they are; refused as `in_order` is.
+pub fn in_order_size(
+    alloc: Global,
+    indexed: &Indexed,
+    first: u32,
+    second: u32,
+) -> Result<(u32, u32), InOrderRefusal>
+    ensures size { IfOk result (IsSizeInOrder indexed.now.events first second) }
+    ensures there { IsOk result → HasListInOrder indexed.now.events first second }
+    ensures refused { IfErr result (IsRefusalOf indexed.now.events first second) }
+    ensures never_shown { IfErr result
+        (λ why. why ≢ NoMemory → IsNeverShownInOrder indexed.now.events first second) }
+{
+    let row = row_in_order(alloc, indexed, first, second)?;
+    Ok((
+        events_counted(indexed, row.as_slice()),
+        threads_counted(indexed, row.as_slice()),
+    ))
+}
+
+// How many events the row counts.
+fn events_counted(indexed: &Indexed, row: &[u32]) -> u32
+    requires len { length row.now ≡ length indexed.now.threads }
+    ensures { IsListLength indexed.now.events (λ t. slice_index row.now t) result }
+{
+    let mut count = 0;
+    for event in 0..indexed.len() {
+        if is_counted(row, indexed, event) {
+            count += 1;
+        }
+    }
+    count
+}
+
+// How many threads have an event that the row counts.
+fn threads_counted(indexed: &Indexed, row: &[u32]) -> u32
+    requires len { length row.now ≡ length indexed.now.threads }
+    ensures { IsThreadCount (λ t. slice_index row.now t) (length indexed.now.threads) result }
+{
+    let mut count = 0;
+    for thread in 0..threads_in(indexed) {
+        if row[thread as usize] > 0 {
+            count += 1;
+        }
+    }
+    count
+}

@@ -1,0 +1,87 @@
+use Rattle.std.proofs.Common.{◌≡◌, ◌<◌, rules, true, false, ◌++◌, ◌∷◌, [], Err, Some, None, sym, ◌∙◌, subst, refl, arith, length, slice_get}
+use Rattle.std.specs.List.{list_any}
+use Rattle.inverse_log.specs.declared.call.Call.TheVariants.{UndoAt}
+use Rattle.inverse_log.specs.declared.entry.Entry.TheVariants.{Undid}
+use Rattle.inverse_log.specs.declared.refusal.Refusal.TheVariants.{NoSuchEntry, NotOwn, NotLive}
+use Rattle.inverse_log.specs.Answer.{answer_of, Called, IsLegal}
+use Rattle.inverse_log.specs.Kept.{IsLive, IsUndone}
+use Rattle.inverse_log.specs.Log.{Benched, live, blocker_of, own_command_of}
+use Rattle.inverse_log.proofs.UndoneLemmas.{undo_legal, undo_called}
+use Rattle.inverse_log.proofs.NumberedLemmas.{at_past, at_other, at_undone, at_live, at_asks}
+use Rattle.inverse_log.proofs.bench.Bench.undo_at.Goals as goal
+
+pub returns-then-entry-number-clause-call : goal.returns-then-entry-number-clause-call
+returns-then-entry-number-clause-call c =
+    let s = c.self.inside in
+    let number : c.len-number.result ≡ length s.log.items = omega (arith, c.len-number.ensures) in
+    let room : c.len-number.result < 1000000 = omega arith in (
+      subst (λ (v : Benched). answer_of v.trace v.log c.args.client (UndoAt c.args.entry) ≡ Err NoSuchEntry) c.self.view_is
+          (at_past s c.self.invariant c.len-number.result c.args.client c.args.entry number room (λ within. absurd (omega arith))),
+      refl,
+    )
+
+pub returns-in_default-clause-call : goal.returns-in_default-clause-call
+returns-in_default-clause-call c =
+    let s = c.self.inside in
+    let number : c.len-number.result ≡ length s.log.items = omega (arith, c.len-number.ensures) in
+    let room : c.len-number.result < 1000000 = omega arith in
+    let within : c.args.entry < c.len-number.result = omega arith in
+    let none : None ≡ own_command_of c.args.client (slice_get s.log.items c.args.entry) = rw (← c.deref.ensures.value) c.in_default.ensures in (
+      subst (λ (v : Benched). answer_of v.trace v.log c.args.client (UndoAt c.args.entry) ≡ Err NotOwn) c.self.view_is
+          (at_other s c.self.invariant c.len-number.result c.args.client c.args.entry number room within none),
+      refl,
+    )
+
+pub returns-then-not-contains-clause-call : goal.returns-then-not-contains-clause-call
+returns-then-not-contains-clause-call c =
+    let s = c.self.inside in
+    let number : c.len-number.result ≡ length s.log.items = omega (arith, c.len-number.ensures) in
+    let room : c.len-number.result < 1000000 = omega arith in
+    let within : c.args.entry < c.len-number.result = omega arith in
+    let mine : Some c.in-Some.command ≡ own_command_of c.args.client (slice_get s.log.items c.args.entry) = rw (← c.deref.ensures.value) c.in-Some.ensures in
+    let so : c.contains.result ≡ false = search rules in (
+      subst (λ (v : Benched). answer_of v.trace v.log c.args.client (UndoAt c.args.entry) ≡ Err NotLive) c.self.view_is
+          (at_undone s c.self.invariant c.len-number.result c.args.client c.args.entry number room c.in-Some.command mine within (sym so ∙ c.contains.ensures)),
+      refl,
+    )
+
+pub undo_live-requires-clause-room : goal.undo_live-requires-clause-room
+undo_live-requires-clause-room c =
+    let s = c.self.inside in
+    let room : length s.log.items < 1000000 = omega (arith, c.len-number.ensures) in
+    subst (λ (v : Benched). length v.log < 1000000) c.self.view_is room
+
+pub undo_live-requires-clause-live : goal.undo_live-requires-clause-live
+undo_live-requires-clause-live c =
+    let s = c.self.inside in
+    let number : c.len-number.result ≡ length s.log.items = omega (arith, c.len-number.ensures) in
+    let room : c.len-number.result < 1000000 = omega arith in
+    let mine : Some c.in-Some.command ≡ own_command_of c.args.client (slice_get s.log.items c.args.entry) = rw (← c.deref.ensures.value) c.in-Some.ensures in
+    let so : c.contains.result ≡ true = search rules in
+    subst (λ (v : Benched). IsLive v.log (live c.args.entry c.args.client c.in-Some.command)) c.self.view_is
+    (at_live s c.self.invariant c.len-number.result c.args.client c.args.entry number room c.in-Some.command mine (sym so ∙ c.contains.ensures))
+
+pub undo_live-requires-clause-legal : goal.undo_live-requires-clause-legal
+undo_live-requires-clause-legal c =
+    let s = c.self.inside in
+    let number : c.len-number.result ≡ length s.log.items = omega (arith, c.len-number.ensures) in
+    let room : c.len-number.result < 1000000 = omega arith in
+    let within : length s.log.items < 1000000 = omega (arith, c.len-number.ensures) in
+    let mine : Some c.in-Some.command ≡ own_command_of c.args.client (slice_get s.log.items c.args.entry) = rw (← c.deref.ensures.value) c.in-Some.ensures in
+    let so : c.contains.result ≡ true = search rules in
+    let asks = at_asks s c.self.invariant c.len-number.result c.args.client c.args.entry number room c.in-Some.command mine (sym so ∙ c.contains.ensures) in
+    subst (λ (v : Benched). blocker_of v.log (live c.args.entry c.args.client c.in-Some.command) ≡ None → IsLegal v.trace (v.log ++ Undid c.args.client c.args.entry ∷ [])) c.self.view_is
+    (undo_legal s c.self.invariant c.args.client c.args.entry c.in-Some.command (UndoAt c.args.entry) asks (λ n j. refl) within c.requires.low c.requires.high)
+
+pub returns-clause-call : goal.returns-clause-call
+returns-clause-call c =
+    let s = c.self.inside in
+    let number : c.len-number.result ≡ length s.log.items = omega (arith, c.len-number.ensures) in
+    let room : c.len-number.result < 1000000 = omega arith in
+    let within : length s.log.items < 1000000 = omega (arith, c.len-number.ensures) in
+    let mine : Some c.in-Some.command ≡ own_command_of c.args.client (slice_get s.log.items c.args.entry) = rw (← c.deref.ensures.value) c.in-Some.ensures in
+    let so : c.contains.result ≡ true = search rules in
+    let asks = at_asks s c.self.invariant c.len-number.result c.args.client c.args.entry number room c.in-Some.command mine (sym so ∙ c.contains.ensures) in
+    let done = subst (λ (v : Benched). IsUndone v.log c.args.client (live c.args.entry c.args.client c.in-Some.command) c.undo_live.result c.undo_live.new.self.log) (sym c.self.view_is) c.undo_live.ensures.undone in
+    subst (λ (v : Benched). Called v.trace v.log c.args.client (UndoAt c.args.entry) c.undo_live.result c.undo_live.new.self.log) c.self.view_is
+    (undo_called s c.self.invariant c.args.client c.args.entry c.in-Some.command (UndoAt c.args.entry) asks (λ n j. refl) within c.undo_live.new.self.log c.undo_live.result done)

@@ -1,0 +1,298 @@
+//! The log: opened, and grown by blocks.
+ghost use Rattle.std.specs.Prelude.{◌≡◌, ◌≢◌, ◌⊎◌, ◌≤◌, ◌<◌, ◌+◌, ◌++◌, [], ◌∷◌, All, List, ℕ, length, take, drop, IfOk, OnOk, IfErr, IsErr, OnErr, IsErrOf, ◌^◌, true, false};
+ghost use Rattle.kept_log.specs.Device.{Only, LeavesOnly, HasCause, AfterOthers};
+ghost use Rattle.kept_log.specs.Lines.{IsLine, IsEnd, lines_text};
+ghost use Rattle.kept_log.specs.Log.{StandsFor, IsOldOrNew, EndsBehind, at_rest, lines_behind, head_of, lines_of, IsAtRest, IsKnown, BeginsWith};
+
+use crate::lines::lines_end;
+use crate::steps::{cut_through, write_through};
+use crate::{Block, Device, DeviceError};
+use std::alloc::Global;
+
+/// No file is longer.
+const MAX_LENGTH: usize = 1 << 60;
+
+/// Why no block was added. Only `Device` may have changed the file.
+#[derive(Clone, Copy, Debug, PartialEq, Eq)]
+pub enum AppendError {
+    /// A growth was refused.
+    OutOfMemory,
+    /// The file would get too long.
+    Full,
+    /// A call of the file failed. Nothing more can be added until the log is caught up.
+    Device(DeviceError),
+}
+
+impl From<DeviceError> for AppendError {
+    ghost use Rattle.std.specs.Prelude.{◌≡◌};
+    ghost use Rattle.kept_log.specs.declared.log.AppendError.TheVariants.{Device};
+
+    ghost from_gives = { λ d e. e ≡ Device d };
+
+    fn from(why: DeviceError) -> Self {
+        AppendError::Device(why)
+    }
+}
+
+#[derive(Drop)]
+pub struct KeptLog<D: Device> {
+    pub device: D,
+    pub start: usize,
+    pub end: usize,
+}
+
+/// Cuts what stands behind a place, where no line counts, and closes the gate there.
+fn repair<D: Device>(device: &mut D, at: usize) -> Result<(), DeviceError>
+    requires within { at ≤ length (D.seen device.old) }
+    requires held { D.is_held device.old ≡ true }
+    requires durable { Only (D.seen device.old) (D.may_leave device.old) }
+    requires end { IsEnd (drop at (D.seen device.old)) }
+
+    ensures closed { OnOk result (D.seen device.new ≡ take at (D.seen device.old) ++ 33 ∷ []) }
+    ensures durable { OnOk result (Only (D.seen device.new) (D.may_leave device.new)) }
+    ensures view { EndsBehind (take at (D.seen device.old)) (D.seen device.new) }
+    ensures any_moment { LeavesOnly D.moment D.left_since device.old device.new (EndsBehind (take at (D.seen device.old))) }
+    ensures held { D.is_held device.new ≡ true }
+    ensures cause { HasCause (D.faults device.old) (D.faults device.new) result }
+{
+    // The cut has to be on the disk first: behind a gate that is torn open, what was there would count.
+    cut_through(device, at)?;
+    write_through(device, at, b"!")
+}
+
+/// How long the text of the lines is that count behind a place. Behind them a closed gate stands, if need be by a
+/// repair. `text` is all that stands behind the place.
+fn settle<D: Device>(device: &mut D, at: usize, text: &[u8]) -> Result<usize, DeviceError>
+    requires within { at ≤ length (D.seen device.old) }
+    requires text { drop at (D.seen device.old) ≡ text.now }
+    requires fits { length (D.seen device.old) < 2 ^ 63 }
+    requires held { D.is_held device.old ≡ true }
+    requires durable { Only (D.seen device.old) (D.may_leave device.old) }
+
+    ensures lines { IfOk result (λ len. take len text.now ≡ lines_text (lines_behind at (D.seen device.old))) }
+    ensures len { IfOk result (λ len. len ≡ length (lines_text (lines_behind at (D.seen device.old)))) }
+    ensures within { IfOk result (λ len. at + len ≤ length (D.seen device.old)) }
+    ensures are_lines { OnOk result (All IsLine (lines_behind at (D.seen device.old))) }
+    ensures at_rest { OnOk result (D.seen device.new ≡ at_rest (take at (D.seen device.old)) (lines_behind at (D.seen device.old))) }
+    ensures durable { OnOk result (Only (D.seen device.new) (D.may_leave device.new)) }
+
+    // A crash at any moment, and a failed call, leave the same lines.
+    ensures view { StandsFor (take at (D.seen device.old)) (lines_behind at (D.seen device.old)) (D.seen device.new) }
+    ensures any_moment { LeavesOnly D.moment D.left_since device.old device.new (StandsFor (take at (D.seen device.old)) (lines_behind at (D.seen device.old))) }
+    ensures held { D.is_held device.new ≡ true }
+    ensures cause { HasCause (D.faults device.old) (D.faults device.new) result }
+{
+    let end = lines_end(text);
+    if text[end..] == [b'!'] {
+        return Ok(end);
+    }
+    repair(device, at + end)?;
+    Ok(end)
+}
+
+/// Makes an empty file a log with this head and no lines. Its lock is held.
+pub fn create<D: Device>(alloc: Global, device: &mut D, head: &[u8]) -> Result<(), DeviceError>
+    requires held { D.is_held device.old ≡ true }
+    requires empty { D.seen device.old ≡ [] }
+
+    ensures made { OnOk result (D.seen device.new ≡ at_rest head.now []) }
+    ensures durable { OnOk result (Only (D.seen device.new) (D.may_leave device.new)) }
+
+    // A crash at any moment leaves what it might have left before, or a file of no lines, whatever its head is.
+    ensures any_moment { LeavesOnly D.moment D.left_since device.old device.new
+        (λ c. D.may_leave device.old c ⊎ (lines_behind (length head.now) c ≡ [])) }
+    ensures held { D.is_held device.new ≡ true }
+    ensures cause { HasCause (D.faults device.old) (D.faults device.new) result }
+{
+    let mut text = head.to_vec(alloc)?;
+    text.push(b'!')?;
+    device.sync()?;
+    write_through(device, 0, &text)
+}
+
+/// Why a file was not opened.
+#[derive(Clone, Copy, Debug, PartialEq, Eq)]
+pub enum OpenError {
+    /// The file begins otherwise. It is left as it was.
+    Stranger,
+    /// A call of the file failed.
+    Device(DeviceError),
+}
+
+impl From<DeviceError> for OpenError {
+    ghost use Rattle.std.specs.Prelude.{◌≡◌};
+    ghost use Rattle.kept_log.specs.declared.log.OpenError.TheVariants.{Device};
+
+    ghost from_gives = { λ d e. e ≡ Device d };
+
+    fn from(why: DeviceError) -> Self {
+        OpenError::Device(why)
+    }
+}
+
+/// How long the text of the lines behind a head is, of a file that begins with it.
+fn find<D: Device>(device: &mut D, head: &[u8], bytes: &[u8]) -> Result<usize, OpenError>
+    requires held { D.is_held device.old ≡ true }
+    requires bytes { bytes.now ≡ D.seen device.old }
+    requires fits { length (D.seen device.old) < 2 ^ 63 }
+
+    ensures held { D.is_held device.new ≡ true }
+    ensures begins { OnOk result (take (length head.now) (D.seen device.old) ≡ head.now) }
+    ensures within { IfOk result (λ len. length head.now + len ≤ length (D.seen device.old)) }
+    ensures lines { IfOk result (λ len. take len (drop (length head.now) bytes.now) ≡ lines_text (lines_behind (length head.now) (D.seen device.old))) }
+    ensures len { IfOk result (λ len. len ≡ length (lines_text (lines_behind (length head.now) (D.seen device.old)))) }
+    ensures are_lines { OnOk result (All IsLine (lines_behind (length head.now) (D.seen device.old))) }
+    ensures at_rest { OnOk result (D.seen device.new ≡ at_rest head.now (lines_behind (length head.now) (D.seen device.old))) }
+    ensures durable { OnOk result (Only (D.seen device.new) (D.may_leave device.new)) }
+
+    ensures refused { IsErrOf result OpenError.Stranger → take (length head.now) (D.seen device.old) ≢ head.now }
+    ensures stranger { take (length head.now) (D.seen device.old) ≢ head.now → device.new ≡ device.old }
+    ensures view { take (length head.now) (D.seen device.old) ≡ head.now → StandsFor head.now (lines_behind (length head.now) (D.seen device.old)) (D.seen device.new) }
+
+    // A crash at any moment leaves what it might have left before, or the lines that are seen.
+    ensures any_moment { LeavesOnly D.moment D.left_since device.old device.new
+        (λ c. D.may_leave device.old c ⊎ StandsFor head.now (lines_behind (length head.now) (D.seen device.old)) c) }
+{
+    if !bytes.starts_with(head) {
+        return Err(OpenError::Stranger);
+    }
+    // What another process wrote, and was killed, may be on no disk yet.
+    device.sync()?;
+    Ok(settle(device, head.len(), &bytes[head.len()..])?)
+}
+
+impl<D: Device> KeptLog<D> {
+    /// Opens a file that begins with a head. Its lock is held, and `bytes` is all of it. It tells how long the text
+    /// of the lines is, which stands behind the head.
+    pub fn open(
+        mut device: D,
+        head: &[u8],
+        bytes: &[u8],
+    ) -> Result<(KeptLog<D>, usize), (OpenError, D)>
+        requires held { D.is_held device ≡ true }
+        requires bytes { bytes.now ≡ D.seen device }
+        requires fits { length (D.seen device) < 2 ^ 63 }
+
+        ensures held { IfOk result (λ opened. D.is_held opened.0.device ≡ true) }
+        ensures held_err { IfErr result (λ e. D.is_held e.1 ≡ true) }
+        ensures at_rest { IfOk result (λ opened. IsAtRest D.seen D.may_leave opened.0) }
+        ensures head { IfOk result (λ opened. head_of D.seen opened.0 ≡ head.now) }
+        ensures lines { IfOk result (λ opened. lines_of D.seen opened.0 ≡ lines_behind (length head.now) (D.seen device)) }
+        ensures text { IfOk result (λ opened. take opened.1 (drop (length head.now) bytes.now) ≡ lines_text (lines_of D.seen opened.0)) }
+
+        // A file that begins otherwise is refused, and is left as it was.
+        ensures refused { IfErr result (λ e. e.0 ≡ OpenError.Stranger → take (length head.now) (D.seen device) ≢ head.now) }
+        ensures stranger { take (length head.now) (D.seen device) ≢ head.now → IfErr result (λ e. e.1 ≡ device) × IsErr result }
+
+        // A crash at any moment leaves what it might have left before, or the lines that are seen.
+        ensures any_moment { IfOk result (λ opened. LeavesOnly D.moment D.left_since device opened.0.device
+            (λ c. D.may_leave device c ⊎ StandsFor head.now (lines_behind (length head.now) (D.seen device)) c)) }
+        ensures any_moment_err { IfErr result (λ e. LeavesOnly D.moment D.left_since device e.1
+            (λ c. D.may_leave device c ⊎ StandsFor head.now (lines_behind (length head.now) (D.seen device)) c)) }
+    {
+        match find(&mut device, head, bytes) {
+            Ok(len) => {
+                let start = head.len();
+                let end = start + len;
+                Ok((KeptLog { device, start, end }, len))
+            }
+            Err(why) => Err((why, device)),
+        }
+    }
+
+    /// Waits for the file's lock, and reads what stands from the gate on that this log knows.
+    pub fn take_over(&mut self, alloc: Global) -> Result<Vec<u8>, DeviceError>
+        requires known { IsKnown D.seen self.old }
+
+        ensures held { OnOk result (D.is_held self.new.device ≡ true) }
+        ensures known { IsKnown D.seen self.new }
+        ensures front { take self.old.end (D.seen self.new.device) ≡ take self.old.end (D.seen self.old.device) }
+        ensures places { (self.new.start ≡ self.old.start) × (self.new.end ≡ self.old.end) }
+        ensures bytes { IfOk result (λ bytes. drop self.new.end (D.seen self.new.device) ≡ bytes.items) }
+        ensures fits { OnOk result (length (D.seen self.new.device) < 2 ^ 63) }
+        ensures any_moment { LeavesOnly D.moment D.left_since self.old.device self.new.device (λ c. D.may_leave self.old.device c ⊎ AfterOthers self.old.end (D.may_leave self.old.device) c) }
+        ensures cause { HasCause (D.faults self.old.device) (D.faults self.new.device) result }
+    {
+        self.device.take_over(alloc, self.end)
+    }
+
+    /// Lets the file's lock go. From then on, whatever others do, each crash leaves a file whose lines begin with
+    /// those of this log.
+    pub fn release(&mut self) -> Result<(), DeviceError>
+        requires at_rest { IsAtRest D.seen D.may_leave self.old }
+
+        ensures free { OnOk result (D.is_held self.new.device ≡ false) }
+        ensures known { IsKnown D.seen self.new }
+        ensures same { (D.seen self.new.device ≡ D.seen self.old.device) × (self.new.start ≡ self.old.start) × (self.new.end ≡ self.old.end) }
+        ensures kept { (c : List ℕ) → D.may_leave self.new.device c → BeginsWith (head_of D.seen self.old) (lines_of D.seen self.old) c }
+        ensures any_moment { LeavesOnly D.moment D.left_since self.old.device self.new.device (BeginsWith (head_of D.seen self.old) (lines_of D.seen self.old)) }
+        ensures cause { HasCause (D.faults self.old.device) (D.faults self.new.device) result }
+    {
+        self.device.release(self.end)
+    }
+
+    /// Takes in what others added. The file's lock is held, and `text` is all that stands from the gate on that this
+    /// log knows. It tells how long the text of the further lines is.
+    pub fn catch_up(&mut self, text: &[u8]) -> Result<usize, DeviceError>
+        requires held { D.is_held self.old.device ≡ true }
+        requires known { IsKnown D.seen self.old }
+        requires text { drop self.old.end (D.seen self.old.device) ≡ text.now }
+        requires fits { length (D.seen self.old.device) < 2 ^ 63 }
+
+        ensures held { D.is_held self.new.device ≡ true }
+        ensures text { IfOk result (λ len. take len text.now ≡ lines_text (lines_behind self.old.end (D.seen self.old.device))) }
+        ensures at_rest { OnOk result (IsAtRest D.seen D.may_leave self.new) }
+        ensures lines { OnOk result (lines_of D.seen self.new ≡ lines_of D.seen self.old) }
+        ensures head { OnOk result (head_of D.seen self.new ≡ head_of D.seen self.old) }
+
+        // A crash at any moment leaves what it might have left before, or the lines that are seen. A failed call
+        // changes none of them.
+        ensures view { StandsFor (head_of D.seen self.old) (lines_of D.seen self.old) (D.seen self.new.device) }
+        ensures any_moment { LeavesOnly D.moment D.left_since self.old.device self.new.device
+            (λ c. D.may_leave self.old.device c ⊎ StandsFor (head_of D.seen self.old) (lines_of D.seen self.old) c) }
+        ensures cause { HasCause (D.faults self.old.device) (D.faults self.new.device) result }
+    {
+        // What another process wrote, and was killed, may be on no disk yet.
+        self.device.sync()?;
+        let len = settle(&mut self.device, self.end, text)?;
+        self.end += len;
+        Ok(len)
+    }
+
+    /// Adds the lines of a block, all or none. At `Ok` they are on the disk: from then on each crash leaves a file
+    /// that has them. At `Failed` nothing more can be added until the log was caught up.
+    pub fn append(&mut self, block: Block) -> Result<(), AppendError>
+        requires held { D.is_held self.old.device ≡ true }
+        requires at_rest { IsAtRest D.seen D.may_leave self.old }
+        requires some { block ≢ [] }
+
+        ensures held { D.is_held self.new.device ≡ true }
+        ensures at_rest { OnOk result (IsAtRest D.seen D.may_leave self.new) }
+        ensures lines { OnOk result (lines_of D.seen self.new ≡ lines_of D.seen self.old ++ block) }
+        ensures head { OnOk result (head_of D.seen self.new ≡ head_of D.seen self.old) }
+
+        // A crash at any moment, and a failed call, leave the lines from before, with those of the block or without.
+        ensures view { IsOldOrNew (head_of D.seen self.old) (lines_of D.seen self.old) block (D.seen self.new.device) }
+        ensures known { IsKnown D.seen self.new }
+        ensures any_moment { LeavesOnly D.moment D.left_since self.old.device self.new.device
+            (IsOldOrNew (head_of D.seen self.old) (lines_of D.seen self.old) block) }
+
+        // It doesn't give up by itself, and then nothing is changed.
+        ensures memory { IsErrOf result AppendError.OutOfMemory → self.new ≡ self.old }
+        ensures failed { IsErrOf result (AppendError.Device DeviceError.Failed) → D.faults self.old.device < D.faults self.new.device }
+        ensures full { IsErrOf result AppendError.Full → (2 ^ 60 < self.old.end + length (lines_text block)) × (self.new ≡ self.old) }
+    {
+        let mut text = block.into_text();
+        if text.len() > MAX_LENGTH || self.end > MAX_LENGTH - text.len() {
+            return Err(AppendError::Full);
+        }
+        let end = self.end + text.len();
+        if text.push(b'!').is_err() {
+            return Err(AppendError::OutOfMemory);
+        }
+        write_through(&mut self.device, self.end + 1, &text[1..])?;
+        write_through(&mut self.device, self.end, b" ")?;
+        self.end = end;
+        Ok(())
+    }
+}

@@ -1,9 +1,0 @@
-use Rattle.std.proofs.Common.{◌≡◌, None, rules}
-use Rattle.moves.specs.Rows.{row_of}
-use Rattle.moves.proofs.TurnLemmas.{comes_turned}
-use Rattle.moves.proofs.turning.turn.Goals as goal
-
-pub returns-in-Ok-clause-ok : goal.returns-in-Ok-clause-ok
-returns-in-Ok-clause-ok c =
-    let none : row_of c.args.rows.now c.args.name ≡ None = search rules in
-    comes_turned c.args.rows.now c.put.new.self c.args.name c.in-Comes.row c.args.step none c.in-Comes.is c.in-Ok.ensures.ok

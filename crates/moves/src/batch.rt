@@ -1,0 +1,139 @@
+//! Batches: commands applied all or none, and what takes them back.
+ghost use Rattle.std.specs.Prelude.{◌≡◌, ◌+◌, ◌<◌, ◌≤◌, ℕ, [], length, vec_len, vec_capacity, IfOk, OnOk};
+ghost use Rattle.moves.specs.Rows.{IsListing, IsOfTrace, Below};
+ghost use Rattle.moves.specs.Ages.{age};
+ghost use Rattle.moves.specs.Boards.{IsBoardOf};
+ghost use Rattle.moves.specs.Inverses.{IsStepOf};
+ghost use Rattle.moves.specs.Batches.{IsRun, refused_as, CanTurnAll, IsTurnedAll, AreOfTrace};
+
+use crate::birth::Birth;
+use crate::board::Board;
+use crate::command::Command;
+use crate::inverse::{Inverse, Step};
+use crate::judged::copy_of;
+use crate::listing::copy_of_row;
+use crate::refusal::MoveRefusal;
+use crate::workspace::Workspace;
+use event_index::Indexed;
+use rapid_text::OutOfMemory;
+use std::alloc::Global;
+use std::marker::Model;
+
+/// Why a batch is refused.
+#[derive(Clone, Copy, PartialEq, Eq, Debug)]
+pub enum BatchRefusal {
+    /// 70: a command is refused.
+    InBatch {
+        /// Its place among the commands, from 0.
+        place: u32,
+        /// Why it is refused.
+        cause: MoveRefusal,
+    },
+    /// 49: a growth was refused.
+    OutOfMemory,
+}
+
+/// What takes the commands of a batch back: an inverse for each, in the order of the commands. Contracts see it as
+/// that list.
+#[derive(Drop)]
+pub struct Inverses {
+    pub(crate) items: Vec<Inverse>,
+}
+
+impl Model for Inverses {
+    ghost use Rattle.std.specs.Prelude.{List};
+    ghost use Rattle.moves.specs.declared.inverse.Inverse.{Inverse};
+
+    ghost Value = { List Inverse };
+
+    ghost view = { λ i. i.items.items };
+}
+
+/// Applies the commands one after another, up to the first that is refused.
+pub(crate) fn run(
+    rows: &mut Workspace,
+    inverses: &mut Vec<Inverse>,
+    indexed: &Indexed,
+    board: &Board,
+    entry: u64,
+    commands: &[Command],
+) -> Result<(), BatchRefusal>
+    requires of_trace { IsOfTrace indexed.now rows.old }
+    requires board { IsBoardOf indexed.now board.now }
+    requires late { Below (age entry 0) rows.old }
+    requires few { length commands.now < 4294967296 }
+    requires listing { IsListing rows.old }
+    requires none { inverses.old.items ≡ [] }
+    requires room { vec_len inverses.old + length commands.now ≤ vec_capacity inverses.old }
+    ensures run { IsRun indexed.now board.now (age entry 0) commands.now rows.old rows.new inverses.new.items result }
+    ensures of_trace { IsOfTrace indexed.now rows.new }
+    ensures late { Below (age entry 0 + length commands.now) rows.new }
+{
+    let mut place: u32 = 0;
+    for command in commands {
+        match rows.apply(indexed, board, Birth::new(entry, place), command) {
+            Ok(inverse) => inverses.push_reserved(inverse),
+            Err(cause) => return Err(refused(place, cause)),
+        }
+        place += 1;
+    }
+    Ok(())
+}
+
+/// The refusal of the command at this place.
+fn refused(place: u32, cause: MoveRefusal) -> BatchRefusal
+    ensures { result ≡ refused_as place cause }
+{
+    match cause {
+        MoveRefusal::OutOfMemory => BatchRefusal::OutOfMemory,
+        cause => BatchRefusal::InBatch { place, cause },
+    }
+}
+
+/// Takes the commands back, the last first, by steps of its own.
+pub(crate) fn turn_back(
+    rows: &mut Workspace,
+    alloc: Global,
+    indexed: &Indexed,
+    inverses: &[Inverse],
+) -> Result<(), OutOfMemory>
+    requires of_trace { IsOfTrace indexed.now rows.old }
+    requires inverses { AreOfTrace indexed.now inverses.now }
+    requires fits { CanTurnAll inverses.now rows.old }
+    ensures { OnOk result (IsTurnedAll inverses.now rows.old rows.new) }
+{
+    let Some((last, earlier)) = inverses.split_last() else {
+        return Ok(());
+    };
+    let inverse = copied(last, alloc, indexed)?;
+    let Ok(()) = rows.take_back(indexed, inverse) else {
+        return Err(OutOfMemory);
+    };
+    turn_back(rows, alloc, indexed, earlier)
+}
+
+/// An inverse of its own.
+fn copied(inverse: &Inverse, alloc: Global, indexed: &Indexed) -> Result<Inverse, OutOfMemory>
+    requires { IsStepOf indexed.now inverse.now.step }
+    ensures { IfOk result (λ copy. copy ≡ inverse.now) }
+{
+    let step = copied_step(&inverse.step, alloc, indexed)?;
+    Ok(Inverse {
+        name: inverse.name,
+        step,
+    })
+}
+
+fn copied_step(step: &Step, alloc: Global, indexed: &Indexed) -> Result<Step, OutOfMemory>
+    requires { IsStepOf indexed.now step.now }
+    ensures { IfOk result (λ copy. copy ≡ step.now) }
+{
+    match step {
+        Step::Goes => Ok(Step::Goes),
+        Step::Comes(row) => Ok(Step::Comes(copy_of_row(row, alloc, indexed)?)),
+        Step::Was(schedule) => Ok(Step::Was(copy_of(schedule, alloc, indexed)?)),
+        Step::Loses => Ok(Step::Loses),
+        Step::Gains(event) => Ok(Step::Gains(*event)),
+        Step::Exchanges(place) => Ok(Step::Exchanges(*place)),
+    }
+}

@@ -1,0 +1,71 @@
+-- What is kept of the joins that the rule of sections asked for, so that reasons can be told. No public clause cites this
+-- module. `T` is the events of a trace; `js` is all joins, in the order in which they were made, and `starts` tells
+-- for each event how many joins were made before it was looked at.
+use Rattle.std.specs.Prelude.{◌≡◌, ◌⊎◌, ℕ, ◌+◌, ◌<◌, ◌≤◌, Bool, true, List, length, All, slice_get, slice_index, Some}
+use Rattle.rapid_text.specs.declared.event.Event.{Event}
+use Rattle.event_index.specs.Lookups.{base_of}
+use Rattle.must_order.specs.Layout.{source_of}
+use Rattle.must_order.specs.MustBefore.{EndsFirst, IsMustBefore}
+use Rattle.must_order.specs.Chains.{IsChain, IsLedFrom}
+use Rattle.must_order.specs.declared.chains.Chain.{Chain}
+use Rattle.must_order.specs.declared.chains.Reason.TheVariants.{Ended}
+use Rattle.must_order.specs.declared.joins.Join.{Join}
+
+-- one of the joins from number `low` up to `high` is of e, and d is must-before the release that it joined
+pub record IsJoined (T : List Event) (js : List Join) (low high d e : ℕ) : Type 0 where
+  pub at : ℕ
+  pub from : low ≤ at
+  pub below : at < high
+  pub join : Join
+  pub found : slice_get js at ≡ Some join
+  pub event : join.event ≡ e
+  pub before : IsMustBefore T d join.release
+
+-- d is must-before e's base, e's source, or a release that was joined
+abbrev pub IsLed : List Event → List Join → ℕ → ℕ → ℕ → ℕ → Type 0
+IsLed T js low high d e =
+    ((b : ℕ) × (base_of T e ≡ Some b) × IsMustBefore T d b)
+    ⊎ (((s : ℕ) × (source_of T e ≡ Some s) × IsMustBefore T d s) ⊎ IsJoined T js low high d e)
+
+-- Join number k: its section has to end before its event, and its acquire was already led to the event when the join was made.
+pub record IsJoin (T : List Event) (js : List Join) (starts : List ℕ) (k : ℕ) (j : Join) : Type 0 where
+  pub event : j.event < length starts
+  pub low : slice_index starts j.event ≤ k
+  pub ends : EndsFirst T j.acquire j.release j.event
+  pub earlier : j.release < j.event
+  pub led : IsLed T js (slice_index starts j.event) k j.acquire j.event
+
+-- The joins of the first i events, and of event i those that were made so far.
+pub record AreJoins (T : List Event) (i : ℕ) (js : List Join) (starts : List ℕ) : Type 0 where
+  pub len : length starts ≡ i + 1
+  pub within : (x : ℕ) → x ≤ i → slice_index starts x ≤ length js
+  pub rising : (x y : ℕ) → x ≤ y → y ≤ i → slice_index starts x ≤ slice_index starts y
+  pub joins : (k : ℕ) (j : Join) → slice_get js k ≡ Some j → IsJoin T js starts k j
+  pub all :
+      (d x : ℕ) → x < i → IsMustBefore T d x
+      → (d ≡ x) ⊎ IsLed T js (slice_index starts x) (slice_index starts (x + 1)) d x
+
+-- join number k, below `high`, is marked, and is of this acquire and this event
+pub record IsNeeded (js : List Join) (needed : List Bool) (high p e : ℕ) : Type 0 where
+  pub at : ℕ
+  pub below : at < high
+  pub marked : slice_get needed at ≡ Some true
+  pub join : Join
+  pub found : slice_get js at ≡ Some join
+  pub acquire : join.acquire ≡ p
+  pub event : join.event ≡ e
+
+-- no mark is lost
+pub record KeepsMarks (old new : List Bool) : Type 0 where
+  pub len : length new ≡ length old
+  pub marks : (k : ℕ) → slice_get old k ≡ Some true → slice_get new k ≡ Some true
+
+-- The chains so far: where a step ends a section, a later chain leads from the beginning of the section, or a join below
+-- `at` is marked for it.
+pub record AreTold (T : List Event) (js : List Join) (needed : List Bool) (at : ℕ) (cs : List Chain) : Type 0 where
+  pub some : 0 < length cs
+  pub chains : All (IsChain T) cs
+  pub sections :
+      (i : ℕ) (c : Chain) → slice_get cs i ≡ Some c
+      → All (λ s. (p : ℕ) → s.reason ≡ Ended p → IsLedFrom cs (i + 1) p s.to ⊎ IsNeeded js needed at p s.to) c.steps.items
+  pub marks : length needed ≡ length js

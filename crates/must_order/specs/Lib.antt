@@ -1,0 +1,9 @@
+pub mod Chains
+pub mod Held
+pub mod Joins
+pub mod Kinds
+pub mod Laws
+pub mod Layout
+pub mod MustBefore
+pub mod Sections
+pub mod Sound

@@ -1,0 +1,58 @@
+-- Which acquires find their lock free, and what is kept of them in a pass over the events. No public clause cites this
+-- module. `T` is the events of a trace.
+use Rattle.std.specs.Prelude.{◌≡◌, ℕ, Bool, true, false, ◌==◌, ◌&&◌, ◌<◌, ◌≤◌, List, length, take, filter, reverse, find, slice_get, Option, Some, None, option_map, All, Contains}
+use Rattle.rapid_text.specs.Operations.{is_acquire}
+use Rattle.rapid_text.specs.Recording.{Recording}
+use Rattle.rapid_text.specs.declared.event.Event.{Event}
+use Rattle.rapid_text.specs.declared.event.Op.TheVariants.{Acquire}
+use Rattle.trace_rules.specs.Rules.{hold_count}
+use Rattle.event_index.specs.Events.{op_at, thread_at}
+use Rattle.event_index.specs.Lookups.{before, section_end}
+use Rattle.must_order.specs.declared.sections.Sections.{Sections}
+use Rattle.must_order.specs.Layout.{IsCounted}
+use Rattle.must_order.specs.MustBefore.{EndsFirst}
+
+abbrev pub outer_by : List Event → ℕ → ℕ → Option Event → Bool
+outer_by T l e None = false
+outer_by T l e (Some v) = is_acquire l v.op && hold_count (take e T) v.thread l == 0
+
+-- whether the event acquires the lock, and its thread does not hold it before
+abbrev pub is_outer : List Event → ℕ → ℕ → Bool
+is_outer T l e = outer_by T l e (slice_get T e)
+
+-- the last such event among the first j
+abbrev pub last_outer : List Event → ℕ → ℕ → Option ℕ
+last_outer T l j = find (is_outer T l) (reverse (before j))
+
+-- event p, one of the first i, acquires a lock
+abbrev pub IsAcquireBelow : List Event → ℕ → ℕ → Type 0
+IsAcquireBelow T i p = (p < i) × (l : ℕ) × (op_at T p ≡ Some (Acquire l))
+
+-- no event before i ends the section of p
+abbrev pub IsOpenAt : List Event → ℕ → ℕ → Type 0
+IsOpenAt T i p = (r : ℕ) → section_end T p ≡ Some r → i ≤ r
+
+-- What is kept of the first i events: for each lock the acquires that found it free, and of all of them those whose
+-- section is open.
+pub record AreSections (r : Recording) (i : ℕ) (s : Sections) : Type 0 where
+  pub len : length s.by_lock.items ≡ length r.locks
+  pub by_lock :
+      (l : ℕ) → l < length r.locks → option_map (λ v. v.items) (slice_get s.by_lock.items l) ≡ Some (filter (is_outer r.events l) (before i))
+  pub acquires : All (IsAcquireBelow r.events i) s.held.items
+  pub all : (p l : ℕ) → p < i → is_outer r.events l p ≡ true → IsOpenAt r.events i p → Contains s.held.items p
+
+-- an acquire and the end of its section, which has to end before e: the row counts the one, and not the other
+abbrev pub IsOwed : List Event → ℕ → (ℕ → ℕ) → ℕ × ℕ → Type 0
+IsOwed T e row o = EndsFirst T o.0 o.1 e × IsCounted T row o.0 × ¬ IsCounted T row o.1
+
+-- the row counts the ends of the sections of the lock, of the lock and the thread, that have to end before e
+abbrev pub IsSettledOn : List Event → ℕ → (ℕ → ℕ) → ℕ → Type 0
+IsSettledOn T e row l = (p r : ℕ) (s : EndsFirst T p r e) → s.lock ≡ l → IsCounted T row p → IsCounted T row r
+
+abbrev pub IsSettledBy : List Event → ℕ → (ℕ → ℕ) → ℕ → ℕ → Type 0
+IsSettledBy T e row l u = (p r : ℕ) (s : EndsFirst T p r e) → s.lock ≡ l → s.owner ≡ u → IsCounted T row p → IsCounted T row r
+
+-- the same of the lock that p acquires, where e lies in the section of p
+abbrev pub IsSettledWithin : List Event → ℕ → (ℕ → ℕ) → ℕ → Type 0
+IsSettledWithin T e row p =
+    (l t : ℕ) → op_at T p ≡ Some (Acquire l) → thread_at T p ≡ Some t → thread_at T e ≡ Some t → IsOpenAt T e p → IsSettledOn T e row l

@@ -1,0 +1,73 @@
+//! The joins that the rule of sections asked for, in the order in which they were made.
+ghost use Rattle.std.specs.Prelude.{◌≡◌, ◌⊎◌, ◌<◌, ◌+◌, ◌++◌, ◌∷◌, [], ℕ, length, IfOk, OnOk, slice_index};
+ghost use Rattle.must_order.specs.Joins.{IsLed, AreJoins};
+ghost use Rattle.must_order.specs.MustBefore.{EndsFirst, IsMustBefore};
+
+use event_index::Indexed;
+use rapid_text::OutOfMemory;
+use std::alloc::Global;
+
+/// The row of a release was joined to that of an event: the section of the acquire has to end before the event.
+#[derive(Clone, Copy)]
+pub(crate) struct Join {
+    pub(crate) event: u32,
+    pub(crate) acquire: u32,
+    pub(crate) release: u32,
+}
+
+/// All joins, and for each event where its joins begin; where they end stands at the next event.
+#[derive(Drop)]
+pub(crate) struct Joins {
+    pub(crate) list: Vec<Join>,
+    pub(crate) starts: Vec<usize>,
+}
+
+impl Joins {
+    /// Before the first event.
+    pub(crate) fn new(alloc: Global, indexed: &Indexed) -> Result<Joins, OutOfMemory>
+        ensures { IfOk result (λ joins. AreJoins indexed.now.events 0 joins.list.items joins.starts.items) }
+    {
+        let mut starts = Vec::with_capacity(alloc, indexed.len() as usize + 1)?;
+        starts.push(0)?;
+        Ok(Joins {
+            list: Vec::new(alloc),
+            starts,
+        })
+    }
+
+    /// One join more of the event.
+    pub(crate) fn add(
+        &mut self,
+        indexed: &Indexed,
+        event: u32,
+        acquire: u32,
+        release: u32,
+    ) -> Result<(), OutOfMemory>
+        requires known { AreJoins indexed.now.events event self.old.list.items self.old.starts.items }
+        requires ends { EndsFirst indexed.now.events acquire release event }
+        requires earlier { release < event }
+        requires led { IsLed indexed.now.events self.old.list.items (slice_index self.old.starts.items event) (length self.old.list.items) acquire event }
+        ensures known { OnOk result (AreJoins indexed.now.events event self.new.list.items self.new.starts.items) }
+        ensures starts { OnOk result (self.new.starts.items ≡ self.old.starts.items) }
+        ensures list { OnOk result (self.new.list.items
+            ≡ self.old.list.items ++ record { event = event; acquire = acquire; release = release } ∷ []) }
+    {
+        self.list.push(Join {
+            event,
+            acquire,
+            release,
+        })?;
+        Ok(())
+    }
+
+    /// The event has no more joins.
+    pub(crate) fn end(&mut self, indexed: &Indexed, event: u32) -> Result<(), OutOfMemory>
+        requires known { AreJoins indexed.now.events event self.old.list.items self.old.starts.items }
+        requires led { (d : ℕ) → IsMustBefore indexed.now.events d event
+            → (d ≡ event) ⊎ IsLed indexed.now.events self.old.list.items (slice_index self.old.starts.items event) (length self.old.list.items) d event }
+        ensures { OnOk result (AreJoins indexed.now.events (event + 1) self.new.list.items self.new.starts.items) }
+    {
+        self.starts.push(self.list.len())?;
+        Ok(())
+    }
+}

@@ -1,0 +1,206 @@
+//! Must-before of a trace's events.
+ghost use Rattle.std.specs.Prelude.{◌≡◌, ◌≢◌, ◌<◌, ◌↔◌, ℕ, None, IfSome, length, IsTrue, IfOk};
+ghost use Rattle.must_order.specs.Chains.{AreReasons};
+ghost use Rattle.must_order.specs.Held.{IsHeldFrom, AreLocksHeld};
+ghost use Rattle.must_order.specs.Kinds.{IsKind};
+ghost use Rattle.must_order.specs.MustBefore.{IsForced, IsHeldBefore, IsMustBefore, IsSharedBefore};
+ghost use Rattle.must_order.specs.Sections.{AreSections};
+
+use crate::chains::Chain;
+use crate::events::{locks_in, threads_in};
+use crate::joins::Joins;
+use crate::kind::Kind;
+use crate::reasons::chains_of;
+use crate::rows::{rows_of, threads_of};
+use crate::sections::Sections;
+use event_index::Indexed;
+use rapid_text::OutOfMemory;
+use shb_clocks::Clocks;
+use std::alloc::Global;
+use std::marker::Model;
+use std::snapshot::Snapshot;
+
+/// For each event of a trace, how many events of each thread are must-before it or are it.
+#[derive(Drop)]
+pub struct Must {
+    trace: Snapshot<Indexed>,
+    // For each event its thread.
+    threads: Vec<u32>,
+    // A row for each event, a count for each thread in it.
+    width: usize,
+    counts: Vec<u32>,
+    // The joins by which the rows were made.
+    joins: Joins,
+    // The sections of all events.
+    sections: Sections,
+}
+
+impl Model for Must {
+    ghost use Rattle.rapid_text.specs.Recording.{Recording};
+
+    ghost Value = { Recording };
+
+    ghost use Rattle.must_order.specs.Sound.{IsSound};
+
+    ghost view = { λ s. s.trace.value };
+
+    ghost invariant = { IsSound };
+}
+
+impl Must {
+    /// Makes the rows in one pass over the events. They know whose they are, and need the index no more.
+    pub fn new(alloc: Global, indexed: &Indexed) -> Result<Must, OutOfMemory>
+        ensures ok { IfOk result (λ must. must ≡ indexed.now) }
+    {
+        let threads = threads_of(alloc, indexed)?;
+        let rows = rows_of(alloc, indexed)?;
+        Ok(Must {
+            trace: Snapshot::of(indexed),
+            threads,
+            width: threads_in(indexed) as usize,
+            counts: rows.counts,
+            joins: rows.joins,
+            sections: Sections::of(alloc, indexed)?,
+        })
+    }
+
+    /// Whether the first event is the second, or stands before it in every correct reordering for the reasons of
+    /// must-before.
+    pub fn before(&self, first: u32, second: u32) -> bool
+        requires first { first < length self.now.events }
+        requires second { second < length self.now.events }
+        ensures before { IsTrue result ↔ IsMustBefore self.now.events first second }
+    {
+        let thread = self.threads[first as usize] as usize;
+        let counted = self.counts[second as usize * self.width + thread];
+        self.counts[first as usize * self.width + thread] <= counted
+    }
+
+    /// Whether the first event is the second's base, or must-before it.
+    pub fn is_forced(&self, indexed: &Indexed, first: u32, second: u32) -> bool
+        requires trace { self.now ≡ indexed.now }
+        requires first { first < length self.now.events }
+        requires second { second < length self.now.events }
+        ensures forced { IsTrue result ↔ IsForced self.now.events first second }
+    {
+        match indexed.base(second) {
+            None => false,
+            Some(base) => self.before(first, base),
+        }
+    }
+
+    /// The least lock that the first event's thread holds before it, and the second's before it.
+    pub fn guard(&self, indexed: &Indexed, first: u32, second: u32) -> Option<u32>
+        requires trace { self.now ≡ indexed.now }
+        requires first { first < length self.now.events }
+        requires second { second < length self.now.events }
+        ensures found { IfSome result (λ l. (l < length self.now.locks) × IsSharedBefore self.now.events first second l) }
+        ensures least { IfSome result (λ l. (k : ℕ) → k < l → ¬ IsSharedBefore self.now.events first second k) }
+        ensures none { result ≡ None → (k : ℕ) → k < length self.now.locks → ¬ IsSharedBefore self.now.events first second k }
+    {
+        guard_of(&self.sections, indexed, first, second)
+    }
+
+    /// The acquire since which the event's thread holds the lock before it: of nested acquires the outermost. Where its
+    /// section ends, `Indexed::section` tells.
+    pub fn held_since(&self, indexed: &Indexed, event: u32, lock: u32) -> Option<u32>
+        requires trace { self.now ≡ indexed.now }
+        requires event { event < length self.now.events }
+        requires lock { lock < length self.now.locks }
+        ensures since { IfSome result (IsHeldFrom self.now.events event lock) }
+        ensures none { result ≡ None → ¬ IsHeldBefore self.now.events event lock }
+    {
+        self.sections.holder(indexed, event, lock)
+    }
+
+    /// The locks that the event's thread holds before it, in rising number.
+    pub fn locks_held(
+        &self,
+        alloc: Global,
+        indexed: &Indexed,
+        event: u32,
+    ) -> Result<Vec<u32>, OutOfMemory>
+        requires trace { self.now ≡ indexed.now }
+        requires event { event < length self.now.events }
+        ensures held { IfOk result (λ locks. AreLocksHeld self.now.events event (length self.now.locks) locks.items) }
+    {
+        locks_of(alloc, &self.sections, indexed, event)
+    }
+
+    /// Why the first event is must-before the second, as chains: the first chain leads from the one to the other. Each
+    /// other leads from the beginning of a section to an event that has to come after that section's end, and
+    /// justifies a step of a chain before it. None where the first event is not must-before the second.
+    pub fn reasons(
+        &self,
+        alloc: Global,
+        indexed: &Indexed,
+        first: u32,
+        second: u32,
+    ) -> Result<Option<Vec<Chain>>, OutOfMemory>
+        requires trace { self.now ≡ indexed.now }
+        requires first { first < length self.now.events }
+        requires second { second < length self.now.events }
+        ensures some { IfOk result (λ chains. IfSome chains (λ cs. AreReasons self.now.events first second cs.items)) }
+        ensures none { IfOk result (λ chains. chains ≡ None → ¬ IsMustBefore self.now.events first second) }
+        ensures exact { IfOk result (λ chains. IsMustBefore self.now.events first second → chains ≢ None) }
+    {
+        if !self.before(first, second) {
+            return Ok(None);
+        }
+        let chains = chains_of(alloc, self, &self.joins, indexed, first, second)?;
+        Ok(Some(chains))
+    }
+
+    /// What is known of a conflicting pair, whose earlier event is the first: the first of the kinds that fits.
+    pub fn kind(&self, indexed: &Indexed, clocks: &Clocks, first: u32, second: u32) -> Kind
+        requires trace { self.now ≡ indexed.now }
+        requires clocks { clocks.now ≡ indexed.now }
+        requires first { first < length self.now.events }
+        requires second { second < length self.now.events }
+        ensures kind { IsKind self.now first second result }
+    {
+        if clocks.candidate(indexed, first, second) {
+            return Kind::Candidate;
+        }
+        if self.is_forced(indexed, first, second) {
+            return Kind::Forced;
+        }
+        match self.guard(indexed, first, second) {
+            Some(_) => Kind::Guarded,
+            None => Kind::Open,
+        }
+    }
+}
+
+fn locks_of(
+    alloc: Global,
+    sections: &Sections,
+    indexed: &Indexed,
+    event: u32,
+) -> Result<Vec<u32>, OutOfMemory>
+    requires known { AreSections indexed.now (length indexed.now.events) sections.now }
+    requires event { event < length indexed.now.events }
+    ensures { IfOk result (λ locks. AreLocksHeld indexed.now.events event (length indexed.now.locks) locks.items) }
+{
+    let mut locks = Vec::new(alloc);
+    for lock in 0..locks_in(indexed) {
+        sections.add_held(indexed, event, lock, &mut locks)?;
+    }
+    Ok(locks)
+}
+
+fn guard_of(sections: &Sections, indexed: &Indexed, first: u32, second: u32) -> Option<u32>
+    requires known { AreSections indexed.now (length indexed.now.events) sections.now }
+    requires first { first < length indexed.now.events }
+    requires second { second < length indexed.now.events }
+    ensures found { IfSome result (λ l. (l < length indexed.now.locks) × IsSharedBefore indexed.now.events first second l) }
+    ensures least { IfSome result (λ l. (k : ℕ) → k < l → ¬ IsSharedBefore indexed.now.events first second k) }
+    ensures none { result ≡ None → (k : ℕ) → k < length indexed.now.locks → ¬ IsSharedBefore indexed.now.events first second k }
+{
+    for lock in 0..locks_in(indexed) {
+        if sections.is_shared(indexed, first, second, lock) {
+            return Some(lock);
+        }
+    }
+    None
+}

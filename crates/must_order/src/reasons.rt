@@ -1,0 +1,285 @@
+//! The chains that tell why an event is must-before another, each walked back from its end.
+ghost use Rattle.std.specs.Prelude.{◌≡◌, ◌≢◌, ◌⊎◌, ◌+◌, ◌<◌, ◌≤◌, ◌↔◌, ℕ, None, Some, length, IfOk, OnOk, IfSome, IsTrue, All, slice_get, slice_index};
+ghost use Rattle.event_index.specs.Lookups.{base_of};
+ghost use Rattle.must_order.specs.Chains.{IsReason, IsChain, AreReasons};
+ghost use Rattle.must_order.specs.Joins.{IsLed, IsJoined, AreJoins, AreTold, IsNeeded, KeepsMarks};
+ghost use Rattle.must_order.specs.Layout.{source_of};
+ghost use Rattle.must_order.specs.MustBefore.{IsMustBefore};
+ghost use Rattle.must_order.specs.declared.chains.Reason.TheVariants.{Ended};
+
+use crate::chains::{Chain, Reason, Step};
+use crate::events::event_at;
+use crate::joins::{Join, Joins};
+use crate::must::Must;
+use crate::rows::source_at;
+use event_index::Indexed;
+use rapid_text::{Op, OutOfMemory};
+use std::alloc::Global;
+
+// The step to the event from its base.
+fn base_step(indexed: &Indexed, event: u32) -> Option<Step>
+    requires event { event < length indexed.now.events }
+    ensures some { IfSome result (λ s. (base_of indexed.now.events event ≡ Some s.from) × (s.to ≡ event) × (s.from < event)) }
+    ensures reason { IfSome result (λ s. IsReason indexed.now.events s.from event s.reason) }
+    ensures plain { IfSome result (λ s. (p : ℕ) → s.reason ≢ Ended p) }
+    ensures none { result ≡ None → base_of indexed.now.events event ≡ None }
+{
+    let base = indexed.base(event)?;
+    let reason = if event_at(indexed, base).thread == event_at(indexed, event).thread {
+        Reason::Later
+    } else {
+        Reason::Forked
+    };
+    Some(Step {
+        from: base,
+        to: event,
+        reason,
+    })
+}
+
+// Why the source of the event comes before it.
+fn source_reason(indexed: &Indexed, event: u32, source: u32) -> Reason
+    requires event { event < length indexed.now.events }
+    requires within { source < length indexed.now.events }
+    requires source { source_of indexed.now.events event ≡ Some source }
+    ensures reason { IsReason indexed.now.events source event result }
+    ensures plain { (p : ℕ) → result ≢ Ended p }
+{
+    match event_at(indexed, event).op {
+        Op::Join(thread) => {
+            if event_at(indexed, source).thread == thread {
+                Reason::Joined
+            } else {
+                Reason::ForkJoined
+            }
+        }
+        Op::Read(_) | Op::Write(_) | Op::Acquire(_) | Op::Release(_) | Op::Fork(_) => {
+            Reason::Written
+        }
+    }
+}
+
+// The step to the event from its source.
+fn source_step(indexed: &Indexed, event: u32) -> Option<Step>
+    requires event { event < length indexed.now.events }
+    ensures some { IfSome result (λ s. (source_of indexed.now.events event ≡ Some s.from) × (s.to ≡ event) × (s.from < event)) }
+    ensures reason { IfSome result (λ s. IsReason indexed.now.events s.from event s.reason) }
+    ensures plain { IfSome result (λ s. (p : ℕ) → s.reason ≢ Ended p) }
+    ensures none { result ≡ None → source_of indexed.now.events event ≡ None }
+{
+    let source = source_at(indexed, event)?;
+    let reason = source_reason(indexed, event, source);
+    Some(Step {
+        from: source,
+        to: event,
+        reason,
+    })
+}
+
+// The step to the event from its base or its source, where the first event is must-before that.
+fn link_back(must: &Must, indexed: &Indexed, first: u32, event: u32) -> Option<Step>
+    requires trace { must.now ≡ indexed.now }
+    requires first { first < length indexed.now.events }
+    requires event { event < length indexed.now.events }
+    ensures some { IfSome result (λ s. (s.to ≡ event) × (s.from < event) × IsMustBefore indexed.now.events first s.from) }
+    ensures reason { IfSome result (λ s. IsReason indexed.now.events s.from event s.reason) }
+    ensures plain { IfSome result (λ s. (p : ℕ) → s.reason ≢ Ended p) }
+    ensures base { result ≡ None → (b : ℕ) → base_of indexed.now.events event ≡ Some b → ¬ IsMustBefore indexed.now.events first b }
+    ensures source { result ≡ None → (s : ℕ) → source_of indexed.now.events event ≡ Some s → ¬ IsMustBefore indexed.now.events first s }
+{
+    if let Some(step) = base_step(indexed, event) {
+        if must.before(first, step.from) {
+            return Some(step);
+        }
+    }
+    if let Some(step) = source_step(indexed, event) {
+        if must.before(first, step.from) {
+            return Some(step);
+        }
+    }
+    None
+}
+
+// Whether the join is of this event, and the first event is must-before the release that it joined.
+fn leads_through(must: &Must, indexed: &Indexed, join: Join, first: u32, event: u32) -> bool
+    requires trace { must.now ≡ indexed.now }
+    requires first { first < length indexed.now.events }
+    requires release { join.release < length indexed.now.events }
+    ensures { IsTrue result ↔ ((join.event ≡ event) × IsMustBefore indexed.now.events first join.release) }
+{
+    if join.event != event {
+        return false;
+    }
+    must.before(first, join.release)
+}
+
+// Which of the event's joins below `high` joined a release that the first event is must-before.
+fn join_back(
+    must: &Must,
+    joins: &Joins,
+    indexed: &Indexed,
+    first: u32,
+    event: u32,
+    high: usize,
+) -> usize
+    requires trace { must.now ≡ indexed.now }
+    requires known { AreJoins indexed.now.events (length indexed.now.events) joins.now.list.items joins.now.starts.items }
+    requires first { first < length indexed.now.events }
+    requires event { event < length indexed.now.events }
+    requires high { high ≤ length joins.now.list.items }
+    requires joined { IsJoined indexed.now.events joins.now.list.items (slice_index joins.now.starts.items event) high first event }
+    ensures below { result < high }
+    ensures found { IfSome (slice_get joins.now.list.items result) (λ j. (j.event ≡ event) × IsMustBefore indexed.now.events first j.release) }
+{
+    for at in joins.starts[event as usize]..high {
+        if leads_through(must, indexed, joins.list[at], first, event) {
+            return at;
+        }
+    }
+    unreachable!()
+}
+
+// One step back from the event, towards the first. Where it ends a section, the join is marked.
+fn step_back(
+    must: &Must,
+    joins: &Joins,
+    indexed: &Indexed,
+    needed: &mut Vec<bool>,
+    first: u32,
+    event: u32,
+    high: usize,
+) -> Step
+    requires trace { must.now ≡ indexed.now }
+    requires known { AreJoins indexed.now.events (length indexed.now.events) joins.now.list.items joins.now.starts.items }
+    requires marks { length needed.old.items ≡ length joins.now.list.items }
+    requires first { first < length indexed.now.events }
+    requires event { event < length indexed.now.events }
+    requires high { high ≤ length joins.now.list.items }
+    requires led { IsLed indexed.now.events joins.now.list.items (slice_index joins.now.starts.items event) high first event }
+    ensures to { result.to ≡ event }
+    ensures earlier { result.from < event }
+    ensures before { IsMustBefore indexed.now.events first result.from }
+    ensures reason { IsReason indexed.now.events result.from event result.reason }
+    ensures section { (p : ℕ) → result.reason ≡ Ended p → IsNeeded joins.now.list.items needed.new.items high p event }
+    ensures marks { KeepsMarks needed.old.items needed.new.items }
+{
+    if let Some(step) = link_back(must, indexed, first, event) {
+        return step;
+    }
+    let at = join_back(must, joins, indexed, first, event, high);
+    let join = joins.list[at];
+    needed[at] = true;
+    Step {
+        from: join.release,
+        to: event,
+        reason: Reason::Ended(join.acquire),
+    }
+}
+
+// The chain from the first event to the last, by joins of the last below `limit`. Joins on which it rests are marked.
+fn chain_of(
+    alloc: Global,
+    must: &Must,
+    joins: &Joins,
+    indexed: &Indexed,
+    needed: &mut Vec<bool>,
+    first: u32,
+    last: u32,
+    limit: usize,
+) -> Result<Chain, OutOfMemory>
+    requires trace { must.now ≡ indexed.now }
+    requires known { AreJoins indexed.now.events (length indexed.now.events) joins.now.list.items joins.now.starts.items }
+    requires marks { length needed.old.items ≡ length joins.now.list.items }
+    requires first { first < length indexed.now.events }
+    requires last { last < length indexed.now.events }
+    requires low { slice_index joins.now.starts.items last ≤ limit }
+    requires high { limit ≤ length joins.now.list.items }
+    requires led { (first ≡ last) ⊎ IsLed indexed.now.events joins.now.list.items (slice_index joins.now.starts.items last) limit first last }
+    ensures ends { IfOk result (λ c. (c.first ≡ first) × (c.last ≡ last)) }
+    ensures chain { IfOk result (IsChain indexed.now.events) }
+    ensures sections { IfOk result (λ c. All (λ s. (p : ℕ) → s.reason ≡ Ended p
+        → IsNeeded joins.now.list.items needed.new.items limit p s.to) c.steps.items) }
+    ensures marks { OnOk result (KeepsMarks needed.old.items needed.new.items) }
+{
+    let mut steps = Vec::new(alloc);
+    let mut event = last;
+    let mut high = limit;
+    while event != first {
+        let step = step_back(must, joins, indexed, needed, first, event, high);
+        steps.push(step)?;
+        event = step.from;
+        high = joins.starts[event as usize + 1];
+    }
+    steps.reverse();
+    Ok(Chain { first, last, steps })
+}
+
+// The chain to the event of a join, where that join is marked.
+fn justify(
+    alloc: Global,
+    must: &Must,
+    joins: &Joins,
+    indexed: &Indexed,
+    needed: &mut Vec<bool>,
+    chains: &mut Vec<Chain>,
+    at: usize,
+) -> Result<(), OutOfMemory>
+    requires trace { must.now ≡ indexed.now }
+    requires known { AreJoins indexed.now.events (length indexed.now.events) joins.now.list.items joins.now.starts.items }
+    requires at { at < length joins.now.list.items }
+    requires told { AreTold indexed.now.events joins.now.list.items needed.old.items (at + 1) chains.old.items }
+    ensures told { OnOk result (AreTold indexed.now.events joins.now.list.items needed.new.items at chains.new.items) }
+    ensures begins { OnOk result (slice_get chains.new.items 0 ≡ slice_get chains.old.items 0) }
+{
+    if !needed[at] {
+        return Ok(());
+    }
+    let join = joins.list[at];
+    let chain = chain_of(
+        alloc,
+        must,
+        joins,
+        indexed,
+        needed,
+        join.acquire,
+        join.event,
+        at,
+    )?;
+    chains.push(chain)?;
+    Ok(())
+}
+
+/// The chains that tell why the first event is must-before the last.
+pub(crate) fn chains_of(
+    alloc: Global,
+    must: &Must,
+    joins: &Joins,
+    indexed: &Indexed,
+    first: u32,
+    last: u32,
+) -> Result<Vec<Chain>, OutOfMemory>
+    requires trace { must.now ≡ indexed.now }
+    requires known { AreJoins indexed.now.events (length indexed.now.events) joins.now.list.items joins.now.starts.items }
+    requires first { first < length indexed.now.events }
+    requires last { last < length indexed.now.events }
+    requires before { IsMustBefore indexed.now.events first last }
+    ensures { IfOk result (λ chains. AreReasons indexed.now.events first last chains.items) }
+{
+    let limit = joins.starts[last as usize + 1];
+    let mut needed = vec![in alloc; false; joins.list.len()]?;
+    let mut chains = Vec::new(alloc);
+    let chain = chain_of(alloc, must, joins, indexed, &mut needed, first, last, limit)?;
+    chains.push(chain)?;
+    for done in 0..limit {
+        justify(
+            alloc,
+            must,
+            joins,
+            indexed,
+            &mut needed,
+            &mut chains,
+            limit - 1 - done,
+        )?;
+    }
+    Ok(chains)
+}

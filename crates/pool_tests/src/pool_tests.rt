@@ -1,0 +1,274 @@
+//! What no clause says: that workers run, each in a thread of its own, that answers come, and that `start` and `submit` succeed where
+//! there is memory. A pool that serves on one thread, or always answers that it has stopped or that memory is wanting, fails here.
+ghost use Rattle.std.specs.Prelude.{◌≡◌, IfSome};
+ghost use Rattle.std.specs.Arc.{arc_value};
+
+use event_index::{EventList, Indexed};
+use rapid_text::parse;
+use search_pool::{
+    CollectRefusal, Found, Gate, Outcome, Pool, Request, StartRefusal, SubmitRefusal, Way,
+};
+use shb_clocks::Clocks;
+use std::alloc::Global;
+use std::sync::atomic::{AtomicBool, Ordering};
+use std::sync::{Arc, Wait};
+use std::thread;
+use std::thread::Threads;
+use trace_rules::check;
+use witness_search::SliceRefusal;
+
+// Two threads use one lock, and write one variable outside it.
+const ONE_LOCK: &[u8] = b"T1|w(x)|1\nT1|acq(l)|2\nT1|rel(l)|3\nT2|acq(l)|4\nT2|rel(l)|5\nT2|w(x)|6";
+
+fn indexed_of(alloc: Global, text: &[u8]) -> Option<Indexed> {
+    let raw = match parse(alloc, text) {
+        Ok(raw) => raw,
+        Err(_) => return None,
+    };
+    let trace = match check(alloc, raw) {
+        Ok(trace) => trace,
+        Err(_) => return None,
+    };
+    match Indexed::new(alloc, trace) {
+        Ok(indexed) => Some(indexed),
+        Err(_) => None,
+    }
+}
+
+// The index of the trace and its clocks, to be shared.
+fn shared_of(alloc: Global, text: &[u8]) -> Option<(Arc<Indexed>, Arc<Clocks>)>
+    ensures { IfSome result (λ both. arc_value both.1 ≡ arc_value both.0) }
+{
+    let indexed = indexed_of(alloc, text)?;
+    let clocks = match Clocks::new(alloc, &indexed) {
+        Ok(clocks) => clocks,
+        Err(_) => return None,
+    };
+    let indexed = match Arc::new(alloc, indexed) {
+        Ok(indexed) => indexed,
+        Err(_) => return None,
+    };
+    match Arc::new(alloc, clocks) {
+        Ok(clocks) => Some((indexed, clocks)),
+        Err(_) => None,
+    }
+}
+
+// A gate that holds up the request of this number until the flag is set, or 10,000,000 looks were made.
+#[derive(Drop)]
+struct Holds {
+    number: u32,
+    is_open: Arc<AtomicBool>,
+}
+
+impl Gate for Holds {
+    fn pass<R: Wait>(&mut self, _rt: &R, request: u32) {
+        if request != self.number {
+            return;
+        }
+        for _look in 0..10_000_000u32 {
+            if self.is_open.load(Ordering::SeqCst) {
+                return;
+            }
+            thread::yield_now();
+        }
+    }
+}
+
+fn gates_of(alloc: Global, count: u32, is_open: &Arc<AtomicBool>) -> Option<Vec<Holds>> {
+    let mut gates = Vec::new(alloc);
+    for _gate in 0..count {
+        let is_open = match Arc::try_clone(is_open) {
+            Ok(flag) => flag,
+            Err(_) => return None,
+        };
+        if gates.push(Holds { number: 0, is_open }).is_err() {
+            return None;
+        }
+    }
+    Some(gates)
+}
+
+fn flag_of(alloc: Global, is_set: bool) -> Option<Arc<AtomicBool>> {
+    match Arc::new(alloc, AtomicBool::new(is_set)) {
+        Ok(flag) => Some(flag),
+        Err(_) => None,
+    }
+}
+
+// A pool of so many workers on the trace.
+fn pool_of<R: Threads + Wait + Clone + Send + Drop + 'static>(
+    rt: &R,
+    alloc: Global,
+    count: u32,
+    is_open: &Arc<AtomicBool>,
+) -> Option<Result<Pool<Holds>, StartRefusal>> {
+    let (indexed, clocks) = shared_of(alloc, ONE_LOCK)?;
+    let gates = gates_of(alloc, count, is_open)?;
+    Some(Pool::start(rt, alloc, indexed, clocks, gates))
+}
+
+fn is_refused<R: Threads + Wait + Clone + Send + Drop + 'static>(
+    rt: &R,
+    alloc: Global,
+    count: u32,
+) -> bool {
+    let Some(is_open) = flag_of(alloc, true) else {
+        return false;
+    };
+    match pool_of(rt, alloc, count, &is_open) {
+        Some(Err(why)) => why == StartRefusal::BadCount,
+        Some(Ok(pool)) => {
+            pool.stop(rt);
+            false
+        }
+        None => false,
+    }
+}
+
+#[test]
+fn a_pool_has_one_to_32_workers(rt: HostRuntime) {
+    let alloc = rt.alloc();
+    assert!(rt; is_refused(&rt, alloc, 0));
+    assert!(rt; is_refused(&rt, alloc, 33));
+}
+
+fn greedy_request(alloc: Global) -> Request {
+    Request {
+        first: 0,
+        second: 5,
+        way: Way::Greedy {
+            base: EventList::new(alloc),
+            budget: 10,
+        },
+    }
+}
+
+fn slice_request() -> Request {
+    Request {
+        first: 0,
+        second: 5,
+        way: Way::Slice,
+    }
+}
+
+// Whether this is what was found of the slice: the pair is no candidate.
+fn is_no_slice(found: Result<Found, CollectRefusal>) -> bool {
+    match found {
+        Ok(
+            Found {
+                request,
+                first,
+                second,
+                outcome: Outcome::NoSlice(why),
+            },
+        ) => { request == 1 && first == 0 && second == 5 && why == SliceRefusal::NotCandidate }
+        _ => false,
+    }
+}
+
+// Whether this is what was found by the search.
+fn is_witness(found: Result<Found, CollectRefusal>) -> bool {
+    match found {
+        Ok(
+            Found {
+                request,
+                first,
+                second,
+                outcome: Outcome::Witness(list),
+            },
+        ) => request == 0 && first == 0 && second == 5 && list.items() == [3, 4].as_slice(),
+        _ => false,
+    }
+}
+
+fn is_pending(found: Result<Found, CollectRefusal>) -> bool {
+    match found {
+        Err(why) => why != CollectRefusal::NothingPending,
+        Ok(_) => true,
+    }
+}
+
+// The worker of request 0 is held up until the answer to request 1 was collected.
+fn is_served_beside<R: Wait>(
+    rt: &R,
+    alloc: Global,
+    pool: &mut Pool<Holds>,
+    is_open: &AtomicBool,
+) -> bool {
+    if pool.submit(rt, greedy_request(alloc)) != Ok(0) {
+        return false;
+    }
+    if pool.submit(rt, slice_request()) != Ok(1) {
+        return false;
+    }
+    let is_first = is_no_slice(pool.collect(rt));
+    is_open.store(true, Ordering::SeqCst);
+    let is_second = is_witness(pool.collect(rt));
+    is_first && is_second && !is_pending(pool.collect(rt))
+}
+
+fn pool_serves<R: Threads + Wait + Clone + Send + Drop + 'static>(rt: &R, alloc: Global) -> bool {
+    let Some(is_open) = flag_of(alloc, false) else {
+        return false;
+    };
+    match pool_of(rt, alloc, 2, &is_open) {
+        Some(Ok(mut pool)) => {
+            let is_right = is_served_beside(rt, alloc, &mut pool, &is_open);
+            is_open.store(true, Ordering::SeqCst);
+            pool.stop(rt);
+            is_right
+        }
+        _ => false,
+    }
+}
+
+#[test]
+fn pool_serves_on_one_thread(rt: HostRuntime) {
+    assert!(rt; pool_serves(&rt, rt.alloc()));
+}
+
+// How many requests are taken, up to 70, before one is refused; and whether that is since so many are pending.
+fn count_taken<R: Wait>(rt: &R, pool: &mut Pool<Holds>) -> (u32, bool) {
+    for taken in 0..70u32 {
+        match pool.submit(rt, slice_request()) {
+            Ok(number) => {
+                if number != taken {
+                    return (taken, false);
+                }
+            }
+            Err(why) => return (taken, why == SubmitRefusal::Busy),
+        }
+    }
+    (70, false)
+}
+
+// The same, and whether a request is taken once an answer was collected, under the next number.
+fn is_full_at_64<R: Wait>(rt: &R, pool: &mut Pool<Holds>) -> bool {
+    if count_taken(rt, pool) != (64, true) {
+        return false;
+    }
+    if !is_pending(pool.collect(rt)) {
+        return false;
+    }
+    pool.submit(rt, slice_request()) == Ok(64)
+}
+
+fn pool_fills<R: Threads + Wait + Clone + Send + Drop + 'static>(rt: &R, alloc: Global) -> bool {
+    let Some(is_open) = flag_of(alloc, true) else {
+        return false;
+    };
+    match pool_of(rt, alloc, 1, &is_open) {
+        Some(Ok(mut pool)) => {
+            let is_right = is_full_at_64(rt, &mut pool);
+            pool.stop(rt);
+            is_right
+        }
+        _ => false,
+    }
+}
+
+#[test]
+fn a_65th_request_is_refused(rt: HostRuntime) {
+    assert!(rt; pool_fills(&rt, rt.alloc()));
+}

@@ -1,0 +1,124 @@
+//! Why the program stops short of what the words ask for, how all that stops it becomes that, and what it says then.
+
+use crate::notes::{append_file_notes, append_joint_notes};
+use clap::error::{Error, ErrorKind};
+use client_scripts::{FromWrite, ReplayFault, write_all};
+use program_calls::{BenchFault, bench_fault_text};
+use std::alloc::{AllocError, AllocFailed, Global};
+use std::process::ExitCode;
+
+/// Why nothing more is done.
+#[derive(Drop)]
+pub(crate) enum Stop {
+    /// The words are refused, or ask for help.
+    Words(Error),
+    /// A fault, and the notes on it, if there can be any.
+    Fault(BenchFault, Option<Vec<u8>>),
+}
+
+impl From<BenchFault> for Stop {
+    fn from(fault: BenchFault) -> Stop {
+        Stop::Fault(fault, None)
+    }
+}
+
+impl From<ReplayFault> for Stop {
+    fn from(fault: ReplayFault) -> Stop {
+        Stop::from(BenchFault::from(fault))
+    }
+}
+
+impl From<AllocError> for Stop {
+    fn from(_error: AllocError) -> Stop {
+        Stop::from(ReplayFault::OutOfMemory)
+    }
+}
+
+impl<T: Drop> From<AllocFailed<T>> for Stop {
+    fn from(_failed: AllocFailed<T>) -> Stop {
+        Stop::from(ReplayFault::OutOfMemory)
+    }
+}
+
+impl From<Error> for Stop {
+    fn from(error: Error) -> Stop {
+        match error.kind() {
+            ErrorKind::OutOfMemory => Stop::from(ReplayFault::OutOfMemory),
+            _ => Stop::Words(error),
+        }
+    }
+}
+
+/// A fault of the joint text, of which these are the first bytes, with its notes; want of memory where there is none for them.
+pub(crate) fn in_joint(rt: &HostRuntime, fault: ReplayFault, kept: &[u8], is_whole: bool) -> Stop {
+    let mut notes = Vec::new(rt.alloc());
+    match append_joint_notes(&mut notes, kept, is_whole, &fault) {
+        Ok(()) => Stop::Fault(BenchFault::from(fault), Some(notes)),
+        Err(_) => Stop::from(ReplayFault::OutOfMemory),
+    }
+}
+
+/// A fault of the trace and the scripts at these paths, with its notes; want of memory where there is none for them.
+pub(crate) fn in_files(rt: &HostRuntime, fault: BenchFault, paths: &[&str]) -> Stop {
+    let mut notes = Vec::new(rt.alloc());
+    match append_file_notes(rt, &mut notes, paths, &fault) {
+        Ok(()) => Stop::Fault(fault, Some(notes)),
+        Err(_) => Stop::from(ReplayFault::OutOfMemory),
+    }
+}
+
+/// The line that tells a fault, and the notes behind it.
+fn fault_lines(
+    alloc: Global,
+    fault: &BenchFault,
+    notes: &Option<Vec<u8>>,
+) -> Result<Vec<u8>, BenchFault> {
+    let mut lines = Vec::new(alloc);
+    lines.extend_from_slice(b"racebench: ")?;
+    bench_fault_text(fault, &mut lines)?;
+    lines.extend_from_slice(b"\n")?;
+    if let Some(notes) = notes {
+        lines.extend_from_slice(notes)?;
+    }
+    Ok(lines)
+}
+
+/// The status of a fault: 2 where the words ask for more than the program does.
+fn status_of(fault: &BenchFault) -> ExitCode {
+    match fault {
+        BenchFault::TooManyScripts => ExitCode::from(2),
+        _ => ExitCode::FAILURE,
+    }
+}
+
+/// Writes these bytes on standard error. Where that fails there is nobody left to tell.
+pub(crate) fn say(rt: &HostRuntime, bytes: &[u8]) {
+    let mut errors = FromWrite::new(rt.stderr());
+    let _ = write_all(&mut errors, bytes);
+}
+
+/// Tells a fault on standard error.
+fn tell_fault(rt: &HostRuntime, fault: &BenchFault, notes: &Option<Vec<u8>>) -> ExitCode {
+    match fault_lines(rt.alloc(), fault, notes) {
+        Ok(lines) => say(rt, &lines),
+        Err(_) => say(rt, b"racebench: out of memory\n"),
+    }
+    status_of(fault)
+}
+
+/// Tells why the words are refused, or helps.
+fn tell_words(rt: &HostRuntime, error: &Error) -> ExitCode {
+    let told = error.print(rt);
+    if told.is_err() && !error.use_stderr() {
+        return tell_fault(rt, &BenchFault::from(ReplayFault::Write), &None);
+    }
+    ExitCode::from(error.exit_code() as u8)
+}
+
+/// Tells why the program stopped.
+pub(crate) fn tell(rt: &HostRuntime, stop: &Stop) -> ExitCode {
+    match stop {
+        Stop::Words(error) => tell_words(rt, error),
+        Stop::Fault(fault, notes) => tell_fault(rt, fault, notes),
+    }
+}

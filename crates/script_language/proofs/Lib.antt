@@ -1,0 +1,7 @@
+pub mod CallerLemmas
+pub mod FindLemmas
+pub mod KeptLemmas
+pub mod LineLemmas
+pub mod NumberLemmas
+pub mod ReadingLemmas
+pub mod WordLemmas

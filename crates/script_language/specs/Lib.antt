@@ -1,0 +1,6 @@
+pub mod Kept
+pub mod LineWords
+pub mod LinesLeft
+pub mod Reading
+pub mod ScriptCalls
+pub mod Scripts

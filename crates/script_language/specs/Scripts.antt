@@ -1,0 +1,178 @@
+-- What a script says: its calls, or its first refused line with its first cause. The language is this
+-- project's own.
+use Rattle.std.specs.Prelude.{◌≡◌, ℕ, ◌+◌, ◌==◌, nat_lt, nat_le, Bool, false, ◌&&◌, if◌then◌else◌, List, [], ◌∷◌, ◌++◌, length, filter_map, find, All, Option, Some, None, is_some, ok_or, Result, Ok, Err, IsOk, codes, bytes_eq}
+use Rattle.std.specs.List.{list_all, slice_split}
+use Rattle.rapid_text.specs.Reading.{is_line_feed, trimmed}
+use Rattle.moves.specs.Names.{is_name}
+use Rattle.moves.specs.declared.command.Command.TheVariants.{Fresh, Add, Back, Swap, Branch, Drop, Adopt}
+use Rattle.inverse_log.specs.declared.call.Call.{Call}
+use Rattle.inverse_log.specs.declared.call.Call.TheVariants.{Do, Undo, UndoAt, Propose, Show, List as ListNames, Races}
+use Rattle.script_language.specs.LineWords.{words_of, written_number}
+use Rattle.script_language.specs.declared.verb.Verb.{Verb}
+use Rattle.script_language.specs.declared.verb.Verb.TheVariants.{New as NewWord, Add as AddWord, Back as BackWord, Swap as SwapWord, Branch as BranchWord, Drop as DropWord, Adopt as AdoptWord, Undo as UndoWord, Propose as ProposeWord, Show as ShowWord, List as ListWord, Races as RacesWord}
+use Rattle.script_language.specs.declared.refusal.ScriptCause.{ScriptCause}
+use Rattle.script_language.specs.declared.refusal.ScriptCause.TheVariants.{BadWord, BadNumber, BadClient, BadName, LineTooLong, OutOfMemory}
+use Rattle.script_language.specs.declared.refusal.ScriptRefusal.{ScriptRefusal}
+
+-- the word of each kind of call
+abbrev pub word_of : Verb → List ℕ
+word_of NewWord = codes "new"
+word_of AddWord = codes "add"
+word_of BackWord = codes "back"
+word_of SwapWord = codes "swap"
+word_of BranchWord = codes "branch"
+word_of DropWord = codes "drop"
+word_of AdoptWord = codes "adopt"
+word_of UndoWord = codes "undo"
+word_of ProposeWord = codes "propose"
+word_of ShowWord = codes "show"
+word_of ListWord = codes "list"
+word_of RacesWord = codes "races"
+
+abbrev pub verbs : List Verb
+verbs =
+    NewWord ∷ AddWord ∷ BackWord ∷ SwapWord ∷ BranchWord ∷ DropWord ∷ AdoptWord ∷ UndoWord ∷ ProposeWord ∷ ShowWord ∷ ListWord ∷ RacesWord ∷ []
+
+-- the kind of call with this word
+abbrev pub verb_of : List ℕ → Option Verb
+verb_of word = find (λ verb. bytes_eq word (word_of verb)) verbs
+
+-- the word as a name, and as a number
+abbrev pub name_reading : List ℕ → Result (List ℕ) ScriptCause
+name_reading word = if is_name word then Ok word else Err BadName
+
+abbrev pub number_reading : List ℕ → Result ℕ ScriptCause
+number_reading word = ok_or (written_number word) BadNumber
+
+-- the words as numbers
+abbrev pub numbers_reading : List (List ℕ) → Result (List ℕ) ScriptCause
+numbers_reading words =
+    if list_all (λ word. is_some (written_number word)) words then Ok (filter_map written_number words) else Err BadNumber
+
+-- what a reading gives is used, and its fault stays
+abbrev pub then_read : {A B : Type 0} → Result A ScriptCause → (A → Result B ScriptCause) → Result B ScriptCause
+then_read (Ok value) next = next value
+then_read (Err why) next = Err why
+
+-- no argument
+abbrev pub nothing_reading : List (List ℕ) → Result Unit ScriptCause
+nothing_reading [] = Ok tt
+nothing_reading words = Err BadWord
+
+-- one argument, a name
+abbrev pub one_name_reading : List (List ℕ) → Result (List ℕ) ScriptCause
+one_name_reading (name ∷ []) = name_reading name
+one_name_reading words = Err BadWord
+
+-- a name and a number; arguments are judged from left to right, and their number before them
+abbrev pub name_and_number_reading : List (List ℕ) → Result (List ℕ × ℕ) ScriptCause
+name_and_number_reading (name ∷ number ∷ []) =
+    then_read (name_reading name) (λ n. then_read (number_reading number) (λ k. Ok (n, k)))
+name_and_number_reading words = Err BadWord
+
+-- the source's name, a length and the new schedule's name
+abbrev pub branch_reading : List (List ℕ) → Result Call ScriptCause
+branch_reading (name ∷ len ∷ to ∷ []) =
+    then_read (name_reading name) (λ n. then_read (number_reading len) (λ k. then_read (name_reading to) (λ m. Ok (Do (Branch n k m)))))
+branch_reading words = Err BadWord
+
+-- no argument, or the number of an entry
+abbrev pub undo_reading : List (List ℕ) → Result Call ScriptCause
+undo_reading [] = Ok Undo
+undo_reading (entry ∷ []) = then_read (number_reading entry) (λ k. Ok (UndoAt k))
+undo_reading words = Err BadWord
+
+-- the two events of a pair, and the events of the proposed list
+abbrev pub propose_reading : List (List ℕ) → Result Call ScriptCause
+propose_reading (first ∷ second ∷ events) =
+    then_read (number_reading first) (λ a. then_read (number_reading second) (λ b. then_read (numbers_reading events) (λ list. Ok (Propose a b list))))
+propose_reading words = Err BadWord
+
+-- the arguments of a call of this kind
+abbrev pub arguments_reading : Option Verb → List (List ℕ) → Result Call ScriptCause
+arguments_reading None words = Err BadWord
+arguments_reading (Some NewWord) words = then_read (one_name_reading words) (λ n. Ok (Do (Fresh n)))
+arguments_reading (Some AddWord) words = then_read (name_and_number_reading words) (λ a. Ok (Do (Add a.0 a.1)))
+arguments_reading (Some BackWord) words = then_read (one_name_reading words) (λ n. Ok (Do (Back n)))
+arguments_reading (Some SwapWord) words = then_read (name_and_number_reading words) (λ a. Ok (Do (Swap a.0 a.1)))
+arguments_reading (Some BranchWord) words = branch_reading words
+arguments_reading (Some DropWord) words = then_read (one_name_reading words) (λ n. Ok (Do (Drop n)))
+arguments_reading (Some AdoptWord) words = then_read (name_and_number_reading words) (λ a. Ok (Do (Adopt a.0 a.1)))
+arguments_reading (Some UndoWord) words = undo_reading words
+arguments_reading (Some ProposeWord) words = propose_reading words
+arguments_reading (Some ShowWord) words = then_read (one_name_reading words) (λ n. Ok (Show n))
+arguments_reading (Some ListWord) words = then_read (nothing_reading words) (λ _. Ok ListNames)
+arguments_reading (Some RacesWord) words = then_read (one_name_reading words) (λ n. Ok (Races n))
+
+-- the words after the client's number
+abbrev pub call_reading : List (List ℕ) → Result Call ScriptCause
+call_reading [] = Err BadWord
+call_reading (word ∷ words) = arguments_reading (verb_of word) words
+
+-- clients are numbered from 1 to 32
+abbrev pub is_client : ℕ → Bool
+is_client n = nat_le 1 n && nat_le n 32
+
+abbrev pub client_by : Option ℕ → Result ℕ ScriptCause
+client_by None = Err BadClient
+client_by (Some n) = if is_client n then Ok n else Err BadClient
+
+-- the word as a client's number
+abbrev pub client_reading : List ℕ → Result ℕ ScriptCause
+client_reading word = client_by (written_number word)
+
+-- the words of a line: a client, which is judged first, and a call
+abbrev pub words_reading : List (List ℕ) → Result (ℕ × Call) ScriptCause
+words_reading [] = Err BadClient
+words_reading (word ∷ words) =
+    then_read (client_reading word) (λ client. then_read (call_reading words) (λ call. Ok (client, call)))
+
+-- what a line asks for: nothing where it is empty; it has at most 65,536 bytes between its blanks
+abbrev pub script_line_reading : List ℕ → Result (Option (ℕ × Call)) ScriptCause
+script_line_reading raw =
+    let line = trimmed raw in
+    if length line == 0
+    then Ok None
+    else (if nat_lt 65536 (length line)
+    then Err LineTooLong
+    else then_read (words_reading (words_of line)) (λ asked. Ok (Some asked)))
+
+-- A call that a line asks for. Lines are counted from 1, all of them.
+pub record Asked : Type 0 where
+  pub line : ℕ
+  pub client : ℕ
+  pub call : Call
+
+abbrev pub asked_by : ℕ → Result (Option (ℕ × Call)) ScriptCause → List Asked
+asked_by line (Ok (Some (client, call))) = record { line = line; client = client; call = call } ∷ []
+asked_by line reading = []
+
+-- what lines ask for, in order, of which n lines stand before them
+abbrev pub asked_behind : ℕ → List (List ℕ) → List Asked
+asked_behind n [] = []
+asked_behind n (line ∷ lines) = asked_by (n + 1) (script_line_reading line) ++ asked_behind (n + 1) lines
+
+-- no line is refused
+abbrev pub AreRead : List (List ℕ) → Type 0
+AreRead lines = All (λ line. IsOk (script_line_reading line)) lines
+
+-- The line behind `before` is the first that is refused, for this cause.
+pub record IsFirstRefused (lines : List (List ℕ)) (refusal : ScriptRefusal) : Type 0 where
+  pub before : List (List ℕ)
+  pub line : List ℕ
+  pub behind : List (List ℕ)
+  pub split : lines ≡ before ++ line ∷ behind
+  pub none_before : AreRead before
+  pub refused : script_line_reading line ≡ Err refusal.why
+  pub place : refusal.line ≡ length before + 1
+
+-- What a script says: the calls of its lines, where none is refused, or the first line that is.
+abbrev pub IsScript : List ℕ → Result (List Asked) ScriptRefusal → Type 0
+IsScript text (Ok asked) =
+    let lines = slice_split is_line_feed text in
+    AreRead lines × (asked ≡ asked_behind 0 lines)
+IsScript text (Err refusal) = IsFirstRefused (slice_split is_line_feed text) refusal
+
+-- a growth was refused; no line is at fault
+abbrev pub no_memory : ScriptRefusal
+no_memory = record { line = 0; why = OutOfMemory }

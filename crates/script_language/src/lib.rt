@@ -1,0 +1,17 @@
+//! The language of scripts: lines of a client's number, a command word and its arguments.
+#![tactic(auto)]
+
+mod calls;
+mod kept;
+mod lines;
+mod number;
+mod reading;
+mod refusal;
+mod script;
+mod verb;
+
+pub use lines::Lines;
+pub use reading::read_script;
+pub use refusal::{ScriptCause, ScriptRefusal};
+pub use script::{Script, ScriptCall};
+pub use verb::Verb;

@@ -1,0 +1,113 @@
+//! The lines of a text, and the words of a line.
+ghost use Rattle.std.specs.Prelude.{◌≡◌, ◌≤◌, [], ◌∷◌, length, IfSome, IfNone};
+ghost use Rattle.std.specs.List.{slice_split, join_with_byte, position_or_len};
+ghost use Rattle.rapid_text.specs.Reading.{is_blank, is_line_feed};
+ghost use Rattle.script_language.specs.LineWords.{words_of};
+
+use memchr::memchr;
+use rapid_text::{is_a_blank, trim_start};
+use std::marker::Model;
+
+/// How many bytes stand before the first blank.
+fn word_len(bytes: &[u8]) -> usize
+    ensures word { result ≡ position_or_len is_blank bytes.now }
+    ensures within { result ≤ length bytes.now }
+{
+    bytes.iter().take_while(|byte| !is_a_blank(**byte)).count()
+}
+
+/// The first word of a line and what stands after it, if there is a word.
+fn first_word(line: &[u8]) -> Option<(&[u8], &[u8])>
+    ensures none { IfNone result (words_of line.now ≡ []) }
+    ensures some { IfSome result (λ parts. words_of line.now ≡ parts.0.now ∷ words_of parts.1.now) }
+{
+    let rest = trim_start(line);
+    if rest.is_empty() {
+        return None;
+    }
+    Some(rest.split_at(word_len(rest)))
+}
+
+/// The words of a line that were not taken yet. Contracts see it as the list of these words.
+#[derive(Drop)]
+pub(crate) struct Words<'a> {
+    rest: &'a [u8],
+}
+
+impl<'a> Model for Words<'a> {
+    ghost use Rattle.std.specs.Prelude.{List, ℕ};
+    ghost use Rattle.script_language.specs.LineWords.{words_of};
+
+    ghost Value = { List (List ℕ) };
+
+    ghost view = { λ w. words_of w.rest.now };
+}
+
+impl<'a> Words<'a> {
+    /// All words of the line.
+    pub(crate) fn of(line: &'a [u8]) -> Words<'a>
+        ensures { result ≡ words_of line.now }
+    {
+        Words { rest: line }
+    }
+
+    /// Takes the first word.
+    pub(crate) fn next(&mut self) -> Option<&'a [u8]>
+        ensures none { IfNone result (self.old ≡ []) }
+        ensures some { IfSome result (λ word. self.old ≡ word.now ∷ self.new) }
+    {
+        let (word, others) = first_word(self.rest)?;
+        self.rest = others;
+        Some(word)
+    }
+}
+
+/// The lines of a text that were not taken yet. Contracts see it as the list of these lines.
+#[derive(Drop)]
+pub struct Lines<'a> {
+    // None once the last line was taken, which has no end.
+    rest: Option<&'a [u8]>,
+}
+
+impl<'a> Model for Lines<'a> {
+    ghost use Rattle.std.specs.Prelude.{List, ℕ};
+    ghost use Rattle.script_language.specs.LinesLeft.{lines_left};
+
+    ghost Value = { List (List ℕ) };
+
+    ghost view = { λ l. lines_left l.rest };
+}
+
+impl<'a> Lines<'a> {
+    /// All lines of the text, without their ends.
+    pub fn of(text: &'a [u8]) -> Lines<'a>
+        ensures { result ≡ slice_split is_line_feed text.now }
+    {
+        Lines { rest: Some(text) }
+    }
+
+    /// Takes the first line.
+    pub fn next(&mut self) -> Option<&'a [u8]>
+        ensures none { IfNone result (self.old ≡ []) }
+        ensures some { IfSome result (λ line. self.old ≡ line.now ∷ self.new) }
+    {
+        let text = self.rest?;
+        match memchr(b'\n', text) {
+            Some(at) => {
+                self.rest = Some(&text[at + 1..]);
+                Some(&text[..at])
+            }
+            None => {
+                self.rest = None;
+                Some(text)
+            }
+        }
+    }
+
+    /// What is left as one text; nothing where no line is left.
+    pub fn text(&self) -> &'a [u8]
+        ensures { result.now ≡ join_with_byte 10 self.now }
+    {
+        self.rest.unwrap_or(&[])
+    }
+}

@@ -1,0 +1,243 @@
+//! A pool of workers, each a thread of its own.
+ghost use Rattle.std.specs.Prelude.{◌≡◌, ◌≢◌, ℕ, ◌<◌, ◌⊎◌, ◌↔◌, [], length, All, AllPairs, IsTrue, IfOk, IfErr, IfSome, OnErr, Err, Some, false, slice_get, vec_len};
+ghost use Rattle.std.specs.Arc.{arc_value};
+ghost use Rattle.crossbeam_channel.specs.Claims.{IsSeatAt};
+ghost use Rattle.crossbeam_channel.specs.Ends.{sends_on, receives_on};
+ghost use Rattle.search_pool.specs.Limits.{worker_limit};
+ghost use Rattle.search_pool.specs.Passes.{IsOfTrace};
+ghost use Rattle.search_pool.specs.Pools.{AreRising, IsFull, IsPooled, Submits, Collects, IsTaken};
+ghost use Rattle.search_pool.specs.declared.refusal.CollectRefusal.TheVariants.{NothingPending};
+ghost use Rattle.search_pool.specs.declared.refusal.StartRefusal.TheVariants.{BadCount};
+ghost use Rattle.search_pool.specs.declared.refusal.SubmitRefusal.TheVariants.{Busy};
+
+use crate::line::{
+    AnswerPass, AnswerReceiver, MAX_PENDING, RequestPass, RequestSender, another_answerer,
+    another_requester, answer_line, give_request, next_answer, request_line,
+};
+use crate::outcome::Found;
+use crate::refusal::{CollectRefusal, StartRefusal, SubmitRefusal};
+use crate::request::{Posed, Request, is_same, request_copy};
+use crate::worker::{Gate, hire};
+use event_index::Indexed;
+use shb_clocks::Clocks;
+use std::alloc::Global;
+use std::marker::{Model, PhantomData};
+use std::snapshot::Snapshot;
+use std::sync::{Arc, Wait};
+use std::thread::{JoinHandle, Threads};
+
+/// The most workers of a pool.
+const MAX_WORKERS: usize = 32;
+
+/// Workers that slice and search on one trace, and the requests that wait for their answers. It has to be stopped.
+pub struct Pool<G: Gate + Drop> {
+    alloc: Global,
+    of: Snapshot<Indexed>,
+    requests: RequestSender,
+    request_pass: RequestPass,
+    answers: AnswerReceiver,
+    answer_pass: AnswerPass,
+    submitted: u32,
+    pending: Vec<Posed>,
+    workers: Vec<JoinHandle<()>>,
+    gates: PhantomData<G>,
+}
+
+impl<G: Gate + Drop> Model for Pool<G> {
+    ghost use Rattle.crossbeam_channel.specs.Claims.{IsSeatAt};
+    ghost use Rattle.crossbeam_channel.specs.Ends.{sends_on, receives_on};
+    ghost use Rattle.search_pool.specs.Passes.{IsOfTrace};
+    ghost use Rattle.search_pool.specs.Pools.{Pooled, IsPooled};
+
+    ghost Value = { Pooled };
+
+    ghost view = { λ s. record {
+      trace = s.of.value;
+      submitted = s.submitted;
+      pending = s.pending.items;
+    } };
+
+    ghost invariant = { λ s.
+        IsPooled s.submitted s.pending.items × IsSeatAt (sends_on s.requests) s.request_pass × IsSeatAt (receives_on s.answers) s.answer_pass × IsOfTrace s.of.value s.answer_pass };
+}
+
+impl<G: Gate + Drop + Send + 'static> Pool<G> {
+    /// Starts a worker for each gate; the clocks are of the trace of the index. It waits for nobody. Where a thread or
+    /// memory is wanting, the workers that were started are told to end.
+    pub fn start<R: Threads + Wait + Clone + Send + Drop + 'static>(
+        rt: &R,
+        alloc: Global,
+        indexed: Arc<Indexed>,
+        clocks: Arc<Clocks>,
+        gates: Vec<G>,
+    ) -> Result<Pool<G>, StartRefusal>
+        requires trace { arc_value clocks ≡ arc_value indexed }
+        // A started pool is of that trace, and nothing was asked of it.
+        ensures trace { IfOk result (λ pool. pool.trace ≡ arc_value indexed) }
+        ensures submitted { IfOk result (λ pool. pool.submitted ≡ 0) }
+        ensures pending { IfOk result (λ pool. pool.pending ≡ []) }
+        // Its count is refused exactly where it is none from 1 to 32.
+        ensures count { (result ≡ Err BadCount) ↔ ((vec_len gates ≡ 0) ⊎ (worker_limit < vec_len gates)) }
+    {
+        if gates.len() == 0 {
+            return Err(StartRefusal::BadCount);
+        }
+        if gates.len() > MAX_WORKERS {
+            return Err(StartRefusal::BadCount);
+        }
+        Pool::start_all(rt, alloc, indexed, clocks, gates)
+    }
+
+    // The same of any count.
+    fn start_all<R: Threads + Wait + Clone + Send + Drop + 'static>(
+        rt: &R,
+        alloc: Global,
+        indexed: Arc<Indexed>,
+        clocks: Arc<Clocks>,
+        gates: Vec<G>,
+    ) -> Result<Pool<G>, StartRefusal>
+        requires trace { arc_value clocks ≡ arc_value indexed }
+        ensures trace { IfOk result (λ pool. pool.trace ≡ arc_value indexed) }
+        ensures submitted { IfOk result (λ pool. pool.submitted ≡ 0) }
+        ensures pending { IfOk result (λ pool. pool.pending ≡ []) }
+        ensures count { IfErr result (λ why. why ≢ BadCount) }
+    {
+        let (requests, taken, mut request_pass) = request_line(alloc)?;
+        let (given, answers, mut answer_pass) = answer_line(alloc, &indexed)?;
+        let mut workers = Vec::new(alloc);
+        for gate in gates {
+            let own_requests = another_requester(&requests, &mut request_pass);
+            let own_answers = another_answerer(&given, &mut answer_pass, &indexed);
+            let worker = hire(
+                rt,
+                alloc,
+                &indexed,
+                &clocks,
+                &taken,
+                own_requests,
+                &given,
+                own_answers,
+                gate,
+            )?;
+            if workers.push(worker).is_err() {
+                return Err(StartRefusal::OutOfMemory);
+            }
+        }
+        // Only the workers keep ends at which requests are taken and answers given.
+        drop(taken);
+        drop(given);
+        Ok(Pool {
+            alloc,
+            of: Snapshot::of(&*indexed),
+            requests,
+            request_pass,
+            answers,
+            answer_pass,
+            submitted: 0,
+            pending: Vec::new(alloc),
+            workers,
+            gates: PhantomData,
+        })
+    }
+
+    /// Submits a request, and answers its number: how many were submitted before it.
+    pub fn submit<R: Wait>(&mut self, rt: &R, request: Request) -> Result<u32, SubmitRefusal>
+        // It then is pending, after those that were.
+        ensures ok { IfOk result (λ number. Submits self.old request number self.new) }
+        ensures refused { OnErr result (self.new ≡ self.old) }
+        // It is refused as one too many exactly where 64 are pending or 4,294,967,295 were submitted.
+        ensures busy { (result ≡ Err Busy) ↔ IsFull self.old }
+    {
+        if self.pending.len() == MAX_PENDING {
+            return Err(SubmitRefusal::Busy);
+        }
+        if self.submitted == u32::MAX {
+            return Err(SubmitRefusal::Busy);
+        }
+        let number = self.submitted;
+        let Ok(copy) = request_copy(self.alloc, &request) else {
+            return Err(SubmitRefusal::OutOfMemory);
+        };
+        let Ok(()) = self.pending.reserve(1) else {
+            return Err(SubmitRefusal::OutOfMemory);
+        };
+        let posed = Posed {
+            number,
+            request: copy,
+        };
+        if !give_request(rt, &self.requests, &mut self.request_pass, posed) {
+            return Err(SubmitRefusal::Stopped);
+        }
+        let _ = self.pending.push(Posed { number, request });
+        self.submitted += 1;
+        Ok(number)
+    }
+
+    /// Waits for an answer to a pending request, whichever comes first, and gives it. It is refused where all workers
+    /// have stopped.
+    pub fn collect<R: Wait>(&mut self, rt: &R) -> Result<Found, CollectRefusal>
+        // It is right for its request on the pool's trace, and the request is no longer pending.
+        ensures ok { IfOk result (λ found. Collects self.old found self.new) }
+        ensures refused { OnErr result (self.new ≡ self.old) }
+        ensures none { (result ≡ Err NothingPending) ↔ (self.old.pending ≡ []) }
+    {
+        if self.pending.len() == 0 {
+            return Err(CollectRefusal::NothingPending);
+        }
+        let Some(answer) = next_answer(rt, &self.answers, &mut self.answer_pass) else {
+            return Err(CollectRefusal::Stopped);
+        };
+        if !take_out(&mut self.pending, answer.posed()) {
+            return Err(CollectRefusal::Stopped);
+        }
+        Ok(answer.into_found())
+    }
+
+    /// Ends the workers, each after at most one more request, and waits until they have ended.
+    pub fn stop<R: Threads + Wait>(self, rt: &R) {
+        let Pool {
+            alloc: _,
+            of: _,
+            requests,
+            request_pass: _,
+            answers,
+            answer_pass: _,
+            submitted: _,
+            pending: _,
+            workers,
+            gates: _,
+        } = self;
+        drop(requests);
+        drop(answers);
+        for worker in workers {
+            worker.join(rt);
+        }
+    }
+}
+
+// Where the request stands among the pending ones.
+fn place_of(pending: &[Posed], posed: &Posed) -> Option<usize>
+    ensures { IfSome result (λ at. slice_get pending.now at ≡ Some posed.now) }
+{
+    for at in 0..pending.len() {
+        if is_same(&pending[at], posed) {
+            return Some(at);
+        }
+    }
+    None
+}
+
+// Takes the request out of the pending ones. Answers whether it was one of them.
+fn take_out(pending: &mut Vec<Posed>, posed: &Posed) -> bool
+    requires { AreRising pending.old.items }
+    ensures taken { IsTrue result → IsTaken posed.now pending.old.items pending.new.items }
+    ensures gone { IsTrue result → All (λ p. p.number ≢ posed.now.number) pending.new.items }
+    ensures pooled { (n : ℕ) → IsPooled n pending.old.items → IsPooled n pending.new.items }
+    ensures none { result ≡ false → pending.new.items ≡ pending.old.items }
+{
+    let Some(at) = place_of(pending, posed) else {
+        return false;
+    };
+    drop(pending.remove(at));
+    true
+}

@@ -1,0 +1,91 @@
+//! What a pool is asked.
+ghost use Rattle.std.specs.Prelude.{◌≡◌, IfOk, IsTrue};
+
+use event_index::EventList;
+use rapid_text::OutOfMemory;
+use std::alloc::Global;
+
+/// How a pair is looked at.
+#[derive(Drop)]
+pub enum Way {
+    /// As `slice` does.
+    Slice,
+    /// As `greedy` does, where it begins with a schedule of these events.
+    Greedy {
+        /// The events to begin with, in their order.
+        base: EventList,
+        /// The most events that are added.
+        budget: u32,
+    },
+}
+
+/// A pair to be shown, and the way to look for a schedule that does.
+#[derive(Drop)]
+pub struct Request {
+    /// One event of the pair.
+    pub first: u32,
+    /// The other.
+    pub second: u32,
+    /// How the pair is looked at.
+    pub way: Way,
+}
+
+/// A request and the number under which it was submitted.
+#[derive(Drop)]
+pub(crate) struct Posed {
+    pub(crate) number: u32,
+    pub(crate) request: Request,
+}
+
+fn way_copy(alloc: Global, way: &Way) -> Result<Way, OutOfMemory>
+    ensures { IfOk result (λ copy. copy ≡ way.now) }
+{
+    match way {
+        Way::Slice => Ok(Way::Slice),
+        Way::Greedy { base, budget } => {
+            let events = Vec::from_slice(alloc, base.items())?;
+            Ok(Way::Greedy {
+                base: EventList::from(events),
+                budget: *budget,
+            })
+        }
+    }
+}
+
+/// The same request once more.
+pub(crate) fn request_copy(alloc: Global, request: &Request) -> Result<Request, OutOfMemory>
+    ensures { IfOk result (λ copy. copy ≡ request.now) }
+{
+    let way = way_copy(alloc, &request.way)?;
+    Ok(Request {
+        first: request.first,
+        second: request.second,
+        way,
+    })
+}
+
+fn is_same_way(one: &Way, other: &Way) -> bool
+    ensures { IsTrue result → one.now ≡ other.now }
+{
+    match (one, other) {
+        (Way::Slice, Way::Slice) => true,
+        (
+            Way::Greedy { base, budget },
+            Way::Greedy {
+                base: other_base,
+                budget: other_budget,
+            },
+        ) => *budget == *other_budget && base.items() == other_base.items(),
+        _ => false,
+    }
+}
+
+/// Whether the two are one request under one number.
+pub(crate) fn is_same(one: &Posed, other: &Posed) -> bool
+    ensures { IsTrue result → one.now ≡ other.now }
+{
+    one.number == other.number
+        && one.request.first == other.request.first
+        && one.request.second == other.request.second
+        && is_same_way(&one.request.way, &other.request.way)
+}

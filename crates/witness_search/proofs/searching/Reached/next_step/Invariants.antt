@@ -1,6 +1,0 @@
-use Rattle.witness_search.specs.Searches.{IsLeastOf, IsStepBelow}
-use Rattle.witness_search.proofs.searching.Reached.next_step.Given as goal
-
-abbrev pub invariant-loop-thread : goal.invariant-loop-thread
-invariant-loop-thread l =
-    IsLeastOf (IsStepBelow l.indexed.events l.aim.first l.aim.second l.aim.wanted.items l.self.schedule.events l.thread) l.least

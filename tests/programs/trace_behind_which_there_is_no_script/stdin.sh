@@ -1,0 +1,2 @@
+# past the bytes that are kept for notes
+yes 'T1|begin|a trace of skipped lines, longer than a mebibyte' | head -n 30000
