@@ -148,6 +148,17 @@ def write_edits(folder):
         write(folder, f"replay_empty_rows_{rows}", [f"T1|w(V{i})|1" for i in range(EVENTS)], [f"1 new S{i}" for i in range(rows)])
 
 
+def write_batches(folder):
+    """Batches of 8 commands, each made and taken back, and the same commands singly; these fill the log, so there are half as many."""
+    trace = [f"T1|w(V{i})|1" for i in range(8)]
+    commands = ["new A"] + [f"add A {i}" for i in range(7)]
+    batched = [f"1 batch {' ; '.join(commands)}", "1 undo"]
+    for batches in (sized(50_000), sized(100_000)):
+        write(folder, f"replay_batches_{batches}", trace, batched * batches)
+    singly = [f"1 {command}" for command in commands] + ["1 undo"] * len(commands)
+    write(folder, f"replay_singly_{sized(50_000)}", trace, singly * sized(50_000))
+
+
 def write_scripts(folder):
     """Scripts on a bench, each at two sizes, so that one sees how the cost grows."""
     writes = ["T1|w(x)|1"] * EVENTS
@@ -156,6 +167,7 @@ def write_scripts(folder):
         write(folder, f"replay_grow_{events}", writes, grow)
         write(folder, f"replay_shrink_{events}", writes, grow + ["1 back A"] * events)
     write_edits(folder)
+    write_batches(folder)
     for entries in (sized(100_000), sized(1_000_000)):
         write(folder, f"replay_new_and_undo_{entries}", ["T1|w(x)|1"], ["1 new A", "1 undo"] * (entries // 2))
     for rounds in (sized(300), sized(3_000)):

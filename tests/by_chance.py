@@ -1,5 +1,7 @@
 """Traces that keep the rules, and calls that are most often accepted, drawn by chance for the judges."""
 
+from collections import namedtuple
+
 import plain
 
 THREADS = ["main", "T1", "T2", "worker.b", "5"]
@@ -18,17 +20,26 @@ END = [6, 4, 2, 6, 0, 3]
 # How often each call is drawn where schedules grow, and where much is taken back and copied.
 GROWING = {
     "new": 3, "add": 14, "back": 2, "swap": 3, "branch": 2, "drop": 1, "adopt": 1,
-    "undo": 4, "propose": 1, "show": 1, "list": 1, "races": 2,
+    "batch": 2, "undo": 4, "propose": 1, "show": 1, "list": 1, "races": 2,
 }
 ARGUING = {
     "new": 3, "add": 9, "back": 3, "swap": 4, "branch": 5, "drop": 3, "adopt": 3,
-    "undo": 14, "propose": 2, "show": 2, "list": 1, "races": 1,
+    "batch": 8, "undo": 14, "propose": 2, "show": 2, "list": 1, "races": 1,
 }
 # Schedules that come to have all events, whose ends are exchanged.
 ENDING = {"new": 1, "add": 40, "back": 1, "swap": 6, "undo": 1, "propose": 1, "adopt": 1, "races": 2}
 MOODS = [GROWING, ARGUING, ENDING]
-# The commands alone.
+# The commands alone, and with batches of them.
 COMMANDS = {"new": 2, "add": 4, "back": 1, "swap": 2, "branch": 2, "drop": 2}
+BATCHES = {**COMMANDS, "batch": 5}
+# The commands of a batch.
+IN_BATCHES = {**COMMANDS, "adopt": 1}
+# So long are most batches; some have as many commands as a batch may have, and some one more.
+MOST_COMMANDS = 7
+LONGEST = [plain.BATCH_LIMIT, plain.BATCH_LIMIT + 1]
+
+# What a command is drawn after: that of a log, and within a batch that of the commands before it.
+State = namedtuple("State", "trace rows board")
 
 
 def weights_at(place, length, middle):
@@ -111,35 +122,71 @@ def name_among(chance, names, preferred):
     return chance.choice(among if among and chance.random() < 0.85 else names)
 
 
+def command(chance, state, names, word):
+    """A command on one of the names; also a call that has a name alone."""
+    fresh = [name for name in names if name not in state.rows]
+    if word == "new":
+        return (word, name_among(chance, names, fresh))
+    name = name_among(chance, names, state.rows)
+    listed = state.rows[name].events if name in state.rows else ()
+    if word == "add":
+        return (word, name, event(chance, state.trace, listed))
+    if word == "swap":
+        return (word, name, neighbours(chance, state.trace, listed))
+    if word == "branch":
+        return (word, name, chance.randint(0, len(listed) + 1), name_among(chance, names, fresh))
+    if word == "adopt":
+        return (word, name, chance.randint(0, len(state.board)))
+    return (word, name)
+
+
+def batch(chance, log, names):
+    """A batch, each command of which is drawn after those before it. Most are accepted; of those that are not, the first
+    refused command is at any place, and of the others some have too many."""
+    length = chance.choice(LONGEST) if chance.random() < 0.03 else chance.randint(1, MOST_COMMANDS)
+    is_good = chance.random() < 0.8
+    rows = log.rows
+    commands = []
+    for _ in range(8 * length):
+        if len(commands) == length:
+            break
+        state = State(log.trace, rows, log.board)
+        drawn = command(chance, state, names, chance.choices(list(IN_BATCHES), list(IN_BATCHES.values()))[0])
+        try:
+            rows = log.rows_after(rows, len(log.entries), drawn)
+        except plain.Refused:
+            if is_good:
+                continue
+        commands.append(drawn)
+    return ("batch", tuple(commands or [("new", names[0])]))
+
+
 def call(chance, log, names, mood):
     """A call on one of the names, whoever makes it."""
     word = chance.choices(list(mood), list(mood.values()))[0]
-    fresh = [name for name in names if name not in log.rows]
     if word in ("undo", "list"):
         return (word,)
     if word == "propose":
         return proposal(chance, log)
-    if word == "new":
-        return (word, name_among(chance, names, fresh))
-    name = name_among(chance, names, log.rows)
-    listed = log.rows[name].events if name in log.rows else ()
-    if word == "add":
-        return (word, name, event(chance, log.trace, listed))
-    if word == "swap":
-        return (word, name, neighbours(chance, log.trace, listed))
-    if word == "branch":
-        return (word, name, chance.randint(0, len(listed) + 1), name_among(chance, names, fresh))
-    if word == "adopt":
-        return (word, name, chance.randint(0, len(log.board)))
-    return (word, name)
+    if word == "batch":
+        return batch(chance, log, names)
+    return command(chance, log, names, word)
 
 
 def undo_by_number(chance, log, client):
-    """An undo by number, most often of a command of the client that was not undone; also by a number that no entry has."""
+    """An undo by number, most often of what the client did and was not undone; also by a number that no entry has."""
     own = [number for number, whose, _ in log.live if whose == client]
     if own and chance.random() < 0.75:
         return ("undo", chance.choice(own))
     return ("undo", chance.randint(0, len(log.entries)))
+
+
+def call_of_client(chance, log, names, mood, client):
+    """A call of this client; some of its undos are by number."""
+    drawn = call(chance, log, names, mood)
+    if drawn == ("undo",) and chance.random() < 0.4:
+        return undo_by_number(chance, log, client)
+    return drawn
 
 
 def script(chance, trace_, length, clients=None):
@@ -152,9 +199,7 @@ def script(chance, trace_, length, clients=None):
     calls = []
     for _ in range(length):
         client = chance.choice(clients)
-        drawn = call(chance, log, names, mood)
-        if drawn == ("undo",) and chance.random() < 0.4:
-            drawn = undo_by_number(chance, log, client)
+        drawn = call_of_client(chance, log, names, mood, client)
         told, after = log.answer(client, drawn)
         calls.append((client, drawn, told, log))
         log = after

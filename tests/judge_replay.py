@@ -42,12 +42,14 @@ PROBLEMS = 20
 REACHED = """
     new|done add|done back|done swap|done branch|done drop|done adopt|done propose|proposed
     show|shown list|names races|none races|pairs
-    undo|new undo|add undo|back undo|swap undo|branch undo|drop undo|adopt undo|last undo|past-undone undo|past-others
-    undo|into-the-middle
+    undo|new undo|add undo|back undo|swap undo|branch undo|drop undo|adopt undo|batch undo|last undo|past-undone undo|past-others
+    undo|into-the-middle undo|batch-past-others undo|batch-numbered
+    batch|done batch|longest batch|made-and-dropped batch|dropped-and-made batch|twice-on-one batch|copies-its-own batch|alone
+    batch|60 batch|70-42 batch|70-43 batch|70-44 batch|70-45 batch|70-46 batch|70-47 batch|70-48 batch|70-first batch|70-later
     new|43 add|42 add|46-21 add|46-22 add|46-23 add|46-24 add|46-25 add|46-26
     needs-none needs-other needs-missing back|42 back|45 swap|42 swap|47-28 swap|47-29 swap|fork-join
     branch|42 branch|43 branch|48 drop|42 adopt|42 adopt|44 adopt|anothers
-    undo|numbered undo|past-own undo|51 undo|52 undo|52-by-source undo|52-by-own undo|57 undo|58 undo|58-undid undo|59 propose|53 propose|54 show|42 races|42
+    undo|numbered undo|past-own undo|51 undo|52 undo|52-by-source undo|52-by-own undo|52-by-batch undo|52-of-batch undo|52-later-name undo|57 undo|58 undo|58-undid undo|59 propose|53 propose|54 show|42 races|42
 """.split()
 
 
@@ -58,11 +60,13 @@ class Tally(collections.Counter):
         word = call[0]
         parts = told.split(" ")
         if parts[0] == "refused":
-            self[f"{word}|{'-'.join(parts[1:3]) if parts[1] in ('46', '47') else parts[1]}"] += 1
+            behind = {"46": parts[2:3], "47": parts[2:3], "70": parts[4:5]}.get(parts[1], [])
+            self["|".join([word, "-".join(parts[1:2] + behind)])] += 1
             self.note_refusal(log, client, call, parts)
         elif word == "undo":
             self.note_undo(log, client, int(parts[2]))
             self["undo|numbered"] += len(call) > 1
+            self["undo|batch-numbered"] += len(call) > 1 and log.entries[call[1]].kind == "batch"
         elif word == "races":
             self["races|pairs" if parts[1:] else "races|none"] += 1
             self["pairs"] += len(parts) - 1
@@ -74,6 +78,8 @@ class Tally(collections.Counter):
         if word == "adopt" and parts[1] == "done":
             whose = [entry.client for entry in log.entries if entry.kind == "proposed"][call[2]]
             self["adopt|anothers"] += whose != client
+        if word == "batch" and parts[1] == "done":
+            self.note_batch(call[1])
         self["calls"] += 1
         self["refused"] += parts[0] == "refused"
 
@@ -85,23 +91,43 @@ class Tally(collections.Counter):
             blocker = log.entries[int(parts[4])].what
             self["undo|52-by-source"] += blocker[0] == "branch" and blocker[1] == parts[5]
             self["undo|52-by-own"] += log.entries[int(parts[4])].client == client
+            self["undo|52-by-batch"] += blocker[0] == "batch"
+            undone = log.entries[call[1] if call[1:] else log.latest_live(client)].what
+            self["undo|52-of-batch"] += undone[0] == "batch"
+            self["undo|52-later-name"] += plain.writes(undone)[0] != parts[5]
         if parts[1] == "58":
             self["undo|58-undid"] += log.entries[call[1]].kind == "undid"
+        if parts[1] == "70":
+            self["batch|70-first" if parts[3] == "0" else "batch|70-later"] += 1
+
+    def note_batch(self, commands):
+        """What an accepted batch has."""
+        words = [command[0] for command in commands]
+        for at, name in enumerate(plain.written(command) for command in commands):
+            later = [command for command in commands[at + 1 :] if name in plain.touches(command)]
+            self["batch|twice-on-one"] += bool(later)
+            self["batch|made-and-dropped"] += words[at] in ("new", "branch") and ("drop", name) in later
+            self["batch|dropped-and-made"] += words[at] == "drop" and name in [plain.written(other) for other in later]
+            self["batch|copies-its-own"] += words[at] in ("new", "branch") and any(other[:2] == ("branch", name) for other in later)
+        self["batch|longest"] += len(commands) == plain.BATCH_LIMIT
+        self["batch|alone"] += len(commands) == 1
+        self["in batches"] += len(commands)
 
     def note_undo(self, log, client, undone):
-        command = log.entries[undone].what
-        self[f"undo|{command[0]}"] += 1
+        what = log.entries[undone].what
+        self[f"undo|{what[0]}"] += 1
         self["undone"] += 1
         if undone == len(log.entries) - 1:
             self["undo|last"] += 1
-        later = [entry for entry in log.entries[undone + 1 :] if entry.kind == "did"]
-        # Later commands that touched the name were undone themselves, and those that were not touch other names.
-        self["undo|past-undone"] += any(plain.writes(command) in plain.touches(entry.what) for entry in later)
+        later = [entry for entry in log.entries[undone + 1 :] if entry.kind in ("did", "batch")]
+        # Later commands that touched a name were undone themselves, and those that were not touch other names.
+        self["undo|past-undone"] += any(name in plain.touches(entry.what) for entry in later for name in plain.writes(what))
         past = [other for number, _, other in log.live if number > undone]
         self["undo|past-others"] += bool(past)
+        self["undo|batch-past-others"] += what[0] == "batch" and bool(past)
         self["undo|past-own"] += any(whose == client for number, whose, _ in log.live if number > undone)
         # A row that comes back stands before those that were made since.
-        self["undo|into-the-middle"] += command[0] == "drop" and any(other[0] in ("new", "branch") for other in past)
+        self["undo|into-the-middle"] += what[0] == "drop" and any(other[0] in ("new", "branch") for other in past)
 
 
 class Judge:
@@ -216,15 +242,22 @@ COMMANDS = [
     (0, ("new", "A")), (1, ("new", "B")), (0, ("add", "A", 0)), (2, ("branch", "A", 1, "C")), (1, ("add", "B", 3)),
     (0, ("drop", "A")), (2, ("add", "C", 3)), (1, ("new", "A")), (2, ("swap", "C", 0)),
 ]
+# Batches on the same schedules, two commands of one on one schedule, and one that makes a schedule anew.
+IN_BATCHES = [
+    (0, ("batch", (("new", "A"), ("add", "A", 0), ("new", "B")))), (1, ("batch", (("add", "B", 3), ("branch", "B", 1, "C")))),
+    (2, ("batch", (("drop", "A"), ("new", "A")))), (0, ("add", "C", 0)), (1, ("batch", (("drop", "C"), ("new", "D"), ("drop", "D")))),
+    (2, ("new", "C")), (0, ("batch", (("add", "A", 0), ("add", "A", 3), ("swap", "A", 0), ("back", "B")))),
+    (1, ("new", "D")),
+]
 
 
-def drawn_commands(chance, trace):
+def drawn_commands(chance, trace, mood):
     """Accepted commands of three clients on three schedules."""
     log = plain.Log(trace)
     commands = []
     while len(commands) < UNDOS:
         client = chance.randrange(UNDOING)
-        command = by_chance.call(chance, log, ["A", "B", "C"], by_chance.COMMANDS)
+        command = by_chance.call(chance, log, ["A", "B", "C"], mood)
         after = log.answer(client, command)[1]
         if after is not log:
             commands.append((client, command))
@@ -232,11 +265,18 @@ def drawn_commands(chance, trace):
     return commands
 
 
+def with_names(renamed, call):
+    """The command or batch with other names."""
+    if call[0] == "batch":
+        return (call[0], tuple(with_names(renamed, command) for command in call[1]))
+    return tuple(renamed.get(part, part) for part in call)
+
+
 def in_order(log, group, commands, order):
     """The commands and then the undos of these clients, all with names and clients of this group alone; and the log after all."""
     names = sorted({name for _, command in commands for name in plain.touches(command)})
     renamed = {name: f"{name}.{group}" for name in names}
-    steps = [(client, tuple(renamed.get(part, part) for part in command)) for client, command in commands]
+    steps = [(client, with_names(renamed, command)) for client, command in commands]
     for client in order:
         steps += [(client, ("undo",)), (client, ("list",))]
     steps += [(0, ("show", name)) for name in renamed.values()]
@@ -263,11 +303,14 @@ def judge_orders(judge, trace, commands, undos):
 
 
 def judge_undo(judge):
-    judge_orders(judge, plain.Trace(plain.Event(*event) for event in ONE_LOCK), COMMANDS, UNDOS)
+    one_lock = plain.Trace(plain.Event(*event) for event in ONE_LOCK)
+    judge_orders(judge, one_lock, COMMANDS, UNDOS)
+    judge_orders(judge, one_lock, IN_BATCHES, UNDOS - 2)
     for seed in range(PROBLEMS):
         chance = random.Random(seed)
         trace = by_chance.trace(chance, MOST_PROBED)
-        judge_orders(judge, trace, drawn_commands(chance, trace), UNDOS - 2)
+        mood = by_chance.BATCHES if seed % 2 else by_chance.COMMANDS
+        judge_orders(judge, trace, drawn_commands(chance, trace, mood), UNDOS - 2)
 
 
 def summary(tally):
@@ -280,7 +323,7 @@ def summary(tally):
     by_number = ", ".join(f"{number}: {count}" for number, count in sorted(refusals.items()))
     return (
         f"replay: {tally['scripts']} scripts with {tally['calls']} calls are answered as the definitions say, with {tally['undone']} "
-        f"undos done, {tally['pairs']} pairs shown, {tally['entries']} lines of logs and {tally['refused']} refusals ({by_number}); "
+        f"undos done, {tally['in batches']} commands in batches, {tally['pairs']} pairs shown, {tally['entries']} lines of logs and {tally['refused']} refusals ({by_number}); "
         f"{tally['orders']} orders of undos\n"
         f"info: {tally['traces']} traces with {tally['candidates']} candidates"
     )
@@ -298,4 +341,5 @@ def main():
     print(summary(judge.tally))
 
 
-main()
+if __name__ == "__main__":
+    main()

@@ -26,7 +26,7 @@ CALLS = (6, 10)
 # In how many runs with no door a client has to come again after another.
 LEAST_MIXED = 100
 # What has to be reached.
-REACHED = ["add", "back", "swap", "branch", "drop", "adopt", "undo", "propose", "blocked", "later"]
+REACHED = ["add", "back", "swap", "branch", "drop", "adopt", "batch", "undo", "propose", "blocked", "later"]
 
 
 def scripts(chance, trace):
@@ -41,7 +41,7 @@ def scripts(chance, trace):
     while any(len(calls) < length for calls, length in zip(drawn, lengths)):
         if len(drawn[client]) == lengths[client] or chance.random() < 0.5:
             client = chance.choice([one for one, calls in enumerate(drawn) if len(calls) < lengths[one]])
-        call = by_chance.call(chance, log, names, mood)
+        call = by_chance.call_of_client(chance, log, names, mood, client + 1)
         drawn[client].append(call)
         log = log.answer(client + 1, call)[1]
     return drawn
@@ -84,4 +84,5 @@ def main():
     )
 
 
-main()
+if __name__ == "__main__":
+    main()

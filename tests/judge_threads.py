@@ -27,7 +27,7 @@ LEAST_CHANGES = 60
 EVENTS = 40
 SHARED = ["left", "right", "middle"]
 # What has to be reached.
-REACHED = ["new", "add", "back", "swap", "branch", "drop", "adopt", "undo", "propose", "blocked", "later", "mixed"]
+REACHED = ["new", "add", "back", "swap", "branch", "drop", "adopt", "batch", "undo", "propose", "blocked", "later", "mixed"]
 
 
 def trace():
@@ -46,8 +46,9 @@ def call(chance, own):
     kinds = [
         f"new {name}", f"add {name} {event}", f"add {name} {event % 5}", f"add {name} {event % 5}",
         f"back {name}", f"swap {name} {event % 8}", f"branch {name} 0 {chance.choice([own, own + '.1'] + SHARED)}",
-        f"drop {name}", "undo", "undo", "propose 3 7", "propose 3 7 0 1 2 4 5 6",
+        f"drop {name}", "undo", "undo", f"undo {chance.randrange(CLIENTS * CALLS)}", "propose 3 7", "propose 3 7 0 1 2 4 5 6",
         f"adopt {name} 0", f"show {name}", "list", f"races {name}",
+        f"batch new {own}.2 ; add {name} {event % 5} ; branch {name} 0 {own}.3 ; drop {own}.2", f"batch drop {name} ; new {name} ; add {name} 0",
     ]
     return chance.choice(kinds)
 

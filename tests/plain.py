@@ -9,12 +9,14 @@ from collections import namedtuple
 
 LOG_LIMIT = 1_000_000
 CANDIDATE_LIMIT = 1_000
+BATCH_LIMIT = 64
 
 # What one thread does: `word` is that of the trace text, `name` the variable, lock or thread.
 Event = namedtuple("Event", "thread word name")
-# A schedule, and the number of the entry that made it.
+# A schedule; its birth is the number of the entry that made it, and the place of the command in that entry.
 Row = namedtuple("Row", "birth events")
-# `what` is the call of a command or a proposal, and of an undo the number of the entry that it takes back.
+# `kind` is did, batch, proposed or undid. `what` is the call of a command, of a batch or of a proposal, and of an undo the
+# number of the entry that it takes back.
 Entry = namedtuple("Entry", "client kind what")
 
 
@@ -281,11 +283,14 @@ class Trace:
         return "".join(line + "\n" for line in lines)
 
 
-# A call is a tuple: its word, and its arguments in the order of the script's line; a list of events is one argument.
+# A call is a tuple: its word, and its arguments in the order of the script's line; a list of events is one argument, and so are
+# the commands of a batch, each of which is the call that it is alone.
 
 
 def words_of(call):
     """The line of the call in a script, without its client."""
+    if call[0] == "batch":
+        return "batch " + " ; ".join(words_of(command) for command in call[1])
     words = []
     for part in call:
         words += part if isinstance(part, tuple) else [part]
@@ -295,6 +300,8 @@ def words_of(call):
 def call_of(line):
     """The call of such a line, in a script or in a log, where each undo is told by the number of what it took back."""
     word, *rest = line.split(" ")
+    if word == "batch":
+        return (word, tuple(call_of(part) for part in line.removeprefix("batch ").split(" ; ")))
     if word == "undo":
         return (word, *[int(number) for number in rest])
     if word == "propose":
@@ -305,12 +312,24 @@ def call_of(line):
     return (word, *rest[:1], *[int(number) for number in rest[1:]])
 
 
-def writes(command):
+def commands_of(call):
+    """The commands of a batch, in their order, or the command that is alone."""
+    return call[1] if call[0] == "batch" else (call,)
+
+
+def written(command):
+    """The name that a command alone writes."""
     return command[3] if command[0] == "branch" else command[1]
 
 
-def touches(command):
-    return {command[1], writes(command)}
+def writes(call):
+    """The names that its commands write, each once, in the order in which they come first."""
+    return list(dict.fromkeys(written(command) for command in commands_of(call)))
+
+
+def touches(call):
+    """The names that its commands write or copy."""
+    return {name for command in commands_of(call) for name in (command[1], written(command))}
 
 
 class Log:
@@ -321,38 +340,54 @@ class Log:
         self.entries = entries
         self.board = [entry.what[3] for entry in entries if entry.kind == "proposed"]
         undone = {entry.what for entry in entries if entry.kind == "undid"}
-        # The commands that were not undone, each with its number and client.
+        # The commands and batches that were not undone, each with its number and client.
         self.live = [
             (number, entry.client, entry.what)
             for number, entry in enumerate(entries)
-            if entry.kind == "did" and number not in undone
+            if entry.kind in ("did", "batch") and number not in undone
         ]
         self.rows = self.fold(self.live)
 
     def fold(self, live):
-        """The rows that these commands make of none, in their order: none is refused, and each row is a correct reordering."""
+        """The rows that these make of none, in their order: none is refused, and each row is a correct reordering."""
         rows = {}
-        for number, _, command in live:
+        for number, _, call in live:
             try:
-                row = self.row_after(rows, number, command)
+                self.change(rows, number, call)
             except Refused as why:
-                raise Contradiction(f"{number} {words_of(command)}, which was not undone, is refused: {why}") from why
-            rows.pop(writes(command), None)
-            if row is not None:
-                rows[writes(command)] = row
+                raise Contradiction(f"{number} {words_of(call)}, which was not undone, is refused: {why}") from why
         for name, row in rows.items():
             if not self.trace.is_reordering(row.events):
                 raise Contradiction(f"{name} is no correct reordering: {row.events}")
         return rows
 
-    def row_after(self, rows, number, command):
-        """What the command of this number makes of the row that it writes; None where that goes."""
+    def rows_after(self, rows, number, call):
+        """What this call of this number makes of the rows, which stay as they are."""
+        after = dict(rows)
+        self.change(after, number, call)
+        return after
+
+    def change(self, rows, number, call):
+        """Does the commands of this call of this number, one after another, up to the first that is refused."""
+        for place, command in enumerate(commands_of(call)):
+            try:
+                row = self.row_after(rows, (number, place), command)
+            except Refused as why:
+                if call[0] == "batch":
+                    raise Refused(f"70 at {place} {why}") from why
+                raise
+            rows.pop(written(command), None)
+            if row is not None:
+                rows[written(command)] = row
+
+    def row_after(self, rows, birth, command):
+        """What a command of this birth makes of the row that it writes; None where that goes."""
         word, name, *rest = command
         row = rows.get(name)
         if word == "new":
             if row is not None:
                 raise Refused("43 name taken")
-            return Row(number, ())
+            return Row(birth, ())
         if row is None:
             raise Refused("42 no such schedule")
         if word == "drop":
@@ -363,7 +398,7 @@ class Log:
                 raise Refused("43 name taken")
             if length > len(row.events):
                 raise Refused("48 too short")
-            return Row(number, row.events[:length])
+            return Row(birth, row.events[:length])
         return Row(row.birth, self.events_after(row.events, word, rest))
 
     def events_after(self, events, word, rest):
@@ -435,40 +470,41 @@ class Log:
             if not self.trace.shows(listed, first, second):
                 raise Refused("54 not shown")
             return f"proposed {len(self.board)}", Entry(client, "proposed", call)
-        self.row_after(self.rows, len(self.entries), call)
-        return "done", Entry(client, "did", call)
+        if call[0] == "batch" and not 1 <= len(call[1]) <= BATCH_LIMIT:
+            raise Refused("60 bad batch")
+        self.rows_after(self.rows, len(self.entries), call)
+        return "done", Entry(client, "batch" if call[0] == "batch" else "did", call)
 
     def latest_live(self, client):
-        """The number of the client's latest command that was not undone."""
+        """The number of the client's latest command or batch that was not undone."""
         own = [number for number, whose, _ in self.live if whose == client]
         if not own:
             raise Refused("51 nothing to undo")
         return own[-1]
 
     def live_of_number(self, client, number):
-        """The number, where it is that of a command of the client that was not undone."""
+        """The number, where it is that of a command or batch of the client that was not undone."""
         if number >= len(self.entries):
             raise Refused("57 no such entry")
-        if self.entries[number].kind != "did" or self.entries[number].client != client:
+        if self.entries[number].kind not in ("did", "batch") or self.entries[number].client != client:
             raise Refused("58 not own")
         if number not in [live for live, _, _ in self.live]:
             raise Refused("59 not live")
         return number
 
     def ask_blocked(self, undone):
-        """Asks whether a later command that was not undone, of any client, rests on this one."""
-        name = writes(self.entries[undone].what)
-        for number, _, command in self.live:
-            if number > undone and name in touches(command):
-                raise Refused(f"52 rests on {number} {name}")
+        """Asks whether a later one that was not undone, of any client, touches a name that this one wrote."""
+        for number, _, call in self.live:
+            touched = [name for name in writes(self.entries[undone].what) if name in touches(call)]
+            if number > undone and touched:
+                raise Refused(f"52 rests on {number} {touched[0]}")
 
     def ask_undone(self, undone, after):
-        """Asks whether the undo gave the written name the row that it had, and changed no other row."""
+        """Asks whether the undo gave the written names the rows that they had, and changed no other row."""
         before = self.fold([entry for entry in self.live if entry[0] < undone])
-        name = writes(self.entries[undone].what)
-        expected = {other: row for other, row in self.rows.items() if other != name}
-        if name in before:
-            expected[name] = before[name]
+        names = writes(self.entries[undone].what)
+        expected = {other: row for other, row in self.rows.items() if other not in names}
+        expected.update((name, before[name]) for name in names if name in before)
         if after.rows != expected:
             raise Contradiction(f"the undo of {undone} leaves {after.rows} and not {expected}")
 

@@ -1,30 +1,179 @@
-/* Refuses one allocation of the program that it is loaded into (LD_PRELOAD): that with the number REFUSE_AT,
- * counted from 1. Where it refused one, it makes the file REFUSE_MARK. */
+/* Loaded before the C library (LD_PRELOAD), it has one call of the program fail. The environment says which:
+ *   REFUSE      what kind of call: memory (malloc and realloc; so where it is missing), read, write, open or thread
+ *   REFUSE_AT   the number of the call of this kind, from 1
+ *   REFUSE_HOW  how it fails: error (so where it is missing), interrupted, short (one byte is moved), nothing (a write takes no byte), or
+ *               cut (one byte is written, and the next write fails)
+ *   REFUSE_MARK a file that is made where the call came
+ * Or it runs the program again and again before its first instruction, with each call of the kind failing in turn, until a run ends
+ * without such a call:
+ *   REFUSE_EACH the file that gets, for each run, a line `STATUS MET OUT ERR` and then what the run wrote: its exit status or, below 0,
+ *               the signal that ended it; whether the call came; and how many bytes stand behind the line of its standard output and of
+ *               its standard error
+ *   REFUSE_IN   the path of the standard input of these runs
+ * A run of these may take 20 seconds. */
 #define _GNU_SOURCE
+#include <errno.h>
 #include <fcntl.h>
+#include <pthread.h>
+#include <signal.h>
 #include <stdatomic.h>
+#include <stdio.h>
 #include <stdlib.h>
+#include <string.h>
+#include <sys/mman.h>
+#include <sys/syscall.h>
+#include <sys/uio.h>
+#include <sys/wait.h>
 #include <unistd.h>
+
+enum { MOST_RUNS = 20000, SECONDS = 20 };
+enum kind { NONE, MEMORY, READ, WRITE, OPEN, THREAD };
+enum how { FAILS, INTERRUPTED, SHORT, NOTHING, CUT };
 
 extern void *__libc_malloc(size_t);
 extern void *__libc_realloc(void *, size_t);
+static int (*next_create)(pthread_t *, const pthread_attr_t *, void *(*)(void *), void *);
 
+static enum kind kind;
+static enum how how;
+static long at;
 static atomic_long made;
-static long at = -1;
+/* Whether the call came; the runs of REFUSE_EACH share it with the process that counts them. */
+static int *met;
 
-static int is_refused(void) {
-    if (at < 0) {
-        const char *text = getenv("REFUSE_AT");
-        at = text ? atol(text) : 0;
-    }
-    if (atomic_fetch_add(&made, 1) + 1 != at) return 0;
+static int is(const char *name, const char *value) {
+    const char *found = getenv(name);
+    return found && strcmp(found, value) == 0;
+}
+
+/* Counts a call of this kind, and says whether it is the one that fails. */
+static int is_refused(enum kind called) {
+    if (called != kind || atomic_fetch_add(&made, 1) + 1 != at) return 0;
+    if (met) *met = 1;
     const char *mark = getenv("REFUSE_MARK");
     if (mark) {
-        int file = open(mark, O_CREAT | O_WRONLY, 0600);
+        int file = syscall(SYS_openat, AT_FDCWD, mark, O_CREAT | O_WRONLY, 0600);
         if (file >= 0) close(file);
     }
     return 1;
 }
 
-void *malloc(size_t size) { return is_refused() ? 0 : __libc_malloc(size); }
-void *realloc(void *block, size_t size) { return is_refused() ? 0 : __libc_realloc(block, size); }
+static long failed(int number) {
+    errno = number;
+    return -1;
+}
+
+void *malloc(size_t size) { return is_refused(MEMORY) ? 0 : __libc_malloc(size); }
+void *realloc(void *block, size_t size) { return is_refused(MEMORY) ? 0 : __libc_realloc(block, size); }
+
+ssize_t read(int file, void *bytes, size_t size) {
+    if (is_refused(READ)) {
+        if (how == FAILS) return failed(EIO);
+        if (how == INTERRUPTED) return failed(EINTR);
+        if (size > 1) size = 1;
+    }
+    return syscall(SYS_read, file, bytes, size);
+}
+
+/* How many bytes of so many a write may take, or below 0 that it fails. */
+static long taken(size_t size) {
+    static atomic_int is_cut;
+    if (atomic_exchange(&is_cut, 0)) return failed(ENOSPC);
+    if (!is_refused(WRITE)) return size;
+    if (how == FAILS) return failed(ENOSPC);
+    if (how == INTERRUPTED) return failed(EINTR);
+    if (how == NOTHING) return 0;
+    if (how == CUT) is_cut = 1;
+    return size > 1 ? 1 : size;
+}
+
+ssize_t write(int file, const void *bytes, size_t size) {
+    long most = taken(size);
+    return most <= 0 && size > 0 ? most : syscall(SYS_write, file, bytes, most);
+}
+
+ssize_t writev(int file, const struct iovec *parts, int count) {
+    size_t size = 0;
+    for (int i = 0; i < count; i++) size += parts[i].iov_len;
+    long most = taken(size);
+    if (most == (long)size) return syscall(SYS_writev, file, parts, count);
+    if (most <= 0) return most;
+    for (int i = 0; i < count; i++)
+        if (parts[i].iov_len > 0) return syscall(SYS_write, file, parts[i].iov_base, 1);
+    return 0;
+}
+
+int openat(int folder, const char *path, int flags, ...) {
+    if (is_refused(OPEN)) return failed(how == INTERRUPTED ? EINTR : EMFILE);
+    return syscall(SYS_openat, folder, path, flags, 0666);
+}
+
+int open(const char *path, int flags, ...) { return openat(AT_FDCWD, path, flags); }
+
+int pthread_create(pthread_t *thread, const pthread_attr_t *how_made, void *(*does)(void *), void *with) {
+    return is_refused(THREAD) ? EAGAIN : next_create(thread, how_made, does, with);
+}
+
+static void copy(FILE *to, int file, long size) {
+    char bytes[4096];
+    for (long done = 0; done < size;) {
+        long got = pread(file, bytes, sizeof bytes, done);
+        if (got <= 0) _exit(3);
+        fwrite(bytes, 1, got, to);
+        done += got;
+    }
+}
+
+static void use_as(int file, int number) {
+    if (dup2(file, number) < 0) _exit(3);
+    close(file);
+}
+
+/* Runs the program with each call failing in turn. Returns in the runs alone. */
+static void run_each(const char *report) {
+    FILE *to = fopen(report, "w");
+    met = mmap(0, sizeof *met, PROT_READ | PROT_WRITE, MAP_SHARED | MAP_ANONYMOUS, -1, 0);
+    if (!to || met == MAP_FAILED) _exit(3);
+    for (long run = 1; run <= MOST_RUNS; run++) {
+        int out = memfd_create("out", 0), err = memfd_create("err", 0), status;
+        *met = 0;
+        fflush(to);
+        pid_t child = fork();
+        if (child == 0) {
+            int in = syscall(SYS_openat, AT_FDCWD, getenv("REFUSE_IN"), O_RDONLY);
+            use_as(in, 0);
+            use_as(out, 1);
+            use_as(err, 2);
+            close(fileno(to));
+            alarm(SECONDS);
+            at = run;
+            made = 0;
+            return;
+        }
+        if (child < 0 || waitpid(child, &status, 0) != child) _exit(3);
+        long told = lseek(out, 0, SEEK_END), complained = lseek(err, 0, SEEK_END);
+        fprintf(to, "%d %d %ld %ld\n", WIFEXITED(status) ? WEXITSTATUS(status) : -WTERMSIG(status), *met, told, complained);
+        copy(to, out, told);
+        copy(to, err, complained);
+        close(out);
+        close(err);
+        if (!*met) break;
+    }
+    fclose(to);
+    _exit(0);
+}
+
+__attribute__((constructor)) static void begin(void) {
+    extern void *dlsym(void *, const char *);
+    next_create = dlsym((void *)-1L, "pthread_create"); /* the one behind this library's: RTLD_NEXT */
+    const char *text = getenv("REFUSE_AT");
+    long wanted = text ? atol(text) : 0;
+    how = is("REFUSE_HOW", "interrupted") ? INTERRUPTED : is("REFUSE_HOW", "short") ? SHORT : is("REFUSE_HOW", "nothing") ? NOTHING
+        : is("REFUSE_HOW", "cut") ? CUT : FAILS;
+    enum kind asked = is("REFUSE", "read") ? READ : is("REFUSE", "write") ? WRITE : is("REFUSE", "open") ? OPEN
+        : is("REFUSE", "thread") ? THREAD : MEMORY;
+    const char *report = getenv("REFUSE_EACH");
+    if (report) run_each(report);
+    else at = wanted;
+    kind = asked;
+}

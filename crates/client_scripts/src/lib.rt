@@ -14,7 +14,9 @@ pub use fault::{LIMIT, ReadCause, ReadFault, ReplayFault, Tally};
 pub use fault_texts::{fault_text, script_words};
 pub use loading::{load, read_input};
 pub use replaying::{replay, replay_joint};
-pub use script_language::{Script, ScriptCall, ScriptCause, ScriptRefusal, Verb, read_script};
+pub use script_language::{
+    CommandVerb, Script, ScriptCall, ScriptCause, ScriptRefusal, Verb, read_script,
+};
 pub use seats::run_seat;
 pub use sink::{FromWrite, Sink, write_all};
 pub use source::{Failed, FromRead, Source, read_all};

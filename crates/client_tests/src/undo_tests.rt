@@ -3,14 +3,14 @@
 use crate::fixtures::{ONE_LOCK, bench_of};
 use event_index::EventList;
 use inverse_log::{Bench, Call, Refusal, Reply};
-use moves::{Command, MoveRefusal, Name, Workspace};
+use moves::{Command, Commands, MoveRefusal, Name, Workspace};
 use schedule::{Disabled, SwapRefusal};
 use std::alloc::Global;
 use std::test::Fail;
 
 // What a client asks for; each schedule has a name of one byte.
 #[derive(Clone, Copy)]
-enum Ask {
+enum Ask<'a> {
     New(u8),
     Add(u8, u32),
     Back(u8),
@@ -18,6 +18,7 @@ enum Ask {
     Branch(u8, u32, u8),
     Drop(u8),
     Adopt(u8, u32),
+    Batch(&'a [Ask<'a>]),
     Undo,
     UndoAt(u64),
     Propose(u32, u32, &'static [u32]),
@@ -36,6 +37,7 @@ enum Told {
     Refused(u32),
     RestsOn(u64, u8),
     NotReordering(u32),
+    InBatch(u32, u32),
 }
 
 fn name_of(byte: u8) -> Option<Name> {
@@ -50,7 +52,7 @@ fn list_of(alloc: Global, events: &[u32]) -> Option<EventList> {
     Some(list)
 }
 
-fn command_of(ask: Ask) -> Option<Command> {
+fn command_of(ask: Ask<'_>) -> Option<Command> {
     match ask {
         Ask::New(name) => Some(Command::Fresh {
             name: name_of(name)?,
@@ -82,8 +84,17 @@ fn command_of(ask: Ask) -> Option<Command> {
     }
 }
 
-fn call_of(alloc: Global, ask: Ask) -> Option<Call> {
+fn commands_of(alloc: Global, asks: &[Ask<'_>]) -> Option<Commands> {
+    let mut commands = Commands::new(alloc);
+    for ask in asks {
+        commands.push(command_of(*ask)?).ok()?;
+    }
+    Some(commands)
+}
+
+fn call_of(alloc: Global, ask: Ask<'_>) -> Option<Call> {
     match ask {
+        Ask::Batch(asks) => Some(Call::Batch(commands_of(alloc, asks)?)),
         Ask::Undo => Some(Call::Undo),
         Ask::UndoAt(entry) => Some(Call::UndoAt { entry }),
         Ask::Propose(first, second, events) => Some(Call::Propose {
@@ -128,6 +139,8 @@ fn number_of(refusal: &Refusal) -> u32 {
         Refusal::NoSuchEntry => 57,
         Refusal::NotOwn => 58,
         Refusal::NotLive => 59,
+        Refusal::BadBatch => 60,
+        Refusal::InBatch { place: _, cause: _ } => 70,
     }
 }
 
@@ -138,10 +151,18 @@ fn rests_on(refusal: &Refusal, other: u64, byte: u8) -> bool {
     }
 }
 
+fn is_in_batch(refusal: &Refusal, at: u32, number: u32) -> bool {
+    match refusal {
+        Refusal::InBatch { place, cause } => *place == at && number_of_move(*cause) == number,
+        _ => false,
+    }
+}
+
 fn is_refused(refusal: &Refusal, told: Told) -> bool {
     match told {
         Told::Refused(number) => number_of(refusal) == number,
         Told::RestsOn(other, byte) => rests_on(refusal, other, byte),
+        Told::InBatch(at, number) => is_in_batch(refusal, at, number),
         Told::NotReordering(other) => match refusal {
             Refusal::NotReordering { position } => *position == other,
             _ => false,
@@ -200,7 +221,7 @@ fn is_answered(bench: &mut Bench, client: u32, call: &Call, told: Told) -> bool 
 }
 
 // The call that is asked for, and a bench of the trace of one lock; where memory was wanting, at the second try.
-fn call_again(alloc: Global, ask: Ask) -> Option<Call> {
+fn call_again(alloc: Global, ask: Ask<'_>) -> Option<Call> {
     match call_of(alloc, ask) {
         Some(call) => Some(call),
         None => call_of(alloc, ask),
@@ -214,7 +235,7 @@ fn bench_again(alloc: Global) -> Option<Bench> {
     }
 }
 
-fn is_right_row(alloc: Global, bench: &mut Bench, row: (u32, Ask, Told)) -> bool {
+fn is_right_row(alloc: Global, bench: &mut Bench, row: (u32, Ask<'_>, Told)) -> bool {
     let (client, ask, told) = row;
     match call_again(alloc, ask) {
         Some(call) => is_answered(bench, client, &call, told),
@@ -222,7 +243,7 @@ fn is_right_row(alloc: Global, bench: &mut Bench, row: (u32, Ask, Told)) -> bool
     }
 }
 
-fn wrong_row_of(alloc: Global, bench: &mut Bench, rows: &[(u32, Ask, Told)]) -> Option<usize> {
+fn wrong_row_of(alloc: Global, bench: &mut Bench, rows: &[(u32, Ask<'_>, Told)]) -> Option<usize> {
     for at in 0..rows.len() {
         if !is_right_row(alloc, bench, rows[at]) {
             return Some(at);
@@ -232,7 +253,7 @@ fn wrong_row_of(alloc: Global, bench: &mut Bench, rows: &[(u32, Ask, Told)]) -> 
 }
 
 // The first row of the table whose answer is another one; none where all are right.
-fn wrong_row(alloc: Global, rows: &[(u32, Ask, Told)]) -> Option<usize> {
+fn wrong_row(alloc: Global, rows: &[(u32, Ask<'_>, Told)]) -> Option<usize> {
     match bench_again(alloc) {
         Some(mut bench) => wrong_row_of(alloc, &mut bench, rows),
         None => Some(rows.len()),
@@ -271,6 +292,40 @@ fn memory_undo_by_number(rt: HostRuntime) -> Result<(), Fail> {
         (1, Ask::UndoAt(2), Told::Undone(4, 2)),
         (1, Ask::Undo, Told::Undone(5, 0)),
         (1, Ask::List, Told::Names(b"")),
+    ];
+    assert_eq!(rt; wrong_row(rt.alloc(), &rows), None);
+    Ok(())
+}
+
+#[test]
+fn memory_batches_are_all_or_nothing(rt: HostRuntime) -> Result<(), Fail> {
+    let rows = [
+        (
+            1,
+            Ask::Batch(&[Ask::New(b'A'), Ask::Add(b'A', 3), Ask::New(b'B')]),
+            Told::Done(0),
+        ),
+        (1, Ask::List, Told::Names(b"AB")),
+        (2, Ask::Add(b'B', 0), Told::Done(1)),
+        (1, Ask::Undo, Told::RestsOn(1, b'B')),
+        (2, Ask::Undo, Told::Undone(2, 1)),
+        (1, Ask::Undo, Told::Undone(3, 0)),
+        (1, Ask::List, Told::Names(b"")),
+        (
+            1,
+            Ask::Batch(&[Ask::New(b'A'), Ask::Add(b'A', 4)]),
+            Told::InBatch(1, 4622),
+        ),
+        (1, Ask::New(b'A'), Told::Done(4)),
+        (
+            1,
+            Ask::Batch(&[Ask::Drop(b'A'), Ask::New(b'B'), Ask::New(b'A')]),
+            Told::Done(5),
+        ),
+        (1, Ask::List, Told::Names(b"BA")),
+        (1, Ask::Batch(&[]), Told::Refused(60)),
+        (1, Ask::Undo, Told::Undone(6, 5)),
+        (1, Ask::List, Told::Names(b"A")),
     ];
     assert_eq!(rt; wrong_row(rt.alloc(), &rows), None);
     Ok(())
@@ -326,7 +381,7 @@ fn memory_proposals_are_judged(rt: HostRuntime) -> Result<(), Fail> {
 fn wrong_count(
     alloc: Global,
     bench: &mut Bench,
-    rows: &[(u32, Ask, Told, u64, usize)],
+    rows: &[(u32, Ask<'_>, Told, u64, usize)],
 ) -> Option<usize> {
     for at in 0..rows.len() {
         let (client, ask, told, edits, proposals) = rows[at];
@@ -348,7 +403,11 @@ fn is_row(workspace: &Workspace, at: usize, byte: u8, born: u64, events: &[u32])
     }
 }
 
-fn are_counted(alloc: Global, bench: &mut Bench, rows: &[(u32, Ask, Told, u64, usize)]) -> bool {
+fn are_counted(
+    alloc: Global,
+    bench: &mut Bench,
+    rows: &[(u32, Ask<'_>, Told, u64, usize)],
+) -> bool {
     wrong_count(alloc, bench, rows).is_none()
         && bench.workspace().len() == 2
         && is_row(bench.workspace(), 0, b'A', 0, &[3, 4])
@@ -356,7 +415,7 @@ fn are_counted(alloc: Global, bench: &mut Bench, rows: &[(u32, Ask, Told, u64, u
 }
 
 // Whether the changes and proposals are counted, and a row that was dropped has its birth again.
-fn is_counted(alloc: Global, rows: &[(u32, Ask, Told, u64, usize)]) -> bool {
+fn is_counted(alloc: Global, rows: &[(u32, Ask<'_>, Told, u64, usize)]) -> bool {
     match bench_of(alloc, ONE_LOCK) {
         Some(mut bench) => are_counted(alloc, &mut bench, rows),
         None => false,
@@ -378,6 +437,14 @@ fn each_change_is_counted_once(rt: HostRuntime) -> Result<(), Fail> {
         (1, Ask::Swap(b'A', 0), Told::Refused(4729), 6, 1),
         (2, Ask::Undo, Told::Undone(7, 6), 7, 1),
         (1, Ask::Show(b'A'), Told::Shown(&[3, 4]), 7, 1),
+        (
+            1,
+            Ask::Batch(&[Ask::Back(b'A'), Ask::New(b'C'), Ask::Drop(b'C')]),
+            Told::Done(8),
+            10,
+            1,
+        ),
+        (1, Ask::Undo, Told::Undone(9, 8), 13, 1),
     ];
     assert!(rt; is_counted(rt.alloc(), &rows));
     Ok(())

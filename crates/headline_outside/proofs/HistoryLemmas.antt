@@ -7,7 +7,7 @@ use Rattle.inverse_log.specs.declared.entry.Entry.{Entry}
 use Rattle.inverse_log.specs.declared.reply.Reply.{Reply}
 use Rattle.inverse_log.specs.declared.reply.Reply.TheVariants.{Done, Undone}
 use Rattle.inverse_log.specs.declared.refusal.Refusal.{Refusal}
-use Rattle.inverse_log.specs.declared.refusal.Refusal.TheVariants.{LogFull, Move, NothingToUndo, RestsOn, NotReordering, NotShown, OutOfMemory, NoSuchEntry, NotOwn, NotLive}
+use Rattle.inverse_log.specs.declared.refusal.Refusal.TheVariants.{LogFull, Move, NothingToUndo, RestsOn, NotReordering, NotShown, OutOfMemory, NoSuchEntry, NotOwn, NotLive, BadBatch, InBatch}
 use Rattle.moves.specs.Rows.{Rows}
 use Rattle.moves.specs.declared.row.Row.{Row}
 use Rattle.moves.specs.declared.command.Command.{Command}
@@ -43,6 +43,8 @@ refused_log T L M c call NotShown h = h.1
 refused_log T L M c call NoSuchEntry h = h.1
 refused_log T L M c call NotOwn h = h.1
 refused_log T L M c call NotLive h = h.1
+refused_log T L M c call BadBatch h = h.1
+refused_log T L M c call (InBatch place cause) h = h.1
 
 do_done : (n : ℕ) (q : Result (Option Row) MoveRefusal) (reply : Reply) → done_or n q ≡ Ok reply → reply ≡ Done n
 do_done n (Ok o) reply h = let e : Done n ≡ reply = cc in sym e
@@ -66,5 +68,5 @@ pub restored_rows : (T : Recording) (L M N : List Entry) (c : ℕ) (d : Command)
     → Called T L c (Do d) (Ok reply) M → Called T M c Undo (Ok again) N → (W V : Rows) → IsFoldOfLive T L W → IsFoldOfLive T N V → W ≡ V
 restored_rows T L M N c d reply again law low high legal room did undid W V w v =
     let done : Called T L c (Do d) (Ok (Done (length L))) M = subst (λ r. Called T L c (Do d) (Ok r) M) (do_reply T L c d reply did.0) did in
-    let same = (law T L M c (length L) d low high legal done room).1 in
+    let same = (law T L M c (length L) (Do d) low high legal done room).1 in
     sym (fold_rows T L W w) ∙ sym same ∙ ap (rows_of T) (sym undid.1) ∙ fold_rows T N V v

@@ -1,5 +1,5 @@
 -- A legal log that ends with an undo of the entry before it.
-use Rattle.std.proofs.Common.{◌≡◌, inl, inr, ℕ, ◌<◌, true, false, ltb, List, [], ◌∷◌, ◌++◌, Option, Some, None, Result, Ok, Err, length, slice_get, refl, sym, ap, ◌∙◌, subst, arith}
+use Rattle.std.proofs.Common.{◌≡◌, inl, inr, ℕ, ◌<◌, Bool, true, false, ltb, List, [], ◌∷◌, ◌++◌, Option, Some, None, Result, Ok, Err, length, slice_get, refl, sym, ap, ◌∙◌, subst, arith}
 use Rattle.std.proofs.lemmas.Bool.{cases_Bool}
 use Rattle.std.proofs.lemmas.List.{append_assoc, append_cancel_left, length_push}
 use Rattle.std.proofs.lemmas.Option.{slice_get_within}
@@ -11,16 +11,17 @@ use Rattle.moves.specs.declared.refusal.MoveRefusal.{MoveRefusal}
 use Rattle.moves.specs.declared.row.Row.{Row}
 use Rattle.moves.specs.Ages.{age}
 use Rattle.moves.specs.Moves.{made_at}
-use Rattle.moves.specs.Rows.{row_of}
+use Rattle.moves.specs.Batches.{applied_all}
+use Rattle.moves.specs.Rows.{Rows, row_of}
 use Rattle.inverse_log.specs.declared.entry.Entry.{Entry}
-use Rattle.inverse_log.specs.declared.entry.Entry.TheVariants.{Did, Undid, Proposed}
+use Rattle.inverse_log.specs.declared.entry.Entry.TheVariants.{Undid, Proposed}
 use Rattle.inverse_log.specs.declared.call.Call.{Call}
-use Rattle.inverse_log.specs.declared.call.Call.TheVariants.{Do, Undo, UndoAt, Propose, Show, List as ListNames, Races}
+use Rattle.inverse_log.specs.declared.call.Call.TheVariants.{Do, Batch as DoAll, Undo, UndoAt, Propose, Show, List as ListNames, Races}
 use Rattle.inverse_log.specs.declared.reply.Reply.{Reply}
 use Rattle.inverse_log.specs.declared.reply.Reply.TheVariants.{Undone}
 use Rattle.inverse_log.specs.declared.refusal.Refusal.{Refusal}
-use Rattle.inverse_log.specs.Log.{Live, live_at, own_command_of, live_of, board_of, rows_of, last_live, blocker_of}
-use Rattle.inverse_log.specs.Answer.{answer_of, limited, done_or, undone_or, undo_or, undo_live_or, undo_own_or, undo_at_or, proposed_or, seen_or, entry_of, logged, IsLegal, starts, goes_on}
+use Rattle.inverse_log.specs.Log.{Live, live_at, done_in, done_by, is_own, live_of, board_of, rows_of, last_live, blocker_of}
+use Rattle.inverse_log.specs.Answer.{answer_of, limited, sized, is_batch, done_or, all_done_or, undone_or, undo_or, undo_live_or, undo_own_or, undo_at_or, proposed_or, seen_or, entry_of, logged, IsLegal, starts, goes_on}
 use Rattle.inverse_log.specs.Headline.{UndoOfTheLastRestores}
 use Rattle.inverse_log.proofs.CallerLemmas.{grown_by}
 use Rattle.inverse_log.proofs.DirectLemmas.{undo_rows}
@@ -72,18 +73,28 @@ module _ (T : Recording) (M : List Entry) (a c k : ℕ) where
   at_live j i None within is h = absurd cc
   at_live j i (Some g) within is h = at_undone (UndoAt j) g (blocker_of M g) (λ n j. refl) (among_live M i g within is) h
 
-  at_own : (j i : ℕ) (o : Option Command) → i < length M → logged a (UndoAt j) (undo_own_or M i o) ≡ Undid c k ∷ [] → Found
-  at_own j i None within h = absurd cc
-  at_own j i (Some d) within h = at_live j i (live_at M i) within refl h
+  at_own : (j i : ℕ) (own : Bool) → i < length M → logged a (UndoAt j) (undo_own_or M i own) ≡ Undid c k ∷ [] → Found
+  at_own j i false within h = absurd cc
+  at_own j i true within h = at_live j i (live_at M i) within refl h
 
   at_number : (j i : ℕ) (o : Option Entry) → slice_get M i ≡ o → logged a (UndoAt j) (undo_at_or M a i o) ≡ Undid c k ∷ [] → Found
   at_number j i None is h = absurd cc
-  at_number j i (Some e) is h = at_own j i (own_command_of a (Some e)) (slice_get_within M i e is) h
+  at_number j i (Some e) is h = at_own j i (is_own a (Some e)) (slice_get_within M i e is) h
 
   -- no other call adds an undo
   at_do : (d : Command) (n : ℕ) (q : Result (Option Row) MoveRefusal) → logged a (Do d) (done_or n q) ≡ Undid c k ∷ [] → Found
   at_do d n (Ok o) h = absurd cc
   at_do d n (Err why) h = absurd cc
+
+  at_all : (D : List Command) (n : ℕ) (q : Result Rows (ℕ × MoveRefusal)) → logged a (DoAll D) (sized D (all_done_or n q)) ≡ Undid c k ∷ [] → Found
+  at_all D n q h = elim (cases_Bool (is_batch D)) [
+    | inl t ↦ by q (rw t at h)
+    | inr f ↦ let is : [] ≡ Undid c k ∷ [] = rw f at h in absurd cc
+  ]
+    where
+      by : (q : Result Rows (ℕ × MoveRefusal)) → logged a (DoAll D) (all_done_or n q) ≡ Undid c k ∷ [] → Found
+      by (Ok V) h = absurd cc
+      by (Err p) h = absurd cc
 
   at_proposal : (x y : ℕ) (P : List ℕ) (o : Option ℕ) → logged a (Propose x y P) (proposed_or T M x y P o) ≡ Undid c k ∷ [] → Found
   at_proposal x y P (Some p) h = absurd cc
@@ -104,6 +115,7 @@ module _ (T : Recording) (M : List Entry) (a c k : ℕ) where
 
   found : (call : Call) → logged a call (answer_of T M a call) ≡ Undid c k ∷ [] → Found
   found (Do d) h = at_do d (length M) (made_at T (board_of T M) (age (length M) 0) d (rows_of T M)) (at_limited (Do d) _ h)
+  found (DoAll D) h = at_all D (length M) (applied_all T (board_of T M) (age (length M) 0) D (rows_of T M)) (at_limited (DoAll D) _ h)
   found Undo h = at_undo (last_live M a) refl (at_limited Undo _ h)
   found (UndoAt j) h = at_number j j (slice_get M j) refl (at_limited (UndoAt j) _ h)
   found (Propose x y P) h = at_proposal x y P (first_fault T.events P) (at_limited (Propose x y P) _ h)
@@ -120,7 +132,7 @@ last_law T L e c legal =
     let done = made_by T M undo.before L e refl in
     let f = found T M undo.client c k undo.call undo.entry in
     let g : Live = f.0 in
-    let there : slice_get M g.number ≡ Some (Did g.client g.command) = live_there M g f.2.0 f.2.1 f.2.2 in
-    let here : Some e ≡ Some (Did g.client g.command) = sym (get_last L e) ∙ ap (slice_get M) (sym f.1) ∙ there in
-    let is : e ≡ Did g.client g.command = cc in
-    ap (rows_of T) split ∙ ap (λ x. rows_of T ((L ++ x ∷ []) ++ Undid c k ∷ [])) is ∙ undo_rows T L g.client g.command c (legal_has T L done.before) (legal_has T (L ++ Did g.client g.command ∷ []) (subst (λ x. IsLegal T (L ++ x ∷ [])) is undo.before))
+    let there : done_in (slice_get M g.number) ≡ Some (g.client, g.commands) = live_there M g f.2.0 f.2.1 f.2.2 in
+    let here : done_in (slice_get M g.number) ≡ done_by e = ap (λ o. done_in o) (ap (slice_get M) f.1 ∙ get_last L e) in
+    let is : done_by e ≡ Some (g.client, g.commands) = sym here ∙ there in
+    ap (rows_of T) split ∙ undo_rows T L e g.client g.commands is c (legal_has T L done.before) (legal_has T M undo.before)

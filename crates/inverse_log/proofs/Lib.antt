@@ -1,4 +1,5 @@
 pub mod CallerLemmas
+pub mod CountLemmas
 pub mod DirectLemmas
 pub mod DoLemmas
 pub mod EditLemmas
@@ -8,11 +9,14 @@ pub mod KeptLemmas
 pub mod LastLemmas
 pub mod LawLemmas
 pub mod LiveLemmas
+pub mod NearestLemmas
 pub mod NextLemmas
 pub mod NumberedLemmas
 pub mod OtherLemmas
 pub mod PairLemmas
 pub mod ProposalLemmas
+pub mod ReplyLemmas
+pub mod SizeLemmas
 pub mod SoundLemmas
 pub mod TouchingLemmas
 pub mod UndoneLemmas

@@ -1,12 +1,11 @@
 -- The other calls: a proposal, and the looks, which change nothing.
-use Rattle.std.proofs.Common.{◌≡◌, false, true, inr, inl, ℕ, Bool, ◌<◌, ◌≤◌, List, [], ◌∷◌, ◌++◌, Option, Some, None, Ok, Err, length, filter, sym, ap, ◌∙◌, subst, refl, arith}
+use Rattle.std.proofs.Common.{◌≡◌, false, true, inr, inl, ℕ, Bool, ◌<◌, ◌≤◌, List, [], ◌∷◌, ◌++◌, Option, Some, None, Ok, Err, length, sym, ap, ◌∙◌, subst, refl, arith}
 use Rattle.std.specs.Arc.{arc_value}
 use Rattle.std.specs.Option.{option_map, IfSome}
 use Rattle.std.specs.Str.{bytes_eq}
 use Rattle.std.proofs.lemmas.Map.Entries.{All-lookup}
 use Rattle.std.proofs.lemmas.Bool.{lt-ltb, cases_Bool}
 use Rattle.std.proofs.lemmas.List.{append-nil}
-use Rattle.std.proofs.lemmas.List.Elements.{filter-append}
 use Rattle.rapid_text.specs.Recording.{Recording}
 use Rattle.schedule.specs.Faults.{first_fault, IsFirstFault}
 use Rattle.schedule.specs.Reordering.{IsCorrectReordering}
@@ -14,7 +13,6 @@ use Rattle.schedule.specs.Scheduled.{Scheduled}
 use Rattle.schedule.specs.Shows.{Shows as ShowsPair, does_show}
 use Rattle.schedule.proofs.CallerLemmas.{first_fault-correct, first_fault-is}
 use Rattle.moves.specs.declared.board.Proposal.{Proposal}
-use Rattle.moves.specs.declared.inverse.Step.{Step}
 use Rattle.moves.specs.declared.refusal.MoveRefusal.TheVariants.{NoSuchSchedule}
 use Rattle.moves.specs.declared.row.Row.{Row}
 use Rattle.moves.specs.Rows.{Rows, row_of, names_of}
@@ -24,12 +22,15 @@ use Rattle.inverse_log.specs.declared.call.Call.TheVariants.{Propose, Show, List
 use Rattle.inverse_log.specs.declared.entry.Entry.{Entry}
 use Rattle.inverse_log.specs.declared.entry.Entry.TheVariants.{Proposed}
 use Rattle.inverse_log.specs.declared.refusal.Refusal.{Refusal}
-use Rattle.inverse_log.specs.declared.refusal.Refusal.TheVariants.{Move, NothingToUndo, RestsOn, NotReordering, NotShown, LogFull, OutOfMemory, NoSuchEntry, NotOwn, NotLive}
+use Rattle.inverse_log.specs.declared.refusal.Refusal.TheVariants.{Move, NothingToUndo, RestsOn, NotReordering, NotShown, LogFull, OutOfMemory, NoSuchEntry, NotOwn, NotLive, BadBatch, InBatch}
 use Rattle.inverse_log.specs.declared.reply.Reply.{Reply}
 use Rattle.inverse_log.specs.declared.reply.Reply.TheVariants.{Proposed as ProposedAs, Shown, Listing, Shows}
 use Rattle.inverse_log.specs.Answer.{answer_of, seen_or, proposed_or, may_want, Called, IsLegal, goes_on}
 use Rattle.inverse_log.specs.Kept.{IsBench, IsJudged}
-use Rattle.inverse_log.specs.Log.{board_of, is_by, is_edit, edits_of}
+use Rattle.inverse_log.specs.declared.kept.Held.{Held}
+use Rattle.inverse_log.specs.declared.kept.Held.TheVariants.{Nothing}
+use Rattle.inverse_log.specs.Log.{board_of, is_by, edits_of}
+use Rattle.inverse_log.proofs.CountLemmas.{edits_push}
 use Rattle.inverse_log.specs.Pairs.{shown_pairs}
 use Rattle.inverse_log.specs.Touching.{touches_name}
 use Rattle.inverse_log.proofs.DoLemmas.{after_ok, of_trace}
@@ -69,7 +70,7 @@ module _ (own : Inside) (b : Keeps own) where
   abbrev B : List Proposal
   B = own.board
 
-  abbrev steps : List (Option Step)
+  abbrev steps : List Held
   steps = own.steps.items
 
   abbrev N : Lists
@@ -116,13 +117,15 @@ module _ (own : Inside) (b : Keeps own) where
   propose_refused J n c x y P NoSuchEntry trace is room h = absurd h
   propose_refused J n c x y P NotOwn trace is room h = absurd h
   propose_refused J n c x y P NotLive trace is room h = absurd h
+  propose_refused J n c x y P BadBatch trace is room h = absurd h
+  propose_refused J n c x y P (InBatch place why) trace is room h = absurd h
 
-  pub proposed_bench : (M : List Entry) (J : Recording) (c x y : ℕ) (P : List ℕ) (s : Scheduled) (D : List Proposal) (later : List (Option Step)) → J ≡ T → length L < 1000000 → IsCorrectReordering J.events P → does_show J.events P x y ≡ true
-      → s.trace ≡ J → s.events ≡ P → D ≡ B ++ record { first = x; second = y; schedule = s } ∷ [] → later ≡ steps ++ None ∷ [] → M ≡ L ++ Proposed c x y P ∷ [] → 1 ≤ c → c ≤ 32 → IsBench T M W D later N C own.rows.edits
+  pub proposed_bench : (M : List Entry) (J : Recording) (c x y : ℕ) (P : List ℕ) (s : Scheduled) (D : List Proposal) (later : List Held) → J ≡ T → length L < 1000000 → IsCorrectReordering J.events P → does_show J.events P x y ≡ true
+      → s.trace ≡ J → s.events ≡ P → D ≡ B ++ record { first = x; second = y; schedule = s } ∷ [] → later ≡ steps ++ Nothing ∷ [] → M ≡ L ++ Proposed c x y P ∷ [] → 1 ≤ c → c ≤ 32 → IsBench T M W D later N C own.rows.edits
   proposed_bench M J c x y P s D later trace room sound shown of events board inv log low high =
       let copy : s ≡ record { trace = T; events = P } = λ i. record { trace = (of ∙ trace) i; events = events i } in
       let put : D ≡ B ++ proposal T x y P ∷ [] = board ∙ ap (λ q. B ++ record { first = x; second = y; schedule = q } ∷ []) copy in
-      let edits : edits_of (L ++ Proposed c x y P ∷ []) ≡ edits_of L = ap length (filter-append is_edit L (Proposed c x y P ∷ []) ∙ append-nil (filter is_edit L)) in
+      let edits : edits_of (L ++ Proposed c x y P ∷ []) ≡ edits_of L = let more = edits_push L (Proposed c x y P) in omega (arith, more) in
       let answer = propose_answer J (length L) (length B) c x y P trace refl room refl sound shown in
       record {
         kept = kept_proposed T L W B steps b.kept M c x y P D later put inv log;

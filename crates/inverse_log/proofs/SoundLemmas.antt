@@ -1,5 +1,5 @@
 -- Each row and each proposal of a legal log is a correct reordering of the trace.
-use Rattle.std.proofs.Common.{◌≡◌, ℕ, true, false, ltb, List, [], ◌∷◌, ◌++◌, Option, Some, None, Result, Ok, Err, All, length, refl, sym, ap, ◌∙◌, subst, inl, inr}
+use Rattle.std.proofs.Common.{◌≡◌, ℕ, true, ltb, List, [], ◌∷◌, ◌++◌, Option, Some, None, Result, Ok, Err, All, length, refl, sym, subst, inl, inr}
 use Rattle.std.proofs.lemmas.Bool.{cases_Bool, and_parts}
 use Rattle.std.proofs.lemmas.List.{append-nil}
 use Rattle.std.proofs.lemmas.List.Elements.{All-nil, All-cons, All-push, All-weaker}
@@ -12,27 +12,27 @@ use Rattle.schedule.specs.Reordering.{IsCorrectReordering}
 use Rattle.schedule.specs.Shows.{Shows, does_show, is_ready}
 use Rattle.schedule.proofs.CallerLemmas.{first_fault-none, is_ready-true}
 use Rattle.moves.specs.declared.board.Proposal.{Proposal}
-use Rattle.moves.specs.declared.command.Command.{Command}
 use Rattle.moves.specs.declared.row.Row.{Row}
 use Rattle.moves.specs.Boards.{IsBoardOf, AreProposed}
 use Rattle.moves.specs.Fold.{Numbered}
-use Rattle.moves.specs.Rows.{Rows, IsOfTrace, AreReorderings}
+use Rattle.moves.specs.Rows.{Rows, AreReorderings}
 use Rattle.moves.proofs.CallerLemmas.{Nothing, leads_kept, AreReorderings-nil}
 use Rattle.inverse_log.specs.declared.call.Call.{Call}
-use Rattle.inverse_log.specs.declared.call.Call.TheVariants.{Do, Undo, UndoAt, Propose, Show, List as ListNames, Races}
+use Rattle.inverse_log.specs.declared.call.Call.TheVariants.{Do, Batch as DoAll, Undo, UndoAt, Propose, Show, List as ListNames, Races}
 use Rattle.inverse_log.specs.declared.entry.Entry.{Entry}
-use Rattle.inverse_log.specs.declared.entry.Entry.TheVariants.{Did, Undid, Proposed}
+use Rattle.inverse_log.specs.declared.entry.Entry.TheVariants.{Did, Batch, Undid, Proposed}
 use Rattle.inverse_log.specs.declared.refusal.Refusal.{Refusal}
 use Rattle.inverse_log.specs.declared.reply.Reply.{Reply}
-use Rattle.inverse_log.specs.declared.reply.Reply.TheVariants.{Done, Undone, Proposed as ProposedAs, Shown, Listing, Shows as ShowsPairs}
-use Rattle.inverse_log.specs.Answer.{limited, proposed_or, entry_of, logged, log_after, answer_of, IsLegal, starts, goes_on}
-use Rattle.inverse_log.specs.Log.{proposal_of, steps_of, live_of, board_of, rows_of}
-use Rattle.inverse_log.proofs.LawLemmas.{board_did, board_undid, board_proposed, proposal, Comes, legal_has}
+use Rattle.inverse_log.specs.Answer.{limited, proposed_or, entry_of, logged, answer_of, IsLegal, starts, goes_on}
+use Rattle.inverse_log.specs.Log.{steps_of, live_of, board_of, rows_of}
+use Rattle.inverse_log.proofs.SizeLemmas.{IsUndid, entry_undo, entry_undo_at}
+use Rattle.inverse_log.proofs.LawLemmas.{board_done, board_undid, board_proposed, proposal, Comes, legal_has}
 
 -- each proposal's schedule is one of the trace
 pub board_of_trace : (T : Recording) (L : List Entry) → IsBoardOf T (board_of T L)
 board_of_trace T [] = All-nil (λ (p : Proposal). p.schedule.trace ≡ T)
 board_of_trace T (Did c d ∷ L) = board_of_trace T L
+board_of_trace T (Batch c D ∷ L) = board_of_trace T L
 board_of_trace T (Undid c k ∷ L) = board_of_trace T L
 board_of_trace T (Proposed c a b P ∷ L) = All-cons (λ (p : Proposal). p.schedule.trace ≡ T) (proposal T a b P) (board_of T L) refl (board_of_trace T L)
 
@@ -59,21 +59,11 @@ module _ (T : Recording) (rules : IsDisciplined T.events) where
   same : (L : List Entry) → AreSound L → AreSound (L ++ [])
   same L all = rw (append-nil L) all
 
-  sound_undo : (L : List Entry) (c : ℕ) (reply : Reply) → AreSound L → AreSound (L ++ entry_of c Undo reply)
-  sound_undo L c (Undone n k) all = rw (board_undid T L c k) all
-  sound_undo L c (Done n) all = same L all
-  sound_undo L c (ProposedAs n p) all = same L all
-  sound_undo L c (Shown P) all = same L all
-  sound_undo L c (Listing names) all = same L all
-  sound_undo L c (ShowsPairs pairs) all = same L all
-
-  sound_undo_at : (L : List Entry) (c j : ℕ) (reply : Reply) → AreSound L → AreSound (L ++ entry_of c (UndoAt j) reply)
-  sound_undo_at L c j (Undone n k) all = rw (board_undid T L c k) all
-  sound_undo_at L c j (Done n) all = same L all
-  sound_undo_at L c j (ProposedAs n p) all = same L all
-  sound_undo_at L c j (Shown P) all = same L all
-  sound_undo_at L c j (Listing names) all = same L all
-  sound_undo_at L c j (ShowsPairs pairs) all = same L all
+  sound_undid : (L E : List Entry) (c : ℕ) → AreSound L → IsUndid c E → AreSound (L ++ E)
+  sound_undid L E c all is = elim is [
+    | inl none ↦ subst (λ X. AreSound (L ++ X)) (sym none) (same L all)
+    | inr one ↦ subst (λ X. AreSound (L ++ X)) (sym one.1) (rw (board_undid T L c one.0) all)
+  ]
 
   sound_proposed : (L : List Entry) (c a b : ℕ) (P : List ℕ) (o : Option ℕ) → first_fault T.events P ≡ o → AreSound L → AreSound (L ++ logged c (Propose a b P) (proposed_or T L a b P o))
   sound_proposed L c a b P (Some p) fault all = same L all
@@ -92,9 +82,10 @@ module _ (T : Recording) (rules : IsDisciplined T.events) where
 
   sound_logged : (L : List Entry) (c : ℕ) (call : Call) (a : Result Reply Refusal) → answer_of T L c call ≡ a → AreSound L → AreSound (L ++ logged c call a)
   sound_logged L c call (Err why) is all = same L all
-  sound_logged L c (Do d) (Ok reply) is all = rw (board_did T L c d) all
-  sound_logged L c Undo (Ok reply) is all = sound_undo L c reply all
-  sound_logged L c (UndoAt j) (Ok reply) is all = sound_undo_at L c j reply all
+  sound_logged L c (Do d) (Ok reply) is all = rw (board_done T L (Did c d) (c, d ∷ []) refl) all
+  sound_logged L c (DoAll D) (Ok reply) is all = rw (board_done T L (Batch c D) (c, D) refl) all
+  sound_logged L c Undo (Ok reply) is all = sound_undid L (entry_of c Undo reply) c all (entry_undo c reply)
+  sound_logged L c (UndoAt j) (Ok reply) is all = sound_undid L (entry_of c (UndoAt j) reply) c all (entry_undo_at c j reply)
   sound_logged L c (Propose a b P) (Ok reply) is all =
       subst (λ r. AreSound (L ++ logged c (Propose a b P) r)) is (sound_limited L c (Propose a b P) (proposed_or T L a b P (first_fault T.events P)) all (sound_proposed L c a b P (first_fault T.events P) refl all))
   sound_logged L c (Show x) (Ok reply) is all = same L all

@@ -1,30 +1,18 @@
--- Touch lists after a step, and the first blocker by them.
-use Rattle.std.proofs.Common.{◌≡◌, ◌≢◌, ℕ, ◌-◌, ◌<◌, Bool, true, false, ltb, cond, ◌&&◌, List, [], ◌∷◌, ◌++◌, Option, Some, None, All, map, filter, reverse, length, slice_get, refl, sym, ap, ◌∙◌, arith, inl, inr}
+-- Touch lists after a step.
+use Rattle.std.proofs.Common.{◌≡◌, ◌≢◌, ℕ, ◌-◌, ◌<◌, Bool, true, false, cond, List, [], ◌∷◌, ◌++◌, Option, Some, None, All, map, filter, reverse, length, slice_get, refl, sym, ap, ◌∙◌, arith, inl, inr}
 use Rattle.std.specs.List.{find}
 use Rattle.std.specs.Option.{option_map}
 use Rattle.std.proofs.lemmas.Bool.{cases_Bool}
 use Rattle.std.proofs.lemmas.List.{append-nil, map-append, reverse-append}
 use Rattle.std.proofs.lemmas.List.Elements.{filter-append, All-nil, All-cons, All-head, All-tail}
 use Rattle.moves.specs.declared.command.Command.{Command}
-use Rattle.moves.specs.Commands.{writes, touches}
 use Rattle.inverse_log.specs.declared.entry.Entry.{Entry}
-use Rattle.inverse_log.specs.declared.entry.Entry.TheVariants.{Did, Undid, Proposed}
+use Rattle.inverse_log.specs.declared.entry.Entry.TheVariants.{Undid, Proposed}
 use Rattle.dependence.specs.Lists.{without, last_of}
 use Rattle.dependence.proofs.CallerLemmas.{without_middle}
-use Rattle.inverse_log.specs.Log.{Live, live, live_of, blocker_of}
-use Rattle.inverse_log.specs.Touching.{touching, entry_number, touches_name}
-use Rattle.inverse_log.proofs.LiveLemmas.{live_did, live_proposed, live_without, others_numbered, rises_live, rises_below, rises_split}
-
-find_number : (k : ℕ) (x : List ℕ) (E : List Live) → option_map entry_number (find (λ (e : Live). ltb k e.number && touches e.command x) E) ≡ find (λ j. ltb k j) (map entry_number (filter (touches_name x) E))
-find_number k x [] = refl
-find_number k x (e ∷ E) = elim (cases_Bool (ltb k e.number)) [
-  | inl a ↦ elim (cases_Bool (touches e.command x)) [ inl b ↦ rw (a, b, a) refl | inr b ↦ rw (a, b) (find_number k x E) ]
-  | inr a ↦ elim (cases_Bool (touches e.command x)) [ inl b ↦ rw (a, b, a) (find_number k x E) | inr b ↦ rw (a, b) (find_number k x E) ]
-]
-
--- the least blocker is the first number above its own in the list of the name that it wrote
-pub blocker_number : (L : List Entry) (g : Live) → option_map entry_number (blocker_of L g) ≡ find (λ j. ltb g.number j) (touching L (writes g.command))
-blocker_number L g = find_number g.number (writes g.command) (live_of L)
+use Rattle.inverse_log.specs.Log.{Live, live, done_by, live_of}
+use Rattle.inverse_log.specs.Touching.{entry_number}
+use Rattle.inverse_log.proofs.LiveLemmas.{live_done, live_proposed, live_without, others_numbered, rises_live, rises_below, rises_split}
 
 numbers_append : (q : Live → Bool) (E F : List Live) → map entry_number (filter q (E ++ F)) ≡ map entry_number (filter q E) ++ map entry_number (filter q F)
 numbers_append q E F = ap (map entry_number) (filter-append q E F) ∙ map-append entry_number (filter q E) (filter q F)
@@ -33,10 +21,10 @@ numbers_append q E F = ap (map entry_number) (filter-append q E F) ∙ map-appen
 abbrev pub numbers : (Live → Bool) → List Entry → List ℕ
 numbers q L = map entry_number (filter q (live_of L))
 
-pub numbers_did : (q : Live → Bool) (L : List Entry) (c : ℕ) (d : Command) → numbers q (L ++ Did c d ∷ []) ≡ cond (q (live (length L) c d)) (numbers q L ++ length L ∷ []) (numbers q L)
-numbers_did q L c d = ap (λ E. map entry_number (filter q E)) (live_did L c d) ∙ numbers_append q (live_of L) (live (length L) c d ∷ []) ∙ one (q (live (length L) c d))
+pub numbers_done : (q : Live → Bool) (L : List Entry) (e : Entry) (c : ℕ) (D : List Command) → done_by e ≡ Some (c, D) → numbers q (L ++ e ∷ []) ≡ cond (q (live (length L) c D)) (numbers q L ++ length L ∷ []) (numbers q L)
+numbers_done q L e c D is = ap (λ E. map entry_number (filter q E)) (live_done L e c D is) ∙ numbers_append q (live_of L) (live (length L) c D ∷ []) ∙ one (q (live (length L) c D))
   where
-    one : (b : Bool) → numbers q L ++ map entry_number (cond b (live (length L) c d ∷ []) []) ≡ cond b (numbers q L ++ length L ∷ []) (numbers q L)
+    one : (b : Bool) → numbers q L ++ map entry_number (cond b (live (length L) c D ∷ []) []) ≡ cond b (numbers q L ++ length L ∷ []) (numbers q L)
     one true = refl
     one false = append-nil (numbers q L)
 

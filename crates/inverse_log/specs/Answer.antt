@@ -1,26 +1,26 @@
 -- What a call is answered after a log, and the log after it. All notions here are this project's own. `T` is
 -- the trace, `L` is the log.
-use Rattle.std.specs.Prelude.{◌≡◌, ◌⊎◌, ◌≤◌, ℕ, Bool, true, false, List, [], ◌∷◌, ◌++◌, Option, Some, None, Result, Ok, Err, All, length, nat_lt, slice_get, if◌then◌else◌}
+use Rattle.std.specs.Prelude.{◌≡◌, ◌⊎◌, ◌≤◌, ◌&&◌, ℕ, Bool, true, false, List, [], ◌∷◌, ◌++◌, Option, Some, None, Result, Ok, Err, All, length, nat_le, nat_lt, slice_get, if◌then◌else◌}
 use Rattle.rapid_text.specs.Recording.{Recording}
 use Rattle.schedule.specs.Faults.{first_fault}
 use Rattle.schedule.specs.Shows.{does_show}
 use Rattle.moves.specs.declared.refusal.MoveRefusal.{MoveRefusal}
 use Rattle.moves.specs.declared.refusal.MoveRefusal.TheVariants.{NoSuchSchedule}
-use Rattle.moves.specs.Commands.{writes}
 use Rattle.moves.specs.declared.command.Command.{Command}
 use Rattle.moves.specs.Ages.{age}
 use Rattle.moves.specs.Moves.{made_at}
 use Rattle.moves.specs.declared.row.Row.{Row}
-use Rattle.moves.specs.Rows.{row_of, names_of}
+use Rattle.moves.specs.Batches.{applied_all}
+use Rattle.moves.specs.Rows.{Rows, row_of, names_of}
 use Rattle.inverse_log.specs.declared.call.Call.{Call}
-use Rattle.inverse_log.specs.declared.call.Call.TheVariants.{Do, Undo, UndoAt, Propose, Show, List as ListNames, Races}
+use Rattle.inverse_log.specs.declared.call.Call.TheVariants.{Do, Batch as DoAll, Undo, UndoAt, Propose, Show, List as ListNames, Races}
 use Rattle.inverse_log.specs.declared.entry.Entry.{Entry}
-use Rattle.inverse_log.specs.declared.entry.Entry.TheVariants.{Did, Undid, Proposed}
+use Rattle.inverse_log.specs.declared.entry.Entry.TheVariants.{Did, Batch, Undid, Proposed}
 use Rattle.inverse_log.specs.declared.refusal.Refusal.{Refusal}
-use Rattle.inverse_log.specs.declared.refusal.Refusal.TheVariants.{Move, NothingToUndo, RestsOn, NotReordering, NotShown, LogFull, OutOfMemory, NoSuchEntry, NotOwn, NotLive}
+use Rattle.inverse_log.specs.declared.refusal.Refusal.TheVariants.{Move, NothingToUndo, RestsOn, NotReordering, NotShown, LogFull, OutOfMemory, NoSuchEntry, NotOwn, NotLive, BadBatch, InBatch}
 use Rattle.inverse_log.specs.declared.reply.Reply.{Reply}
 use Rattle.inverse_log.specs.declared.reply.Reply.TheVariants.{Done, Undone, Proposed as ProposedAs, Shown, Listing, Shows}
-use Rattle.inverse_log.specs.Log.{Live, client_of, live_at, own_command_of, board_of, rows_of, last_live, blocker_of}
+use Rattle.inverse_log.specs.Log.{Live, client_of, is_own, live_at, board_of, rows_of, last_live, blocker_of, rests_on}
 use Rattle.inverse_log.specs.Pairs.{shown_pairs}
 
 -- A call that would add an entry is refused first of all where the log holds 1,000,000.
@@ -32,12 +32,24 @@ abbrev pub done_or : ℕ → Result (Option Row) MoveRefusal → Result Reply Re
 done_or n (Ok o) = Ok (Done n)
 done_or n (Err why) = Err (Move why)
 
+-- the answer to a batch, by the rows after it, or by the first of its commands that is refused
+abbrev pub all_done_or : ℕ → Result Rows (ℕ × MoveRefusal) → Result Reply Refusal
+all_done_or n (Ok V) = Ok (Done n)
+all_done_or n (Err p) = Err (InBatch p.0 p.1)
+
+-- a batch has 1 to 64 commands
+abbrev pub is_batch : List Command → Bool
+is_batch D = nat_le 1 (length D) && nat_le (length D) 64
+
+abbrev pub sized : List Command → Result Reply Refusal → Result Reply Refusal
+sized D answer = if is_batch D then answer else Err BadBatch
+
 -- the answer to an undo of e, by what blocks it
 abbrev pub undone_or : ℕ → Live → Option Live → Result Reply Refusal
 undone_or n e None = Ok (Undone n e.number)
-undone_or n e (Some b) = Err (RestsOn b.number (writes e.command))
+undone_or n e (Some b) = Err (RestsOn b.number (rests_on e b))
 
--- an undo of the client's greatest live command
+-- an undo of the client's greatest live entry
 abbrev pub undo_or : List Entry → Option Live → Result Reply Refusal
 undo_or L None = Err NothingToUndo
 undo_or L (Some e) = undone_or (length L) e (blocker_of L e)
@@ -47,15 +59,15 @@ abbrev pub undo_live_or : List Entry → Option Live → Result Reply Refusal
 undo_live_or L None = Err NotLive
 undo_live_or L (Some e) = undone_or (length L) e (blocker_of L e)
 
--- and before that of the client's command there, where there is one
-abbrev pub undo_own_or : List Entry → ℕ → Option Command → Result Reply Refusal
-undo_own_or L k None = Err NotOwn
-undo_own_or L k (Some d) = undo_live_or L (live_at L k)
+-- and before that of the client's entry there, where it did commands
+abbrev pub undo_own_or : List Entry → ℕ → Bool → Result Reply Refusal
+undo_own_or L k false = Err NotOwn
+undo_own_or L k true = undo_live_or L (live_at L k)
 
 -- and before that of the entry there, where there is one
 abbrev pub undo_at_or : List Entry → ℕ → ℕ → Option Entry → Result Reply Refusal
 undo_at_or L c k None = Err NoSuchEntry
-undo_at_or L c k (Some e) = undo_own_or L k (own_command_of c (Some e))
+undo_at_or L c k (Some e) = undo_own_or L k (is_own c (Some e))
 
 -- the answer to a proposal, by the first place at which its list is no correct reordering
 abbrev pub proposed_or : Recording → List Entry → ℕ → ℕ → List ℕ → Option ℕ → Result Reply Refusal
@@ -71,6 +83,7 @@ seen_or look (Some r) = Ok (look r)
 -- what the client's call is answered, where there is memory
 abbrev pub answer_of : Recording → List Entry → ℕ → Call → Result Reply Refusal
 answer_of T L c (Do d) = limited L (done_or (length L) (made_at T (board_of T L) (age (length L) 0) d (rows_of T L)))
+answer_of T L c (DoAll D) = limited L (sized D (all_done_or (length L) (applied_all T (board_of T L) (age (length L) 0) D (rows_of T L))))
 answer_of T L c Undo = limited L (undo_or L (last_live L c))
 answer_of T L c (UndoAt k) = limited L (undo_at_or L c k (slice_get L k))
 answer_of T L c (Propose a b P) = limited L (proposed_or T L a b P (first_fault T.events P))
@@ -81,6 +94,7 @@ answer_of T L c (Races x) = seen_or (λ r. Shows (shown_pairs T.events r.schedul
 -- the entry that a reply to the call adds to the log, if it adds one
 abbrev pub entry_of : ℕ → Call → Reply → List Entry
 entry_of c (Do d) reply = Did c d ∷ []
+entry_of c (DoAll D) reply = Batch c D ∷ []
 entry_of c Undo (Undone n k) = Undid c k ∷ []
 entry_of c (UndoAt j) (Undone n k) = Undid c k ∷ []
 entry_of c (Propose a b P) reply = Proposed c a b P ∷ []
@@ -100,11 +114,13 @@ pub data IsLegal (T : Recording) : List Entry → Type 0 where
   starts : IsLegal T []
   goes_on : (L : List Entry) (c : ℕ) (call : Call) → 1 ≤ c → c ≤ 32 → IsLegal T L → IsLegal T (log_after T L c call)
 
--- whether want of memory may stand in place of the answer: where that is a reply, or a proposal was judged
+-- whether want of memory may stand in place of the answer: where that is a reply, a proposal was judged, or a batch was
+-- begun
 abbrev pub may_want : Result Reply Refusal → Bool
 may_want (Ok reply) = true
 may_want (Err (NotReordering p)) = true
 may_want (Err NotShown) = true
+may_want (Err (InBatch place why)) = true
 may_want (Err why) = false
 
 -- What a call answers, and the log that it leaves: the answer and the log after it; or want of memory, only

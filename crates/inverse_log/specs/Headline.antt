@@ -1,5 +1,6 @@
 -- What the log promises, in the words of its reader. `T` is the trace, `L` is the log before a call.
-use Rattle.std.specs.Prelude.{◌≡◌, ◌≢◌, ◌↔◌, ℕ, ◌+◌, ◌<◌, ◌≤◌, true, List, [], ◌∷◌, ◌++◌, Option, Some, Result, Ok, Err, All, Contains, length}
+use Rattle.std.specs.Prelude.{◌≡◌, ◌≢◌, ◌↔◌, ℕ, ◌+◌, ◌<◌, ◌≤◌, true, List, [], ◌∷◌, ◌++◌, Some, Result, Ok, Err, All, Contains, find, length}
+use Rattle.std.specs.List.{list_any}
 use Rattle.rapid_text.specs.Recording.{Recording}
 use Rattle.trace_rules.specs.Rules.{IsDisciplined}
 use Rattle.schedule.specs.Faults.{IsFirstFault}
@@ -7,12 +8,12 @@ use Rattle.schedule.specs.Reordering.{IsCorrectReordering}
 use Rattle.schedule.specs.Shows.{Shows}
 use Rattle.moves.specs.declared.board.Proposal.{Proposal}
 use Rattle.moves.specs.declared.command.Command.{Command}
-use Rattle.moves.specs.Commands.{writes, touches}
+use Rattle.moves.specs.Commands.{touches_any}
 use Rattle.moves.specs.Fold.{fold_of}
 use Rattle.moves.specs.Moves.{applied}
 use Rattle.moves.specs.Rows.{Rows, IsListing, AreReorderings}
 use Rattle.inverse_log.specs.declared.call.Call.{Call}
-use Rattle.inverse_log.specs.declared.call.Call.TheVariants.{Do, Undo, UndoAt, Propose}
+use Rattle.inverse_log.specs.declared.call.Call.TheVariants.{Do, Batch, Undo, UndoAt, Propose}
 use Rattle.inverse_log.specs.declared.entry.Entry.{Entry}
 use Rattle.inverse_log.specs.declared.entry.Entry.TheVariants.{Undid}
 use Rattle.inverse_log.specs.declared.refusal.Refusal.{Refusal}
@@ -20,10 +21,10 @@ use Rattle.inverse_log.specs.declared.refusal.Refusal.TheVariants.{RestsOn, NotR
 use Rattle.inverse_log.specs.declared.reply.Reply.{Reply}
 use Rattle.inverse_log.specs.declared.reply.Reply.TheVariants.{Done, Undone, Proposed}
 use Rattle.inverse_log.specs.Answer.{answer_of, log_after, IsLegal, Called, IsAlone}
-use Rattle.inverse_log.specs.Log.{Live, steps_of, live_of, live_at, board_of, rows_of, last_live, edits_of}
+use Rattle.inverse_log.specs.Log.{Live, written, steps_of, live_of, live_at, commands_at, board_of, rows_of, last_live, edits_of}
 
--- The rows are what the live commands, in their order, make of the empty workspace; no command is refused
--- there. Names differ and births rise, and each row's list is a correct reordering of the trace.
+-- The rows are what the commands of the live entries, in their order, make of the empty workspace; no command is
+-- refused there. Names differ and births rise, and each row's list is a correct reordering of the trace.
 pub record IsFoldOfLive (T : Recording) (L : List Entry) (W : Rows) : Type 0 where
   pub fold : fold_of T (board_of T L) (steps_of (live_of L)) ≡ Some W
   pub listing : IsListing W
@@ -43,29 +44,30 @@ RowsAreTheFold =
     → IsLegal T L
     → IsFoldOfLive T L (rows_of T L) × All (IsSound T) (board_of T L)
 
--- b is later than e, and touches the name that e wrote
+-- b is later than e, and touches a name that e wrote
 abbrev pub Blocks : Live → Live → Type 0
-Blocks e b = (e.number < b.number) × (touches b.command (writes e.command) ≡ true)
+Blocks e b = (e.number < b.number) × (list_any (touches_any b.commands) (written e) ≡ true)
 
--- the least live command that blocks e has the number k
-pub record IsLeastBlocker (L : List Entry) (e : Live) (k : ℕ) : Type 0 where
+-- the least live entry that blocks e has the number k, and x is the first name that e wrote and this entry touches
+pub record IsLeastBlocker (L : List Entry) (e : Live) (k : ℕ) (x : List ℕ) : Type 0 where
   pub blocker : Live
   pub number : blocker.number ≡ k
   pub live : Contains (live_of L) blocker
   pub blocks : Blocks e blocker
   pub least : All (λ (b : Live). Blocks e b → k ≤ b.number) (live_of L)
+  pub name : find (touches_any blocker.commands) (written e) ≡ Some x
 
--- An undo takes back the client's greatest live command e. It is refused exactly where a live command blocks
--- e, and then names the least one and the name that e wrote; else it is accepted, whenever e was made.
+-- An undo takes back the client's greatest live entry e. It is refused exactly where a live entry blocks e, and then
+-- names the least one and the first name that e wrote and it touches; else it is accepted, whenever e was made.
 abbrev pub UndoIsRefusedExactly : Type 0
 UndoIsRefusedExactly =
     (T : Recording) (L : List Entry) (c : ℕ) (e : Live)
     → length L < 1000000
     → last_live L c ≡ Some e
-    → ((k : ℕ) (x : List ℕ) → (answer_of T L c Undo ≡ Err (RestsOn k x)) ↔ ((x ≡ writes e.command) × IsLeastBlocker L e k))
+    → ((k : ℕ) (x : List ℕ) → (answer_of T L c Undo ≡ Err (RestsOn k x)) ↔ IsLeastBlocker L e k x)
     × ((answer_of T L c Undo ≡ Ok (Undone (length L) e.number)) ↔ All (λ (b : Live). ¬ Blocks e b) (live_of L))
 
--- An undo by number takes back the client's live command e of that number, whenever it was made, with the same
+-- An undo by number takes back the client's live entry e of that number, whenever it was made, with the same
 -- refusals.
 abbrev pub UndoAtIsRefusedExactly : Type 0
 UndoAtIsRefusedExactly =
@@ -73,25 +75,25 @@ UndoAtIsRefusedExactly =
     → length L < 1000000
     → live_at L k ≡ Some e
     → e.client ≡ c
-    → ((j : ℕ) (x : List ℕ) → (answer_of T L c (UndoAt k) ≡ Err (RestsOn j x)) ↔ ((x ≡ writes e.command) × IsLeastBlocker L e j))
+    → ((j : ℕ) (x : List ℕ) → (answer_of T L c (UndoAt k) ≡ Err (RestsOn j x)) ↔ IsLeastBlocker L e j x)
     × ((answer_of T L c (UndoAt k) ≡ Ok (Undone (length L) k)) ↔ All (λ (b : Live). ¬ Blocks e b) (live_of L))
 
--- An undo by the number of the client's latest live command is the undo without a number: so what is said of an undo
--- directly after its command holds of both.
+-- An undo by the number of the client's latest live entry is the undo without a number: so what is said of an undo
+-- directly after what it takes back holds of both.
 abbrev pub UndoAtOfLatestIsUndo : Type 0
 UndoAtOfLatestIsUndo =
     (T : Recording) (L : List Entry) (c : ℕ) (e : Live)
     → last_live L c ≡ Some e
     → (answer_of T L c (UndoAt e.number) ≡ answer_of T L c Undo) × (log_after T L c (UndoAt e.number) ≡ log_after T L c Undo)
 
--- An undo directly after its command is answered Undone, where the log has room, and the rows are again those
--- before the command.
+-- An undo directly after a command or a batch is answered Undone, where the log has room, and the rows are again those
+-- before it.
 abbrev pub UndoDirectlyRestores : Type 0
 UndoDirectlyRestores =
-    (T : Recording) (L M : List Entry) (c n : ℕ) (d : Command)
+    (T : Recording) (L M : List Entry) (c n : ℕ) (call : Call)
     → 1 ≤ c → c ≤ 32
     → IsLegal T L
-    → Called T L c (Do d) (Ok (Done n)) M
+    → Called T L c call (Ok (Done n)) M
     → n + 1 < 1000000
     → (answer_of T M c Undo ≡ Ok (Undone (n + 1) n)) × (rows_of T (log_after T M c Undo) ≡ rows_of T L)
 
@@ -126,15 +128,21 @@ LongerBoardsAcceptTheSame =
     → applied T B n d W ≡ Ok V
     → applied T (B ++ C) n d W ≡ Ok V
 
--- how many changes of rows a call made, by its result
-abbrev pub changes_of : Result Reply Refusal → ℕ
-changes_of (Ok (Done n)) = 1
-changes_of (Ok (Undone n k)) = 1
-changes_of result = 0
+-- how many commands a call has
+abbrev pub commands_of : Call → ℕ
+commands_of (Do d) = 1
+commands_of (Batch D) = length D
+commands_of call = 0
 
--- the count of changes grows by one at each command that was applied or taken back, and not otherwise
+-- how many changes of rows a call made, by its result
+abbrev pub changes_of : List Entry → Call → Result Reply Refusal → ℕ
+changes_of L call (Ok (Done n)) = commands_of call
+changes_of L call (Ok (Undone n k)) = length (commands_at L k)
+changes_of L call result = 0
+
+-- the count of changes grows by one for each command that was applied or taken back, and not otherwise
 abbrev pub EditsCountChanges : Type 0
 EditsCountChanges =
     (T : Recording) (L M : List Entry) (c : ℕ) (call : Call) (r : Result Reply Refusal)
     → Called T L c call r M
-    → edits_of M ≡ edits_of L + changes_of r
+    → edits_of M ≡ edits_of L + changes_of L call r

@@ -1,6 +1,6 @@
 -- What a bench keeps: its rows, board, steps back and lists are those of its log. No public clause cites this
 -- module. `T` is the trace, `L` is the log.
-use Rattle.std.specs.Prelude.{◌≡◌, ℕ, true, false, List, [], ◌∷◌, ◌++◌, Option, Some, None, Result, Ok, Err, IsOk, length, slice_get}
+use Rattle.std.specs.Prelude.{◌≡◌, ◌<◌, ℕ, true, false, List, [], ◌∷◌, ◌++◌, Option, Some, None, Result, Ok, Err, IsOk, length, slice_get}
 use Rattle.rapid_text.specs.Recording.{Recording}
 use Rattle.trace_rules.specs.Rules.{IsDisciplined}
 use Rattle.schedule.specs.Faults.{IsFirstFault}
@@ -8,8 +8,11 @@ use Rattle.schedule.specs.Reordering.{IsCorrectReordering}
 use Rattle.schedule.specs.Scheduled.{Scheduled}
 use Rattle.schedule.specs.Shows.{does_show}
 use Rattle.moves.specs.declared.board.Proposal.{Proposal}
-use Rattle.moves.specs.declared.inverse.Step.{Step}
+use Rattle.moves.specs.declared.batch.BatchRefusal.{BatchRefusal}
+use Rattle.moves.specs.declared.batch.BatchRefusal.TheVariants as batch
+use Rattle.moves.specs.declared.inverse.Inverse.{Inverse}
 use Rattle.moves.specs.declared.row.Row.{Row}
+use Rattle.moves.specs.Commands.{writes}
 use Rattle.moves.specs.Fold.{Numbered, Leads}
 use Rattle.moves.specs.Ages.{age}
 use Rattle.moves.specs.Inverses.{Fits, IsStepOf}
@@ -18,20 +21,34 @@ use Rattle.dependence.specs.Lists.{Lists, under, of_client}
 use Rattle.inverse_log.specs.declared.entry.Entry.{Entry}
 use Rattle.inverse_log.specs.declared.entry.Entry.TheVariants.{Undid}
 use Rattle.inverse_log.specs.declared.refusal.Refusal.{Refusal}
-use Rattle.inverse_log.specs.declared.refusal.Refusal.TheVariants.{OutOfMemory, NotReordering, NotShown}
+use Rattle.inverse_log.specs.declared.refusal.Refusal.TheVariants.{OutOfMemory, NotReordering, NotShown, InBatch}
 use Rattle.inverse_log.specs.declared.reply.Reply.{Reply}
 use Rattle.inverse_log.specs.Answer.{undone_or, IsLegal}
-use Rattle.inverse_log.specs.Log.{Live, live_of, steps_of, board_of, blocker_of, edits_of}
+use Rattle.inverse_log.specs.declared.kept.Held.{Held}
+use Rattle.inverse_log.specs.Log.{Live, live, live_of, steps_of, commands_at, board_of, blocker_of, edits_of}
+use Rattle.inverse_log.specs.Steps.{inverses_of}
 use Rattle.inverse_log.specs.Touching.{touching, own_live}
 
--- the step that is kept for a command fits the row that it writes, as it was before it and after it
-abbrev pub HasStep : Recording → List (Option Step) → Numbered → Option Row → Option Row → Type 0
-HasStep T steps e before after =
-    (k : ℕ) × (e.0 ≡ age k 0) × (s : Step) × (slice_get steps k ≡ Some (Some s)) × Fits s before after × IsStepOf T s
+-- What is kept for a command's entry has an inverse for it, at its place, which fits the row that it writes, as it was
+-- before it and after it.
+pub record HasInverse (T : Recording) (L : List Entry) (steps : List Held) (e : Numbered) (before after : Option Row) : Type 0 where
+  pub entry : ℕ
+  pub place : ℕ
+  pub birth : e.0 ≡ age entry place
+  pub low : place < 4294967296
+  pub there : entry < length L
+  pub held : Held
+  pub kept : slice_get steps entry ≡ Some held
+  pub whole : length (inverses_of held (commands_at L entry)) ≡ length (commands_at L entry)
+  pub inverse : Inverse
+  pub at : slice_get (inverses_of held (commands_at L entry)) place ≡ Some inverse
+  pub name : inverse.name ≡ writes e.1
+  pub fits : Fits inverse.step before after
+  pub of : IsStepOf T inverse.step
 
-pub record IsKept (T : Recording) (L : List Entry) (W : Rows) (B : List Proposal) (steps : List (Option Step)) : Type 0 where
-  -- the rows are the fold of the live commands, and each one's step back fits at its own place
-  pub rows : Leads T (board_of T L) (HasStep T steps) [] (steps_of (live_of L)) W
+pub record IsKept (T : Recording) (L : List Entry) (W : Rows) (B : List Proposal) (steps : List Held) : Type 0 where
+  -- the rows are the fold of the live entries' commands, and each one's inverse fits at its own place
+  pub rows : Leads T (board_of T L) (HasInverse T L steps) [] (steps_of (live_of L)) W
   pub board : B ≡ board_of T L
   pub long : length steps ≡ length L
 
@@ -41,7 +58,11 @@ pub record IsLive (L : List Entry) (e : Live) : Type 0 where
   pub later : List Live
   pub split : live_of L ≡ earlier ++ e ∷ later
 
--- What an undo of the live command e is answered, and the log that it leaves.
+-- the entry k, as a live one of the client c
+abbrev pub live_there : List Entry → ℕ → ℕ → Live
+live_there L c k = live k c (commands_at L k)
+
+-- What an undo of the live entry e is answered, and the log that it leaves.
 abbrev pub IsUndone : List Entry → ℕ → Live → Result Reply Refusal → List Entry → Type 0
 IsUndone L c e (Ok reply) M = (undone_or (length L) e (blocker_of L e) ≡ Ok reply) × (M ≡ L ++ Undid c e.number ∷ [])
 IsUndone L c e (Err OutOfMemory) M = IsOk (undone_or (length L) e (blocker_of L e)) × (M ≡ L)
@@ -57,6 +78,11 @@ IsJudged T a b P (Err NotShown) = IsCorrectReordering T.events P × (does_show T
 IsJudged T a b P (Err OutOfMemory) = Unit {0}
 IsJudged T a b P (Err why) = ⊥
 
+-- how a refused batch is answered
+abbrev pub refused_as : BatchRefusal → Refusal
+refused_as (batch.InBatch place cause) = InBatch place cause
+refused_as batch.OutOfMemory = OutOfMemory
+
 -- e is live, and none blocks it
 pub record IsUnblocked (L : List Entry) (e : Live) : Type 0 where
   pub earlier : List Live
@@ -69,7 +95,7 @@ pub record IsListed (L : List Entry) (N : Lists) (C : List (List ℕ)) : Type 0 
   pub names : (x : List ℕ) → under N x ≡ touching L x
   pub clients : (c : ℕ) → of_client C c ≡ own_live L c
 
-pub record IsBench (T : Recording) (L : List Entry) (W : Rows) (B : List Proposal) (steps : List (Option Step)) (N : Lists) (C : List (List ℕ)) (edits : ℕ) : Type 0 where
+pub record IsBench (T : Recording) (L : List Entry) (W : Rows) (B : List Proposal) (steps : List Held) (N : Lists) (C : List (List ℕ)) (edits : ℕ) : Type 0 where
   pub kept : IsKept T L W B steps
   pub listed : IsListed L N C
   pub legal : IsLegal T L

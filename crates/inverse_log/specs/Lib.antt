@@ -3,6 +3,7 @@ pub mod Counted
 pub mod Headline
 pub mod Kept
 pub mod Log
+pub mod Nearest
 pub mod Next
 pub mod Pairs
 pub mod Steps

@@ -1,16 +1,16 @@
--- A log: which of its commands are live, and the board and the rows that it comes to. All notions here are
+-- A log: which of its entries are live, and the board and the rows that it comes to. All notions here are
 -- this project's own. `T` is the trace, `L` is the log; entries are numbered from 0.
-use Rattle.std.specs.Prelude.{◌+◌, ◌==◌, ◌&&◌, ℕ, Bool, true, false, List, [], Option, Some, None, nat_lt, length, slice_get, drop, reverse, find, map, filter, filter_map, unwrap_or}
+use Rattle.std.specs.Prelude.{◌+◌, ◌==◌, ◌&&◌, ℕ, Bool, false, List, [], ◌∷◌, ◌++◌, Option, Some, None, nat_lt, length, slice_get, drop, reverse, find, map, flat_map, filter, filter_map, unwrap_or}
 use Rattle.std.specs.List.{list_any, range_with_len}
 use Rattle.rapid_text.specs.Recording.{Recording}
 use Rattle.moves.specs.declared.command.Command.{Command}
 use Rattle.moves.specs.declared.board.Proposal.{Proposal}
-use Rattle.moves.specs.Commands.{writes, touches}
+use Rattle.moves.specs.Commands.{writes, touches_any}
 use Rattle.moves.specs.Ages.{age}
-use Rattle.moves.specs.Fold.{Numbered, fold_of}
+use Rattle.moves.specs.Fold.{Numbered, numbered, fold_of}
 use Rattle.moves.specs.Rows.{Rows}
 use Rattle.inverse_log.specs.declared.entry.Entry.{Entry}
-use Rattle.inverse_log.specs.declared.entry.Entry.TheVariants.{Did, Undid, Proposed}
+use Rattle.inverse_log.specs.declared.entry.Entry.TheVariants.{Did, Batch, Undid, Proposed}
 
 -- What a contract sees of a bench: its trace and its log, which determine all else.
 pub record Benched : Type 0 where
@@ -20,12 +20,39 @@ pub record Benched : Type 0 where
 -- whose entry it is
 abbrev pub client_of : Entry → ℕ
 client_of (Did c d) = c
+client_of (Batch c D) = c
 client_of (Undid c k) = c
 client_of (Proposed c a b P) = c
 
 -- the entries of one client, in order
 abbrev pub own_entries : List Entry → ℕ → List Entry
 own_entries L c = filter (λ e. client_of e == c) L
+
+-- the commands that an entry did, and whose they were; a single command is a list of one
+abbrev pub done_by : Entry → Option (ℕ × List Command)
+done_by (Did c d) = Some (c, d ∷ [])
+done_by (Batch c D) = Some (c, D)
+done_by e = None
+
+abbrev pub done_in : Option Entry → Option (ℕ × List Command)
+done_in None = None
+done_in (Some e) = done_by e
+
+abbrev pub commands_in : Option (ℕ × List Command) → List Command
+commands_in None = []
+commands_in (Some p) = p.1
+
+-- the commands that entry k did, if it did some
+abbrev pub commands_at : List Entry → ℕ → List Command
+commands_at L k = commands_in (done_in (slice_get L k))
+
+abbrev pub is_client : ℕ → Option (ℕ × List Command) → Bool
+is_client c None = false
+is_client c (Some p) = p.0 == c
+
+-- whether an entry is there, and did commands of this client
+abbrev pub is_own : ℕ → Option Entry → Bool
+is_own c e = is_client c (done_in e)
 
 -- whether an entry undoes entry k
 abbrev pub undoes : ℕ → Entry → Bool
@@ -36,33 +63,34 @@ undoes k e = false
 abbrev pub is_undone : List Entry → ℕ → Bool
 is_undone L k = list_any (undoes k) (drop (k + 1) L)
 
--- A live command: the number of its entry, whose it is, and the command.
+-- A live entry: its number, whose it is, and its commands.
 pub record Live : Type 0 where
   pub number : ℕ
   pub client : ℕ
-  pub command : Command
+  pub commands : List Command
 
-abbrev pub live : ℕ → ℕ → Command → Live
-live k c d = record { number = k; client = c; command = d }
+abbrev pub live : ℕ → ℕ → List Command → Live
+live k c D = record { number = k; client = c; commands = D }
 
-abbrev pub live_by : ℕ → Bool → Option Entry → Option Live
-live_by k false (Some (Did c d)) = Some (live k c d)
-live_by k undone e = None
+abbrev pub live_by : ℕ → Bool → Option (ℕ × List Command) → Option Live
+live_by k false (Some p) = Some (live k p.0 p.1)
+live_by k undone p = None
 
--- the command of entry k, if it is live: the entry did it, and no later entry undoes it
+-- entry k, if it is live: it did commands, and no later entry undoes it
 abbrev pub live_at : List Entry → ℕ → Option Live
-live_at L k = live_by k (is_undone L k) (slice_get L k)
+live_at L k = live_by k (is_undone L k) (done_in (slice_get L k))
 
--- the live commands, in order
+-- the live entries, in order
 abbrev pub live_of : List Entry → List Live
 live_of L = filter_map (live_at L) (range_with_len 0 (length L))
 
--- the live commands as the workspace takes them, each with the birth of its entry's first place
-abbrev pub step_of : Live → Numbered
-step_of e = (age e.number 0, e.command)
+-- The commands of an entry as the workspace takes them: what the command at a place makes has the birth of the entry
+-- and that place.
+abbrev pub births_of : Live → List Numbered
+births_of e = numbered (age e.number 0) e.commands
 
 abbrev pub steps_of : List Live → List Numbered
-steps_of E = map step_of E
+steps_of E = flat_map births_of E
 
 -- the list that an entry proposes, as a schedule of the trace, with the pair that it shows
 abbrev pub proposal_of : Recording → Entry → Option Proposal
@@ -73,44 +101,47 @@ proposal_of T e = None
 abbrev pub board_of : Recording → List Entry → List Proposal
 board_of T L = filter_map (proposal_of T) L
 
--- The rows: what the live commands make of the empty workspace, in their order, each with the birth
--- of its entry. That none of them is refused there is a law of legal logs.
+-- The rows: what the commands of the live entries make of the empty workspace, in their order. That none of them is
+-- refused there is a law of legal logs.
 abbrev pub rows_of : Recording → List Entry → Rows
 rows_of T L = unwrap_or (fold_of T (board_of T L) (steps_of (live_of L))) []
 
 abbrev pub is_by : ℕ → Live → Bool
 is_by c e = e.client == c
 
--- the client's greatest live command
+-- the client's greatest live entry
 abbrev pub last_live : List Entry → ℕ → Option Live
 last_live L c = find (is_by c) (reverse (live_of L))
 
--- b stands in the way of an undo of e: it is later, and touches the name that e wrote
-abbrev pub blocks : Live → Live → Bool
-blocks e b = nat_lt e.number b.number && touches b.command (writes e.command)
+-- the names that an entry's commands write, in their order
+abbrev pub written : Live → List (List ℕ)
+written e = map writes e.commands
 
--- the least live command that does
+-- b stands in the way of an undo of e: it is later, and touches a name that e wrote
+abbrev pub blocks : Live → Live → Bool
+blocks e b = nat_lt e.number b.number && list_any (touches_any b.commands) (written e)
+
+-- the least live entry that does
 abbrev pub blocker_of : List Entry → Live → Option Live
 blocker_of L e = find (blocks e) (live_of L)
 
-abbrev pub is_edit : Entry → Bool
-is_edit (Proposed c a b P) = false
-is_edit e = true
+-- the first name that e wrote and b touches, if there is one
+abbrev pub rests_on : Live → Live → List ℕ
+rests_on e b = unwrap_or (find (touches_any b.commands) (written e)) []
 
--- how often a row was changed, put in, taken out or replaced: once for each entry that does or undoes
+-- How often an entry changed a row, put one in, took one out or replaced one, after the entries L: once for each command
+-- that it did, and once for each of the entry that it undid.
+abbrev pub changes_by : List Entry → Entry → ℕ
+changes_by L (Did c d) = 1
+changes_by L (Batch c D) = length D
+changes_by L (Undid c k) = length (commands_at L k)
+changes_by L (Proposed c a b P) = 0
+
+-- how often the entries M did, after the entries L
+abbrev pub edits_after : List Entry → List Entry → ℕ
+edits_after L [] = 0
+edits_after L (e ∷ M) = changes_by L e + edits_after (L ++ e ∷ []) M
+
+-- how often a row was changed, put in, taken out or replaced
 abbrev pub edits_of : List Entry → ℕ
-edits_of L = length (filter is_edit L)
-
-abbrev pub owned : Bool → Command → Option Command
-owned true d = Some d
-owned false d = None
-
--- the command of an entry of this client that did one
-abbrev pub own_command_of : ℕ → Option Entry → Option Command
-own_command_of c (Some (Did a d)) = owned (a == c) d
-own_command_of c e = None
-
--- the command of an entry that did one
-abbrev pub command_of : Option Entry → Option Command
-command_of (Some (Did c d)) = Some d
-command_of e = None
+edits_of L = edits_after [] L

@@ -1,15 +1,25 @@
 -- What takes entries back, as it is kept beside the log. No public clause cites this module.
-use Rattle.std.specs.Prelude.{Option, None, Some}
-use Rattle.moves.specs.declared.inverse.Step.{Step}
+use Rattle.std.specs.Prelude.{List, [], ◌∷◌}
+use Rattle.moves.specs.declared.command.Command.{Command}
+use Rattle.moves.specs.declared.inverse.Inverse.{Inverse}
 use Rattle.moves.specs.declared.inverse.Step.TheVariants as step
+use Rattle.moves.specs.Commands.{writes}
 use Rattle.inverse_log.specs.declared.kept.Form.{Form}
-use Rattle.inverse_log.specs.declared.kept.Form.TheVariants.{Nothing, Goes, Loses, Gains, Exchanges, Apart}
+use Rattle.inverse_log.specs.declared.kept.Form.TheVariants as form
+use Rattle.inverse_log.specs.declared.kept.Held.{Held}
+use Rattle.inverse_log.specs.declared.kept.Held.TheVariants.{Nothing, One, Many}
 
--- the step that is kept, or none
-abbrev pub kept_in : Form → Option Step
-kept_in Nothing = None
-kept_in Goes = Some step.Goes
-kept_in Loses = Some step.Loses
-kept_in (Gains event) = Some (step.Gains event)
-kept_in (Exchanges place) = Some (step.Exchanges place)
-kept_in (Apart box) = box.value
+-- what is kept
+abbrev pub kept_in : Form → Held
+kept_in form.Nothing = Nothing
+kept_in form.Goes = One step.Goes
+kept_in form.Loses = One step.Loses
+kept_in (form.Gains event) = One (step.Gains event)
+kept_in (form.Exchanges place) = One (step.Exchanges place)
+kept_in (form.Apart box) = box.value
+
+-- the inverses of these commands, by what is kept for them
+abbrev pub inverses_of : Held → List Command → List Inverse
+inverses_of (Many I) D = I
+inverses_of (One s) (d ∷ D) = record { name = writes d; step = s } ∷ []
+inverses_of held D = []

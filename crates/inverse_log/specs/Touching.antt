@@ -1,6 +1,6 @@
--- For each name the live commands that touch it, and for each client its live commands, by their numbers.
-use Rattle.std.specs.Prelude.{◌≡◌, ℕ, Bool, List, map, filter}
-use Rattle.moves.specs.Commands.{touches}
+-- For each name the live entries that touch it, and for each client its live entries, by their numbers.
+use Rattle.std.specs.Prelude.{ℕ, Bool, List, map, filter}
+use Rattle.moves.specs.Commands.{touches_any}
 use Rattle.inverse_log.specs.declared.entry.Entry.{Entry}
 use Rattle.inverse_log.specs.Log.{Live, live_of, is_by}
 
@@ -8,7 +8,7 @@ abbrev pub entry_number : Live → ℕ
 entry_number e = e.number
 
 abbrev pub touches_name : List ℕ → Live → Bool
-touches_name x e = touches e.command x
+touches_name x e = touches_any e.commands x
 
 abbrev pub touching : List Entry → List ℕ → List ℕ
 touching L x = map entry_number (filter (touches_name x) (live_of L))

@@ -1,18 +1,18 @@
 //! The bench: a workspace and its board, and the log of what clients did to them.
-ghost use Rattle.std.specs.Prelude.{◌≡◌, ◌<◌, ◌≤◌, ◌++◌, ◌∷◌, [], All, length, slice_get, Some, None, OnOk, OnErr, IfOk, IfErr};
+ghost use Rattle.std.specs.Prelude.{◌≡◌, ◌<◌, ◌≤◌, ◌++◌, ◌∷◌, [], All, length, slice_get, Some, None, true, OnOk, OnErr, IfOk, IfErr};
 ghost use Rattle.std.specs.Arc.{arc_value};
-ghost use Rattle.inverse_log.specs.Answer.{Called, IsLegal};
-ghost use Rattle.inverse_log.specs.Kept.{IsLive, IsUnblocked, IsUndone};
+ghost use Rattle.inverse_log.specs.Answer.{Called, IsLegal, is_batch};
+ghost use Rattle.inverse_log.specs.Kept.{IsLive, live_there, IsUnblocked, IsUndone};
 ghost use Rattle.inverse_log.specs.Headline.{IsFoldOfLive, IsSound};
-ghost use Rattle.inverse_log.specs.Log.{live, blocker_of, board_of, edits_of};
+ghost use Rattle.inverse_log.specs.Log.{blocker_of, board_of, edits_of};
 
 use crate::call::Call;
 use crate::counted::Counted;
 use crate::entry::Entry;
-use crate::kept::{Kept, Spare};
+use crate::kept::{Held, Kept, Spare};
 use crate::parts::{
-    add_entry, add_no_step, add_step, command_at, copied, enter, leave, make_room, own_command_at,
-    put_back, take_out,
+    add_entry, add_held, add_nothing, commands_at, copied, enter, first_blocker, is_batch, is_own,
+    leave, make_room, put_back, refused, take_out,
 };
 use crate::proposals::judge;
 use crate::races::shown_pairs;
@@ -20,10 +20,11 @@ use crate::refusal::Refusal;
 use crate::reply::Reply;
 use dependence::{Clients, Touches};
 use event_index::Indexed;
-use moves::{Board, Command, Inverse, MoveRefusal, Name, Workspace};
+use moves::{Board, Command, Commands, MoveRefusal, Name, Workspace};
 use rapid_text::{OutOfMemory, TextKeyed};
 use std::alloc::Global;
 use std::marker::Model;
+use std::slice;
 use std::sync::Arc;
 
 /// The most entries of a log.
@@ -38,9 +39,9 @@ pub struct Bench {
     rows: Counted,
     board: Board,
     log: Vec<Entry>,
-    // for each entry what takes it back, where it is a command that was not undone
+    // for each entry what takes it back, where it did commands and was not undone
     steps: Vec<Kept>,
-    // for a step that wants a box
+    // for what wants a box
     spare: Spare,
     touches: Touches,
     clients: Clients,
@@ -157,6 +158,7 @@ impl Bench {
     {
         match call {
             Call::Do(command) => self.perform(client, command),
+            Call::Batch(commands) => self.perform_all(client, commands.items()),
             Call::Undo => self.undo(client),
             Call::UndoAt { entry } => self.undo_at(client, *entry),
             Call::Propose {
@@ -190,11 +192,12 @@ impl Bench {
         let Ok(()) = make_room(self.alloc, &mut self.log, &mut self.steps, &mut self.spare) else {
             return Err(Refusal::OutOfMemory);
         };
+        let commands = slice::from_ref(command);
         let Ok(()) = enter(
             &mut self.touches,
             &mut self.clients,
             client,
-            command,
+            commands,
             number,
         ) else {
             return Err(Refusal::OutOfMemory);
@@ -204,17 +207,85 @@ impl Bench {
                 &mut self.touches,
                 &mut self.clients,
                 client,
-                command,
+                commands,
                 number,
             );
             return Err(Refusal::OutOfMemory);
         };
-        add_step(&mut self.steps, &mut self.spare, inverse.step);
+        add_held(&mut self.steps, &mut self.spare, Held::One(inverse.step));
         add_entry(
             &mut self.log,
             Entry::Did {
                 client,
                 command: *command,
+            },
+        );
+        Ok(Reply::Done(number))
+    }
+
+    fn perform_all(&mut self, client: u32, commands: &[Command]) -> Result<Reply, Refusal>
+        requires low { 1 ≤ client }
+        requires high { client ≤ 32 }
+        ensures trace { self.new.trace ≡ self.old.trace }
+        ensures call { Called self.old.trace self.old.log client (Call.Batch commands.now) result self.new.log }
+    {
+        let number = self.log.len() as u64;
+        if number >= MAX_ENTRIES {
+            return Err(Refusal::LogFull);
+        }
+        if !is_batch(commands) {
+            return Err(Refusal::BadBatch);
+        }
+        self.perform_batch(client, commands)
+    }
+
+    // Applies the commands of a batch of 1 to 64, where the log has room.
+    fn perform_batch(&mut self, client: u32, commands: &[Command]) -> Result<Reply, Refusal>
+        requires low { 1 ≤ client }
+        requires high { client ≤ 32 }
+        requires room { length self.old.log < 1000000 }
+        requires sizes { is_batch commands.now ≡ true }
+        ensures trace { self.new.trace ≡ self.old.trace }
+        ensures call { Called self.old.trace self.old.log client (Call.Batch commands.now) result self.new.log }
+    {
+        let number = self.log.len() as u64;
+        let Ok(kept) = Commands::of(self.alloc, commands) else {
+            return Err(Refusal::OutOfMemory);
+        };
+        let Ok(()) = make_room(self.alloc, &mut self.log, &mut self.steps, &mut self.spare) else {
+            return Err(Refusal::OutOfMemory);
+        };
+        let Ok(()) = enter(
+            &mut self.touches,
+            &mut self.clients,
+            client,
+            commands,
+            number,
+        ) else {
+            return Err(Refusal::OutOfMemory);
+        };
+        let inverses = match self
+            .rows
+            .apply_all(&self.indexed, &self.board, number, commands)
+        {
+            Ok(inverses) => inverses,
+            Err(why) => {
+                leave(
+                    &mut self.touches,
+                    &mut self.clients,
+                    client,
+                    commands,
+                    number,
+                );
+                return Err(refused(why));
+            }
+        };
+        add_held(&mut self.steps, &mut self.spare, Held::Many(inverses));
+        add_entry(
+            &mut self.log,
+            Entry::Batch {
+                client,
+                commands: kept,
             },
         );
         Ok(Reply::Done(number))
@@ -233,10 +304,7 @@ impl Bench {
         let Some(entry) = self.clients.last(client) else {
             return Err(Refusal::NothingToUndo);
         };
-        let Some(command) = command_at(&self.log, entry) else {
-            return Err(Refusal::NothingToUndo);
-        };
-        self.undo_live(client, entry, &command)
+        self.undo_live(client, entry)
     }
 
     fn undo_at(&mut self, client: u32, entry: u64) -> Result<Reply, Refusal>
@@ -252,44 +320,44 @@ impl Bench {
         if entry >= number {
             return Err(Refusal::NoSuchEntry);
         }
-        let Some(command) = own_command_at(&self.log, client, entry) else {
+        if !is_own(&self.log, client, entry) {
             return Err(Refusal::NotOwn);
-        };
+        }
         if !self.clients.contains(client, entry) {
             return Err(Refusal::NotLive);
         }
-        self.undo_live(client, entry, &command)
+        self.undo_live(client, entry)
     }
 
-    // Takes back a client's live command, or tells what blocks it.
-    fn undo_live(&mut self, client: u32, entry: u64, command: &Command) -> Result<Reply, Refusal>
+    // Takes back a client's live entry, or tells what blocks it.
+    fn undo_live(&mut self, client: u32, entry: u64) -> Result<Reply, Refusal>
         requires client { client ≤ 32 }
         requires room { length self.old.log < 1000000 }
-        requires live { IsLive self.old.log (live entry client command.now) }
-        requires legal { blocker_of self.old.log (live entry client command.now) ≡ None
+        requires live { IsLive self.old.log (live_there self.old.log client entry) }
+        requires legal { blocker_of self.old.log (live_there self.old.log client entry) ≡ None
             → IsLegal self.old.trace (self.old.log ++ Entry.Undid client entry ∷ []) }
         ensures trace { self.new.trace ≡ self.old.trace }
-        ensures undone { IsUndone self.old.log client (live entry client command.now) result self.new.log }
+        ensures undone { IsUndone self.old.log client (live_there self.old.log client entry) result self.new.log }
     {
         let number = self.log.len() as u64;
-        let name = command.writes();
-        if let Some(blocker) = self.touches.first_after(entry, &name) {
+        let commands = commands_at(&self.log, entry);
+        if let Some(rests) = first_blocker(&self.touches, entry, commands) {
             return Err(Refusal::RestsOn {
-                entry: blocker,
-                name,
+                entry: rests.0,
+                name: rests.1,
             });
         }
-        let Ok(()) = self.take_back(client, entry, command) else {
+        let Ok(()) = self.take_back(client, entry) else {
             return Err(Refusal::OutOfMemory);
         };
         Ok(Reply::Undone { number, entry })
     }
 
-    // Takes back a client's live command that nothing blocks.
-    fn take_back(&mut self, client: u32, entry: u64, command: &Command) -> Result<(), OutOfMemory>
+    // Takes back a client's live entry that nothing blocks.
+    fn take_back(&mut self, client: u32, entry: u64) -> Result<(), OutOfMemory>
         requires client { client ≤ 32 }
         requires room { length self.old.log < 1000000 }
-        requires free { IsUnblocked self.old.log (live entry client command.now) }
+        requires free { IsUnblocked self.old.log (live_there self.old.log client entry) }
         requires legal { IsLegal self.old.trace (self.old.log ++ Entry.Undid client entry ∷ []) }
         ensures trace { self.new.trace ≡ self.old.trace }
         ensures ok { OnOk result (self.new.log ≡ self.old.log ++ Entry.Undid client entry ∷ []) }
@@ -298,18 +366,21 @@ impl Bench {
         let Ok(()) = make_room(self.alloc, &mut self.log, &mut self.steps, &mut self.spare) else {
             return Err(OutOfMemory);
         };
-        let Some(step) = take_out(&mut self.steps, entry) else {
-            return Err(OutOfMemory);
-        };
-        let name = command.writes();
-        let inverse = Inverse { name, step };
-        let Err(step) = self.rows.take_back(&self.indexed, inverse) else {
-            leave(&mut self.touches, &mut self.clients, client, command, entry);
-            add_no_step(&mut self.steps);
+        let held = take_out(&mut self.steps, entry);
+        let commands = commands_at(&self.log, entry);
+        let Err(held) = self.rows.take_back(&self.indexed, commands, held) else {
+            leave(
+                &mut self.touches,
+                &mut self.clients,
+                client,
+                commands,
+                entry,
+            );
+            add_nothing(&mut self.steps);
             add_entry(&mut self.log, Entry::Undid { client, entry });
             return Ok(());
         };
-        put_back(&mut self.steps, &mut self.spare, entry, step);
+        put_back(&mut self.steps, &mut self.spare, entry, held);
         Err(OutOfMemory)
     }
 
@@ -343,7 +414,7 @@ impl Bench {
         let Ok(()) = self.board.push(first, second, schedule) else {
             return Err(Refusal::OutOfMemory);
         };
-        add_no_step(&mut self.steps);
+        add_nothing(&mut self.steps);
         add_entry(
             &mut self.log,
             Entry::Proposed {

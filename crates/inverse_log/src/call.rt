@@ -1,16 +1,18 @@
 //! What a client can ask for.
 
 use event_index::EventList;
-use moves::{Command, Name};
+use moves::{Command, Commands, Name};
 
 /// A call of one client.
 #[derive(Drop)]
 pub enum Call {
     /// A command on the named schedules.
     Do(Command),
-    /// The client's latest command that was not undone is taken back.
+    /// Commands as one entry, all or none: 1 to 64 of them, applied one after another.
+    Batch(Commands),
+    /// The client's latest command or batch that was not undone is taken back.
     Undo,
-    /// The client's command of this entry, if it was not undone, is taken back.
+    /// The client's command or batch of this entry, if it was not undone, is taken back.
     UndoAt {
         /// The entry's number.
         entry: u64,

@@ -1,7 +1,7 @@
 //! What the log remembers.
 
 use event_index::EventList;
-use moves::Command;
+use moves::{Command, Commands};
 
 /// One entry of the log: an accepted call that changed the workspace or the board.
 #[derive(Drop)]
@@ -13,7 +13,14 @@ pub enum Entry {
         /// The command.
         command: Command,
     },
-    /// A command was taken back.
+    /// Commands were applied, one after another.
+    Batch {
+        /// Whose they were, 1 to 32.
+        client: u32,
+        /// The commands, 1 to 64 of them.
+        commands: Commands,
+    },
+    /// A command or a batch was taken back.
     Undid {
         /// Who took it back, 1 to 32.
         client: u32,

@@ -1,17 +1,29 @@
 //! What takes an entry back, as it is kept beside the log.
-ghost use Rattle.std.specs.Prelude.{◌≡◌, None, Some, IsSome};
+ghost use Rattle.std.specs.Prelude.{◌≡◌, IsSome};
+ghost use Rattle.inverse_log.specs.declared.kept.Held.TheVariants as held;
 ghost use Rattle.inverse_log.specs.Steps.{kept_in};
 
-use moves::Step;
+use moves::{Inverses, Step};
 use std::marker::Model;
 use std::mem;
 
-/// A box for a step, which was made ahead, so that keeping the step wants no memory.
-pub(crate) type Spare = Option<Box<Option<Step>>>;
+/// What takes the commands of an entry back.
+#[derive(Drop)]
+pub(crate) enum Held {
+    /// There is nothing to take back.
+    Nothing,
+    /// The step back of an entry's only command.
+    One(Step),
+    /// What takes a batch back.
+    Many(Inverses),
+}
 
-/// The step back of an entry, where it is a command that was not undone. Contracts see it as that.
+/// A box for what lies apart, which was made ahead, so that keeping it wants no memory.
+pub(crate) type Spare = Option<Box<Held>>;
+
+/// What takes an entry back, where it is one of commands that were not undone. Contracts see it as that.
 ///
-/// A step that owns a row or a schedule lies apart in a box, since there is a place for each entry and most steps
+/// What owns a row, a schedule or a list lies apart in a box, since there is a place for each entry and most steps
 /// are a number or less.
 #[derive(Drop)]
 pub(crate) struct Kept {
@@ -25,67 +37,68 @@ enum Form {
     Loses,
     Gains(u32),
     Exchanges(u32),
-    Apart(Box<Option<Step>>),
+    Apart(Box<Held>),
 }
 
 impl Model for Kept {
-    ghost use Rattle.std.specs.Prelude.{Option};
-    ghost use Rattle.moves.specs.declared.inverse.Step.{Step};
+    ghost use Rattle.inverse_log.specs.declared.kept.Held.{Held};
     ghost use Rattle.inverse_log.specs.Steps.{kept_in};
 
-    ghost Value = { Option Step };
+    ghost Value = { Held };
 
     ghost view = { λ k. kept_in k.form };
 }
 
 impl Kept {
-    /// No step.
+    /// Nothing.
     pub(crate) fn nothing() -> Kept
-        ensures { result ≡ None }
+        ensures { result ≡ held.Nothing }
     {
         Kept {
             form: Form::Nothing,
         }
     }
 
-    /// This step; one that lies apart takes the spare box.
-    pub(crate) fn of(step: Step, spare: &mut Spare) -> Kept
+    /// This; where it lies apart it takes the spare box.
+    pub(crate) fn of(held: Held, spare: &mut Spare) -> Kept
         requires { IsSome spare.old }
-        ensures { result ≡ Some step }
+        ensures { result ≡ held }
     {
-        let form = match step {
-            Step::Goes => Form::Goes,
-            Step::Loses => Form::Loses,
-            Step::Gains(event) => Form::Gains(event),
-            Step::Exchanges(place) => Form::Exchanges(place),
-            Step::Comes(row) => Form::Apart(filled(spare, Step::Comes(row))),
-            Step::Was(schedule) => Form::Apart(filled(spare, Step::Was(schedule))),
+        let form = match held {
+            Held::Nothing => Form::Nothing,
+            Held::One(Step::Goes) => Form::Goes,
+            Held::One(Step::Loses) => Form::Loses,
+            Held::One(Step::Gains(event)) => Form::Gains(event),
+            Held::One(Step::Exchanges(place)) => Form::Exchanges(place),
+            Held::One(Step::Comes(row)) => Form::Apart(filled(spare, Held::One(Step::Comes(row)))),
+            Held::One(Step::Was(was)) => Form::Apart(filled(spare, Held::One(Step::Was(was)))),
+            Held::Many(inverses) => Form::Apart(filled(spare, Held::Many(inverses))),
         };
         Kept { form }
     }
 
-    /// Takes the step out.
-    pub(crate) fn take(&mut self) -> Option<Step>
+    /// Takes it out.
+    pub(crate) fn take(&mut self) -> Held
         ensures taken { result ≡ self.old }
-        ensures nothing { self.new ≡ None }
+        ensures nothing { self.new ≡ held.Nothing }
     {
         match mem::replace(&mut self.form, Form::Nothing) {
-            Form::Nothing => None,
-            Form::Goes => Some(Step::Goes),
-            Form::Loses => Some(Step::Loses),
-            Form::Gains(event) => Some(Step::Gains(event)),
-            Form::Exchanges(place) => Some(Step::Exchanges(place)),
-            Form::Apart(step) => Box::into_inner(step),
+            Form::Nothing => Held::Nothing,
+            Form::Goes => Held::One(Step::Goes),
+            Form::Loses => Held::One(Step::Loses),
+            Form::Gains(event) => Held::One(Step::Gains(event)),
+            Form::Exchanges(place) => Held::One(Step::Exchanges(place)),
+            Form::Apart(held) => Box::into_inner(held),
         }
     }
 }
 
-/// The spare box with this step in it.
-fn filled(spare: &mut Spare, step: Step) -> Box<Option<Step>>
+/// The spare box with this in it.
+fn filled(spare: &mut Spare, held: Held) -> Box<Held>
     requires { IsSome spare.old }
-    ensures { result.value ≡ Some step }
+    ensures { result.value ≡ held }
 {
     let mut apart = spare.take().unwrap();
-    let _ = Box::replace(&mut apart, Some(step));
+    let _ = Box::replace(&mut apart, held);
     apart
 }

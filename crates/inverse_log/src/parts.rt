@@ -1,17 +1,27 @@
 //! Steps on the parts of a bench.
-ghost use Rattle.std.specs.Prelude.{◌≡◌, ℕ, ◌+◌, ◌++◌, ◌∷◌, [], ◌<◌, ◌≤◌, All, OnOk, OnErr, IfOk, IfErr, IsSome, Some, None, vec_len, vec_capacity, slice_get, slice_set};
-ghost use Rattle.dependence.specs.Lists.{AllBelow, Entered, Left, of_client, Pushed, Removed, Same};
-ghost use Rattle.inverse_log.specs.Log.{command_of, own_command_of};
+ghost use Rattle.std.specs.Prelude.{◌≡◌, ℕ, ◌+◌, ◌++◌, ◌∷◌, [], ◌<◌, ◌≤◌, All, OnOk, OnErr, IfOk, IfErr, IsSome, Some, vec_len, vec_capacity, slice_get, slice_set, map};
+ghost use Rattle.dependence.specs.Lists.{AllBelow, Entered, Left, of_client, PushedAll, RemovedAll, Same};
+ghost use Rattle.moves.specs.Commands.{writes};
+ghost use Rattle.inverse_log.specs.declared.kept.Held.TheVariants as held;
+ghost use Rattle.inverse_log.specs.Answer.{is_batch};
+ghost use Rattle.inverse_log.specs.Log.{commands_at, is_own};
+ghost use Rattle.inverse_log.specs.Nearest.{nearer, nearest};
+ghost use Rattle.inverse_log.specs.Kept.{refused_as};
 
 use crate::entry::Entry;
-use crate::kept::{Kept, Spare};
+use crate::kept::{Held, Kept, Spare};
+use crate::refusal::Refusal;
 use dependence::{Clients, Touches};
 use event_index::EventList;
-use moves::{Command, Step};
+use moves::{BatchRefusal, Command, Name};
 use rapid_text::OutOfMemory;
 use std::alloc::Global;
+use std::slice;
 
-/// Room for one more entry and step.
+/// The most commands of a batch.
+const MAX_COMMANDS: usize = 64;
+
+/// Room for one more entry and what takes it back.
 pub(crate) fn make_room(
     alloc: Global,
     log: &mut Vec<Entry>,
@@ -27,7 +37,7 @@ pub(crate) fn make_room(
     ensures spare { OnOk result (IsSome spare.new) }
 {
     if spare.is_none() {
-        let Ok(apart) = Box::new(alloc, None) else {
+        let Ok(apart) = Box::new(alloc, Held::Nothing) else {
             return Err(OutOfMemory);
         };
         *spare = Some(apart);
@@ -50,27 +60,27 @@ pub(crate) fn add_entry(log: &mut Vec<Entry>, entry: Entry)
 }
 
 /// Appends what takes the next entry back, where there is room.
-pub(crate) fn add_step(steps: &mut Vec<Kept>, spare: &mut Spare, step: Step)
+pub(crate) fn add_held(steps: &mut Vec<Kept>, spare: &mut Spare, held: Held)
     requires room { vec_len steps.old < vec_capacity steps.old }
     requires spare { IsSome spare.old }
-    ensures { steps.new.items ≡ steps.old.items ++ Some step ∷ [] }
+    ensures { steps.new.items ≡ steps.old.items ++ held ∷ [] }
 {
-    let _ = steps.push(Kept::of(step, spare));
+    let _ = steps.push(Kept::of(held, spare));
 }
 
 /// Appends that nothing takes the next entry back, where there is room.
-pub(crate) fn add_no_step(steps: &mut Vec<Kept>)
+pub(crate) fn add_nothing(steps: &mut Vec<Kept>)
     requires { vec_len steps.old < vec_capacity steps.old }
-    ensures { steps.new.items ≡ steps.old.items ++ None ∷ [] }
+    ensures { steps.new.items ≡ steps.old.items ++ held.Nothing ∷ [] }
 {
     let _ = steps.push(Kept::nothing());
 }
 
 /// Takes out what takes the entry back.
-pub(crate) fn take_out(steps: &mut Vec<Kept>, entry: u64) -> Option<Step>
+pub(crate) fn take_out(steps: &mut Vec<Kept>, entry: u64) -> Held
     requires { entry < vec_len steps.old }
     ensures taken { slice_get steps.old.items entry ≡ Some result }
-    ensures items { steps.new.items ≡ slice_set steps.old.items entry None }
+    ensures items { steps.new.items ≡ slice_set steps.old.items entry held.Nothing }
     ensures room { vec_capacity steps.new ≡ vec_capacity steps.old }
     ensures len { vec_len steps.new ≡ vec_len steps.old }
 {
@@ -78,83 +88,141 @@ pub(crate) fn take_out(steps: &mut Vec<Kept>, entry: u64) -> Option<Step>
 }
 
 /// Puts back what takes the entry back.
-pub(crate) fn put_back(steps: &mut Vec<Kept>, spare: &mut Spare, entry: u64, step: Step)
+pub(crate) fn put_back(steps: &mut Vec<Kept>, spare: &mut Spare, entry: u64, held: Held)
     requires entry { entry < vec_len steps.old }
     requires spare { IsSome spare.old }
-    ensures { steps.new.items ≡ slice_set steps.old.items entry (Some step) }
+    ensures { steps.new.items ≡ slice_set steps.old.items entry held }
 {
-    steps[entry as usize] = Kept::of(step, spare);
+    steps[entry as usize] = Kept::of(held, spare);
 }
 
-/// Enters a live command under its names and its client, or changes nothing.
+/// Enters a live entry under the names of its commands and its client, or changes nothing.
 pub(crate) fn enter(
     touches: &mut Touches,
     clients: &mut Clients,
     client: u32,
-    command: &Command,
+    commands: &[Command],
     entry: u64,
 ) -> Result<(), OutOfMemory>
     requires client { client ≤ 32 }
     requires names { AllBelow entry touches.old }
     requires clients { All (λ k. k < entry) (of_client clients.old client) }
     ensures ok { OnOk result
-        (Pushed entry command.now touches.old touches.new × Entered client entry clients.old clients.new) }
+        (PushedAll entry commands.now touches.old touches.new × Entered client entry clients.old clients.new) }
     ensures err { OnErr result (Same touches.old touches.new × (clients.new ≡ clients.old)) }
 {
-    let Ok(()) = touches.push(entry, command) else {
+    let Ok(()) = touches.push_all(entry, commands) else {
         return Err(OutOfMemory);
     };
     let Ok(()) = clients.push(client, entry) else {
-        touches.remove(entry, command);
+        touches.remove_all(entry, commands);
         return Err(OutOfMemory);
     };
     Ok(())
 }
 
-/// Takes a command out of the lists.
+/// Takes an entry of these commands out of the lists.
 pub(crate) fn leave(
     touches: &mut Touches,
     clients: &mut Clients,
     client: u32,
-    command: &Command,
+    commands: &[Command],
     undone: u64,
 )
     requires client { client ≤ 32 }
-    ensures names { Removed undone command.now touches.old touches.new }
+    ensures names { RemovedAll undone commands.now touches.old touches.new }
     ensures clients { Left client undone clients.old clients.new }
 {
-    touches.remove(undone, command);
+    touches.remove_all(undone, commands);
     clients.remove(client, undone);
 }
 
-/// The command that an entry did.
-pub(crate) fn command_at(log: &[Entry], entry: u64) -> Option<Command>
-    ensures { result ≡ command_of (slice_get log.now entry) }
+/// The commands that an entry did, none where it did none.
+pub(crate) fn commands_at(log: &[Entry], entry: u64) -> &[Command]
+    ensures { result.now ≡ commands_at log.now entry }
 {
     let entry = entry as usize;
     if entry >= log.len() {
-        return None;
+        return &[];
     }
-    match log[entry] {
-        Entry::Did { client: _, command } => Some(command),
-        _ => None,
+    match &log[entry] {
+        Entry::Did { client: _, command } => slice::from_ref(command),
+        Entry::Batch {
+            client: _,
+            commands,
+        } => commands.items(),
+        _ => &[],
     }
 }
 
-/// The command that an entry of this client did.
-pub(crate) fn own_command_at(log: &[Entry], client: u32, entry: u64) -> Option<Command>
-    ensures { result ≡ own_command_of client (slice_get log.now entry) }
+/// Whether an entry is there, and did commands of this client.
+pub(crate) fn is_own(log: &[Entry], client: u32, entry: u64) -> bool
+    ensures { result ≡ is_own client (slice_get log.now entry) }
 {
     let entry = entry as usize;
     if entry >= log.len() {
-        return None;
+        return false;
     }
-    match log[entry] {
+    match &log[entry] {
         Entry::Did {
             client: of,
-            command,
-        } if of == client => Some(command),
-        _ => None,
+            command: _,
+        } => *of == client,
+        Entry::Batch {
+            client: owner,
+            commands: _,
+        } => *owner == client,
+        _ => false,
+    }
+}
+
+/// The least entry after this one that touches a name that the commands write, with the first such name.
+pub(crate) fn first_blocker(
+    touches: &Touches,
+    entry: u64,
+    commands: &[Command],
+) -> Option<(u64, Name)>
+    ensures { result ≡ nearest entry touches.now (map writes commands.now) }
+{
+    let mut found = None;
+    for command in commands {
+        let name = command.writes();
+        found = nearer(found, touches.first_after(entry, &name), name);
+    }
+    found
+}
+
+/// What was found, or this entry under this name where it is less.
+fn nearer(found: Option<(u64, Name)>, next: Option<u64>, name: Name) -> Option<(u64, Name)>
+    ensures { result ≡ nearer found next name }
+{
+    match (found, next) {
+        (found, None) => found,
+        (None, Some(next)) => Some((next, name)),
+        (Some((least, first)), Some(next)) => {
+            if next < least {
+                Some((next, name))
+            } else {
+                Some((least, first))
+            }
+        }
+    }
+}
+
+/// Whether these are as many commands as a batch has.
+pub(crate) fn is_batch(commands: &[Command]) -> bool
+    ensures { result ≡ is_batch commands.now }
+{
+    1 <= commands.len() && commands.len() <= MAX_COMMANDS
+}
+
+/// How a refused batch is answered.
+pub(crate) fn refused(why: BatchRefusal) -> Refusal
+    ensures { result ≡ refused_as why }
+{
+    match why {
+        BatchRefusal::InBatch { place, cause } => Refusal::InBatch { place, cause },
+        BatchRefusal::OutOfMemory => Refusal::OutOfMemory,
     }
 }
 

@@ -6,9 +6,9 @@ use moves::Names;
 /// The reply to an accepted call. Entries of the log and proposals are numbered from 0.
 #[derive(Drop)]
 pub enum Reply {
-    /// The command was applied; the number of its entry.
+    /// The command, or all commands of the batch, were applied; the number of the entry.
     Done(u64),
-    /// A command was taken back.
+    /// A command or a batch was taken back.
     Undone {
         /// The number of the new entry.
         number: u64,

@@ -19,7 +19,7 @@ use Rattle.moves.specs.Ages.{age}
 use Rattle.moves.specs.Batches.{goes_from, applied_from, applied_all, Runs, HasRun, IsRun, IsAppliedAll, Turns, IsTurnedAll, TakesAllBack, AreOfTrace, AreBelow, refused_as}
 use Rattle.moves.specs.Applied.{IsApplied}
 use Rattle.moves.specs.Commands.{writes, reads, touches}
-use Rattle.moves.specs.Fold.{Numbered, Leads}
+use Rattle.moves.specs.Fold.{Numbered, numbered, Leads}
 use Rattle.moves.specs.Inverses.{turned, Fits, IsStepOf, IsStepBelow}
 use Rattle.moves.specs.Moves.{made_at, applied, put_made}
 use Rattle.moves.specs.Rows.{Rows, row_of, with_row, IsListing, IsFree, IsOfTrace, Below}
@@ -79,10 +79,6 @@ module _ (T : Recording) (B : List Proposal) where
       runs_from D (d ∷ E) I n m 0 j W V at (omega (arith, place)) runs ∙ ap (goes_from j (λ S. applied_from T B (m + 1) (j + 1) E S)) refused
 
   -- the chain of a log, where R is told of each command by its inverse
-  abbrev pub numbered : ℕ → List Command → List Numbered
-  numbered n [] = []
-  numbered n (d ∷ D) = (n, d) ∷ numbered (n + 1) D
-
   pub runs_leads : (R : Numbered → Option Row → Option Row → Type 0) (D : List Command) (I : List Inverse) (n : ℕ) (W V : Rows)
       → ((j : ℕ) (d : Command) (i : Inverse) (before after : Option Row) → slice_get D j ≡ Some d → slice_get I j ≡ Some i → i.name ≡ writes d → Fits i.step before after → R (n + j, d) before after)
       → Runs T B n D I W V → Leads T B R W (numbered n D) V

@@ -1,5 +1,5 @@
 -- The same as a fold; other facts kept; a longer board.
-use Rattle.std.proofs.Common.{◌≡◌, ℕ, zero, suc, List, [], ◌∷◌, ◌++◌, Option, Some, None, Result, Ok, Err, All, slice_get, fold, refl, sym, ap, ◌∙◌}
+use Rattle.std.proofs.Common.{◌≡◌, ℕ, zero, suc, ◌+◌, List, [], ◌∷◌, ◌++◌, Option, Some, None, Result, Ok, Err, All, slice_get, fold, refl, sym, ap, ◌∙◌}
 use Rattle.std.specs.Result.{result_ok}
 use Rattle.std.proofs.lemmas.List.Elements.{All-head, All-tail}
 use Rattle.moves.specs.declared.row.Row.{Row}
@@ -9,7 +9,8 @@ use Rattle.moves.specs.declared.refusal.MoveRefusal.{MoveRefusal}
 use Rattle.moves.specs.Rows.{Rows, row_of, with_row}
 use Rattle.moves.specs.Commands.{writes, reads}
 use Rattle.moves.specs.Moves.{made, made_at, applied, put_made, adopted}
-use Rattle.moves.specs.Fold.{Numbered, goes_on, Leads}
+use Rattle.moves.specs.Batches.{goes_from, applied_from}
+use Rattle.moves.specs.Fold.{Numbered, numbered, goes_on, Leads}
 use Rattle.rapid_text.specs.Recording.{Recording}
 use Rattle.moves.specs.declared.board.Proposal.{Proposal}
 
@@ -81,3 +82,15 @@ leads_longer T B C R (e ∷ E) W V leads = (
 -- the rows that commands lead to are determined
 pub leads_once : (T : Recording) (B : List Proposal) (R S : Numbered → Option Row → Option Row → Type 0) (E : List Numbered) (W U V : Rows) → Leads T B R W E U → Leads T B S W E V → U ≡ V
 leads_once T B R S E W U V one two = let f : Some U ≡ Some V = sym (fold_from_leads T B R E W U one) ∙ fold_from_leads T B S E W V two in cc
+
+-- a batch that is applied leads where its commands do
+batch_cases : (T : Recording) (B : List Proposal) (n k : ℕ) (d : Command) (D : List Command) (W V : Rows) (q : Result (Option Row) MoveRefusal) → made_at T B n d W ≡ q → goes_from k (λ S. applied_from T B (n + 1) (k + 1) D S) (put_made W (writes d) q) ≡ Ok V
+    → (o : Option Row) × (made_at T B n d W ≡ Ok o) × (applied_from T B (n + 1) (k + 1) D (with_row W (writes d) o) ≡ Ok V)
+batch_cases T B n k d D W V (Ok o) is h = (o, is, h)
+batch_cases T B n k d D W V (Err why) is h = absurd cc
+
+pub leads_from_batch : (T : Recording) (B : List Proposal) (D : List Command) (n k : ℕ) (W V : Rows) → applied_from T B n k D W ≡ Ok V → Leads T B Nothing W (numbered n D) V
+leads_from_batch T B [] n k W V h = cc
+leads_from_batch T B (d ∷ D) n k W V h =
+    let one = batch_cases T B n k d D W V (made_at T B n d W) refl h in
+    (one.0, one.1, tt, leads_from_batch T B D (n + 1) (k + 1) (with_row W (writes d) one.0) V one.2)

@@ -13,6 +13,11 @@ use Rattle.moves.specs.Moves.{made_at, applied}
 abbrev pub Numbered : Type 0
 Numbered = ℕ × Command
 
+-- commands with the births n, n + 1 and so on
+abbrev pub numbered : ℕ → List Command → List Numbered
+numbered n [] = []
+numbered n (d ∷ D) = (n, d) ∷ numbered (n + 1) D
+
 -- the rows after one more command, none where it or one before it is refused
 abbrev pub goes_on : Recording → List Proposal → Option Rows → Numbered → Option Rows
 goes_on T B None e = None

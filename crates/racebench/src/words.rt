@@ -80,6 +80,7 @@ Behind the client a line of a script has one of
   branch NAME LENGTH NAME     makes a schedule of the first LENGTH events of another
   drop NAME                   takes a schedule away
   adopt NAME PROPOSAL         puts a proposal's events in place of the schedule's own
+  batch COMMAND ; COMMAND     makes up to 64 of the commands above as one, all or none
   undo [ENTRY]                takes back the client's latest command that stands, or this one
   propose EVENT EVENT EVENT*  puts a list on the board that shows the pair of the first two
   show NAME                   shows a schedule's events

@@ -2,15 +2,16 @@
 use Rattle.std.specs.Prelude.{ℕ, List, [], ◌++◌, length, flat_map, slice_get, Option, Some, None, codes, decimal}
 use Rattle.std.specs.List.{range_with_len}
 use Rattle.inverse_log.specs.declared.entry.Entry.{Entry}
-use Rattle.inverse_log.specs.declared.entry.Entry.TheVariants.{Did, Undid, Proposed}
+use Rattle.inverse_log.specs.declared.entry.Entry.TheVariants.{Did, Batch, Undid, Proposed}
 use Rattle.inverse_log.specs.Log.{client_of}
-use Rattle.report.specs.Commands.{command_words}
+use Rattle.report.specs.Commands.{command_words, commands_words}
 use Rattle.report.specs.Info.{count_line}
 use Rattle.report.specs.Pieces.{spaced}
 
 -- what was done
 abbrev pub entry_words : Entry → List ℕ
 entry_words (Did client command) = command_words command
+entry_words (Batch client commands) = codes "batch " ++ commands_words commands
 entry_words (Undid client entry) = codes "undo " ++ decimal entry
 entry_words (Proposed client first second events) =
     codes "propose " ++ decimal first ++ codes " " ++ decimal second ++ spaced events

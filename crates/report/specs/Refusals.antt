@@ -4,7 +4,7 @@ use Rattle.rapid_text.specs.Recording.{Recording}
 use Rattle.moves.specs.declared.refusal.MoveRefusal.{MoveRefusal}
 use Rattle.moves.specs.declared.refusal.MoveRefusal.TheVariants.{NoSuchSchedule, NameTaken, NoSuchProposal, NothingToRetract, Disabled as DisabledBy, Swap as SwapBy, TooShort, OutOfMemory as NoMoveMemory}
 use Rattle.inverse_log.specs.declared.refusal.Refusal.{Refusal}
-use Rattle.inverse_log.specs.declared.refusal.Refusal.TheVariants.{Move, NothingToUndo, RestsOn, NotReordering, NotShown, LogFull, OutOfMemory, NoSuchEntry, NotOwn, NotLive}
+use Rattle.inverse_log.specs.declared.refusal.Refusal.TheVariants.{Move, NothingToUndo, RestsOn, NotReordering, NotShown, LogFull, OutOfMemory, NoSuchEntry, NotOwn, NotLive, BadBatch, InBatch}
 use Rattle.report.specs.Causes.{disabled_words, swap_words, refused_line}
 
 -- why a command is refused
@@ -30,6 +30,8 @@ refusal_words trace OutOfMemory = codes "56 out of memory"
 refusal_words trace NoSuchEntry = codes "57 no such entry"
 refusal_words trace NotOwn = codes "58 not own"
 refusal_words trace NotLive = codes "59 not live"
+refusal_words trace BadBatch = codes "60 bad batch"
+refusal_words trace (InBatch place why) = codes "70 at " ++ decimal place ++ codes " " ++ move_words trace why
 
 abbrev pub refusal_text : Recording → Refusal → List ℕ
 refusal_text trace why = refused_line (refusal_words trace why)

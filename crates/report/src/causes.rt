@@ -3,7 +3,7 @@ ghost use Rattle.std.specs.Prelude.{◌≡◌, ◌++◌, OnOk, OnErr, codes};
 ghost use Rattle.report.specs.Causes.{event_words, thread_words, disabled_words, swap_words, refused_line};
 ghost use Rattle.report.specs.Pieces.{piece_bytes, pieces_text};
 
-use crate::pieces::{Piece, append_pieces};
+use crate::pieces::{Piece, append_bytes, append_pieces};
 use event_index::Indexed;
 use rapid_text::OutOfMemory;
 use schedule::{Disabled, SwapRefusal};
@@ -67,21 +67,21 @@ pub(crate) fn append_words(out: &mut Vec<u8>, why: &[u8]) -> Result<(), OutOfMem
     Ok(())
 }
 
-/// Appends the line of a refusal of an event that may not come next.
+/// Appends the number and the words of a refusal of an event that may not come next. Where memory is refused `out` stays as it was.
 pub(crate) fn append_disabled(
     out: &mut Vec<u8>,
     indexed: &Indexed,
     why: Disabled,
 ) -> Result<(), OutOfMemory>
-    ensures ok { OnOk result (out.new.items ≡ out.old.items ++ refused_line (codes "46 " ++ disabled_words indexed.now why)) }
+    ensures ok { OnOk result (out.new.items ≡ out.old.items ++ (codes "46 " ++ disabled_words indexed.now why)) }
     ensures err { OnErr result (out.new.items ≡ out.old.items) }
 {
     match why {
-        Disabled::NoSuchEvent => append_words(out, b"46 21 no such event"),
-        Disabled::NotNext => append_words(out, b"46 22 not next"),
-        Disabled::NotForked => append_words(out, b"46 23 not forked"),
+        Disabled::NoSuchEvent => append_bytes(out, b"46 21 no such event"),
+        Disabled::NotNext => append_bytes(out, b"46 22 not next"),
+        Disabled::NotForked => append_bytes(out, b"46 23 not forked"),
         Disabled::WrongWriter { needs, has } => {
-            append_refused(
+            append_pieces(
                 out,
                 &[
                     Piece::Words(b"46 24 wrong writer needs "),
@@ -92,7 +92,7 @@ pub(crate) fn append_disabled(
             )
         }
         Disabled::LockHeld { thread } => {
-            append_refused(
+            append_pieces(
                 out,
                 &[
                     Piece::Words(b"46 25 lock held by "),
@@ -100,17 +100,17 @@ pub(crate) fn append_disabled(
                 ],
             )
         }
-        Disabled::JoinEarly => append_words(out, b"46 26 join early"),
+        Disabled::JoinEarly => append_bytes(out, b"46 26 join early"),
     }
 }
 
-/// Appends the line of a refusal of two neighbours that may not change places.
+/// Appends the number and the words of a refusal of two neighbours that may not change places. Where memory is refused `out` stays as it was.
 pub(crate) fn append_swap(out: &mut Vec<u8>, why: SwapRefusal) -> Result<(), OutOfMemory>
-    ensures ok { OnOk result (out.new.items ≡ out.old.items ++ refused_line (codes "47 " ++ swap_words why)) }
+    ensures ok { OnOk result (out.new.items ≡ out.old.items ++ (codes "47 " ++ swap_words why)) }
     ensures err { OnErr result (out.new.items ≡ out.old.items) }
 {
     match why {
-        SwapRefusal::NoSuchPair => append_words(out, b"47 28 no such pair"),
-        SwapRefusal::Dependent => append_words(out, b"47 29 dependent"),
+        SwapRefusal::NoSuchPair => append_bytes(out, b"47 28 no such pair"),
+        SwapRefusal::Dependent => append_bytes(out, b"47 29 dependent"),
     }
 }

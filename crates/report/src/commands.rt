@@ -1,6 +1,6 @@
-//! Prints commands as scripts write them.
+//! Prints commands and batches as scripts write them.
 ghost use Rattle.std.specs.Prelude.{◌≡◌, ◌++◌, OnOk, OnErr, codes, decimal};
-ghost use Rattle.report.specs.Commands.{command_words};
+ghost use Rattle.report.specs.Commands.{command_words, separated, commands_words};
 
 use crate::pieces::{Piece, append_pieces};
 use moves::{Command, Name};
@@ -76,4 +76,65 @@ pub(crate) fn append_command(out: &mut Vec<u8>, command: &Command) -> Result<(),
         Command::Drop { name } => append_named(out, b"drop ", &name),
         Command::Adopt { name, proposal } => append_numbered(out, b"adopt ", &name, proposal),
     }
+}
+
+/// Appends a separator and the command.
+fn append_separated(out: &mut Vec<u8>, command: &Command) -> Result<(), OutOfMemory>
+    ensures ok { OnOk result (out.new.items ≡ out.old.items ++ (codes " ; " ++ command_words command.now)) }
+    ensures err { OnErr result (out.new.items ≡ out.old.items) }
+{
+    let start = out.len();
+    out.extend_from_slice(b" ; ")?;
+    if let Err(refused) = append_command(out, command) {
+        out.truncate(start);
+        return Err(refused);
+    }
+    Ok(())
+}
+
+/// Appends each command after a separator.
+fn append_all_separated(out: &mut Vec<u8>, commands: &[Command]) -> Result<(), OutOfMemory>
+    ensures ok { OnOk result (out.new.items ≡ out.old.items ++ separated commands.now) }
+    ensures err { OnErr result (out.new.items ≡ out.old.items) }
+{
+    let start = out.len();
+    for command in commands {
+        if let Err(refused) = append_separated(out, command) {
+            out.truncate(start);
+            return Err(refused);
+        }
+    }
+    Ok(())
+}
+
+/// Appends the commands, with a separator between two.
+fn append_commands(out: &mut Vec<u8>, commands: &[Command]) -> Result<(), OutOfMemory>
+    ensures ok { OnOk result (out.new.items ≡ out.old.items ++ commands_words commands.now) }
+    ensures err { OnErr result (out.new.items ≡ out.old.items) }
+{
+    let Some((first, others)) = commands.split_first() else {
+        return Ok(());
+    };
+    let start = out.len();
+    append_command(out, first)?;
+    if let Err(refused) = append_all_separated(out, others) {
+        out.truncate(start);
+        return Err(refused);
+    }
+    Ok(())
+}
+
+/// Appends the line of a script that makes the batch, without the client. Where memory is refused `out`
+/// stays as it was.
+pub(crate) fn append_batch(out: &mut Vec<u8>, commands: &[Command]) -> Result<(), OutOfMemory>
+    ensures ok { OnOk result (out.new.items ≡ out.old.items ++ (codes "batch " ++ commands_words commands.now)) }
+    ensures err { OnErr result (out.new.items ≡ out.old.items) }
+{
+    let start = out.len();
+    out.extend_from_slice(b"batch ")?;
+    if let Err(refused) = append_commands(out, commands) {
+        out.truncate(start);
+        return Err(refused);
+    }
+    Ok(())
 }

@@ -4,7 +4,7 @@ ghost use Rattle.inverse_log.specs.Log.{client_of};
 ghost use Rattle.report.specs.Log.{entry_words, entry_line, line_at, entry_lines, log_text};
 ghost use Rattle.report.specs.Pieces.{spaced};
 
-use crate::commands::append_command;
+use crate::commands::{append_batch, append_command};
 use crate::pieces::{Piece, append_count, append_pieces};
 use inverse_log::{Bench, Entry};
 use rapid_text::OutOfMemory;
@@ -67,15 +67,19 @@ fn append_entry(out: &mut Vec<u8>, number: u64, entry: &Entry) -> Result<(), Out
 fn client_of(entry: &Entry) -> u32
     ensures { result ≡ client_of entry.now }
 {
-    match *entry {
-        Entry::Did { client, command: _ } => client,
-        Entry::Undid { client, entry: _ } => client,
+    match entry {
+        Entry::Did { client, command: _ } => *client,
+        Entry::Batch {
+            client,
+            commands: _,
+        } => *client,
+        Entry::Undid { client, entry: _ } => *client,
         Entry::Proposed {
             client,
             first: _,
             second: _,
             events: _,
-        } => client,
+        } => *client,
     }
 }
 
@@ -117,6 +121,10 @@ fn append_entry_words(out: &mut Vec<u8>, entry: &Entry) -> Result<(), OutOfMemor
 {
     match entry {
         Entry::Did { client: _, command } => append_command(out, command),
+        Entry::Batch {
+            client: _,
+            commands,
+        } => append_batch(out, commands.items()),
         Entry::Undid { client: _, entry } => append_undone(out, *entry),
         Entry::Proposed {
             client: _,

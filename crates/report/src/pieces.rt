@@ -22,6 +22,15 @@ pub enum Piece<'a> {
     Pairs(&'a [(u32, u32)]),
 }
 
+/// Appends bytes as they are. Where memory is refused `out` stays as it was.
+pub(crate) fn append_bytes(out: &mut Vec<u8>, bytes: &[u8]) -> Result<(), OutOfMemory>
+    ensures ok { OnOk result (out.new.items ≡ out.old.items ++ bytes.now) }
+    ensures err { OnErr result (out.new.items ≡ out.old.items) }
+{
+    out.extend_from_slice(bytes)?;
+    Ok(())
+}
+
 /// Appends a number. Where memory is refused `out` stays as it was.
 fn append_number(out: &mut Vec<u8>, number: u64) -> Result<(), OutOfMemory>
     ensures ok { OnOk result (out.new.items ≡ out.old.items ++ decimal number) }
@@ -140,10 +149,7 @@ fn append_piece(out: &mut Vec<u8>, piece: Piece<'_>) -> Result<(), OutOfMemory>
     ensures err { OnErr result (out.new.items ≡ out.old.items) }
 {
     match piece {
-        Piece::Words(words) => {
-            out.extend_from_slice(words)?;
-            Ok(())
-        }
+        Piece::Words(words) => append_bytes(out, words),
         Piece::Number(number) => append_number(out, number),
         Piece::Numbers(numbers) => append_numbers(out, numbers),
         Piece::Names(names) => append_names(out, names),

@@ -4,27 +4,99 @@ ghost use Rattle.report.specs.Causes.{refused_line};
 ghost use Rattle.report.specs.Refusals.{move_words, refusal_text};
 
 use crate::causes::{append_disabled, append_refused, append_swap, append_words};
-use crate::pieces::Piece;
+use crate::pieces::{Piece, append_bytes, append_pieces};
 use event_index::Indexed;
 use inverse_log::Refusal;
 use moves::{MoveRefusal, Name};
 use rapid_text::OutOfMemory;
+
+/// Appends why a command is refused.
+fn append_move_words(
+    out: &mut Vec<u8>,
+    indexed: &Indexed,
+    why: MoveRefusal,
+) -> Result<(), OutOfMemory>
+    ensures ok { OnOk result (out.new.items ≡ out.old.items ++ move_words indexed.now why) }
+    ensures err { OnErr result (out.new.items ≡ out.old.items) }
+{
+    match why {
+        MoveRefusal::NoSuchSchedule => append_bytes(out, b"42 no such schedule"),
+        MoveRefusal::NameTaken => append_bytes(out, b"43 name taken"),
+        MoveRefusal::NoSuchProposal => append_bytes(out, b"44 no such proposal"),
+        MoveRefusal::NothingToRetract => append_bytes(out, b"45 nothing to retract"),
+        MoveRefusal::Disabled(why) => append_disabled(out, indexed, why),
+        MoveRefusal::Swap(why) => append_swap(out, why),
+        MoveRefusal::TooShort => append_bytes(out, b"48 too short"),
+        MoveRefusal::OutOfMemory => append_bytes(out, b"49 out of memory"),
+    }
+}
+
+/// Appends why a command is refused, and a line end.
+fn append_move_end(
+    out: &mut Vec<u8>,
+    indexed: &Indexed,
+    why: MoveRefusal,
+) -> Result<(), OutOfMemory>
+    ensures ok { OnOk result (out.new.items ≡ out.old.items ++ (move_words indexed.now why ++ codes "\n")) }
+    ensures err { OnErr result (out.new.items ≡ out.old.items) }
+{
+    let start = out.len();
+    append_move_words(out, indexed, why)?;
+    if let Err(refused) = append_bytes(out, b"\n") {
+        out.truncate(start);
+        return Err(refused);
+    }
+    Ok(())
+}
 
 /// Appends the line of a refused command.
 fn append_move(out: &mut Vec<u8>, indexed: &Indexed, why: MoveRefusal) -> Result<(), OutOfMemory>
     ensures ok { OnOk result (out.new.items ≡ out.old.items ++ refused_line (move_words indexed.now why)) }
     ensures err { OnErr result (out.new.items ≡ out.old.items) }
 {
-    match why {
-        MoveRefusal::NoSuchSchedule => append_words(out, b"42 no such schedule"),
-        MoveRefusal::NameTaken => append_words(out, b"43 name taken"),
-        MoveRefusal::NoSuchProposal => append_words(out, b"44 no such proposal"),
-        MoveRefusal::NothingToRetract => append_words(out, b"45 nothing to retract"),
-        MoveRefusal::Disabled(why) => append_disabled(out, indexed, why),
-        MoveRefusal::Swap(why) => append_swap(out, why),
-        MoveRefusal::TooShort => append_words(out, b"48 too short"),
-        MoveRefusal::OutOfMemory => append_words(out, b"49 out of memory"),
+    let start = out.len();
+    append_bytes(out, b"refused ")?;
+    if let Err(refused) = append_move_end(out, indexed, why) {
+        out.truncate(start);
+        return Err(refused);
     }
+    Ok(())
+}
+
+/// Appends where in a batch its refused command stands.
+fn append_place(out: &mut Vec<u8>, place: u32) -> Result<(), OutOfMemory>
+    ensures ok { OnOk result (out.new.items ≡ out.old.items ++ (codes "refused 70 at " ++ decimal place ++ codes " ")) }
+    ensures err { OnErr result (out.new.items ≡ out.old.items) }
+{
+    append_pieces(
+        out,
+        &[
+            Piece::Words(b"refused 70 at "),
+            Piece::Number(u64::from(place)),
+            Piece::Words(b" "),
+        ],
+    )?;
+    Ok(())
+}
+
+/// Appends the line of a refused batch.
+fn append_in_batch(
+    out: &mut Vec<u8>,
+    indexed: &Indexed,
+    place: u32,
+    why: MoveRefusal,
+) -> Result<(), OutOfMemory>
+    ensures ok { OnOk result (out.new.items
+        ≡ out.old.items ++ refused_line (codes "70 at " ++ decimal place ++ codes " " ++ move_words indexed.now why)) }
+    ensures err { OnErr result (out.new.items ≡ out.old.items) }
+{
+    let start = out.len();
+    append_place(out, place)?;
+    if let Err(refused) = append_move_end(out, indexed, why) {
+        out.truncate(start);
+        return Err(refused);
+    }
+    Ok(())
 }
 
 /// Appends the line of an undo that is refused for what rests on its command.
@@ -76,5 +148,7 @@ pub fn refusal(indexed: &Indexed, refusal: &Refusal, out: &mut Vec<u8>) -> Resul
         Refusal::NoSuchEntry => append_words(out, b"57 no such entry"),
         Refusal::NotOwn => append_words(out, b"58 not own"),
         Refusal::NotLive => append_words(out, b"59 not live"),
+        Refusal::BadBatch => append_words(out, b"60 bad batch"),
+        Refusal::InBatch { place, cause } => append_in_batch(out, indexed, place, cause),
     }
 }

@@ -4,3 +4,4 @@ pub mod LinesLeft
 pub mod Reading
 pub mod ScriptCalls
 pub mod Scripts
+pub mod WordsLeft

@@ -1,11 +1,15 @@
 -- The words of a line, and which of them are numbers.
-use Rattle.std.specs.Prelude.{ℕ, ◌+◌, ◌-◌, ◌*◌, nat_lt, nat_le, Bool, ◌&&◌, if◌then◌else◌, List, length, filter, fold, Option, Some, None}
+use Rattle.std.specs.Prelude.{ℕ, ◌+◌, ◌-◌, ◌*◌, nat_lt, nat_le, Bool, ◌&&◌, if◌then◌else◌, List, length, filter, fold, Option, Some, None, codes, bytes_eq}
 use Rattle.std.specs.List.{list_all, slice_split}
 use Rattle.rapid_text.specs.Reading.{is_blank}
 
 -- the words of a line: what stands between blanks
 abbrev pub words_of : List ℕ → List (List ℕ)
 words_of line = filter (λ word. nat_lt 0 (length word)) (slice_split is_blank line)
+
+-- the word that separates the commands of a batch
+abbrev pub is_separator : List ℕ → Bool
+is_separator word = bytes_eq word (codes ";")
 
 -- from `0` to `9`
 abbrev pub is_digit : ℕ → Bool

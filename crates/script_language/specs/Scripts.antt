@@ -1,28 +1,32 @@
 -- What a script says: its calls, or its first refused line with its first cause. The language is this
 -- project's own.
-use Rattle.std.specs.Prelude.{◌≡◌, ℕ, ◌+◌, ◌==◌, nat_lt, nat_le, Bool, false, ◌&&◌, if◌then◌else◌, List, [], ◌∷◌, ◌++◌, length, filter_map, find, All, Option, Some, None, is_some, ok_or, Result, Ok, Err, IsOk, codes, bytes_eq}
-use Rattle.std.specs.List.{list_all, slice_split}
+use Rattle.std.specs.Prelude.{◌≡◌, ℕ, ◌+◌, ◌==◌, nat_lt, nat_le, Bool, true, false, ◌&&◌, if◌then◌else◌, List, [], ◌∷◌, ◌++◌, length, map, filter_map, find, All, Option, Some, None, is_some, ok_or, Result, Ok, Err, IsOk, codes, bytes_eq}
+use Rattle.std.specs.List.{list_all, list_any, slice_split}
 use Rattle.rapid_text.specs.Reading.{is_line_feed, trimmed}
 use Rattle.moves.specs.Names.{is_name}
+use Rattle.moves.specs.declared.command.Command.{Command}
 use Rattle.moves.specs.declared.command.Command.TheVariants.{Fresh, Add, Back, Swap, Branch, Drop, Adopt}
 use Rattle.inverse_log.specs.declared.call.Call.{Call}
-use Rattle.inverse_log.specs.declared.call.Call.TheVariants.{Do, Undo, UndoAt, Propose, Show, List as ListNames, Races}
-use Rattle.script_language.specs.LineWords.{words_of, written_number}
+use Rattle.inverse_log.specs.declared.call.Call.TheVariants.{Do, Batch, Undo, UndoAt, Propose, Show, List as ListNames, Races}
+use Rattle.script_language.specs.LineWords.{words_of, is_separator, written_number}
 use Rattle.script_language.specs.declared.verb.Verb.{Verb}
-use Rattle.script_language.specs.declared.verb.Verb.TheVariants.{New as NewWord, Add as AddWord, Back as BackWord, Swap as SwapWord, Branch as BranchWord, Drop as DropWord, Adopt as AdoptWord, Undo as UndoWord, Propose as ProposeWord, Show as ShowWord, List as ListWord, Races as RacesWord}
+use Rattle.script_language.specs.declared.verb.CommandVerb.{CommandVerb}
+use Rattle.script_language.specs.declared.verb.CommandVerb.TheVariants.{New as NewWord, Add as AddWord, Back as BackWord, Swap as SwapWord, Branch as BranchWord, Drop as DropWord, Adopt as AdoptWord}
+use Rattle.script_language.specs.declared.verb.Verb.TheVariants.{Do as DoWord, Batch as BatchWord, Undo as UndoWord, Propose as ProposeWord, Show as ShowWord, List as ListWord, Races as RacesWord}
 use Rattle.script_language.specs.declared.refusal.ScriptCause.{ScriptCause}
 use Rattle.script_language.specs.declared.refusal.ScriptCause.TheVariants.{BadWord, BadNumber, BadClient, BadName, LineTooLong, OutOfMemory}
 use Rattle.script_language.specs.declared.refusal.ScriptRefusal.{ScriptRefusal}
 
 -- the word of each kind of call
 abbrev pub word_of : Verb → List ℕ
-word_of NewWord = codes "new"
-word_of AddWord = codes "add"
-word_of BackWord = codes "back"
-word_of SwapWord = codes "swap"
-word_of BranchWord = codes "branch"
-word_of DropWord = codes "drop"
-word_of AdoptWord = codes "adopt"
+word_of (DoWord NewWord) = codes "new"
+word_of (DoWord AddWord) = codes "add"
+word_of (DoWord BackWord) = codes "back"
+word_of (DoWord SwapWord) = codes "swap"
+word_of (DoWord BranchWord) = codes "branch"
+word_of (DoWord DropWord) = codes "drop"
+word_of (DoWord AdoptWord) = codes "adopt"
+word_of BatchWord = codes "batch"
 word_of UndoWord = codes "undo"
 word_of ProposeWord = codes "propose"
 word_of ShowWord = codes "show"
@@ -31,7 +35,8 @@ word_of RacesWord = codes "races"
 
 abbrev pub verbs : List Verb
 verbs =
-    NewWord ∷ AddWord ∷ BackWord ∷ SwapWord ∷ BranchWord ∷ DropWord ∷ AdoptWord ∷ UndoWord ∷ ProposeWord ∷ ShowWord ∷ ListWord ∷ RacesWord ∷ []
+    DoWord NewWord ∷ DoWord AddWord ∷ DoWord BackWord ∷ DoWord SwapWord ∷ DoWord BranchWord ∷ DoWord DropWord ∷ DoWord AdoptWord
+    ∷ BatchWord ∷ UndoWord ∷ ProposeWord ∷ ShowWord ∷ ListWord ∷ RacesWord ∷ []
 
 -- the kind of call with this word
 abbrev pub verb_of : List ℕ → Option Verb
@@ -71,10 +76,47 @@ name_and_number_reading (name ∷ number ∷ []) =
 name_and_number_reading words = Err BadWord
 
 -- the source's name, a length and the new schedule's name
-abbrev pub branch_reading : List (List ℕ) → Result Call ScriptCause
+abbrev pub branch_reading : List (List ℕ) → Result Command ScriptCause
 branch_reading (name ∷ len ∷ to ∷ []) =
-    then_read (name_reading name) (λ n. then_read (number_reading len) (λ k. then_read (name_reading to) (λ m. Ok (Do (Branch n k m)))))
+    then_read (name_reading name) (λ n. then_read (number_reading len) (λ k. then_read (name_reading to) (λ m. Ok (Branch n k m))))
 branch_reading words = Err BadWord
+
+-- the arguments of a command of this kind
+abbrev pub command_arguments_reading : CommandVerb → List (List ℕ) → Result Command ScriptCause
+command_arguments_reading NewWord words = then_read (one_name_reading words) (λ n. Ok (Fresh n))
+command_arguments_reading AddWord words = then_read (name_and_number_reading words) (λ a. Ok (Add a.0 a.1))
+command_arguments_reading BackWord words = then_read (one_name_reading words) (λ n. Ok (Back n))
+command_arguments_reading SwapWord words = then_read (name_and_number_reading words) (λ a. Ok (Swap a.0 a.1))
+command_arguments_reading BranchWord words = branch_reading words
+command_arguments_reading DropWord words = then_read (one_name_reading words) (λ n. Ok (Drop n))
+command_arguments_reading AdoptWord words = then_read (name_and_number_reading words) (λ a. Ok (Adopt a.0 a.1))
+
+abbrev pub command_with : Option Verb → List (List ℕ) → Result Command ScriptCause
+command_with (Some (DoWord verb)) words = command_arguments_reading verb words
+command_with verb words = Err BadWord
+
+-- a command's word and its arguments
+abbrev pub command_reading : List (List ℕ) → Result Command ScriptCause
+command_reading [] = Err BadWord
+command_reading (word ∷ words) = command_with (verb_of word) words
+
+-- no command is written with this word, or with so many
+abbrev pub is_bad_word : Result Command ScriptCause → Bool
+is_bad_word (Err BadWord) = true
+is_bad_word reading = false
+
+-- what all of them give, or the first fault
+abbrev pub all_read : List (Result Command ScriptCause) → Result (List Command) ScriptCause
+all_read [] = Ok []
+all_read (reading ∷ readings) = then_read reading (λ command. then_read (all_read readings) (λ commands. Ok (command ∷ commands)))
+
+-- the commands with these words; the word and the number of arguments of each are judged before the arguments of any
+abbrev pub commands_reading : List (List (List ℕ)) → Result (List Command) ScriptCause
+commands_reading parts = if list_any is_bad_word (map command_reading parts) then Err BadWord else all_read (map command_reading parts)
+
+-- commands without their client, with a separator between two
+abbrev pub batch_reading : List (List ℕ) → Result Call ScriptCause
+batch_reading words = then_read (commands_reading (slice_split is_separator words)) (λ commands. Ok (Batch commands))
 
 -- no argument, or the number of an entry
 abbrev pub undo_reading : List (List ℕ) → Result Call ScriptCause
@@ -91,13 +133,8 @@ propose_reading words = Err BadWord
 -- the arguments of a call of this kind
 abbrev pub arguments_reading : Option Verb → List (List ℕ) → Result Call ScriptCause
 arguments_reading None words = Err BadWord
-arguments_reading (Some NewWord) words = then_read (one_name_reading words) (λ n. Ok (Do (Fresh n)))
-arguments_reading (Some AddWord) words = then_read (name_and_number_reading words) (λ a. Ok (Do (Add a.0 a.1)))
-arguments_reading (Some BackWord) words = then_read (one_name_reading words) (λ n. Ok (Do (Back n)))
-arguments_reading (Some SwapWord) words = then_read (name_and_number_reading words) (λ a. Ok (Do (Swap a.0 a.1)))
-arguments_reading (Some BranchWord) words = branch_reading words
-arguments_reading (Some DropWord) words = then_read (one_name_reading words) (λ n. Ok (Do (Drop n)))
-arguments_reading (Some AdoptWord) words = then_read (name_and_number_reading words) (λ a. Ok (Do (Adopt a.0 a.1)))
+arguments_reading (Some (DoWord verb)) words = then_read (command_arguments_reading verb words) (λ command. Ok (Do command))
+arguments_reading (Some BatchWord) words = batch_reading words
 arguments_reading (Some UndoWord) words = undo_reading words
 arguments_reading (Some ProposeWord) words = propose_reading words
 arguments_reading (Some ShowWord) words = then_read (one_name_reading words) (λ n. Ok (Show n))

@@ -1,15 +1,17 @@
 //! Reads the call that a script line asks for.
-ghost use Rattle.std.specs.Prelude.{◌≡◌, ◌⊎◌, ◌≤◌, ℕ, IfOk, IfSome, Ok, Err, Some};
-ghost use Rattle.script_language.specs.Scripts.{name_reading, number_reading, numbers_reading, nothing_reading, one_name_reading, name_and_number_reading, branch_reading, undo_reading, propose_reading, arguments_reading, call_reading, client_reading, words_reading, script_line_reading};
+ghost use Rattle.std.specs.Prelude.{◌≡◌, ◌⊎◌, ◌≤◌, ℕ, IfOk, IfSome, Ok, Err, Some, map};
+ghost use Rattle.std.specs.List.{list_any, slice_split};
+ghost use Rattle.script_language.specs.LineWords.{is_separator};
+ghost use Rattle.script_language.specs.Scripts.{name_reading, number_reading, numbers_reading, nothing_reading, one_name_reading, name_and_number_reading, branch_reading, command_arguments_reading, command_with, command_reading, is_bad_word, all_read, batch_reading, undo_reading, propose_reading, arguments_reading, call_reading, client_reading, words_reading, script_line_reading};
 ghost use Rattle.script_language.specs.declared.refusal.ScriptCause.TheVariants.{OutOfMemory};
 
 use crate::lines::Words;
 use crate::number::number;
 use crate::refusal::ScriptCause;
-use crate::verb::{Verb, verb_with};
+use crate::verb::{CommandVerb, Verb, verb_with};
 use event_index::EventList;
 use inverse_log::Call;
-use moves::{Command, Name};
+use moves::{Command, Commands, Name};
 use rapid_text::trim;
 use std::alloc::Global;
 
@@ -88,7 +90,7 @@ fn read_name_and_number(words: &mut Words<'_>) -> Result<(Name, u32), ScriptCaus
 }
 
 /// The arguments of `branch`.
-fn read_branch(words: &mut Words<'_>) -> Result<Call, ScriptCause>
+fn read_branch(words: &mut Words<'_>) -> Result<Command, ScriptCause>
     ensures { result ≡ branch_reading words.old }
 {
     let Some(name) = words.next() else {
@@ -104,7 +106,104 @@ fn read_branch(words: &mut Words<'_>) -> Result<Call, ScriptCause>
     let name = read_name(name)?;
     let length = read_number(length)?;
     let to = read_name(to)?;
-    Ok(Call::Do(Command::Branch { name, length, to }))
+    Ok(Command::Branch { name, length, to })
+}
+
+/// The arguments of a command of this kind.
+fn read_command_arguments(verb: CommandVerb, words: &mut Words<'_>) -> Result<Command, ScriptCause>
+    ensures { result ≡ command_arguments_reading verb words.old }
+{
+    match verb {
+        CommandVerb::New => {
+            let name = read_one_name(words)?;
+            Ok(Command::Fresh { name })
+        }
+        CommandVerb::Add => {
+            let (name, event) = read_name_and_number(words)?;
+            Ok(Command::Add { name, event })
+        }
+        CommandVerb::Back => {
+            let name = read_one_name(words)?;
+            Ok(Command::Back { name })
+        }
+        CommandVerb::Swap => {
+            let (name, at) = read_name_and_number(words)?;
+            Ok(Command::Swap { name, at })
+        }
+        CommandVerb::Branch => read_branch(words),
+        CommandVerb::Drop => {
+            let name = read_one_name(words)?;
+            Ok(Command::Drop { name })
+        }
+        CommandVerb::Adopt => {
+            let (name, proposal) = read_name_and_number(words)?;
+            Ok(Command::Adopt { name, proposal })
+        }
+    }
+}
+
+/// A command with its word.
+fn read_command(words: &mut Words<'_>) -> Result<Command, ScriptCause>
+    ensures { result ≡ command_reading words.old }
+{
+    let Some(word) = words.next() else {
+        return Err(ScriptCause::BadWord);
+    };
+    match verb_with(word) {
+        Some(Verb::Do(verb)) => read_command_arguments(verb, words),
+        _ => Err(ScriptCause::BadWord),
+    }
+}
+
+/// Whether no command is written with this word, or with so many.
+fn is_bad_word(reading: Result<Command, ScriptCause>) -> bool
+    ensures { result ≡ is_bad_word reading }
+{
+    match reading {
+        Err(ScriptCause::BadWord) => true,
+        _ => false,
+    }
+}
+
+/// Whether one of the parts between separators is no command with its arguments.
+fn has_bad_word(words: Words<'_>) -> bool
+    ensures { result ≡ list_any is_bad_word (map command_reading (slice_split is_separator words.entry)) }
+{
+    let mut left = Some(words);
+    while let Some(words) = left.take() {
+        if is_bad_word(read_command(&mut words.before_separator())) {
+            return true;
+        }
+        left = words.behind_separator();
+    }
+    false
+}
+
+/// The commands between separators.
+fn read_commands(alloc: Global, words: Words<'_>) -> Result<Commands, ScriptCause>
+    ensures { (result ≡ Err OutOfMemory) ⊎ (result ≡ all_read (map command_reading (slice_split is_separator words.entry))) }
+{
+    let mut commands = Commands::new(alloc);
+    let mut left = Some(words);
+    while let Some(words) = left.take() {
+        let command = read_command(&mut words.before_separator())?;
+        if commands.push(command).is_err() {
+            return Err(ScriptCause::OutOfMemory);
+        }
+        left = words.behind_separator();
+    }
+    Ok(commands)
+}
+
+/// The commands of a batch. Each one's word and number of arguments are judged before the arguments of any.
+fn read_batch(alloc: Global, words: &mut Words<'_>) -> Result<Call, ScriptCause>
+    ensures { (result ≡ Err OutOfMemory) ⊎ (result ≡ batch_reading words.old) }
+{
+    if has_bad_word(words.again()) {
+        return Err(ScriptCause::BadWord);
+    }
+    let commands = read_commands(alloc, words.again())?;
+    Ok(Call::Batch(commands))
 }
 
 /// The argument of `undo`, if it has one: the number of an entry.
@@ -146,31 +245,8 @@ fn read_arguments(alloc: Global, verb: Verb, words: &mut Words<'_>) -> Result<Ca
     ensures { (result ≡ Err OutOfMemory) ⊎ (result ≡ arguments_reading (Some verb) words.old) }
 {
     match verb {
-        Verb::New => {
-            let name = read_one_name(words)?;
-            Ok(Call::Do(Command::Fresh { name }))
-        }
-        Verb::Add => {
-            let (name, event) = read_name_and_number(words)?;
-            Ok(Call::Do(Command::Add { name, event }))
-        }
-        Verb::Back => {
-            let name = read_one_name(words)?;
-            Ok(Call::Do(Command::Back { name }))
-        }
-        Verb::Swap => {
-            let (name, at) = read_name_and_number(words)?;
-            Ok(Call::Do(Command::Swap { name, at }))
-        }
-        Verb::Branch => read_branch(words),
-        Verb::Drop => {
-            let name = read_one_name(words)?;
-            Ok(Call::Do(Command::Drop { name }))
-        }
-        Verb::Adopt => {
-            let (name, proposal) = read_name_and_number(words)?;
-            Ok(Call::Do(Command::Adopt { name, proposal }))
-        }
+        Verb::Do(verb) => Ok(Call::Do(read_command_arguments(verb, words)?)),
+        Verb::Batch => read_batch(alloc, words),
         Verb::Undo => read_undo(words),
         Verb::Propose => read_propose(alloc, words),
         Verb::Show => Ok(Call::Show(read_one_name(words)?)),

@@ -14,4 +14,4 @@ pub use lines::Lines;
 pub use reading::read_script;
 pub use refusal::{ScriptCause, ScriptRefusal};
 pub use script::{Script, ScriptCall};
-pub use verb::Verb;
+pub use verb::{CommandVerb, Verb};

@@ -1,8 +1,9 @@
 //! The lines of a text, and the words of a line.
-ghost use Rattle.std.specs.Prelude.{◌≡◌, ◌≤◌, [], ◌∷◌, length, IfSome, IfNone};
-ghost use Rattle.std.specs.List.{slice_split, join_with_byte, position_or_len};
+ghost use Rattle.std.specs.Prelude.{◌≡◌, ◌≤◌, [], ◌∷◌, length, IfSome, IfNone, Some};
+ghost use Rattle.std.specs.List.{slice_split, join_with_byte, position_or_len, before_first};
 ghost use Rattle.rapid_text.specs.Reading.{is_blank, is_line_feed};
-ghost use Rattle.script_language.specs.LineWords.{words_of};
+ghost use Rattle.script_language.specs.LineWords.{words_of, is_separator};
+ghost use Rattle.script_language.specs.WordsLeft.{parts_left};
 
 use memchr::memchr;
 use rapid_text::{is_a_blank, trim_start};
@@ -28,19 +29,28 @@ fn first_word(line: &[u8]) -> Option<(&[u8], &[u8])>
     Some(rest.split_at(word_len(rest)))
 }
 
-/// The words of a line that were not taken yet. Contracts see it as the list of these words.
+/// Whether the word separates the commands of a batch.
+fn is_separator(word: &[u8]) -> bool
+    ensures { result ≡ is_separator word.now }
+{
+    word == b";".as_slice()
+}
+
+/// The words of a line, or of a part of it, that were not taken yet. Contracts see it as the list of these words.
 #[derive(Drop)]
 pub(crate) struct Words<'a> {
     rest: &'a [u8],
+    // whether the first word `;` of the rest ends them
+    is_part: bool,
 }
 
 impl<'a> Model for Words<'a> {
     ghost use Rattle.std.specs.Prelude.{List, ℕ};
-    ghost use Rattle.script_language.specs.LineWords.{words_of};
+    ghost use Rattle.script_language.specs.WordsLeft.{words_left};
 
     ghost Value = { List (List ℕ) };
 
-    ghost view = { λ w. words_of w.rest.now };
+    ghost view = { words_left };
 }
 
 impl<'a> Words<'a> {
@@ -48,7 +58,43 @@ impl<'a> Words<'a> {
     pub(crate) fn of(line: &'a [u8]) -> Words<'a>
         ensures { result ≡ words_of line.now }
     {
-        Words { rest: line }
+        Words {
+            rest: line,
+            is_part: false,
+        }
+    }
+
+    /// The same words once more.
+    pub(crate) fn again(&self) -> Words<'a>
+        ensures { result ≡ self.now }
+    {
+        Words {
+            rest: self.rest,
+            is_part: self.is_part,
+        }
+    }
+
+    /// The words before the first `;`, or all.
+    pub(crate) fn before_separator(&self) -> Words<'a>
+        ensures { result ≡ before_first is_separator self.now }
+    {
+        Words {
+            rest: self.rest,
+            is_part: true,
+        }
+    }
+
+    /// The words behind the first `;`, if there is one.
+    pub(crate) fn behind_separator(&self) -> Option<Words<'a>>
+        ensures { parts_left (Some self.now) ≡ before_first is_separator self.now ∷ parts_left result }
+    {
+        let mut words = self.again();
+        while let Some(word) = words.next() {
+            if is_separator(word) {
+                return Some(words);
+            }
+        }
+        None
     }
 
     /// Takes the first word.
@@ -57,6 +103,9 @@ impl<'a> Words<'a> {
         ensures some { IfSome result (λ word. self.old ≡ word.now ∷ self.new) }
     {
         let (word, others) = first_word(self.rest)?;
+        if self.is_part && is_separator(word) {
+            return None;
+        }
         self.rest = others;
         Some(word)
     }

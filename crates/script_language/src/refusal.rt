@@ -3,7 +3,8 @@
 /// What is wrong with a script line. Each has the number under which it is printed.
 #[derive(Clone, Copy, PartialEq, Eq, Debug)]
 pub enum ScriptCause {
-    /// 81: there is no second word, it is no command word, or its arguments are too few or too many.
+    /// 81: there is no second word, it is no command word, or its arguments are too few or too many; or a part of a batch is no
+    /// command with as many arguments as it has.
     BadWord,
     /// 82: an argument is no number, which is one or more decimal digits with a value of at most
     /// 4,294,967,295.

@@ -2,9 +2,9 @@
 ghost use Rattle.std.specs.Prelude.{◌≡◌};
 ghost use Rattle.script_language.specs.Scripts.{verb_of};
 
-/// What kind of call a word asks for.
+/// What kind of command a word asks for.
 #[derive(Clone, Copy, PartialEq, Eq, Debug)]
-pub enum Verb {
+pub enum CommandVerb {
     /// `new`
     New,
     /// `add`
@@ -19,6 +19,15 @@ pub enum Verb {
     Drop,
     /// `adopt`
     Adopt,
+}
+
+/// What kind of call a word asks for.
+#[derive(Clone, Copy, PartialEq, Eq, Debug)]
+pub enum Verb {
+    /// The word of a command.
+    Do(CommandVerb),
+    /// `batch`
+    Batch,
     /// `undo`
     Undo,
     /// `propose`
@@ -36,19 +45,21 @@ pub(crate) fn verb_with(word: &[u8]) -> Option<Verb>
     ensures { result ≡ verb_of word.now }
 {
     let verb = if word == b"new".as_slice() {
-        Verb::New
+        Verb::Do(CommandVerb::New)
     } else if word == b"add".as_slice() {
-        Verb::Add
+        Verb::Do(CommandVerb::Add)
     } else if word == b"back".as_slice() {
-        Verb::Back
+        Verb::Do(CommandVerb::Back)
     } else if word == b"swap".as_slice() {
-        Verb::Swap
+        Verb::Do(CommandVerb::Swap)
     } else if word == b"branch".as_slice() {
-        Verb::Branch
+        Verb::Do(CommandVerb::Branch)
     } else if word == b"drop".as_slice() {
-        Verb::Drop
+        Verb::Do(CommandVerb::Drop)
     } else if word == b"adopt".as_slice() {
-        Verb::Adopt
+        Verb::Do(CommandVerb::Adopt)
+    } else if word == b"batch".as_slice() {
+        Verb::Batch
     } else if word == b"undo".as_slice() {
         Verb::Undo
     } else if word == b"propose".as_slice() {

@@ -3,6 +3,7 @@ pub mod ChainLemmas
 pub mod CountLemmas
 pub mod EdgeLemmas
 pub mod FirstLemmas
+pub mod KnownLemmas
 pub mod ListedLemmas
 pub mod OrderLemmas
 pub mod PartnerLemmas
@@ -10,5 +11,6 @@ pub mod PlaceLemmas
 pub mod ReadLemmas
 pub mod ReleaseLemmas
 pub mod RowLemmas
+pub mod SharedLemmas
 pub mod SourceLemmas
 pub mod SpotLemmas

@@ -55,3 +55,11 @@ sources T rules a m e before (by_writer is) =
 pub IsShbBefore-sources : (T : List Event) → IsDisciplined T → (a e : ℕ) → IsShbBefore T a e → (a ≡ e) ⊎ (Leads T a (base_of T e) ⊎ Leads T a (counterpart_of T e))
 IsShbBefore-sources T rules a e (same _ is) = inl is
 IsShbBefore-sources T rules a e (chain m _ before edge) = inr (sources T rules a m e before edge)
+
+-- SHB goes on from event to event
+pub IsShbBefore-trans : (T : List Event) (a b c : ℕ) → IsShbBefore T a b → IsShbBefore T b c → IsShbBefore T a c
+IsShbBefore-trans T a b c before (same _ is) = subst_end T a b c before is
+  where
+    subst_end : (T : List Event) (a b c : ℕ) → IsShbBefore T a b → b ≡ c → IsShbBefore T a c
+    subst_end T a b c h e = rw (← e) h
+IsShbBefore-trans T a b c before (chain m _ rest edge) = chain m c (IsShbBefore-trans T a b m before rest) edge

@@ -9,7 +9,8 @@ use Rattle.event_index.specs.Events.{thread_at}
 use Rattle.event_index.specs.Lookups.{count_before, place_of}
 use Rattle.event_index.proofs.CallerLemmas.{count_more, place_of-count, thread_event}
 
-counts_grow : (T : List Event) (i k t : ℕ) → i + k ≤ length T → count_before T i t ≤ count_before T (i + k) t
+-- more events of a thread stand before a later event
+pub counts_grow : (T : List Event) (i k t : ℕ) → i + k ≤ length T → count_before T i t ≤ count_before T (i + k) t
 counts_grow T i zero t within =
     let here : i ≡ i + 0 = omega arith in
     subst (λ (n : ℕ). count_before T i t ≤ count_before T n t) here (le_refl (count_before T i t))

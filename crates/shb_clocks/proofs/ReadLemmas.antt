@@ -1,17 +1,20 @@
 -- What is read in the tables of clocks, by what they are of. No public clause cites this module.
 use Rattle.std.specs.List.{slice_get}
-use Rattle.std.proofs.Common.{◌≡◌, ℕ, ◌+◌, ◌*◌, ◌<◌, ◌↔◌, true, leb, List, length, Some, get_or, sym, ap, ◌∙◌, subst, arith}
-use Rattle.std.proofs.lemmas.Bool.{leb-true, le-leb}
-use Rattle.std.proofs.lemmas.List.{get_or_read}
+use Rattle.std.proofs.Common.{◌≡◌, ℕ, ◌+◌, ◌<◌, ◌↔◌, true, false, leb, nat_lt, List, length, Some, get_or, subst, arith}
+use Rattle.std.proofs.lemmas.Bool.{leb-true, le-leb, ltb-true, ltb-false}
 use Rattle.std.proofs.lemmas.List.Elements.{All-get_or}
-use Rattle.std.proofs.lemmas.Nat.{mul-add-lt}
 use Rattle.std.proofs.lemmas.Option.{get_or_from_slice_get, slice_get_within}
 use Rattle.rapid_text.specs.Recording.{Recording, IsNamed, IsWellFormed}
 use Rattle.rapid_text.specs.declared.event.Event.{Event}
+use Rattle.trace_rules.specs.Rules.{IsDisciplined}
 use Rattle.event_index.specs.Events.{thread_at}
-use Rattle.shb_clocks.specs.HappensBefore.{IsShbBefore}
-use Rattle.shb_clocks.specs.Layout.{IsCount, AreThreads, AreCounts}
+use Rattle.event_index.specs.Lookups.{place_of}
 use Rattle.event_index.proofs.CallerLemmas.{thread_event}
+use Rattle.shb_clocks.specs.HappensBefore.{IsShbBefore}
+use Rattle.shb_clocks.specs.Known.{known_of}
+use Rattle.shb_clocks.specs.Layout.{AreRows}
+use Rattle.shb_clocks.specs.SharedRows.{Counted, thread_of}
+use Rattle.shb_clocks.proofs.KnownLemmas.{IsCount-known, known_of-own}
 
 -- the numbers in an event have names
 pub event_named : (r : Recording) → IsWellFormed r → (e : ℕ) (v : Event) → slice_get r.events e ≡ Some v → IsNamed r v
@@ -25,40 +28,31 @@ thread_named r well e t of =
     let v = thread_event r.events e t of in
     subst (λ (u : ℕ). u < length r.threads) v.2 (event_named r well e v.0 v.1).0
 
-module _
-    (r q : Recording) (threads counts : List ℕ) (width : ℕ) (same : r ≡ q) (well : IsWellFormed r)
-    (at : AreThreads r.events (length r.events) threads) (wide : width ≡ length r.threads)
-    (len : length counts ≡ length r.events * length r.threads) (are : AreCounts r.events width counts)
-    (a t : ℕ) (in_a : a < length q.events) (is : t ≡ get_or threads a t) where
-  at_q : AreThreads q.events (length q.events) threads
-  at_q = subst (λ (p : Recording). AreThreads p.events (length p.events) threads) same at
+module _ (r : Recording) (n : ℕ) (s : Counted) (are : AreRows r n s) where
+  -- each thread of an event has a count in each row
+  pub thread_low : (e : ℕ) → e < n → thread_of s e < s.width
+  thread_low e low = omega (arith, are.width, thread_named r are.well_formed e (thread_of s e) (are.thread e low))
 
-  pub thread_read : thread_at q.events a ≡ Some t
-  thread_read = at_q.at a in_a ∙ ap Some (sym (get_or_read threads a t (omega (arith, at_q.len)) is 0))
+-- a is SHB-before or equal to b where b knows as many events of a's thread as a does
+pub ordered_by :
+    (T : List Event) → IsDisciplined T → (a b t n m : ℕ) → thread_at T a ≡ Some t → n ≡ known_of T a t → m ≡ known_of T b t
+    → (leb n m ≡ true) ↔ IsShbBefore T a b
+ordered_by T rules a b t n m of of_a of_b =
+    let v = thread_event T a t of in
+    let own : known_of T a t ≡ place_of T a + 1 =
+    subst (λ (u : ℕ). known_of T a u ≡ place_of T a + 1) v.2 (known_of-own T rules a v.0 v.1)
+    in
+    let is = IsCount-known T rules b t in (
+      λ h. is.reached a of (omega (arith, leb-true n m h, own)),
+      λ before. le-leb n m (omega (arith, is.counted a of before, own)),
+    )
 
-  wide_q : width ≡ length q.threads
-  wide_q = wide ∙ ap (λ (p : Recording). length p.threads) same
-
-  low : t < width
-  low =
-      let named : t < length q.threads = thread_named q (subst IsWellFormed same well) a t thread_read in
-      omega (arith, wide_q)
-
-  len_q : length counts ≡ length q.events * width
-  len_q = rw wide_q (subst (λ (p : Recording). length counts ≡ length p.events * length p.threads) same len)
-
-  pub row_within : (e : ℕ) → e < length q.events → e * width + t < length counts
-  row_within e in_e = omega (arith, len_q, mul-add-lt e width t (length q.events) in_e low)
-
-  pub row_read : (e n : ℕ) → e < length q.events → n ≡ get_or counts (e * width + t) n → IsCount q.events e t n
-  row_read e n in_e told =
-      let here : IsCount q.events e t (get_or counts (e * width + t) 0) = subst (λ (p : Recording). AreCounts p.events width counts) same are e t low (row_within e in_e) in
-      let value : n ≡ get_or counts (e * width + t) 0 = get_or_read counts (e * width + t) n (row_within e in_e) told 0 in
-      rw value here
-
--- a is SHB-before or equal to b where the count of its thread at b reaches its own
-pub ordered_by : (T : List Event) (a b t n m : ℕ) → thread_at T a ≡ Some t → IsCount T a t n → IsCount T b t m → (leb n m ≡ true) ↔ IsShbBefore T a b
-ordered_by T a b t n m of of_a of_b = (
-  (λ h. of_b.reached a of (omega (arith, leb-true n m h, of_a.own of))),
-  λ before. le-leb n m (omega (arith, of_b.counted a of before, of_a.own of)),
-)
+-- b knows s where it knows as many events of its thread as s does
+pub knows_by :
+    (T : List Event) → IsDisciplined T → (s b t n m : ℕ) → thread_at T s ≡ Some t → n ≡ known_of T b t → m ≡ known_of T s t
+    → (nat_lt n m ≡ false → IsShbBefore T s b) × (nat_lt n m ≡ true → IsShbBefore T s b → ⊥)
+knows_by T rules s b t n m of of_b of_s =
+    let is = ordered_by T rules s b t m n of of_s of_b in (
+      λ h. is.0 (le-leb m n (ltb-false n m h)),
+      λ h before. absurd (omega (arith, ltb-true n m h, leb-true m n (is.1 before))),
+    )

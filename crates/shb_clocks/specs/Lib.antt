@@ -1,5 +1,10 @@
+pub mod Begun
 pub mod Candidates
 pub mod HappensBefore
+pub mod Known
 pub mod Layout
 pub mod Search
+pub mod SharedLayout
+pub mod SharedRows
+pub mod Sources
 pub mod Spots

@@ -4,7 +4,11 @@
 mod candidates;
 mod chains;
 mod clocks;
+mod laws;
 mod rows;
+mod shared_rows;
 mod spots;
 
 pub use clocks::Clocks;
+pub use laws::known_tells_shb;
+pub use shared_rows::SharedRows;

@@ -1,6 +1,7 @@
 pub mod AnswerLemmas
 pub mod CallerLemmas
 pub mod ClosedLemmas
+pub mod EndLemmas
 pub mod FoundLemmas
 pub mod KeptLemmas
 pub mod LeastLemmas

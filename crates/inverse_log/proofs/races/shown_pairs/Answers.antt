@@ -1,9 +1,7 @@
-use Rattle.std.proofs.Common.{◌≡◌, ◌∙◌, ℕ, Bool, [], sym, ap, arith, length, filter, drop}
+use Rattle.std.proofs.Common.{◌≡◌, ◌∙◌, ℕ, Bool, [], sym, ap, arith, filter, drop}
 use Rattle.std.proofs.Math.ListN.{drop_of_length-le}
 use Rattle.std.proofs.lemmas.List.{append-nil}
-use Rattle.event_index.specs.Lookups.{before}
 use Rattle.schedule.specs.Shows.{does_show}
-use Rattle.inverse_log.specs.Next.{is_next}
 use Rattle.inverse_log.specs.Pairs.{pairs_of}
 use Rattle.inverse_log.proofs.PairLemmas.{shown_next}
 use Rattle.inverse_log.proofs.races.shown_pairs.Goals as goal

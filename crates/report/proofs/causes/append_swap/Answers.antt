@@ -2,7 +2,7 @@
 use Rattle.report.proofs.causes.append_swap.Goals as goal
 
 pub returns-in-NoSuchPair-clause-ok : goal.returns-in-NoSuchPair-clause-ok
-returns-in-NoSuchPair-clause-ok c = rw c.in-NoSuchPair.is c.append_words.ensures.ok
+returns-in-NoSuchPair-clause-ok c = rw c.in-NoSuchPair.is c.append_bytes.ensures.ok
 
 pub returns-in-Dependent-clause-ok : goal.returns-in-Dependent-clause-ok
-returns-in-Dependent-clause-ok c = rw c.in-Dependent.is c.append_words-in-Dependent.ensures.ok
+returns-in-Dependent-clause-ok c = rw c.in-Dependent.is c.append_bytes-in-Dependent.ensures.ok

@@ -54,8 +54,8 @@ invariant_of-self-2 c =
     let s = c.self.inside in
     let room : length s.log.items < 1000000 = omega (arith, c.len-number.ensures) in
     let log : c.add_entry.new.log.items ≡ s.log.items ++ Proposed c.args.client c.args.first c.args.second c.args.events.now ∷ [] = rw (c.in-Ok-make_room.ensures.log, c.in-Ok-copied.ensures) at c.add_entry.ensures in
-    proposed_bench s c.self.invariant c.add_entry.new.log.items c.deref.result.now c.args.client c.args.first c.args.second c.args.events.now c.in-Ok.schedule c.push.new.self c.add_no_step.new.steps.items
-    c.deref.ensures room c.in-Ok.ensures.2 c.in-Ok.ensures.3 c.in-Ok.ensures.0 c.in-Ok.ensures.1 c.in-Ok-push.ensures.ok (rw (c.in-Ok-make_room.ensures.steps) at c.add_no_step.ensures) log c.requires.low c.requires.high
+    proposed_bench s c.self.invariant c.add_entry.new.log.items c.deref.result.now c.args.client c.args.first c.args.second c.args.events.now c.in-Ok.schedule c.push.new.self c.add_nothing.new.steps.items
+    c.deref.ensures room c.in-Ok.ensures.2 c.in-Ok.ensures.3 c.in-Ok.ensures.0 c.in-Ok.ensures.1 c.in-Ok-push.ensures.ok (rw (c.in-Ok-make_room.ensures.steps) at c.add_nothing.ensures) log c.requires.low c.requires.high
 
 pub returns-clause-call : goal.returns-clause-call
 returns-clause-call c =

@@ -1,4 +1,4 @@
-use Rattle.std.proofs.Common.{◌≡◌, ◌∙◌, sym, ap, true, Ok, Err, refl, subst}
+use Rattle.std.proofs.Common.{◌≡◌, ◌∙◌, sym, true, Ok, Err, refl, subst}
 use Rattle.moves.specs.declared.refusal.MoveRefusal.TheVariants.{NoSuchSchedule}
 use Rattle.inverse_log.specs.declared.call.Call.TheVariants.{Races}
 use Rattle.inverse_log.specs.declared.refusal.Refusal.TheVariants.{Move}

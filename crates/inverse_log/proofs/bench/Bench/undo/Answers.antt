@@ -1,11 +1,11 @@
-use Rattle.std.proofs.Common.{◌≡◌, ◌<◌, ◌++◌, ◌∷◌, [], Err, Some, None, sym, subst, refl, arith, length, slice_get}
+use Rattle.std.proofs.Common.{◌≡◌, ◌<◌, ◌++◌, ◌∷◌, [], Err, None, sym, subst, refl, arith, length}
 use Rattle.inverse_log.specs.declared.call.Call.TheVariants.{Undo}
 use Rattle.inverse_log.specs.declared.entry.Entry.TheVariants.{Undid}
 use Rattle.inverse_log.specs.declared.refusal.Refusal.TheVariants.{NothingToUndo}
 use Rattle.inverse_log.specs.Answer.{answer_of, Called, IsLegal}
-use Rattle.inverse_log.specs.Kept.{IsLive, IsUndone}
-use Rattle.inverse_log.specs.Log.{Benched, live, blocker_of, command_of}
-use Rattle.inverse_log.proofs.UndoneLemmas.{undo_none, undo_lost, undo_found, last_lives, last_answers, undo_legal, undo_called}
+use Rattle.inverse_log.specs.Kept.{IsLive, live_there, IsUndone}
+use Rattle.inverse_log.specs.Log.{Benched, blocker_of}
+use Rattle.inverse_log.proofs.UndoneLemmas.{undo_none, last_lives, last_answers, undo_legal, undo_called}
 use Rattle.inverse_log.proofs.bench.Bench.undo.Goals as goal
 
 pub returns-in_default-clause-call : goal.returns-in_default-clause-call
@@ -18,12 +18,6 @@ returns-in_default-clause-call c =
       refl,
     )
 
-pub returns-in_default-command_at-clause-call : goal.returns-in_default-command_at-clause-call
-returns-in_default-command_at-clause-call c =
-    let s = c.self.inside in
-    let lost : None ≡ command_of (slice_get s.log.items c.in-Some.entry) = rw (← c.deref.ensures.value) c.in_default-command_at.ensures in
-    absurd (undo_lost s c.self.invariant c.args.client c.in-Some.entry c.in-Some.ensures lost)
-
 pub undo_live-requires-clause-room : goal.undo_live-requires-clause-room
 undo_live-requires-clause-room c =
     let s = c.self.inside in
@@ -33,27 +27,21 @@ undo_live-requires-clause-room c =
 pub undo_live-requires-clause-live : goal.undo_live-requires-clause-live
 undo_live-requires-clause-live c =
     let s = c.self.inside in
-    let there : Some c.in-Some-command_at.command ≡ command_of (slice_get s.log.items c.in-Some.entry) = rw (← c.deref.ensures.value) c.in-Some-command_at.ensures in
-    let last = undo_found s c.self.invariant c.args.client c.in-Some.entry c.in-Some-command_at.command c.in-Some.ensures there in
-    subst (λ (v : Benched). IsLive v.log (live c.in-Some.entry c.args.client c.in-Some-command_at.command)) c.self.view_is (last_lives s c.self.invariant c.args.client c.in-Some.entry c.in-Some-command_at.command last)
+    subst (λ (v : Benched). IsLive v.log (live_there v.log c.args.client c.in-Some.entry)) c.self.view_is (last_lives s c.self.invariant c.args.client c.in-Some.entry c.in-Some.ensures)
 
 pub undo_live-requires-clause-legal : goal.undo_live-requires-clause-legal
 undo_live-requires-clause-legal c =
     let s = c.self.inside in
     let room : length s.log.items < 1000000 = omega (arith, c.len-number.ensures) in
-    let there : Some c.in-Some-command_at.command ≡ command_of (slice_get s.log.items c.in-Some.entry) = rw (← c.deref.ensures.value) c.in-Some-command_at.ensures in
-    let last = undo_found s c.self.invariant c.args.client c.in-Some.entry c.in-Some-command_at.command c.in-Some.ensures there in
-    let asks = last_answers s c.self.invariant c.args.client c.in-Some.entry c.in-Some-command_at.command last in
-    subst (λ (v : Benched). blocker_of v.log (live c.in-Some.entry c.args.client c.in-Some-command_at.command) ≡ None → IsLegal v.trace (v.log ++ Undid c.args.client c.in-Some.entry ∷ [])) c.self.view_is
-    (undo_legal s c.self.invariant c.args.client c.in-Some.entry c.in-Some-command_at.command Undo asks (λ n j. refl) room c.requires.low c.requires.high)
+    let asks = last_answers s c.self.invariant c.args.client c.in-Some.entry c.in-Some.ensures in
+    subst (λ (v : Benched). blocker_of v.log (live_there v.log c.args.client c.in-Some.entry) ≡ None → IsLegal v.trace (v.log ++ Undid c.args.client c.in-Some.entry ∷ [])) c.self.view_is
+    (undo_legal s c.self.invariant c.args.client c.in-Some.entry Undo asks (λ n j. refl) room c.requires.low c.requires.high)
 
 pub returns-clause-call : goal.returns-clause-call
 returns-clause-call c =
     let s = c.self.inside in
     let room : length s.log.items < 1000000 = omega (arith, c.len-number.ensures) in
-    let there : Some c.in-Some-command_at.command ≡ command_of (slice_get s.log.items c.in-Some.entry) = rw (← c.deref.ensures.value) c.in-Some-command_at.ensures in
-    let last = undo_found s c.self.invariant c.args.client c.in-Some.entry c.in-Some-command_at.command c.in-Some.ensures there in
-    let asks = last_answers s c.self.invariant c.args.client c.in-Some.entry c.in-Some-command_at.command last in
-    let done = subst (λ (v : Benched). IsUndone v.log c.args.client (live c.in-Some.entry c.args.client c.in-Some-command_at.command) c.undo_live.result c.undo_live.new.self.log) (sym c.self.view_is) c.undo_live.ensures.undone in
+    let asks = last_answers s c.self.invariant c.args.client c.in-Some.entry c.in-Some.ensures in
+    let done = subst (λ (v : Benched). IsUndone v.log c.args.client (live_there v.log c.args.client c.in-Some.entry) c.undo_live.result c.undo_live.new.self.log) (sym c.self.view_is) c.undo_live.ensures.undone in
     subst (λ (v : Benched). Called v.trace v.log c.args.client Undo c.undo_live.result c.undo_live.new.self.log) c.self.view_is
-    (undo_called s c.self.invariant c.args.client c.in-Some.entry c.in-Some-command_at.command Undo asks (λ n j. refl) room c.undo_live.new.self.log c.undo_live.result done)
+    (undo_called s c.self.invariant c.args.client c.in-Some.entry Undo asks (λ n j. refl) room c.undo_live.new.self.log c.undo_live.result done)

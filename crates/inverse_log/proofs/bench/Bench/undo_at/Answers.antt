@@ -1,11 +1,10 @@
-use Rattle.std.proofs.Common.{◌≡◌, ◌<◌, rules, true, false, ◌++◌, ◌∷◌, [], Err, Some, None, sym, ◌∙◌, subst, refl, arith, length, slice_get}
-use Rattle.std.specs.List.{list_any}
+use Rattle.std.proofs.Common.{◌≡◌, ◌<◌, rules, true, false, ◌++◌, ◌∷◌, [], Err, None, sym, ◌∙◌, subst, refl, arith, length, slice_get}
 use Rattle.inverse_log.specs.declared.call.Call.TheVariants.{UndoAt}
 use Rattle.inverse_log.specs.declared.entry.Entry.TheVariants.{Undid}
 use Rattle.inverse_log.specs.declared.refusal.Refusal.TheVariants.{NoSuchEntry, NotOwn, NotLive}
 use Rattle.inverse_log.specs.Answer.{answer_of, Called, IsLegal}
-use Rattle.inverse_log.specs.Kept.{IsLive, IsUndone}
-use Rattle.inverse_log.specs.Log.{Benched, live, blocker_of, own_command_of}
+use Rattle.inverse_log.specs.Kept.{IsLive, live_there, IsUndone}
+use Rattle.inverse_log.specs.Log.{Benched, blocker_of, is_own}
 use Rattle.inverse_log.proofs.UndoneLemmas.{undo_legal, undo_called}
 use Rattle.inverse_log.proofs.NumberedLemmas.{at_past, at_other, at_undone, at_live, at_asks}
 use Rattle.inverse_log.proofs.bench.Bench.undo_at.Goals as goal
@@ -20,15 +19,16 @@ returns-then-entry-number-clause-call c =
       refl,
     )
 
-pub returns-in_default-clause-call : goal.returns-in_default-clause-call
-returns-in_default-clause-call c =
+pub returns-then-not-is_own-clause-call : goal.returns-then-not-is_own-clause-call
+returns-then-not-is_own-clause-call c =
     let s = c.self.inside in
     let number : c.len-number.result ≡ length s.log.items = omega (arith, c.len-number.ensures) in
     let room : c.len-number.result < 1000000 = omega arith in
     let within : c.args.entry < c.len-number.result = omega arith in
-    let none : None ≡ own_command_of c.args.client (slice_get s.log.items c.args.entry) = rw (← c.deref.ensures.value) c.in_default.ensures in (
+    let so : c.is_own.result ≡ false = search rules in
+    let none : c.is_own.result ≡ is_own c.args.client (slice_get s.log.items c.args.entry) = rw (← c.deref.ensures.value) c.is_own.ensures in (
       subst (λ (v : Benched). answer_of v.trace v.log c.args.client (UndoAt c.args.entry) ≡ Err NotOwn) c.self.view_is
-          (at_other s c.self.invariant c.len-number.result c.args.client c.args.entry number room within none),
+          (at_other s c.self.invariant c.len-number.result c.args.client c.args.entry number room within (sym so ∙ none)),
       refl,
     )
 
@@ -38,10 +38,11 @@ returns-then-not-contains-clause-call c =
     let number : c.len-number.result ≡ length s.log.items = omega (arith, c.len-number.ensures) in
     let room : c.len-number.result < 1000000 = omega arith in
     let within : c.args.entry < c.len-number.result = omega arith in
-    let mine : Some c.in-Some.command ≡ own_command_of c.args.client (slice_get s.log.items c.args.entry) = rw (← c.deref.ensures.value) c.in-Some.ensures in
+    let own : c.is_own.result ≡ true = search rules in
+    let mine : c.is_own.result ≡ is_own c.args.client (slice_get s.log.items c.args.entry) = rw (← c.deref.ensures.value) c.is_own.ensures in
     let so : c.contains.result ≡ false = search rules in (
       subst (λ (v : Benched). answer_of v.trace v.log c.args.client (UndoAt c.args.entry) ≡ Err NotLive) c.self.view_is
-          (at_undone s c.self.invariant c.len-number.result c.args.client c.args.entry number room c.in-Some.command mine within (sym so ∙ c.contains.ensures)),
+          (at_undone s c.self.invariant c.len-number.result c.args.client c.args.entry number room (sym own ∙ mine) within (sym so ∙ c.contains.ensures)),
       refl,
     )
 
@@ -56,10 +57,11 @@ undo_live-requires-clause-live c =
     let s = c.self.inside in
     let number : c.len-number.result ≡ length s.log.items = omega (arith, c.len-number.ensures) in
     let room : c.len-number.result < 1000000 = omega arith in
-    let mine : Some c.in-Some.command ≡ own_command_of c.args.client (slice_get s.log.items c.args.entry) = rw (← c.deref.ensures.value) c.in-Some.ensures in
+    let own : c.is_own.result ≡ true = search rules in
+    let mine : c.is_own.result ≡ is_own c.args.client (slice_get s.log.items c.args.entry) = rw (← c.deref.ensures.value) c.is_own.ensures in
     let so : c.contains.result ≡ true = search rules in
-    subst (λ (v : Benched). IsLive v.log (live c.args.entry c.args.client c.in-Some.command)) c.self.view_is
-    (at_live s c.self.invariant c.len-number.result c.args.client c.args.entry number room c.in-Some.command mine (sym so ∙ c.contains.ensures))
+    subst (λ (v : Benched). IsLive v.log (live_there v.log c.args.client c.args.entry)) c.self.view_is
+    (at_live s c.self.invariant c.len-number.result c.args.client c.args.entry number room (sym own ∙ mine) (sym so ∙ c.contains.ensures))
 
 pub undo_live-requires-clause-legal : goal.undo_live-requires-clause-legal
 undo_live-requires-clause-legal c =
@@ -67,11 +69,12 @@ undo_live-requires-clause-legal c =
     let number : c.len-number.result ≡ length s.log.items = omega (arith, c.len-number.ensures) in
     let room : c.len-number.result < 1000000 = omega arith in
     let within : length s.log.items < 1000000 = omega (arith, c.len-number.ensures) in
-    let mine : Some c.in-Some.command ≡ own_command_of c.args.client (slice_get s.log.items c.args.entry) = rw (← c.deref.ensures.value) c.in-Some.ensures in
+    let own : c.is_own.result ≡ true = search rules in
+    let mine : c.is_own.result ≡ is_own c.args.client (slice_get s.log.items c.args.entry) = rw (← c.deref.ensures.value) c.is_own.ensures in
     let so : c.contains.result ≡ true = search rules in
-    let asks = at_asks s c.self.invariant c.len-number.result c.args.client c.args.entry number room c.in-Some.command mine (sym so ∙ c.contains.ensures) in
-    subst (λ (v : Benched). blocker_of v.log (live c.args.entry c.args.client c.in-Some.command) ≡ None → IsLegal v.trace (v.log ++ Undid c.args.client c.args.entry ∷ [])) c.self.view_is
-    (undo_legal s c.self.invariant c.args.client c.args.entry c.in-Some.command (UndoAt c.args.entry) asks (λ n j. refl) within c.requires.low c.requires.high)
+    let asks = at_asks s c.self.invariant c.len-number.result c.args.client c.args.entry number room (sym own ∙ mine) (sym so ∙ c.contains.ensures) in
+    subst (λ (v : Benched). blocker_of v.log (live_there v.log c.args.client c.args.entry) ≡ None → IsLegal v.trace (v.log ++ Undid c.args.client c.args.entry ∷ [])) c.self.view_is
+    (undo_legal s c.self.invariant c.args.client c.args.entry (UndoAt c.args.entry) asks (λ n j. refl) within c.requires.low c.requires.high)
 
 pub returns-clause-call : goal.returns-clause-call
 returns-clause-call c =
@@ -79,9 +82,10 @@ returns-clause-call c =
     let number : c.len-number.result ≡ length s.log.items = omega (arith, c.len-number.ensures) in
     let room : c.len-number.result < 1000000 = omega arith in
     let within : length s.log.items < 1000000 = omega (arith, c.len-number.ensures) in
-    let mine : Some c.in-Some.command ≡ own_command_of c.args.client (slice_get s.log.items c.args.entry) = rw (← c.deref.ensures.value) c.in-Some.ensures in
+    let own : c.is_own.result ≡ true = search rules in
+    let mine : c.is_own.result ≡ is_own c.args.client (slice_get s.log.items c.args.entry) = rw (← c.deref.ensures.value) c.is_own.ensures in
     let so : c.contains.result ≡ true = search rules in
-    let asks = at_asks s c.self.invariant c.len-number.result c.args.client c.args.entry number room c.in-Some.command mine (sym so ∙ c.contains.ensures) in
-    let done = subst (λ (v : Benched). IsUndone v.log c.args.client (live c.args.entry c.args.client c.in-Some.command) c.undo_live.result c.undo_live.new.self.log) (sym c.self.view_is) c.undo_live.ensures.undone in
+    let asks = at_asks s c.self.invariant c.len-number.result c.args.client c.args.entry number room (sym own ∙ mine) (sym so ∙ c.contains.ensures) in
+    let done = subst (λ (v : Benched). IsUndone v.log c.args.client (live_there v.log c.args.client c.args.entry) c.undo_live.result c.undo_live.new.self.log) (sym c.self.view_is) c.undo_live.ensures.undone in
     subst (λ (v : Benched). Called v.trace v.log c.args.client (UndoAt c.args.entry) c.undo_live.result c.undo_live.new.self.log) c.self.view_is
-    (undo_called s c.self.invariant c.args.client c.args.entry c.in-Some.command (UndoAt c.args.entry) asks (λ n j. refl) within c.undo_live.new.self.log c.undo_live.result done)
+    (undo_called s c.self.invariant c.args.client c.args.entry (UndoAt c.args.entry) asks (λ n j. refl) within c.undo_live.new.self.log c.undo_live.result done)

@@ -1,6 +1,5 @@
 use Rattle.std.proofs.Common.{◌≡◌, ◌+◌, ◌-◌, ℕ, List, length, get_or, take, sum, refl, sym, ap, ◌∙◌, arith, subst}
 use Rattle.std.proofs.lemmas.List.{get_or_read}
-use Rattle.rapid_text.specs.Recording.{Recording}
 use Rattle.event_index.specs.Tables.{IsTable}
 use Rattle.shb_clocks.specs.Search.{AreSpots, AreLinks, AreChains}
 use Rattle.shb_clocks.proofs.ChainLemmas.{AreLinks-new}

@@ -1,0 +1,118 @@
+#!/usr/bin/env python3
+"""Judges the man page and the completions of package/: each command and flag that the program's `--help` names, each word of a script and
+each fault has to be there. What is missing is named.
+
+Takes the program's path. The last line is `N passed, M failed`. Where bash is not here its completions are not run; where man is
+not here the page is not read by it, and a line says so.
+"""
+
+import os
+import re
+import shutil
+import subprocess
+import sys
+
+TOP = os.path.dirname(os.path.dirname(os.path.abspath(__file__)))
+
+
+def printed(*words, **more):
+    return subprocess.run(words, capture_output=True, text=True, check=True, **more).stdout
+
+
+def text_of(*path):
+    with open(os.path.join(TOP, *path), encoding="utf-8") as file:
+        return file.read()
+
+
+def part(pattern, text, what):
+    """What the pattern's group finds in a text; where the text has another form by now, this judge has to follow it."""
+    found = re.search(pattern, text, re.MULTILINE | re.DOTALL)
+    if not found:
+        sys.exit(f"tests/judge_package.py finds no {what}; its pattern is {pattern!r}")
+    return found[1]
+
+
+class Words:
+    """What `--help` of the program names."""
+
+    def __init__(self, program):
+        whole = printed(program, "--help")
+        listed = part(r"^Commands:\n((?:  [^\n]*\n)+)", whole, "commands in --help")
+        self.commands = [name for name in re.findall(r"^  (\w[\w-]*)", listed, re.MULTILINE) if name != "help"]
+        self.flags = {"": self.flags_of(whole)}
+        for command in self.commands:
+            self.flags[command] = self.flags_of(printed(program, command, "--help"))
+        script = part(r"line of a script has one of\n\n((?:  [^\n]*\n)+)", whole, "words of a script in --help")
+        self.script = re.findall(r"^  (\w+)", script, re.MULTILINE)
+
+    @staticmethod
+    def flags_of(text):
+        options = part(r"^Options:\n((?: [^\n]*\n)+)", text, "options in --help")
+        return re.findall(r"(?<![\w-])--?[A-Za-z][\w-]*", "\n".join(re.findall(r"^ +(-.*?)(?:  |$)", options, re.MULTILINE)))
+
+    def all_flags(self):
+        return sorted({flag for flags in self.flags.values() for flag in flags})
+
+
+def page_lacks(words):
+    page = re.sub(r"\\f[A-Z]", "", text_of("package", "racebench.1")).replace("\\-", "-").replace("\\ ", " ")
+    faults = part(r"^## Faults\n(.*?)^### ", text_of("docs", "FORMATS.md"), "table of faults in docs/FORMATS.md")
+    wanted = [f"command {name}" for name in words.commands if not re.search(rf"^\.B[IR]? {name}\b", page, re.MULTILINE)]
+    wanted += [f"flag {flag}" for flag in words.all_flags() if not re.search(rf"(?<![\w-]){flag}(?![\w-])", page)]
+    wanted += [f"script word {name}" for name in words.script if not re.search(rf"^\.B[IR]? {name}\b", page, re.MULTILINE)]
+    for number, fault in re.findall(r"^\| (\d+) \| `([^`]*)`", faults, re.MULTILINE):
+        if not re.search(rf"^{number} {re.escape(fault)}", page, re.MULTILINE):
+            wanted.append(f"fault {number} {fault}")
+    return wanted
+
+
+def zsh_lacks(words):
+    text = text_of("package", "_racebench")
+    lacks = [f"command {name}" for name in words.commands if f"'{name}:" not in text or f"        {name})" not in text]
+    for command in words.commands:
+        case = (re.search(rf"^        {command}\)(.*?);;", text, re.MULTILINE | re.DOTALL) or [None, ""])[1]
+        lacks += [f"flag {flag} of {command}" for flag in words.flags[command] if not re.search(rf"(?<![\w-]){flag}(?![\w-])", case)]
+    return lacks + [f"flag {flag}" for flag in words.flags[""] if not re.search(rf"(?<![\w-]){flag}(?![\w-])", text)]
+
+
+def completed(*given):
+    """What bash is offered for the last of these words."""
+    line = "source package/racebench.bash; COMP_WORDS=(racebench \"$@\"); COMP_CWORD=$#; _racebench; printf '%s\\n' \"${COMPREPLY[@]}\""
+    return printed("bash", "-c", line, "bash", *given, cwd=TOP).split()
+
+
+def bash_lacks(words):
+    offered = completed("")
+    lacks = [f"command {name}" for name in words.commands if name not in offered]
+    for command, flags in words.flags.items():
+        offered = completed(*([command] if command else []), "-")
+        lacks += [f"flag {flag} of `racebench {command}`" for flag in flags if flag not in offered]
+        lacks += [f"flag {flag} of `racebench {command}` is none" for flag in offered if flag not in flags]
+    return lacks
+
+
+def page_warnings():
+    if shutil.which("man") is None:
+        print("package/racebench.1: not read by man, which is not here")
+        return []
+    path = os.path.join(TOP, "package", "racebench.1")
+    environment = dict(os.environ, MANWIDTH="80", LC_ALL="C.UTF-8", MANROFFOPT="")
+    told = subprocess.run(["man", "--warnings=w", "--local-file", path], capture_output=True, text=True, check=False, env=environment)
+    return told.stderr.splitlines()
+
+
+def main():
+    words = Words(os.path.abspath(sys.argv[1]))
+    judged = [("package/racebench.1 lacks", page_lacks(words)), ("package/_racebench lacks", zsh_lacks(words)),
+              ("package/racebench.1, read by man", page_warnings())]
+    if shutil.which("bash"):
+        judged.append(("package/racebench.bash lacks", bash_lacks(words)))
+    for name, wrong in judged:
+        for what in wrong:
+            print(f"{name}: {what}")
+    failed = sum(1 for _, wrong in judged if wrong)
+    print(f"{len(judged) - failed} passed, {failed} failed")
+    return 1 if failed else 0
+
+
+sys.exit(main())

@@ -1,0 +1,178 @@
+#!/usr/bin/env python3
+"""Judges record/: programs of tests/recorded and examples/count.c are compiled, run and recorded, and `info` and `replay` of the
+program have to accept each trace and to find the one race that is in it, and no other.
+
+Takes the program's path. Says what is wrong; the last line is `N passed, M failed`. Where no C compiler with the hooks is there,
+nothing is judged, and a line says so.
+"""
+
+import os
+import re
+import subprocess
+import sys
+import tempfile
+
+TOP = os.path.dirname(os.path.dirname(os.path.abspath(__file__)))
+RECORD = os.path.join(TOP, "record")
+# Runs of each program; every further compiler makes one.
+SEEDS = (1, 2, 3)
+# Each program, the words for the recorder, and the pairs of lines that race in it.
+PROGRAMS = [
+    ("examples/count.c", [], {("count.c:13", "count.c:7")}),
+    ("tests/recorded/each_kind.c", [], {"RACE"}),
+    ("tests/recorded/each_kind.c", ["--yield", "1"], {"RACE"}),
+    ("tests/recorded/each_kind.cpp", [], {"RACE"}),
+    ("tests/recorded/barrier.c", [], set()),
+    ("tests/recorded/freed.c", [], set()),
+    ("tests/recorded/freed.c", ["--free"], {("freed.c:11", "freed.c:6")}),
+]
+
+
+class Wrong(Exception):
+    pass
+
+
+def done(words, wanted=0, **more):
+    """What a command wrote on standard output and on standard error."""
+    ran = subprocess.run(words, capture_output=True, timeout=120, check=False, **more)
+    if ran.returncode != wanted:
+        raise Wrong(f"{' '.join(words)}: status {ran.returncode}: {ran.stderr.decode(errors='replace')[:600]}")
+    return ran.stdout.decode(), ran.stderr.decode(errors="replace")
+
+
+def compilers():
+    """The pairs of a C and a C++ compiler that are here and have the hooks; the second is None where it is not here."""
+    for c, cxx in (("gcc", "g++"), ("clang", "clang++")):
+        if has_hooks(c, "c"):
+            yield c, cxx if has_hooks(cxx, "c++") else None
+
+
+def has_hooks(compiler, language):
+    try:
+        words = [compiler, "-fsanitize=thread", "-pthread", "-x", language, "-", "-c", "-o", os.devnull]
+        text = "#include <pthread.h>\nint main() { return 0; }\n"
+        return subprocess.run(words, input=text.encode(), capture_output=True, check=False).returncode == 0
+    except OSError:
+        return False
+
+
+def lines_at_race(source):
+    """The pair of lines of a source that say RACE behind their code; one line is a pair with itself."""
+    with open(os.path.join(TOP, source), encoding="utf-8") as text:
+        found = [f"{os.path.basename(source)}:{number}" for number, line in enumerate(text, start=1) if re.search(r"; /[/*] RACE", line)]
+    return tuple(sorted(found * 2 if len(found) == 1 else found))
+
+
+def candidates(racebench, trace):
+    """The pairs of lines of the candidates of a trace, as `info` prints them."""
+    with open(trace, encoding="utf-8", errors="surrogateescape") as text:
+        places = [line.rstrip("\n").split("|", 2)[2].split(" < ")[0] for line in text]
+    printed, _ = done([racebench, "info", trace])
+    pairs = re.findall(r"^candidate (\d+) (\d+) ", printed, re.MULTILINE)
+    return {tuple(sorted((places[int(first)], places[int(second)]))) for first, second in pairs}
+
+
+def compiled(source, c, cxx):
+    """Compiles a source, in one call or in two, to `program`."""
+    environment = dict(os.environ, RECORD_CC=c, RECORD_CXX=cxx or "")
+    path, language = os.path.join(TOP, source), os.path.join(RECORD, "c++" if source.endswith(".cpp") else "cc")
+    words = ["-std=c++17"] if source.endswith(".cpp") else []
+    if c == "gcc":
+        done([language, "-O1", *words, path, "-o", "program"], env=environment)
+    else:
+        done([language, "-O1", *words, "-c", path, "-o", "part.o"], env=environment)
+        done([language, "part.o", "-o", "program"], env=environment)
+
+
+def recorded(words, seed):
+    """Records `program`; the trace is in `trace.std`."""
+    trace, said = done([os.path.join(RECORD, "run"), "--seed", str(seed), *words, "./program"])
+    if not re.search(r"^record/run: recorded \d+ events, \d+ turns, \d+ taken by force$", said, re.MULTILINE):
+        raise Wrong(f"the recorder did not say what it recorded: {said[:600]}")
+    if "left out" in said:
+        raise Wrong(f"something was left out: {said[:600]}")
+    with open("trace.std", "w", encoding="utf-8") as text:
+        text.write(trace)
+    return trace
+
+
+def judge_program(racebench, source, words, races, c, cxx, seeds):
+    wanted = {lines_at_race(source) if pair == "RACE" else pair for pair in races}
+    compiled(source, c, cxx)
+    for seed in seeds:
+        trace = recorded(words, seed)
+        found = candidates(racebench, "trace.std")
+        if found != wanted:
+            raise Wrong(f"seed {seed}: the candidates are {sorted(found)}, and not {sorted(wanted)}")
+        if source.endswith("barrier.c"):
+            judge_barrier(racebench, trace)
+
+
+def judge_barrier(racebench, trace):
+    """Each thread's first read at the barrier that saw the other's coming may not come before it."""
+    events = [line.split("|")[:2] for line in trace.splitlines()]
+    writer = None
+    for number, (thread, operation) in enumerate(events):
+        if operation == "r(sync:meeting)" and writer not in (None, thread):
+            own = [k for k, (other, _) in enumerate(events[:number]) if other == thread]
+            script = ["new A"] + [f"add A {k}" for k in [0, 1] + own + [number]]
+            with open("script.txt", "w", encoding="ascii") as text:
+                text.write("".join(f"1 {line}\n" for line in script))
+            answers, _ = done([racebench, "replay", "trace.std", "script.txt"])
+            refused = [line for line in answers.splitlines() if line.startswith("refused")]
+            if not refused or not refused[0].startswith("refused 46 24 wrong writer"):
+                raise Wrong(f"event {number} may come before what it has to come after: {answers}")
+        if operation == "w(sync:meeting)":
+            writer = thread
+    if writer is None:
+        raise Wrong("nobody came to the barrier")
+
+
+def judge_example(c, cxx):
+    """examples/count.std is what the page says that it is: the trace of count.c with the first seed."""
+    compiled("examples/count.c", c, cxx)
+    with open(os.path.join(TOP, "examples/count.std"), encoding="ascii") as text:
+        if recorded([], 1) != text.read():
+            raise Wrong("the trace of examples/count.c is another than examples/count.std")
+
+
+def judge_stranger():
+    """A program that was not compiled so is refused, and nothing is written."""
+    out, said = done([os.path.join(RECORD, "run"), "true"], wanted=1)
+    if out or "was not compiled with record/cc" not in said:
+        raise Wrong(f"a program without the recorder: {out}{said}")
+
+
+def main():
+    racebench = os.path.abspath(sys.argv[1])
+    pairs = list(compilers())
+    if not pairs:
+        print("record/: not tested, since no C compiler with the hooks of -fsanitize=thread is here")
+        print("0 passed, 0 failed")
+        return 0
+    cases = [("a program without the recorder", judge_stranger, ())]
+    for place, (c, cxx) in enumerate(pairs):
+        seeds = SEEDS if place == 0 else SEEDS[:1]
+        cases.append((f"count.std, {c}", judge_example, (c, cxx)))
+        for source, words, races in PROGRAMS:
+            if source.endswith(".cpp") and cxx is None:
+                print(f"record/: {source} is not tested with {c}, since its C++ compiler is not here")
+                continue
+            cases.append((" ".join([source, *words, c]), judge_program, (racebench, source, words, races, c, cxx, seeds)))
+    passed = failed = 0
+    for name, judge, about in cases:
+        with tempfile.TemporaryDirectory() as folder:
+            os.chdir(folder)
+            try:
+                judge(*about)
+                passed += 1
+            except (Wrong, subprocess.TimeoutExpired) as wrong:
+                print(f"{name}: {wrong}")
+                failed += 1
+            os.chdir(TOP)
+    print(f"{passed} passed, {failed} failed")
+    return 1 if failed else 0
+
+
+if __name__ == "__main__":
+    sys.exit(main())
