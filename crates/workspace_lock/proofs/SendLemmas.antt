@@ -15,6 +15,9 @@ use Rattle.moves.specs.contracts.board.Proposal as Proposal
 use Rattle.moves.specs.contracts.board.Board as Board
 use Rattle.moves.specs.contracts.board.Board.TheInside as BoardInside
 use Rattle.moves.specs.contracts.inverse.Step as Step
+use Rattle.moves.specs.contracts.inverse.Inverse as Inverse
+use Rattle.moves.specs.contracts.batch.Inverses as Inverses
+use Rattle.moves.specs.contracts.batch.Inverses.TheInside as InversesInside
 use Rattle.moves.specs.contracts.listing.Listing as Listing
 use Rattle.moves.specs.contracts.listing.Listing.TheInside as ListingInside
 use Rattle.moves.specs.contracts.workspace.Workspace as Workspace
@@ -23,6 +26,7 @@ use Rattle.event_index.proofs.indexed.Indexed.TheSendSync as IndexedSend
 use Rattle.dependence.proofs.touches.Touches.TheSendSync as TouchesSend
 use Rattle.dependence.proofs.clients.Clients.TheSendSync as ClientsSend
 use Rattle.inverse_log.proofs.entry.Entry.TheSendSync as EntrySend
+use Rattle.inverse_log.specs.contracts.kept.Held as Held
 use Rattle.inverse_log.specs.contracts.kept.Form as Form
 use Rattle.inverse_log.specs.contracts.kept.Kept as Kept
 use Rattle.inverse_log.specs.contracts.kept.Kept.TheInside as KeptInside
@@ -78,8 +82,31 @@ board_send = view_send BoardInside.the_row _ _ _ _ board_inside
 step_send : IsSend (Step.the_field).row
 step_send = search (schedule_send, row_send, sendable, crosses) depth 20
 
+inverse_send : IsSend (Inverse.the_field).row
+inverse_send = struct_send (shape Inverse.the_type) (search (NameSend.the_send, sendable, crosses) depth 20, (search (step_send, sendable, crosses) depth 20, tt))
+
+inverse_row : IsSend Inverse.the_row
+inverse_row = recorded_send (Inverse.the_field).row _ _ (Inverse.the_type).to_one inverse_send
+
+inverses_inside : IsSend InversesInside.the_row
+inverses_inside =
+    recorded_send (InversesInside.the_field).row _ _ (InversesInside.the_type).to_one
+    (struct_send (shape InversesInside.the_type) (
+      search (inverse_row, sendable, crosses) depth 20,
+      tt,
+    ))
+
+inverses_send : IsSend Inverses.the_row
+inverses_send = view_send InversesInside.the_row _ _ _ _ inverses_inside
+
+held_send : IsSend (Held.the_field).row
+held_send = search (step_send, inverses_send, sendable, crosses) depth 20
+
+held_row : IsSend Held.the_row
+held_row = recorded_send (Held.the_field).row _ _ (Held.the_type).to_one held_send
+
 form_send : IsSend (Form.the_field).row
-form_send = search (step_send, sendable, crosses) depth 20
+form_send = search (held_row, sendable, crosses) depth 20
 
 kept_inside : IsSend KeptInside.the_row
 kept_inside =
@@ -153,7 +180,7 @@ bench_inside =
               (
                 search (kept_send, sendable, crosses) depth 20,
                 (
-                  search (step_send, sendable, crosses) depth 20,
+                  search (held_row, sendable, crosses) depth 20,
                   (
                     search (TouchesSend.the_send, sendable, crosses) depth 20,
                     (
