@@ -99,10 +99,11 @@ pub(crate) fn say(rt: &HostRuntime, bytes: &[u8]) {
 
 /// Tells a fault on standard error.
 fn tell_fault(rt: &HostRuntime, fault: &BenchFault, notes: &Option<Vec<u8>>) -> ExitCode {
-    match fault_lines(rt.alloc(), fault, notes) {
-        Ok(lines) => say(rt, &lines),
-        Err(_) => say(rt, b"racebench: out of memory\n"),
-    }
+    let Ok(lines) = fault_lines(rt.alloc(), fault, notes) else {
+        say(rt, b"racebench: out of memory\n");
+        return ExitCode::FAILURE;
+    };
+    say(rt, &lines);
     status_of(fault)
 }
 
