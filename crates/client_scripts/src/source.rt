@@ -107,10 +107,10 @@ fn read_pieces<S: Source>(
     requires not_failed { S.has_failed source.old ≡ false }
     requires room { 0 < length piece.old }
     ensures bytes { IfOk result (λ v. IfSome (S.rest source.old) (λ xs. v.items ≡ xs)) }
-    ensures short { IfOk result (λ v. vec_len v ≤ 268435456) }
+    ensures short { IfOk result (λ v. vec_len v ≤ LIMIT) }
     ensures device { result ≡ Err ReadFault.Device → S.has_failed source.new ≡ true }
     ensures failed { S.has_failed source.new ≡ true → result ≡ Err ReadFault.Device }
-    ensures long { result ≡ Err ReadFault.TooLong → IfSome (S.rest source.old) (λ xs. 268435456 < length xs) }
+    ensures long { result ≡ Err ReadFault.TooLong → IfSome (S.rest source.old) (λ xs. LIMIT < length xs) }
 {
     let mut out = Vec::new(alloc);
     'reads: loop {
@@ -130,10 +130,10 @@ fn read_pieces<S: Source>(
 pub fn read_all<S: Source>(alloc: Global, source: &mut S) -> Result<Vec<u8>, ReadFault>
     requires { S.has_failed source.old ≡ false }
     ensures bytes { IfOk result (λ v. IfSome (S.rest source.old) (λ xs. v.items ≡ xs)) }
-    ensures short { IfOk result (λ v. vec_len v ≤ 268435456) }
+    ensures short { IfOk result (λ v. vec_len v ≤ LIMIT) }
     ensures device { result ≡ Err ReadFault.Device → S.has_failed source.new ≡ true }
     ensures failed { S.has_failed source.new ≡ true → result ≡ Err ReadFault.Device }
-    ensures long { result ≡ Err ReadFault.TooLong → IfSome (S.rest source.old) (λ xs. 268435456 < length xs) }
+    ensures long { result ≡ Err ReadFault.TooLong → IfSome (S.rest source.old) (λ xs. LIMIT < length xs) }
 {
     let mut piece = vec![in alloc; 0u8; PIECE]?;
     read_pieces(alloc, source, &mut piece)

@@ -39,7 +39,7 @@ pub(crate) fn indexed_of(alloc: Global, text: &[u8]) -> Option<Indexed> {
     index_of(alloc, trace_of(alloc, raw_of(alloc, text)?)?)
 }
 
-fn shared_of(alloc: Global, indexed: Indexed) -> Option<Arc<Indexed, Global>> {
+pub(crate) fn shared_of(alloc: Global, indexed: Indexed) -> Option<Arc<Indexed, Global>> {
     match Arc::new(alloc, indexed) {
         Ok(shared) => Some(shared),
         Err(_) => None,

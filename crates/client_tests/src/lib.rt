@@ -11,6 +11,8 @@ mod fixtures;
 #[cfg(test)]
 mod log_tests;
 #[cfg(test)]
+mod memory_tests;
+#[cfg(test)]
 mod run_tests;
 #[cfg(test)]
 mod script_tests;

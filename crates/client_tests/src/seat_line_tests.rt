@@ -82,7 +82,7 @@ fn lines_of_calls_that_a_seat_refuses(rt: HostRuntime) {
 }
 
 // Whether the line was appended behind the byte that stood there.
-fn is_behind(out: &[u8], wanted: &[u8]) -> bool {
+pub(crate) fn is_behind(out: &[u8], wanted: &[u8]) -> bool {
     match out.split_first() {
         Some((first, line)) => *first == b'>' && line == wanted,
         None => false,
@@ -104,7 +104,7 @@ fn is_appended_at_last(alloc: Global, indexed: &Indexed, why: &SeatRefusal, want
     seat_refusal(indexed, why, &mut out).is_ok() && is_behind(out.as_slice(), wanted)
 }
 
-fn index_at_last(alloc: Global) -> Option<Indexed> {
+pub(crate) fn index_at_last(alloc: Global) -> Option<Indexed> {
     match indexed_of(alloc, ONE_LOCK) {
         Some(indexed) => Some(indexed),
         None => indexed_of(alloc, ONE_LOCK),

@@ -205,7 +205,7 @@ fn is_told(answer: &Result<Reply, Refusal>, told: Told) -> bool {
 }
 
 // Makes the call; where memory was wanting, once more, as the refusal has changed nothing.
-fn call_twice(bench: &mut Bench, client: u32, call: &Call) -> Result<Reply, Refusal> {
+pub(crate) fn call_twice(bench: &mut Bench, client: u32, call: &Call) -> Result<Reply, Refusal> {
     if client == 0 || client > 32 {
         return Err(Refusal::LogFull);
     }
@@ -228,7 +228,7 @@ fn call_again(alloc: Global, ask: Ask<'_>) -> Option<Call> {
     }
 }
 
-fn bench_again(alloc: Global) -> Option<Bench> {
+pub(crate) fn bench_again(alloc: Global) -> Option<Bench> {
     match bench_of(alloc, ONE_LOCK) {
         Some(bench) => Some(bench),
         None => bench_of(alloc, ONE_LOCK),

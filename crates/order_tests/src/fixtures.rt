@@ -17,19 +17,22 @@ pub(crate) fn raw_of(alloc: Global, text: &[u8]) -> Option<RawTrace> {
     }
 }
 
-fn trace_of(alloc: Global, raw: RawTrace) -> Option<Trace> {
+pub(crate) fn trace_of(alloc: Global, raw: RawTrace) -> Option<Trace> {
     match check(alloc, raw) {
         Ok(trace) => Some(trace),
         Err(_) => None,
     }
 }
 
-pub(crate) fn indexed_of(alloc: Global, text: &[u8]) -> Option<Indexed> {
-    let trace = trace_of(alloc, raw_of(alloc, text)?)?;
+pub(crate) fn index_of(alloc: Global, trace: Trace) -> Option<Indexed> {
     match Indexed::new(alloc, trace) {
         Ok(indexed) => Some(indexed),
         Err(_) => None,
     }
+}
+
+pub(crate) fn indexed_of(alloc: Global, text: &[u8]) -> Option<Indexed> {
+    index_of(alloc, trace_of(alloc, raw_of(alloc, text)?)?)
 }
 
 // The answer of a second call where memory was wanting at the first.
@@ -46,6 +49,16 @@ pub(crate) fn clocks_of(alloc: Global, indexed: &Indexed) -> Option<Clocks>
     match Clocks::new(alloc, indexed) {
         Ok(clocks) => Some(clocks),
         Err(_) => None,
+    }
+}
+
+// The same at a second call where memory was wanting at the first.
+pub(crate) fn clocks_again(alloc: Global, indexed: &Indexed) -> Option<Clocks>
+    ensures { IfSome result (λ c. c ≡ indexed.now) }
+{
+    match clocks_of(alloc, indexed) {
+        Some(clocks) => Some(clocks),
+        None => clocks_of(alloc, indexed),
     }
 }
 

@@ -167,8 +167,8 @@ fn is_no_slice(found: Result<Found, CollectRefusal>) -> bool {
     }
 }
 
-// Whether this is what was found by the search.
-fn is_witness(found: Result<Found, CollectRefusal>) -> bool {
+// Whether this is what was found by the search of this number.
+fn is_witness(found: Result<Found, CollectRefusal>, number: u32) -> bool {
     match found {
         Ok(
             Found {
@@ -177,7 +177,7 @@ fn is_witness(found: Result<Found, CollectRefusal>) -> bool {
                 second,
                 outcome: Outcome::Witness(list),
             },
-        ) => request == 0 && first == 0 && second == 5 && list.items() == [3, 4].as_slice(),
+        ) => { request == number && first == 0 && second == 5 && list.items() == [3, 4].as_slice() }
         _ => false,
     }
 }
@@ -204,7 +204,7 @@ fn is_served_beside<R: Wait>(
     }
     let is_first = is_no_slice(pool.collect(rt));
     is_open.store(true, Ordering::SeqCst);
-    let is_second = is_witness(pool.collect(rt));
+    let is_second = is_witness(pool.collect(rt), 0);
     is_first && is_second && !is_pending(pool.collect(rt))
 }
 
@@ -271,4 +271,105 @@ fn pool_fills<R: Threads + Wait + Clone + Send + Drop + 'static>(rt: &R, alloc: 
 #[test]
 fn a_65th_request_is_refused(rt: HostRuntime) {
     assert!(rt; pool_fills(&rt, rt.alloc()));
+}
+
+fn flag_again(alloc: Global) -> Option<Arc<AtomicBool>> {
+    match flag_of(alloc, true) {
+        Some(flag) => Some(flag),
+        None => flag_of(alloc, true),
+    }
+}
+
+// A pool of two workers, started at a second call where memory or a thread was wanting at the first.
+fn pool_again<R: Threads + Wait + Clone + Send + Drop + 'static>(
+    rt: &R,
+    alloc: Global,
+    is_open: &Arc<AtomicBool>,
+) -> Option<Pool<Holds>> {
+    match pool_of(rt, alloc, 2, is_open) {
+        Some(Ok(pool)) => return Some(pool),
+        Some(Err(why)) => {
+            if why == StartRefusal::BadCount {
+                return None;
+            }
+        }
+        None => {}
+    }
+    match pool_of(rt, alloc, 2, is_open) {
+        Some(Ok(pool)) => Some(pool),
+        _ => None,
+    }
+}
+
+// A search from the first list, which has an event.
+fn request_from(alloc: Global) -> Option<Request> {
+    let mut base = EventList::new(alloc);
+    if base.push(3).is_err() && base.push(3).is_err() {
+        return None;
+    }
+    Some(Request {
+        first: 0,
+        second: 5,
+        way: Way::Greedy { base, budget: 10 },
+    })
+}
+
+// Whether the request gets this number, at a second call where memory was wanting at the first.
+fn is_taken_again<R: Wait>(rt: &R, alloc: Global, pool: &mut Pool<Holds>, number: u32) -> bool {
+    let (Some(request), Some(again)) = (request_from(alloc), request_from(alloc)) else {
+        return false;
+    };
+    match pool.submit(rt, request) {
+        Err(SubmitRefusal::OutOfMemory) => pool.submit(rt, again) == Ok(number),
+        answer => answer == Ok(number),
+    }
+}
+
+// Whether the request of this number wanted memory.
+fn is_wanting(found: &Result<Found, CollectRefusal>, number: u32) -> bool {
+    match found {
+        Ok(
+            Found {
+                request,
+                first: _,
+                second: _,
+                outcome: Outcome::OutOfMemory,
+            },
+        ) => *request == number,
+        _ => false,
+    }
+}
+
+// Whether the search is answered, asked once more where its worker found no memory.
+fn is_served_again<R: Wait>(rt: &R, alloc: Global, pool: &mut Pool<Holds>) -> bool {
+    if !is_taken_again(rt, alloc, pool, 0) {
+        return false;
+    }
+    let found = pool.collect(rt);
+    if !is_wanting(&found, 0) {
+        return is_witness(found, 0);
+    }
+    is_taken_again(rt, alloc, pool, 1) && is_witness(pool.collect(rt), 1)
+}
+
+fn pool_serves_again<R: Threads + Wait + Clone + Send + Drop + 'static>(
+    rt: &R,
+    alloc: Global,
+) -> bool {
+    let Some(is_open) = flag_again(alloc) else {
+        return false;
+    };
+    match pool_again(rt, alloc, &is_open) {
+        Some(mut pool) => {
+            let is_right = is_served_again(rt, alloc, &mut pool) && !is_pending(pool.collect(rt));
+            pool.stop(rt);
+            is_right
+        }
+        None => false,
+    }
+}
+
+#[test]
+fn memory_a_pool_serves_when_asked_again(rt: HostRuntime) {
+    assert!(rt; pool_serves_again(&rt, rt.alloc()));
 }

@@ -2,6 +2,7 @@
 use Rattle.std.specs.Prelude.{◌≡◌, ◌⊎◌, ◌==◌, ◌<◌, ℕ, suc, ◌+◌, not, find, option_map, List, [], ◌∷◌, ◌++◌, length, All, Option, Some, Ok, Err, IfSome, ⊤}
 use Rattle.script_language.specs.Scripts.{Asked, IsScript}
 use Rattle.client_scripts.specs.Replay.{IsShort}
+use Rattle.client_scripts.specs.declared.fault.TheConstants.{LIMIT}
 use Rattle.client_scripts.specs.declared.fault.ReadCause.TheVariants.{Device, TooLong}
 use Rattle.client_scripts.specs.declared.fault.ReplayFault.TheVariants.{Read, OutOfMemory}
 use Rattle.script_language.specs.declared.refusal.ScriptCause.{ScriptCause}
@@ -48,7 +49,7 @@ IsTextFault client text fault = ⊥
 abbrev pub IsScriptFault : ℕ → Option (List ℕ) → BenchFault → Type 0
 IsScriptFault client rest (Script place refusal) = (place ≡ client) × ((text : List ℕ) × IsReadAs rest text × IsRefused client text refusal)
 IsScriptFault client rest (Replay (Read input Device)) = input ≡ client + 1
-IsScriptFault client rest (Replay (Read input TooLong)) = (input ≡ client + 1) × IfSome rest (λ told. 268435456 < length told)
+IsScriptFault client rest (Replay (Read input TooLong)) = (input ≡ client + 1) × IfSome rest (λ told. LIMIT < length told)
 IsScriptFault client rest (Replay OutOfMemory) = ⊤
 IsScriptFault client rest fault = ⊥
 

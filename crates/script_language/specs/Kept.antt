@@ -5,6 +5,7 @@ use Rattle.moves.specs.Names.{is_name}
 use Rattle.moves.specs.declared.command.Command.TheVariants.{Fresh, Add, Back, Swap, Branch, Drop, Adopt}
 use Rattle.inverse_log.specs.declared.call.Call.{Call}
 use Rattle.inverse_log.specs.declared.call.Call.TheVariants.{Do, Undo, UndoAt, Show, List as ListNames, Races}
+use Rattle.script_language.specs.Limits.{client_limit}
 use Rattle.script_language.specs.Scripts.{Asked}
 use Rattle.script_language.specs.declared.kept.Form.{Form}
 use Rattle.script_language.specs.declared.kept.Form.TheVariants.{Fresh as FreshForm, Add as AddForm, Back as BackForm, Swap as SwapForm, Branch as BranchForm, Drop as DropForm, Adopt as AdoptForm, Undo as UndoForm, UndoAt as UndoAtForm, Show as ShowForm, List as ListForm, Races as RacesForm, Owned}
@@ -61,7 +62,7 @@ HasNames form name to = is_name name ≡ true
 pub record IsKept (names : List ℕ) (owned : List Call) (k : Kept) : Type 0 where
   pub within : IsWithin k.form names owned k
   pub named : HasNames k.form (name_in names k) (to_in names k)
-  pub client : (1 ≤ k.client) × (k.client ≤ 32)
+  pub client : (1 ≤ k.client) × (k.client ≤ client_limit)
 
 -- the second list begins with the first
 abbrev pub Begins : {A : Type 0} → List A → List A → Type 0

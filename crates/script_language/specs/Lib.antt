@@ -1,4 +1,5 @@
 pub mod Kept
+pub mod Limits
 pub mod LineWords
 pub mod LinesLeft
 pub mod Reading

@@ -2,6 +2,7 @@
 use Rattle.std.specs.Prelude.{ℕ, ◌+◌, ◌-◌, ◌*◌, nat_lt, nat_le, Bool, ◌&&◌, if◌then◌else◌, List, length, filter, fold, Option, Some, None, codes, bytes_eq}
 use Rattle.std.specs.List.{list_all, slice_split}
 use Rattle.rapid_text.specs.Reading.{is_blank}
+use Rattle.script_language.specs.Limits.{number_limit}
 
 -- the words of a line: what stands between blanks
 abbrev pub words_of : List ℕ → List (List ℕ)
@@ -19,9 +20,9 @@ is_digit c = nat_le 48 c && nat_le c 57
 abbrev pub value_of : List ℕ → ℕ
 value_of digits = fold (λ value digit. value * 10 + (digit - 48)) 0 digits
 
--- the number that the word writes, if it writes one of at most 4,294,967,295; it may begin with zeros
+-- the number that the word writes, if it writes none above the limit; it may begin with zeros
 abbrev pub written_number : List ℕ → Option ℕ
 written_number word =
-    if nat_lt 0 (length word) && list_all is_digit word && nat_le (value_of word) 4294967295
+    if nat_lt 0 (length word) && list_all is_digit word && nat_le (value_of word) number_limit
     then Some (value_of word)
     else None

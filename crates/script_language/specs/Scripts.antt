@@ -8,6 +8,7 @@ use Rattle.moves.specs.declared.command.Command.{Command}
 use Rattle.moves.specs.declared.command.Command.TheVariants.{Fresh, Add, Back, Swap, Branch, Drop, Adopt}
 use Rattle.inverse_log.specs.declared.call.Call.{Call}
 use Rattle.inverse_log.specs.declared.call.Call.TheVariants.{Do, Batch, Undo, UndoAt, Propose, Show, List as ListNames, Races}
+use Rattle.script_language.specs.Limits.{client_limit, script_line_limit}
 use Rattle.script_language.specs.LineWords.{words_of, is_separator, written_number}
 use Rattle.script_language.specs.declared.verb.Verb.{Verb}
 use Rattle.script_language.specs.declared.verb.CommandVerb.{CommandVerb}
@@ -146,9 +147,9 @@ abbrev pub call_reading : List (List ℕ) → Result Call ScriptCause
 call_reading [] = Err BadWord
 call_reading (word ∷ words) = arguments_reading (verb_of word) words
 
--- clients are numbered from 1 to 32
+-- clients are numbered from 1
 abbrev pub is_client : ℕ → Bool
-is_client n = nat_le 1 n && nat_le n 32
+is_client n = nat_le 1 n && nat_le n client_limit
 
 abbrev pub client_by : Option ℕ → Result ℕ ScriptCause
 client_by None = Err BadClient
@@ -164,13 +165,13 @@ words_reading [] = Err BadClient
 words_reading (word ∷ words) =
     then_read (client_reading word) (λ client. then_read (call_reading words) (λ call. Ok (client, call)))
 
--- what a line asks for: nothing where it is empty; it has at most 65,536 bytes between its blanks
+-- what a line asks for: nothing where it is empty; what stands between its blanks is within the limit
 abbrev pub script_line_reading : List ℕ → Result (Option (ℕ × Call)) ScriptCause
 script_line_reading raw =
     let line = trimmed raw in
     if length line == 0
     then Ok None
-    else (if nat_lt 65536 (length line)
+    else (if nat_lt script_line_limit (length line)
     then Err LineTooLong
     else then_read (words_reading (words_of line)) (λ asked. Ok (Some asked)))
 

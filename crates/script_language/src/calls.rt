@@ -1,6 +1,7 @@
 //! Reads the call that a script line asks for.
 ghost use Rattle.std.specs.Prelude.{◌≡◌, ◌⊎◌, ◌≤◌, ℕ, IfOk, IfSome, Ok, Err, Some, map};
 ghost use Rattle.std.specs.List.{list_any, slice_split};
+ghost use Rattle.script_language.specs.Limits.{client_limit};
 ghost use Rattle.script_language.specs.LineWords.{is_separator};
 ghost use Rattle.script_language.specs.Scripts.{name_reading, number_reading, numbers_reading, nothing_reading, one_name_reading, name_and_number_reading, branch_reading, command_arguments_reading, command_with, command_reading, is_bad_word, all_read, batch_reading, undo_reading, propose_reading, arguments_reading, call_reading, client_reading, words_reading, script_line_reading};
 ghost use Rattle.script_language.specs.declared.refusal.ScriptCause.TheVariants.{OutOfMemory};
@@ -274,7 +275,7 @@ fn read_call(alloc: Global, words: &mut Words<'_>) -> Result<Call, ScriptCause>
 /// The word as a client's number.
 fn read_client(word: &[u8]) -> Result<u32, ScriptCause>
     ensures reading { result ≡ client_reading word.now }
-    ensures within { IfOk result (λ client. (1 ≤ client) × (client ≤ 32)) }
+    ensures within { IfOk result (λ client. (1 ≤ client) × (client ≤ client_limit)) }
 {
     match number(word) {
         Some(client) if 1 <= client && client <= MAX_CLIENT => Ok(client),
@@ -285,7 +286,7 @@ fn read_client(word: &[u8]) -> Result<u32, ScriptCause>
 /// The words of a line: a client's number and a call.
 fn read_words(alloc: Global, words: &mut Words<'_>) -> Result<(u32, Call), ScriptCause>
     ensures reading { (result ≡ Err OutOfMemory) ⊎ (result ≡ words_reading words.old) }
-    ensures client { IfOk result (λ pair. (1 ≤ pair.0) × (pair.0 ≤ 32)) }
+    ensures client { IfOk result (λ pair. (1 ≤ pair.0) × (pair.0 ≤ client_limit)) }
 {
     let Some(word) = words.next() else {
         return Err(ScriptCause::BadClient);
@@ -298,7 +299,7 @@ fn read_words(alloc: Global, words: &mut Words<'_>) -> Result<(u32, Call), Scrip
 /// The client and the call of a line; none for an empty line.
 pub(crate) fn read_line(alloc: Global, raw: &[u8]) -> Result<Option<(u32, Call)>, ScriptCause>
     ensures reading { (result ≡ Err OutOfMemory) ⊎ (result ≡ script_line_reading raw.now) }
-    ensures client { IfOk result (λ asked. IfSome asked (λ pair. (1 ≤ pair.0) × (pair.0 ≤ 32))) }
+    ensures client { IfOk result (λ asked. IfSome asked (λ pair. (1 ≤ pair.0) × (pair.0 ≤ client_limit))) }
 {
     let line = trim(raw);
     if line.is_empty() {

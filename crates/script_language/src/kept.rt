@@ -3,6 +3,7 @@ ghost use Rattle.std.specs.Prelude.{◌≡◌, ◌≢◌, ◌+◌, ◌<◌, ◌�
 ghost use Rattle.inverse_log.specs.declared.call.Call.{Call};
 ghost use Rattle.inverse_log.specs.declared.call.Call.TheVariants.{Do, Undo as UndoCall};
 ghost use Rattle.moves.specs.Names.{is_name};
+ghost use Rattle.script_language.specs.Limits.{client_limit};
 ghost use Rattle.script_language.specs.Kept.{name_in, to_in, call_in, call_of, asked_of, HasNames, IsWithin, IsKept, Begins};
 ghost use Rattle.script_language.specs.declared.kept.Form.TheVariants.{Owned};
 
@@ -166,7 +167,7 @@ pub(crate) fn keep(
     client: u32,
     call: Call,
 ) -> Result<Kept, OutOfMemory>
-    requires client { (1 ≤ client) × (client ≤ 32) }
+    requires client { (1 ≤ client) × (client ≤ client_limit) }
     ensures names { Begins names.old.items names.new.items }
     ensures owned { Begins owned.old.items owned.new.items }
     ensures kept { IfOk result (λ kept. IsKept names.new.items owned.new.items kept) }

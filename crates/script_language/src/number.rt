@@ -1,6 +1,7 @@
 //! Numbers as scripts write them.
-ghost use Rattle.std.specs.Prelude.{◌≡◌, true, min};
+ghost use Rattle.std.specs.Prelude.{◌≡◌, ◌+◌, true, min};
 ghost use Rattle.std.specs.List.{list_all};
+ghost use Rattle.script_language.specs.Limits.{number_limit};
 ghost use Rattle.script_language.specs.LineWords.{is_digit, value_of, written_number};
 
 /// The greatest number of a script.
@@ -23,7 +24,7 @@ fn are_decimal(word: &[u8]) -> bool
 /// The value of decimal digits, or 4,294,967,296 where it is greater.
 fn bounded_value(digits: &[u8]) -> u64
     requires { list_all is_digit digits.now ≡ true }
-    ensures { result ≡ min (value_of digits.now) 4294967296 }
+    ensures { result ≡ min (value_of digits.now) (number_limit + 1) }
 {
     let mut value = 0;
     for digit in digits {

@@ -1,5 +1,6 @@
 //! A script: its calls, each with its line and its client.
 ghost use Rattle.std.specs.Prelude.{◌≡◌, ◌<◌, ◌≤◌, ◌==◌, [], ◌∷◌, ◌++◌, not, find, option_map, slice_get, length, OnOk, Some};
+ghost use Rattle.script_language.specs.Limits.{client_limit};
 ghost use Rattle.script_language.specs.ScriptCalls.{call_given};
 
 use crate::kept::{Form, Kept, keep, made};
@@ -67,7 +68,7 @@ impl Script {
 
     /// Puts a call behind the others.
     pub(crate) fn push(&mut self, line: u64, client: u32, call: Call) -> Result<(), OutOfMemory>
-        requires client { (1 ≤ client) × (client ≤ 32) }
+        requires client { (1 ≤ client) × (client ≤ client_limit) }
         ensures { OnOk result (self.new ≡ self.old ++ record { line = line; client = client; call = call } ∷ []) }
     {
         let kept = keep(&mut self.names, &mut self.owned, line, client, call)?;
@@ -94,7 +95,7 @@ impl Script {
     pub fn client(&self, at: usize) -> u32
         requires { at < length self.now }
         ensures client { option_map (λ asked. asked.client) (slice_get self.now at) ≡ Some result }
-        ensures within { (1 ≤ result) × (result ≤ 32) }
+        ensures within { (1 ≤ result) × (result ≤ client_limit) }
     {
         u32::from(self.kept[at].client)
     }

@@ -1,9 +1,10 @@
 -- How many seats there may be.
 use Rattle.std.specs.Prelude.{◌≡◌, ◌<◌, ◌≤◌, ◌⊎◌, ℕ}
+use Rattle.workspace_lock.specs.Limits.{client_limit}
 use Rattle.workspace_lock.specs.declared.seats.OpenRefusal.{OpenRefusal}
 use Rattle.workspace_lock.specs.declared.seats.OpenRefusal.TheVariants.{BadCount, OutOfMemory}
 
--- the count is refused only where it is none of 1 to 32, and memory is wanted only where it is one of them
+-- the count is refused only where it is none of 1 to the limit, and memory is wanted only where it is one of them
 abbrev pub IsBadCount : ℕ → OpenRefusal → Type 0
-IsBadCount clients BadCount = (clients ≡ 0) ⊎ (32 < clients)
-IsBadCount clients OutOfMemory = (0 < clients) × (clients ≤ 32)
+IsBadCount clients BadCount = (clients ≡ 0) ⊎ (client_limit < clients)
+IsBadCount clients OutOfMemory = (0 < clients) × (clients ≤ client_limit)

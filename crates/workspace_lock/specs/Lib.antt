@@ -1,4 +1,5 @@
 pub mod Counts
+pub mod Limits
 pub mod Runs
 pub mod Seating
 pub mod Sights

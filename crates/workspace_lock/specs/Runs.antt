@@ -8,6 +8,7 @@ use Rattle.inverse_log.specs.declared.refusal.Refusal.{Refusal}
 use Rattle.inverse_log.specs.Answer.{Called}
 use Rattle.inverse_log.specs.declared.refusal.SeatRefusal.{SeatRefusal}
 use Rattle.inverse_log.specs.declared.refusal.SeatRefusal.TheVariants.{Bench as ByBench, SeatSpent}
+use Rattle.workspace_lock.specs.Limits.{turn_limit}
 use Rattle.workspace_lock.specs.Turns.{Sees}
 use Rattle.workspace_lock.specs.Seating.{SeatView, mark_in}
 
@@ -15,7 +16,7 @@ use Rattle.workspace_lock.specs.Seating.{SeatView, mark_in}
 -- that it left
 abbrev pub RanAt : SeatView → Call → Result Reply Refusal → SeatView → Type 0
 RanAt s call answered n =
-    (s.turns < 4294967295)
+    (s.turns < turn_limit)
     × ((log : List Entry) × Sees (mark_in s) log × Called s.site.start.trace log s.number call answered n.seen)
     × (n ≡ record s { turns = s.turns + 1; seen = n.seen })
 
@@ -23,7 +24,7 @@ RanAt s call answered n =
 abbrev pub Ran : SeatView → Call → Result Reply SeatRefusal → SeatView → Type 0
 Ran s call (Ok reply) n = RanAt s call (Ok reply) n
 Ran s call (Err (ByBench refusal)) n = RanAt s call (Err refusal) n
-Ran s call (Err SeatSpent) n = (s.turns ≡ 4294967295) × (n ≡ s)
+Ran s call (Err SeatSpent) n = (s.turns ≡ turn_limit) × (n ≡ s)
 
 -- what the gate of a call passed: step 1 and then step 2, and nothing where the seat is spent
 abbrev pub Passes : Result Reply SeatRefusal → Option (List ℕ) → Option (List ℕ) → Type 0

@@ -5,6 +5,7 @@ use Rattle.atomic_table.specs.Table.{Me}
 use Rattle.rapid_text.specs.Recording.{Recording}
 use Rattle.inverse_log.specs.declared.entry.Entry.{Entry}
 use Rattle.inverse_log.specs.Log.{Benched}
+use Rattle.workspace_lock.specs.Limits.{client_limit, turn_limit}
 use Rattle.workspace_lock.specs.Sights.{Mark, idle, waits, holds, Sight}
 use Rattle.workspace_lock.specs.Turns.{mark, saw, solo, mark_of, ticket_in, on_turn, Sees, Each, fresh_marks}
 
@@ -62,7 +63,7 @@ seat_view z m = record { site = site_of z (mark_of m.0); number = (mark_of m.0).
 
 -- the place of a seat that waits for nobody
 abbrev pub IsSeatOf : TableId → PlaceState → ℕ → ℕ → Type 0
-IsSeatOf z m number turns = IsSized z × (m ≡ (solo (mark_of m.0) turns idle, [])) × ((mark_of m.0).number ≡ number) × (0 < number) × (number ≤ 32) × (number ≤ (mark_of m.0).clients)
+IsSeatOf z m number turns = IsSized z × (m ≡ (solo (mark_of m.0) turns idle, [])) × ((mark_of m.0).number ≡ number) × (0 < number) × (number ≤ client_limit) × (number ≤ (mark_of m.0).clients)
 
 abbrev pub Has : Mark → List Mark → Type 0
 Has m [] = ⊥
@@ -72,7 +73,7 @@ Has m (k ∷ ks) = (m ≡ k) ⊎ Has m ks
 pub record Gathers (m : PlaceState) : Type 0 where
   pub idle_is : m.0.stage ≡ idle
   pub empty : m.1 ≡ []
-  pub fair : m.0.turns ≤ 4294967295 * length m.0.marks
+  pub fair : m.0.turns ≤ turn_limit * length m.0.marks
 
 -- what all seats gave back says of the bench at the end
 pub record IsEnd (trace : Recording) (marks : List Mark) (bench : Benched) : Type 0 where
@@ -112,7 +113,7 @@ RowsFit site n [] = Unit {0}
 RowsFit site n (o ∷ os) = RowFits site n o × RowsFit site (suc n) os
 
 abbrev pub IsSeatsView : Site → List (Option SeatView) → Type 0
-IsSeatsView site rows = IsSized site.table × (length rows ≡ site.clients) × (0 < site.clients) × (site.clients ≤ 32) × RowsFit site 1 rows
+IsSeatsView site rows = IsSized site.table × (length rows ≡ site.clients) × (0 < site.clients) × (site.clients ≤ client_limit) × RowsFit site 1 rows
 
 abbrev pub site_at : TableId → Benched → ℕ → Site
 site_at table start clients = record { table = table; start = start; clients = clients }

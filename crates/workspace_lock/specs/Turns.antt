@@ -2,7 +2,7 @@
 -- project's own. The lock has three words and one slot: TICKET is the next ticket to be drawn, SERVING the ticket whose turn
 -- it is, FRONT the length of the log; the slot holds the bench while nobody has the turn. What the places know, spent ones
 -- too, is the list of views.
-use Rattle.std.specs.Prelude.{◌≡◌, ◌≢◌, ◌⊎◌, ◌==◌, ℕ, zero, suc, ◌+◌, ◌*◌, ◌<◌, ◌≤◌, Bool, true, false, List, [], ◌∷◌, ◌++◌, length, Option, Some, None}
+use Rattle.std.specs.Prelude.{◌≡◌, ◌≢◌, ◌⊎◌, ◌==◌, ℕ, zero, suc, ◌+◌, ◌*◌, ◌<◌, ◌≤◌, Bool, true, false, List, [], ◌∷◌, ◌++◌, length, Option, Some}
 use mathlib.Core.Option as maybe
 use mathlib.Core.Option.{some, none}
 use mathlib.Core.List.{IsPrefix}
@@ -12,6 +12,7 @@ use Rattle.rapid_text.specs.Recording.{Recording}
 use Rattle.inverse_log.specs.declared.entry.Entry.{Entry}
 use Rattle.inverse_log.specs.Answer.{IsLegal}
 use Rattle.inverse_log.specs.Log.{Benched, own_entries, client_of}
+use Rattle.workspace_lock.specs.Limits.{client_limit, turn_limit}
 use Rattle.workspace_lock.specs.Sights.{Mark, Stage, idle, waits, holds, Sight}
 
 abbrev pub bench_of : Recording → List Entry → Benched
@@ -114,7 +115,7 @@ Current serving log marks (holds t) = Leads serving log t marks
 
 pub record Known (start : Benched) (clients serving : ℕ) (log : List Entry) (v : Sight) : Type 0 where
   pub marked : Each (Fits start clients log) v.marks
-  pub fair : v.turns ≤ 4294967296 * length v.marks
+  pub fair : v.turns ≤ (turn_limit + 1) * length v.marks
   pub current : Current serving log v.marks v.stage
 
 -- the bench is in its slot, and no place has the turn
@@ -132,7 +133,7 @@ pub record Kept (start : Benched) (clients : ℕ) (s : State (Option Benched) Si
   pub log : List Entry
   pub words : s.words ≡ ticket ∷ serving ∷ length log ∷ []
   pub order : serving ≤ ticket
-  pub few : clients ≤ 32
+  pub few : clients ≤ client_limit
   -- the log is one that calls of clients build, and past the opening it has only entries of clients with a seat
   pub legal : IsLegal start.trace log
   pub past : Past start.log clients log

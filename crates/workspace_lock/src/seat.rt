@@ -3,6 +3,7 @@ ghost use Rattle.std.specs.Prelude.{◌≡◌, ℕ, ◌+◌, ◌*◌, ◌<◌, �
 ghost use Rattle.std.specs.Io.KnownBytes.{Appends};
 ghost use Rattle.std.specs.Arc.{arc_value};
 ghost use Rattle.inverse_log.specs.Answer.{IsLegal, Grown};
+ghost use Rattle.workspace_lock.specs.Limits.{client_limit, turn_limit};
 ghost use Rattle.workspace_lock.specs.Sights.{idle, holds};
 ghost use Rattle.workspace_lock.specs.Turns.{mark_of, saw, solo, ticket_in};
 ghost use Rattle.workspace_lock.specs.Seating.{mark_in, IsSized, IsResting, IsWaiting, IsBusy, GotTurn, TookBench, Looked, seat_view};
@@ -52,7 +53,7 @@ fn watch<R: Wait>(rt: &R, hall: &Hall, place: &mut Place, ticket: u64)
 
 // Passes the door, draws a ticket, waits for its turn and takes the bench.
 fn take_bench<R: Wait>(rt: &R, hall: &Hall, place: &mut Place) -> Bench
-    requires { (place.old.table_id ≡ hall.now.lock.shared.table_id) × IsSized place.old.table_id × IsResting place.old.me × (place.old.me.0.turns < 4294967295) }
+    requires { (place.old.table_id ≡ hall.now.lock.shared.table_id) × IsSized place.old.table_id × IsResting place.old.me × (place.old.me.0.turns < turn_limit) }
     ensures { (place.new.table_id ≡ place.old.table_id) × (place.new.id ≡ place.old.id) × TookBench place.old.me result place.new.me }
 {
     hall.door.enter(rt);
@@ -142,7 +143,7 @@ impl Seat {
     // The seat of a place that has made no call.
     pub(crate) fn at(hall: Arc<Hall, Global>, place: Place, number: u32) -> Seat
         requires lock { (place.table_id ≡ (arc_value hall).lock.shared.table_id) × IsSized place.table_id }
-        requires number { (0 < number) × (number ≤ 32) × (number ≤ (mark_of place.me.0).clients) }
+        requires number { (0 < number) × (number ≤ client_limit) × (number ≤ (mark_of place.me.0).clients) }
         requires place { (place.me ≡ (solo (mark_of place.me.0) 0 idle, [])) × ((mark_of place.me.0).number ≡ number) }
         ensures { result ≡ seat_view place.table_id place.me }
     {
@@ -156,7 +157,7 @@ impl Seat {
 
     // The place, for good.
     pub(crate) fn into_place(self) -> Place
-        ensures { (result.table_id ≡ self.site.table) × IsSized result.table_id × (result.me ≡ (solo (mark_in self) self.turns idle, [])) × (self.turns ≤ 4294967295) }
+        ensures { (result.table_id ≡ self.site.table) × IsSized result.table_id × (result.me ≡ (solo (mark_in self) self.turns idle, [])) × (self.turns ≤ turn_limit) }
     {
         let Seat {
             hall: _,

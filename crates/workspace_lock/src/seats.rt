@@ -2,6 +2,7 @@
 ghost use Rattle.std.specs.Prelude.{◌≡◌, ℕ, ◌+◌, ◌*◌, ◌<◌, ◌≤◌, [], ◌∷◌, ◌++◌, Some, None, length, IfSome, IfNone, true, false, IfErr, IfOk, slice_get, slice_set, OnOk, MatchBool};
 ghost use Rattle.std.specs.Prelude.{vec_capacity, ◌-◌};
 ghost use Rattle.std.specs.Arc.{arc_value};
+ghost use Rattle.workspace_lock.specs.Limits.{client_limit};
 ghost use Rattle.workspace_lock.specs.Sights.{idle};
 ghost use Rattle.workspace_lock.specs.Turns.{mark_of, saw, solo};
 ghost use Rattle.workspace_lock.specs.Seating.{IsSized, IsEnd, Gathers, mark_in, marks_in, AllSeated, HasAll, TakesFirst, Closes, SeatView, site_at, dealt, fresh_rows, Opened};
@@ -167,7 +168,7 @@ fn deal(
     clients: u32,
 ) -> Result<Seats, (Bench, OpenRefusal)>
     requires place { (place.table_id ≡ (arc_value hall).lock.shared.table_id) × IsSized place.table_id × (place.me ≡ dealt (arc_value hall).lock.shared.key.bench.value clients 0) }
-    requires clients { (clients ≡ (arc_value hall).lock.shared.key.clients) × (0 < clients) × (clients ≤ 32) }
+    requires clients { (clients ≡ (arc_value hall).lock.shared.key.clients) × (0 < clients) × (clients ≤ client_limit) }
     requires rows { (rows.items ≡ []) × (clients ≤ vec_capacity rows) }
     ensures ok { IfOk result (λ s. Opened (arc_value hall).lock.shared.key.bench.value clients s) }
     ensures err { IfErr result (λ e. e.0 ≡ (arc_value hall).lock.shared.key.bench.value) }
@@ -194,7 +195,7 @@ fn share(
     room: u32,
 ) -> Result<Seats, (Bench, OpenRefusal)>
     requires place { (place.table_id ≡ lock.shared.table_id) × IsSized place.table_id × (place.me ≡ dealt lock.shared.key.bench.value clients 0) }
-    requires clients { (clients ≡ lock.shared.key.clients) × (0 < clients) × (clients ≤ 32) }
+    requires clients { (clients ≡ lock.shared.key.clients) × (0 < clients) × (clients ≤ client_limit) }
     requires rows { (rows.items ≡ []) × (clients ≤ vec_capacity rows) }
     ensures ok { IfOk result (λ s. Opened lock.shared.key.bench.value clients s) }
     ensures err { IfErr result (λ e. e.0 ≡ lock.shared.key.bench.value) }
@@ -215,7 +216,7 @@ fn share(
 
 /// Seats for the clients 1 to `clients`, each of which has seen the bench's log.
 pub fn open(alloc: Global, bench: Bench, clients: u32) -> Result<Seats, (Bench, OpenRefusal)>
-    ensures ok { IfOk result (λ s. (0 < clients) × (clients ≤ 32) × Opened bench clients s) }
+    ensures ok { IfOk result (λ s. (0 < clients) × (clients ≤ client_limit) × Opened bench clients s) }
     ensures err { IfErr result (λ e. e.0 ≡ bench) }
     // It is refused for the count exactly where that is bad.
     ensures count { IfErr result (λ e. IsBadCount clients e.1) }
@@ -231,7 +232,7 @@ pub fn open_with_room(
     clients: u32,
     room: u32,
 ) -> Result<Seats, (Bench, OpenRefusal)>
-    ensures ok { IfOk result (λ s. (0 < clients) × (clients ≤ 32) × Opened bench clients s) }
+    ensures ok { IfOk result (λ s. (0 < clients) × (clients ≤ client_limit) × Opened bench clients s) }
     ensures err { IfErr result (λ e. e.0 ≡ bench) }
     ensures count { IfErr result (λ e. IsBadCount clients e.1) }
 {

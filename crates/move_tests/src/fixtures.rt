@@ -1,0 +1,52 @@
+//! What the tests start from: the trace that a text tells.
+
+use event_index::Indexed;
+use moves::Name;
+use rapid_text::{RawTrace, parse};
+use std::alloc::Global;
+use trace_rules::{Trace, check};
+
+// Two threads use one lock, and write one variable outside it.
+const ONE_LOCK: &[u8] = b"T1|w(x)|1\nT1|acq(l)|2\nT1|rel(l)|3\nT2|acq(l)|4\nT2|rel(l)|5\nT2|w(x)|6";
+
+// Each call stands in a function of its own, so that no proof carries along what another call promises; and each answer is
+// taken apart by a `match`, since `ok` has the check prove at length how what is left over is dropped.
+fn raw_of(alloc: Global) -> Option<RawTrace> {
+    match parse(alloc, ONE_LOCK) {
+        Ok(raw) => Some(raw),
+        Err(_) => None,
+    }
+}
+
+fn trace_of(alloc: Global, raw: RawTrace) -> Option<Trace> {
+    match check(alloc, raw) {
+        Ok(trace) => Some(trace),
+        Err(_) => None,
+    }
+}
+
+fn index_of(alloc: Global, trace: Trace) -> Option<Indexed> {
+    match Indexed::new(alloc, trace) {
+        Ok(indexed) => Some(indexed),
+        Err(_) => None,
+    }
+}
+
+fn indexed_of(alloc: Global) -> Option<Indexed> {
+    index_of(alloc, trace_of(alloc, raw_of(alloc)?)?)
+}
+
+// The index of the trace of one lock, made at a second call where memory was wanting at the first.
+pub(crate) fn indexed_again(alloc: Global) -> Option<Indexed> {
+    match indexed_of(alloc) {
+        Some(indexed) => Some(indexed),
+        None => indexed_of(alloc),
+    }
+}
+
+pub(crate) fn name_of(byte: u8) -> Option<Name> {
+    match Name::new([byte].as_slice()) {
+        Ok(name) => Some(name),
+        Err(_) => None,
+    }
+}

@@ -1,0 +1,310 @@
+//! What no clause says of refused memory: that a command, a batch, a proposal and a step back are made where there is memory, and that
+//! where memory was wanting the rows and the board are as they were, and what came back fits them still.
+ghost use Rattle.std.specs.Prelude.{◌≡◌, ◌+◌, ◌<◌, [], length, IfSome};
+ghost use Rattle.moves.specs.Ages.{age};
+ghost use Rattle.moves.specs.Batches.{CanTurnAll, AreOfTrace};
+ghost use Rattle.moves.specs.Boards.{IsBoardOf};
+ghost use Rattle.moves.specs.Inverses.{CanTurn, IsStepOf};
+ghost use Rattle.moves.specs.Rows.{IsOfTrace, Below};
+
+use crate::fixtures::{indexed_again, name_of};
+use event_index::Indexed;
+use moves::{
+    BatchRefusal, Birth, Board, Command, Commands, Inverse, Inverses, MoveRefusal, Name, Names,
+    Workspace,
+};
+use schedule::Schedule;
+use std::alloc::Global;
+
+// Whether each of the commands makes the schedule of the name at its place.
+fn are_fresh(commands: &[Command], names: &[Name]) -> bool {
+    if commands.len() != names.len() {
+        return false;
+    }
+    for at in 0..commands.len() {
+        match commands[at] {
+            Command::Fresh { name } => {
+                if name != names[at] {
+                    return false;
+                }
+            }
+            _ => return false,
+        }
+    }
+    true
+}
+
+#[test]
+fn memory_lists_of_names_and_commands_keep_what_they_have(rt: HostRuntime) {
+    let (Some(one), Some(two)) = (name_of(b'A'), name_of(b'B')) else {
+        panic!(rt; "no name")
+    };
+    let mut names = Names::new(rt.alloc());
+    let mut commands = Commands::new(rt.alloc());
+    for name in [one, two, one, two, one] {
+        let fresh = Command::Fresh { name };
+        assert!(rt; names.push(name).is_ok() || names.push(name).is_ok());
+        assert!(rt; commands.push(fresh).is_ok() || commands.push(fresh).is_ok());
+    }
+    assert!(rt; names.items() == [one, two, one, two, one].as_slice());
+    assert!(rt; are_fresh(commands.items(), &[one, two, one, two, one]));
+}
+
+// The rows with no schedule.
+fn no_rows(alloc: Global) -> Option<Workspace>
+    ensures { IfSome result (λ w. w ≡ []) }
+{
+    match Workspace::empty(alloc) {
+        Ok(rows) => Some(rows),
+        Err(_) => None,
+    }
+}
+
+// Whether the names of the rows are these, told at a second call where memory was wanting at the first.
+fn are_named(rows: &Workspace, alloc: Global, wanted: &[Name]) -> bool {
+    match rows.names(alloc) {
+        Ok(names) => names.items() == wanted,
+        Err(_) => match rows.names(alloc) {
+            Ok(names) => names.items() == wanted,
+            Err(_) => false,
+        },
+    }
+}
+
+// Whether the schedule of this name has these events.
+fn has_events(rows: &Workspace, name: &Name, wanted: &[u32]) -> bool {
+    match rows.get(name) {
+        Some(schedule) => schedule.events() == wanted,
+        None => false,
+    }
+}
+
+// Applies the command; where memory was wanting, once more, to the same number of rows.
+fn applied_again(
+    rows: &mut Workspace,
+    indexed: &Indexed,
+    board: &Board,
+    birth: Birth,
+    command: &Command,
+) -> Option<Inverse>
+    requires of_trace { IsOfTrace indexed.now rows.old }
+    requires board { IsBoardOf indexed.now board.now }
+    requires late { Below birth rows.old }
+    ensures of_trace { IsOfTrace indexed.now rows.new }
+    ensures late { Below (birth + 1) rows.new }
+    ensures back { IfSome result (λ inverse. CanTurn inverse.name inverse.step rows.new) }
+    ensures step { IfSome result (λ inverse. IsStepOf indexed.now inverse.step) }
+{
+    let before = rows.len();
+    let wanted = match rows.apply(indexed, board, birth, command) {
+        Ok(inverse) => return Some(inverse),
+        Err(why) => why == MoveRefusal::OutOfMemory && rows.len() == before,
+    };
+    match rows.apply(indexed, board, birth, command) {
+        Ok(inverse) => if wanted { Some(inverse) } else { None },
+        Err(_) => None,
+    }
+}
+
+// Takes the command back; where memory was wanting, once more, with what came back.
+fn taken_back_again(rows: &mut Workspace, indexed: &Indexed, inverse: Inverse) -> bool
+    requires of_trace { IsOfTrace indexed.now rows.old }
+    requires step { IsStepOf indexed.now inverse.step }
+    requires fits { CanTurn inverse.name inverse.step rows.old }
+{
+    let before = rows.len();
+    match rows.take_back(indexed, inverse) {
+        Ok(()) => true,
+        Err((inverse, _)) => rows.len() == before && rows.take_back(indexed, inverse).is_ok(),
+    }
+}
+
+// Whether each command is applied, and the drop of a schedule is taken back.
+fn is_dropped_and_back(alloc: Global, indexed: &Indexed, one: Name, two: Name) -> Option<bool> {
+    let board = Board::empty(alloc);
+    let mut rows = no_rows(alloc)?;
+    let fresh = Command::Fresh { name: one };
+    let add = Command::Add {
+        name: one,
+        event: 3,
+    };
+    let branch = Command::Branch {
+        name: one,
+        length: 1,
+        to: two,
+    };
+    applied_again(&mut rows, indexed, &board, Birth::new(0, 0), &fresh)?;
+    applied_again(&mut rows, indexed, &board, Birth::new(0, 1), &add)?;
+    applied_again(&mut rows, indexed, &board, Birth::new(0, 2), &branch)?;
+    let inverse = applied_again(
+        &mut rows,
+        indexed,
+        &board,
+        Birth::new(0, 3),
+        &Command::Drop { name: one },
+    )?;
+    let is_dropped = are_named(&rows, alloc, &[two]);
+    let is_back = taken_back_again(&mut rows, indexed, inverse);
+    let is_named = are_named(&rows, alloc, &[one, two]);
+    Some(
+        is_dropped
+            && is_back
+            && is_named
+            && has_events(&rows, &one, &[3])
+            && has_events(&rows, &two, &[3]),
+    )
+}
+
+#[test]
+fn memory_a_drop_is_taken_back(rt: HostRuntime) {
+    let (Some(one), Some(two)) = (name_of(b'A'), name_of(b'B')) else {
+        panic!(rt; "no name")
+    };
+    let Some(indexed) = indexed_again(rt.alloc()) else {
+        panic!(rt; "no index")
+    };
+    assert_eq!(rt;
+        is_dropped_and_back(rt.alloc(), &indexed, one, two),
+        Some(true)
+    );
+}
+
+// The same of a batch.
+fn all_applied_again(
+    rows: &mut Workspace,
+    indexed: &Indexed,
+    board: &Board,
+    entry: u64,
+    commands: &[Command],
+) -> Option<Inverses>
+    requires of_trace { IsOfTrace indexed.now rows.old }
+    requires board { IsBoardOf indexed.now board.now }
+    requires late { Below (age entry 0) rows.old }
+    requires few { length commands.now < 4294967296 }
+    ensures of_trace { IsOfTrace indexed.now rows.new }
+    ensures late { Below (age (entry + 1) 0) rows.new }
+    ensures back { IfSome result (λ inverses. CanTurnAll inverses rows.new) }
+    ensures steps { IfSome result (λ inverses. AreOfTrace indexed.now inverses) }
+{
+    let before = rows.len();
+    let wanted = match rows.apply_all(indexed, board, entry, commands) {
+        Ok(inverses) => return Some(inverses),
+        Err(why) => why == BatchRefusal::OutOfMemory && rows.len() == before,
+    };
+    match rows.apply_all(indexed, board, entry, commands) {
+        Ok(inverses) => if wanted { Some(inverses) } else { None },
+        Err(_) => None,
+    }
+}
+
+fn all_taken_back_again(rows: &mut Workspace, indexed: &Indexed, inverses: Inverses) -> bool
+    requires of_trace { IsOfTrace indexed.now rows.old }
+    requires steps { AreOfTrace indexed.now inverses }
+    requires fits { CanTurnAll inverses rows.old }
+{
+    let before = rows.len();
+    match rows.take_back_all(indexed, inverses) {
+        Ok(()) => true,
+        Err((inverses, _)) => {
+            rows.len() == before && rows.take_back_all(indexed, inverses).is_ok()
+        }
+    }
+}
+
+// Whether two batches are applied, and the second one is taken back.
+fn are_dropped_and_back(alloc: Global, indexed: &Indexed, one: Name, two: Name) -> Option<bool> {
+    let board = Board::empty(alloc);
+    let mut rows = no_rows(alloc)?;
+    let made = [
+        Command::Fresh { name: one },
+        Command::Add {
+            name: one,
+            event: 3,
+        },
+        Command::Fresh { name: two },
+    ];
+    let changed = [
+        Command::Drop { name: one },
+        Command::Add {
+            name: two,
+            event: 0,
+        },
+        Command::Fresh { name: one },
+    ];
+    all_applied_again(&mut rows, indexed, &board, 0, made.as_slice())?;
+    let inverses = all_applied_again(&mut rows, indexed, &board, 1, changed.as_slice())?;
+    let is_changed = are_named(&rows, alloc, &[two, one]) && has_events(&rows, &two, &[0]);
+    let is_back = all_taken_back_again(&mut rows, indexed, inverses);
+    let is_named = are_named(&rows, alloc, &[one, two]);
+    Some(
+        is_changed
+            && is_back
+            && is_named
+            && has_events(&rows, &one, &[3])
+            && has_events(&rows, &two, &[]),
+    )
+}
+
+#[test]
+fn memory_a_batch_is_taken_back_whole(rt: HostRuntime) {
+    let (Some(one), Some(two)) = (name_of(b'A'), name_of(b'B')) else {
+        panic!(rt; "no name")
+    };
+    let Some(indexed) = indexed_again(rt.alloc()) else {
+        panic!(rt; "no index")
+    };
+    assert_eq!(rt;
+        are_dropped_and_back(rt.alloc(), &indexed, one, two),
+        Some(true)
+    );
+}
+
+// The schedule of these events; None where memory was wanting.
+fn listed(alloc: Global, indexed: &Indexed, events: &[u32]) -> Option<Schedule>
+    ensures { IfSome result (λ s. s.trace ≡ indexed.now) }
+{
+    match Schedule::from_list(alloc, indexed, events) {
+        Ok(schedule) => Some(schedule),
+        Err(_) => None,
+    }
+}
+
+fn listed_again(alloc: Global, indexed: &Indexed, events: &[u32]) -> Option<Schedule>
+    ensures { IfSome result (λ s. s.trace ≡ indexed.now) }
+{
+    match listed(alloc, indexed, events) {
+        Some(schedule) => Some(schedule),
+        None => listed(alloc, indexed, events),
+    }
+}
+
+// Puts the schedule on the board; where memory was wanting, once more, with the schedule that came back.
+fn is_put_up_again(board: &mut Board, indexed: &Indexed, schedule: Schedule) -> bool
+    requires { schedule.trace ≡ indexed.now }
+{
+    if !schedule.shows(indexed, 0, 5) {
+        return false;
+    }
+    match board.push(0, 5, schedule) {
+        Ok(()) => true,
+        Err((schedule, _)) => board.len() == 0 && board.push(0, 5, schedule).is_ok(),
+    }
+}
+
+fn is_on_the_board(alloc: Global, indexed: &Indexed) -> Option<bool> {
+    let schedule = listed_again(alloc, indexed, &[3, 4])?;
+    let mut board = Board::empty(alloc);
+    if !is_put_up_again(&mut board, indexed, schedule) || board.len() != 1 {
+        return Some(false);
+    }
+    let (first, second, schedule) = board.get(0);
+    Some(first == 0 && second == 5 && schedule.events() == [3, 4].as_slice())
+}
+
+#[test]
+fn memory_a_proposal_is_put_on_the_board(rt: HostRuntime) {
+    let Some(indexed) = indexed_again(rt.alloc()) else {
+        panic!(rt; "no index")
+    };
+    assert_eq!(rt; is_on_the_board(rt.alloc(), &indexed), Some(true));
+}
