@@ -21,8 +21,8 @@ MOST_MODULES = 128
 RECORD = struct.Struct("<QQQQIHBB")
 
 # The limits of a trace text (docs/FORMATS.md).
-MOST_EVENTS = 65536
-MOST_THREADS = 64
+MOST_EVENTS = 1_048_576
+MOST_THREADS = 256
 MOST_NAME_BYTES = 255
 # An access of more parts than this gives its first ones only; how often is said.
 MOST_PARTS = 64

@@ -19,11 +19,15 @@ import running
 # What the program refuses a text or a trace for.
 NUMBERS = {1, 2, 3, 4, 5, 6, 7, 8, 11, 12, 13, 14, 15, 16}
 ONE_LOCK = "T1|w(x)|1\nT1|acq(l)|2\nT1|rel(l)|3\nT2|acq(l)|4\nT2|rel(l)|5\nT2|w(x)|6"
-THREADS = [f"{chr(ord('!') + number)}|w(x)|\n" for number in range(64)]
+THREADS = [f"T{number}|w(x)|\n" for number in range(256)]
 NAMES = {length: "x" * length for length in (255, 256)}
 # What follows `T|w(x)|` in a line of 4,096 bytes.
 REST = "1" * 4_089
-LARGEST = "T1|w(x)|1\n" * 65_536
+WRITE = "T1|w(x)|1\n"
+LARGEST = WRITE * 1_048_576
+# All that the formats count in 16 bits and one more, and a read that sees the last of these writes.
+PAST_16_BITS = WRITE * 65_537
+READ_BEHIND = WRITE * 65_536 + "T2|r(x)|2\n"
 
 # What is printed of the texts behind it: all of it, or what tests/plain.py prints of these events.
 ACCEPTED = [
@@ -47,8 +51,15 @@ ACCEPTED = [
     ),
     (["T1 w x", "T1 acq l", "T1 rel l", "T2 acq l", "T2 rel l", "T2 w x"], ONE_LOCK),
     (["T1 w x", "T2 r x", "T2 w z", "T1 w z"], "T1|w(x)|1\nT2|r(x)|2\nT2|w(z)|3\nT1|w(z)|4"),
-    ([line[0] + " w x" for line in THREADS], "".join(THREADS)),
-    ("events 65536\nthreads 1\nvariables 1\nlocks 0\nthread 0 T1 65536\ncandidates 0\n", LARGEST),
+    ([f"T{number} w x" for number in range(65)], "".join(THREADS[:65])),
+    ([f"T{number} w x" for number in range(256)], "".join(THREADS)),
+    ("events 65537\nthreads 1\nvariables 1\nlocks 0\nthread 0 T1 65537\ncandidates 0\n", PAST_16_BITS),
+    (
+        "events 65537\nthreads 2\nvariables 1\nlocks 0\nthread 0 T1 65536\nthread 1 T2 1\ncandidates 1000\n"
+        + "".join(f"candidate {first} 65536 x\n" for first in range(1_000)),
+        READ_BEHIND,
+    ),
+    ("events 1048576\nthreads 1\nvariables 1\nlocks 0\nthread 0 T1 1048576\ncandidates 0\n", LARGEST),
 ]
 
 # What the texts behind it are refused for.
@@ -60,9 +71,9 @@ REFUSED = [
     ("line 1: 4 empty name", "T1|w()|2", "T1|w( )|2", "|w(x)|2", " \t\r|w(x)|2"),
     ("line 2: 5 name too long", f"\nT|w({NAMES[256]})|", f"\n{NAMES[256]}|w(x)|"),
     ("line 1: 6 line too long", f"\t T|w(x)|{REST}1 \r\n", f"\t T|begin|{REST} \r\n", "1" * 4_097),
-    ("line 65537: 7 too many events", LARGEST + "T1|w(x)|1\n"),
-    ("line 65: 8 too many names", "".join(THREADS) + "!|join(new)|\n"),
-    ("line 64: 8 too many names", "".join(THREADS[:63]) + "new|join(newer)|\n"),
+    ("line 1048577: 7 too many events", LARGEST + WRITE),
+    ("line 257: 8 too many names", "".join(THREADS) + "new|w(x)|\n", "".join(THREADS) + "T0|join(new)|\n"),
+    ("line 256: 8 too many names", "".join(THREADS[:255]) + "new|join(newer)|\n"),
     ("event 0: 11 release not held", "T1|rel(l)|1"),
     ("event 1: 11 release not held", "T1|acq(l)|\nT2|rel(l)|", "T1|acq(l)|\nT1|rel(m)|"),
     ("event 2: 11 release not held", "T1|acq(l)|\nT1|rel(l)|\nT1|rel(l)|"),

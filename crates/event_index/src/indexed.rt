@@ -62,7 +62,7 @@ impl Indexed {
         self.trace.raw().len()
     }
 
-    /// The number of threads, at most 64.
+    /// The number of threads, at most `MAX_THREADS`.
     pub fn threads(&self) -> u32
         ensures len { result ≡ length self.now.threads }
         ensures well_formed { IsWellFormed self.now }
@@ -71,7 +71,7 @@ impl Indexed {
         self.trace.raw().threads()
     }
 
-    /// The number of variables, at most 65,536.
+    /// The number of variables, at most `MAX_EVENTS`.
     pub fn variables(&self) -> u32
         ensures len { result ≡ length self.now.variables }
         ensures well_formed { IsWellFormed self.now }
@@ -79,7 +79,7 @@ impl Indexed {
         self.trace.raw().variables()
     }
 
-    /// The number of locks, at most 65,536.
+    /// The number of locks, at most `MAX_EVENTS`.
     pub fn locks(&self) -> u32
         ensures len { result ≡ length self.now.locks }
         ensures well_formed { IsWellFormed self.now }

@@ -1,78 +1,40 @@
--- The row of an event, begun and closed; rows that grow by one row.
-use Rattle.std.proofs.Common.{◌≡◌, ℕ, zero, suc, ◌+◌, ◌*◌, ◌-◌, ◌<◌, ◌≤◌, ◌⊎◌, max, sum_by, List, [], ◌∷◌, ◌++◌, Option, Some, None, length, get_or, set, refl, sym, ap, ◌∙◌, subst, arith, inl, inr}
+-- The row of an event, begun and closed.
+use Rattle.std.proofs.Common.{◌≡◌, ℕ, zero, suc, ◌+◌, ◌*◌, ◌-◌, ◌<◌, ◌≤◌, ◌⊎◌, max, sum_by, List, [], ◌∷◌, Option, Some, None, length, get_or, set, refl, sym, ap, ◌∙◌, subst, arith, inl, inr}
 use Rattle.std.specs.List.{slice_get}
 use Rattle.std.specs.Option.{IfSome}
-use Rattle.std.proofs.lemmas.Bool.{cases_eq, cases_lt}
+use Rattle.std.proofs.lemmas.Bool.{cases_lt}
 use Rattle.std.proofs.lemmas.Grind.{get_or-set_at}
-use Rattle.std.proofs.lemmas.List.{append-nil, append_assoc, length_push, length-set, get_or-set_other, get_or_append_left, get_or_push, get_or_past}
+use Rattle.std.proofs.lemmas.List.{length-set, get_or-set_other, get_or_past}
 use Rattle.std.proofs.lemmas.List.Sums.{sum_by-cons}
-use Rattle.std.proofs.lemmas.Nat.{same_from_place}
 use Rattle.rapid_text.specs.declared.event.Event.{Event}
 use Rattle.trace_rules.specs.Rules.{IsDisciplined}
 use Rattle.event_index.specs.Events.{thread_at}
 use Rattle.event_index.specs.Lookups.{place_of, base_of}
 use Rattle.event_index.proofs.CallerLemmas.{thread_here, events_of-length}
-use Rattle.shb_clocks.specs.Layout.{row_count}
-use Rattle.shb_clocks.proofs.CountLemmas.{within_rows, read_within}
-use Rattle.must_order.specs.Layout.{IsCount, IsRow, AreCounts, source_of, IsCounted, IsFresh, IsBegun, IsClosed}
+use Rattle.shb_clocks.specs.SharedRows.{Counted, len_of}
+use Rattle.must_order.specs.Layout.{IsRow, AreCounts, row_count, source_of, IsCounted, IsFresh, IsBegun, IsClosed}
 use Rattle.must_order.specs.MustBefore.{IsMustBefore, same, section}
 use Rattle.must_order.specs.Sections.{IsOwed}
 use Rattle.must_order.proofs.BegunLemmas.{IsCountBy, IsBegun-made, origin, IsBegun-raised, parts, Link-source, thread_cases}
 use Rattle.must_order.proofs.ExactLemmas.{IsCount-exact}
 use Rattle.must_order.proofs.OrderLemmas.{Link-earlier}
 
-pub AreCounts-nil : (T : List Event) (width : ℕ) → AreCounts T width []
-AreCounts-nil T width e t low within = absurd (omega arith)
-
--- one count more
-AreCounts-push :
-    (T : List Event) (width e t n : ℕ) (counts : List ℕ) → AreCounts T width counts → length counts ≡ e * width + t → t < width
-    → IsCount T e t n → AreCounts T width (counts ++ n ∷ [])
-AreCounts-push T width e t n counts are len low is f u lower within =
-    let size = length_push counts n in
-    elim (cases_eq (f * width + u) (e * width + t)) [
-      | inl here ↦
-          let one = same_from_place f u e t width lower low here in
-          let value : get_or (counts ++ n ∷ []) (f * width + u) 0 ≡ n = get_or_push counts n 0 (f * width + u) (len ∙ sym here) in
-          rw (value, one.0, one.1) is
-      | inr other ↦
-          let inside : f * width + u < length counts = omega arith in
-          rw (get_or_append_left counts (n ∷ []) 0 (f * width + u) inside) (are f u lower inside)
-    ]
-
--- the counts from thread t on
-AreCounts-more :
-    (T : List Event) (width e t : ℕ) (counts row : List ℕ) → AreCounts T width counts → length counts ≡ e * width + t → t + length row ≤ width
-    → ((u : ℕ) → u < length row → IsCount T e (t + u) (get_or row u 0)) → AreCounts T width (counts ++ row)
-AreCounts-more T width e t counts [] are len fits is = subst (AreCounts T width) (sym (append-nil counts)) are
-AreCounts-more T width e t counts (n ∷ row) are len fits is =
-    let first : IsCount T e t n = subst (λ (u : ℕ). IsCount T e u n) (omega arith) (is 0 (omega arith)) in
-    let pushed = AreCounts-push T width e t n counts are len (omega (arith, fits)) first in
-    subst (AreCounts T width) (append_assoc counts (n ∷ []) row)
-    (AreCounts-more T width e (t + 1) (counts ++ n ∷ []) row pushed (omega (arith, length_push counts n, len)) (omega (arith, fits))
-    (λ u lt. subst (λ (k : ℕ). IsCount T e k (get_or row u 0)) (omega arith) (is (suc u) (omega (arith, lt)))))
-
--- one row more
-pub AreCounts-row :
-    (T : List Event) (width e : ℕ) (counts row : List ℕ) → AreCounts T width counts → length counts ≡ e * width → length row ≡ width
-    → IsRow T e row → AreCounts T width (counts ++ row)
-AreCounts-row T width e counts row are len wide is =
-    AreCounts-more T width e 0 counts row are (omega (arith, len)) (omega (arith, wide))
-    (λ u lt. subst (λ (k : ℕ). IsCount T e k (get_or row u 0)) (omega arith) (is u lt))
-
 -- what a row counts
 IsCountBy-read :
-    (T : List Event) (width t : ℕ) (counts : List ℕ) (o : Option ℕ) → AreCounts T width counts → t < width
-    → ((s : ℕ) → o ≡ Some s → s * width + t < length counts) → IsCountBy T o t (row_count counts width o t)
+    (T : List Event) (width t : ℕ) (counts : Counted) (o : Option ℕ) → AreCounts T width counts → t < width
+    → ((s : ℕ) → o ≡ Some s → s < len_of counts) → IsCountBy T o t (row_count counts o t)
 IsCountBy-read T width t counts None are low within = refl
 IsCountBy-read T width t counts (Some s) are low within = are s t low (within s refl)
 
+earlier-read : (o : Option ℕ) (e n : ℕ) → IfSome o (λ s. s < e) → e ≤ n → (s : ℕ) → o ≡ Some s → s < n
+earlier-read o e n early rows s is = let low : s < e = subst (λ (p : Option ℕ). IfSome p (λ s. s < e)) is early in omega (arith, low, rows)
+
 IsCountBy-told :
-    (T : List Event) (e width t : ℕ) (counts : List ℕ) (o p : Option ℕ) → AreCounts T width counts → e * width ≤ length counts → t < width
-    → IfSome o (λ s. s < e) → o ≡ p → IsCountBy T p t (row_count counts width o t)
+    (T : List Event) (e width t : ℕ) (counts : Counted) (o p : Option ℕ) → AreCounts T width counts → e ≤ len_of counts → t < width
+    → IfSome o (λ s. s < e) → o ≡ p → IsCountBy T p t (row_count counts o t)
 IsCountBy-told T e width t counts o p are rows low early is =
-    subst (λ (q : Option ℕ). IsCountBy T q t (row_count counts width o t)) is
-    (IsCountBy-read T width t counts o are low (read_within o (λ s. s * width + t < length counts) (within_rows o e width t (length counts) early low rows)))
+    subst (λ (q : Option ℕ). IsCountBy T q t (row_count counts o t)) is
+    (IsCountBy-read T width t counts o are low (earlier-read o e (len_of counts) early rows))
 
 -- the source of an event stands before it
 pub source_of-earlier : (T : List Event) → IsDisciplined T → (e : ℕ) (o : Option ℕ) → o ≡ source_of T e → IfSome o (λ s. s < e)
@@ -83,39 +45,39 @@ source_of-earlier T rules e (Some s) is = Link-earlier T rules s e (Link-source 
 pub IsBegun-row :
     (T : List Event) → IsDisciplined T → (e : ℕ) (v : Event) → slice_get T e ≡ Some v
     → (width : ℕ) → ((a t : ℕ) → thread_at T a ≡ Some t → t < width)
-    → (counts row copied raised : List ℕ) (b o : Option ℕ) → AreCounts T width counts → e * width ≤ length counts
+    → (counts : Counted) (row copied raised : List ℕ) (b o : Option ℕ) → AreCounts T width counts → e ≤ len_of counts
     → IfSome b (λ s. s < e) → b ≡ base_of T e → o ≡ source_of T e
     → length row ≡ width → length copied ≡ length row → length raised ≡ length copied
-    → ((t : ℕ) → t < length row → get_or copied t 0 ≡ row_count counts (length row) b t)
-    → ((t : ℕ) → t < length copied → get_or raised t 0 ≡ max (get_or copied t 0) (row_count counts (length copied) o t))
+    → ((t : ℕ) → t < length row → get_or copied t 0 ≡ row_count counts b t)
+    → ((t : ℕ) → t < length copied → get_or raised t 0 ≡ max (get_or copied t 0) (row_count counts o t))
     → (n : ℕ) → n ≡ place_of T e + 1 → IsBegun T e (λ t. get_or (set raised v.thread n) t 0) × IsFresh T e (λ t. get_or (set raised v.thread n) t 0)
 IsBegun-row T rules e v at width named counts row copied raised b o are rows early base source wide same_len again copies raises n here =
     let of : thread_at T e ≡ Some v.thread = thread_here T e v at in
     let low : v.thread < length raised = omega (arith, named e v.thread of, wide, same_len, again) in
     let size : length (set raised v.thread n) ≡ length raised = length-set raised v.thread n in (
       IsBegun-made T rules e v.thread width of named
-          (λ t. get_or (set raised v.thread n) t 0) (λ t. row_count counts width b t) (λ t. row_count counts width o t)
+          (λ t. get_or (set raised v.thread n) t 0) (λ t. row_count counts b t) (λ t. row_count counts o t)
           (λ t lt. IsCountBy-told T e width t counts b (base_of T e) are rows lt early base)
           (λ t lt. IsCountBy-told T e width t counts o (source_of T e) are rows lt (source_of-earlier T rules e o source) source)
           (get_or-set_at raised v.thread v.thread n 0 refl low ∙ here)
           (λ t lt other.
-          let copy : get_or copied t 0 ≡ row_count counts width b t =
-          copies t (omega (arith, wide)) ∙ ap (λ w. row_count counts w b t) wide in
-          let raise : get_or raised t 0 ≡ max (get_or copied t 0) (row_count counts width o t) =
-          raises t (omega (arith, wide, same_len)) ∙ ap (λ w. max (get_or copied t 0) (row_count counts w o t)) (same_len ∙ wide) in
-          get_or-set_other raised v.thread t n 0 other ∙ raise ∙ ap (λ k. max k (row_count counts width o t)) copy)
+          let copy : get_or copied t 0 ≡ row_count counts b t =
+          copies t (omega (arith, wide)) in
+          let raise : get_or raised t 0 ≡ max (get_or copied t 0) (row_count counts o t) =
+          raises t (omega (arith, wide, same_len)) in
+          get_or-set_other raised v.thread t n 0 other ∙ raise ∙ ap (λ k. max k (row_count counts o t)) copy)
           (λ t le. get_or_past (set raised v.thread n) t 0 (omega (arith, size, wide, same_len, again))),
       origin T rules e v.thread width of named
-          (λ t. get_or (set raised v.thread n) t 0) (λ t. row_count counts width b t) (λ t. row_count counts width o t)
+          (λ t. get_or (set raised v.thread n) t 0) (λ t. row_count counts b t) (λ t. row_count counts o t)
           (λ t lt. IsCountBy-told T e width t counts b (base_of T e) are rows lt early base)
           (λ t lt. IsCountBy-told T e width t counts o (source_of T e) are rows lt (source_of-earlier T rules e o source) source)
           (get_or-set_at raised v.thread v.thread n 0 refl low ∙ here)
           (λ t lt other.
-          let copy : get_or copied t 0 ≡ row_count counts width b t =
-          copies t (omega (arith, wide)) ∙ ap (λ w. row_count counts w b t) wide in
-          let raise : get_or raised t 0 ≡ max (get_or copied t 0) (row_count counts width o t) =
-          raises t (omega (arith, wide, same_len)) ∙ ap (λ w. max (get_or copied t 0) (row_count counts w o t)) (same_len ∙ wide) in
-          get_or-set_other raised v.thread t n 0 other ∙ raise ∙ ap (λ k. max k (row_count counts width o t)) copy)
+          let copy : get_or copied t 0 ≡ row_count counts b t =
+          copies t (omega (arith, wide)) in
+          let raise : get_or raised t 0 ≡ max (get_or copied t 0) (row_count counts o t) =
+          raises t (omega (arith, wide, same_len)) in
+          get_or-set_other raised v.thread t n 0 other ∙ raise ∙ ap (λ k. max k (row_count counts o t)) copy)
           (λ t le. get_or_past (set raised v.thread n) t 0 (omega (arith, size, wide, same_len, again))),
     )
 
@@ -123,30 +85,30 @@ IsBegun-row T rules e v at width named counts row copied raised b o are rows ear
 pub IsBegun-joined :
     (T : List Event) → IsDisciplined T → (e own : ℕ) → thread_at T e ≡ Some own
     → (width : ℕ) → ((a t : ℕ) → thread_at T a ≡ Some t → t < width)
-    → (counts row raised : List ℕ) (r : ℕ) → AreCounts T width counts → e * width ≤ length counts
+    → (counts : Counted) (row raised : List ℕ) (r : ℕ) → AreCounts T width counts → e ≤ len_of counts
     → r < e → IsMustBefore T r e → length row ≡ width → length raised ≡ length row
-    → ((t : ℕ) → t < length row → get_or raised t 0 ≡ max (get_or row t 0) (row_count counts (length row) (Some r) t))
+    → ((t : ℕ) → t < length row → get_or raised t 0 ≡ max (get_or row t 0) (row_count counts (Some r) t))
     → IsBegun T e (λ t. get_or row t 0) → IsBegun T e (λ t. get_or raised t 0)
 IsBegun-joined T rules e own of width named counts row raised r are rows early must wide same_len raises begun =
     IsBegun-raised T rules e own width of named
-    (λ t. get_or row t 0) (λ t. get_or raised t 0) (λ t. row_count counts width (Some r) t) r early must begun
+    (λ t. get_or row t 0) (λ t. get_or raised t 0) (λ t. row_count counts (Some r) t) r early must begun
     (λ t lt. IsCountBy-told T e width t counts (Some r) (Some r) are rows lt early refl)
-    (λ t lt. raises t (omega (arith, wide)) ∙ ap (λ w. max (get_or row t 0) (row_count counts w (Some r) t)) wide)
+    (λ t lt. raises t (omega (arith, wide)))
     (λ t le. get_or_past raised t 0 (omega (arith, wide, same_len)))
 
 -- what it then counts was counted, or is must-before that event
 pub IsCounted-joined :
     (T : List Event) → IsDisciplined T → (e own : ℕ) → thread_at T e ≡ Some own
     → (width : ℕ) → ((a t : ℕ) → thread_at T a ≡ Some t → t < width)
-    → (counts row raised : List ℕ) (r : ℕ) → AreCounts T width counts → e * width ≤ length counts
+    → (counts : Counted) (row raised : List ℕ) (r : ℕ) → AreCounts T width counts → e ≤ len_of counts
     → r < e → IsMustBefore T r e → length row ≡ width → length raised ≡ length row
-    → ((t : ℕ) → t < length row → get_or raised t 0 ≡ max (get_or row t 0) (row_count counts (length row) (Some r) t))
+    → ((t : ℕ) → t < length row → get_or raised t 0 ≡ max (get_or row t 0) (row_count counts (Some r) t))
     → IsBegun T e (λ t. get_or row t 0) → (a : ℕ) → IsCounted T (λ t. get_or raised t 0) a → IsCounted T (λ t. get_or row t 0) a ⊎ IsMustBefore T a r
 IsCounted-joined T rules e own of width named counts row raised r are rows early must wide same_len raises begun =
     parts T rules e own width of named
-    (λ t. get_or row t 0) (λ t. get_or raised t 0) (λ t. row_count counts width (Some r) t) r early must begun
+    (λ t. get_or row t 0) (λ t. get_or raised t 0) (λ t. row_count counts (Some r) t) r early must begun
     (λ t lt. IsCountBy-told T e width t counts (Some r) (Some r) are rows lt early refl)
-    (λ t lt. raises t (omega (arith, wide)) ∙ ap (λ w. max (get_or row t 0) (row_count counts w (Some r) t)) wide)
+    (λ t lt. raises t (omega (arith, wide)))
     (λ t le. get_or_past raised t 0 (omega (arith, wide, same_len)))
 
 -- a closed row is exact
@@ -194,19 +156,19 @@ sum-grows (x ∷ xs) (y ∷ ys) (suc k) len le low more =
 
 -- a row that is joined with that of an event that it does not count grows
 pub shrinks :
-    (T : List Event) (e width : ℕ) (counts row raised : List ℕ) (r : ℕ) → AreCounts T width counts → e * width ≤ length counts
+    (T : List Event) (e width : ℕ) (counts : Counted) (row raised : List ℕ) (r : ℕ) → AreCounts T width counts → e ≤ len_of counts
     → ((a t : ℕ) → thread_at T a ≡ Some t → t < width) → r < e → e < length T
     → length row ≡ width → length raised ≡ length row
-    → ((t : ℕ) → t < length row → get_or raised t 0 ≡ max (get_or row t 0) (row_count counts (length row) (Some r) t))
+    → ((t : ℕ) → t < length row → get_or raised t 0 ≡ max (get_or row t 0) (row_count counts (Some r) t))
     → IsBegun T e (λ t. get_or row t 0) → IsBegun T e (λ t. get_or raised t 0) → ¬ IsCounted T (λ t. get_or row t 0) r
     → width * length T - total raised < width * length T - total row
 shrinks T e width counts row raised r are rows named early within wide same_len raises begun after missing =
     let u = thread_cases T r (omega arith) in
     let low : u.0 < width = named r u.0 u.1 in
-    let counted : place_of T r < row_count counts width (Some r) u.0 =
+    let counted : place_of T r < row_count counts (Some r) u.0 =
     (IsCountBy-told T e width u.0 counts (Some r) (Some r) are rows low early refl).counted r u.1 (same r r refl) in
-    let value : get_or raised u.0 0 ≡ max (get_or row u.0 0) (row_count counts width (Some r) u.0) =
-    raises u.0 (omega (arith, wide)) ∙ ap (λ w. max (get_or row u.0 0) (row_count counts w (Some r) u.0)) wide in
+    let value : get_or raised u.0 0 ≡ max (get_or row u.0 0) (row_count counts (Some r) u.0) =
+    raises u.0 (omega (arith, wide)) in
     let beyond : get_or row u.0 0 ≤ place_of T r =
     elim (cases_lt (place_of T r) (get_or row u.0 0)) [
       | inl lt ↦ absurd (missing (u.0, u.1, lt))

@@ -7,7 +7,7 @@ ghost use Rattle.must_order.specs.MustBefore.{IsForced, IsHeldBefore, IsMustBefo
 ghost use Rattle.must_order.specs.Sections.{AreSections};
 
 use crate::chains::Chain;
-use crate::events::{locks_in, threads_in};
+use crate::events::locks_in;
 use crate::joins::Joins;
 use crate::kind::Kind;
 use crate::reasons::chains_of;
@@ -15,7 +15,7 @@ use crate::rows::{rows_of, threads_of};
 use crate::sections::Sections;
 use event_index::Indexed;
 use rapid_text::OutOfMemory;
-use shb_clocks::Clocks;
+use shb_clocks::{Clocks, SharedRows};
 use std::alloc::Global;
 use std::marker::Model;
 use std::snapshot::Snapshot;
@@ -26,9 +26,8 @@ pub struct Must {
     trace: Snapshot<Indexed>,
     // For each event its thread.
     threads: Vec<u32>,
-    // A row for each event, a count for each thread in it.
-    width: usize,
-    counts: Vec<u32>,
+    // What each event counts of each thread, in rows that events share.
+    counts: SharedRows,
     // The joins by which the rows were made.
     joins: Joins,
     // The sections of all events.
@@ -57,7 +56,6 @@ impl Must {
         Ok(Must {
             trace: Snapshot::of(indexed),
             threads,
-            width: threads_in(indexed) as usize,
             counts: rows.counts,
             joins: rows.joins,
             sections: Sections::of(alloc, indexed)?,
@@ -71,9 +69,8 @@ impl Must {
         requires second { second < length self.now.events }
         ensures before { IsTrue result ↔ IsMustBefore self.now.events first second }
     {
-        let thread = self.threads[first as usize] as usize;
-        let counted = self.counts[second as usize * self.width + thread];
-        self.counts[first as usize * self.width + thread] <= counted
+        let thread = self.threads[first as usize];
+        self.counts.count(first, thread) <= self.counts.count(second, thread)
     }
 
     /// Whether the first event is the second's base, or must-before it.

@@ -1,10 +1,11 @@
 //! The rows of counts, made in one pass over the events.
-ghost use Rattle.std.specs.Prelude.{◌≡◌, ◌⊎◌, ◌+◌, ◌*◌, ◌<◌, ◌≤◌, length, IfOk, OnOk, IfSome, slice_index, max, ℕ, false, None};
+ghost use Rattle.std.specs.Prelude.{◌≡◌, ◌≢◌, ◌↔◌, ◌⊎◌, ◌+◌, ◌<◌, ◌≤◌, length, IfOk, OnOk, IfSome, IsTrue, slice_index, max, ℕ, true, false, None};
 ghost use Rattle.rapid_text.specs.Recording.{IsWellFormed};
 ghost use Rattle.trace_rules.specs.Rules.{IsDisciplined};
-ghost use Rattle.shb_clocks.specs.Layout.{AreThreads, row_count};
+ghost use Rattle.shb_clocks.specs.Layout.{AreThreads};
+ghost use Rattle.shb_clocks.specs.SharedRows.{len_of, rows_in, thread_of, count_of};
 ghost use Rattle.must_order.specs.Joins.{IsLed, AreJoins};
-ghost use Rattle.must_order.specs.Layout.{AreCounts, IsRow, IsBegun, IsClosed, IsFresh, LearnsNothing, source_of};
+ghost use Rattle.must_order.specs.Layout.{AreCounts, IsRow, IsBegun, IsClosed, IsFresh, LearnsNothing, source_of, row_count};
 ghost use Rattle.must_order.specs.MustBefore.{IsMustBefore};
 ghost use Rattle.must_order.specs.Sections.{AreSections, IsOwed};
 
@@ -13,12 +14,15 @@ use crate::joins::Joins;
 use crate::sections::Sections;
 use event_index::Indexed;
 use rapid_text::{Op, OutOfMemory};
+use shb_clocks::SharedRows;
 use std::alloc::Global;
 
 /// For each event its thread.
 pub(crate) fn threads_of(alloc: Global, indexed: &Indexed) -> Result<Vec<u32>, OutOfMemory>
-    ensures { IfOk result
+    ensures threads { IfOk result
         (λ threads. AreThreads indexed.now.events (length indexed.now.events) threads.items) }
+    ensures well_formed { IsWellFormed indexed.now }
+    ensures disciplined { IsDisciplined indexed.now.events }
 {
     let raw = indexed.trace().raw();
     let mut threads = Vec::with_capacity(alloc, raw.len() as usize)?;
@@ -28,42 +32,126 @@ pub(crate) fn threads_of(alloc: Global, indexed: &Indexed) -> Result<Vec<u32>, O
     Ok(threads)
 }
 
-/// For each event a row with the counts of what is must-before it, and the joins by which the rows were made.
+/// For each event the counts of what is must-before it, and the joins by which they were made.
 #[derive(Drop)]
 pub(crate) struct Rows {
-    pub(crate) counts: Vec<u32>,
+    pub(crate) counts: SharedRows,
     pub(crate) joins: Joins,
 }
 
 /// The rows of all events.
 pub(crate) fn rows_of(alloc: Global, indexed: &Indexed) -> Result<Rows, OutOfMemory>
-    ensures len { IfOk result
-        (λ rows. length rows.counts.items ≡ length indexed.now.events * length indexed.now.threads) }
+    ensures width { IfOk result (λ rows. rows.counts.width ≡ length indexed.now.threads) }
+    ensures len { IfOk result (λ rows. len_of rows.counts ≡ length indexed.now.events) }
     ensures counts { IfOk result
-        (λ rows. AreCounts indexed.now.events (length indexed.now.threads) rows.counts.items) }
+        (λ rows. AreCounts indexed.now.events (length indexed.now.threads) rows.counts) }
     ensures joins { IfOk result
         (λ rows. AreJoins indexed.now.events (length indexed.now.events) rows.joins.list.items rows.joins.starts.items) }
 {
-    let raw = indexed.trace().raw();
-    let mut counts = Vec::with_capacity(alloc, raw.len() as usize * raw.threads() as usize)?;
-    let mut row = vec![in alloc; 0u32; raw.threads() as usize]?;
+    let threads = indexed.threads();
+    let mut counts = SharedRows::new(alloc, threads, indexed.len())?;
+    let mut row = vec![in alloc; 0u32; threads as usize]?;
+    let mut spare = vec![in alloc; 0u32; threads as usize]?;
     let mut sections = Sections::new(alloc, indexed)?;
     let mut joins = Joins::new(alloc, indexed)?;
-    for event in 0..raw.len() {
-        begin_row(&mut row, counts.as_slice(), indexed, event);
-        close_row(
-            &mut row,
-            &mut joins,
-            counts.as_slice(),
-            indexed,
-            event,
-            &sections,
-        )?;
+    for event in 0..indexed.len() {
+        begin_row(&mut row, &counts, indexed, event);
+        close_row(&mut row, &mut joins, &counts, indexed, event, &sections)?;
         joins.end(indexed, event)?;
-        counts.extend_from_slice(row.as_slice())?;
+        keep_row(&mut counts, &mut spare, indexed, event, row.as_slice())?;
         sections.note(indexed, event)?;
     }
     Ok(Rows { counts, joins })
+}
+
+// Gives the event its row: that of its base, where they are of one thread and count alike but for it; else one of its
+// own. `spare` is room for a row.
+fn keep_row(
+    counts: &mut SharedRows,
+    spare: &mut Vec<u32>,
+    indexed: &Indexed,
+    event: u32,
+    row: &[u32],
+) -> Result<(), OutOfMemory>
+    requires event { event < length indexed.now.events }
+    requires width { counts.old.width ≡ length indexed.now.threads }
+    requires len { len_of counts.old ≡ event }
+    requires few { rows_in counts.old ≤ event }
+    requires counts { AreCounts indexed.now.events (length indexed.now.threads) counts.old }
+    requires spare { length spare.old.items ≡ length indexed.now.threads }
+    requires wide { length row.now ≡ length indexed.now.threads }
+    requires row { IsRow indexed.now.events event row.now }
+    ensures spare { length spare.new.items ≡ length indexed.now.threads }
+    ensures width { OnOk result (counts.new.width ≡ length indexed.now.threads) }
+    ensures len { OnOk result (len_of counts.new ≡ event + 1) }
+    ensures few { OnOk result (rows_in counts.new ≤ event + 1) }
+    ensures counts { OnOk result (AreCounts indexed.now.events (length indexed.now.threads) counts.new) }
+{
+    let thread = event_at(indexed, event).thread;
+    let own = row[thread as usize];
+    match alike_base(counts, spare, row, thread, indexed.base(event)) {
+        Some(base) => counts.share(base, own)?,
+        None => counts.begin(thread, own, row)?,
+    }
+    Ok(())
+}
+
+// The base, where it is of the thread, and counts of the others what the row does.
+fn alike_base(
+    counts: &SharedRows,
+    spare: &mut Vec<u32>,
+    row: &[u32],
+    thread: u32,
+    base: Option<u32>,
+) -> Option<u32>
+    requires spare { length spare.old.items ≡ counts.now.width }
+    requires wide { length row.now ≡ counts.now.width }
+    requires thread { thread < counts.now.width }
+    requires base { IfSome base (λ b. b < len_of counts.now) }
+    ensures spare { length spare.new.items ≡ length spare.old.items }
+    ensures within { IfSome result (λ b. b < len_of counts.now) }
+    ensures thread { IfSome result (λ b. thread_of counts.now b ≡ thread) }
+    ensures alike { IfSome result
+        (λ b. (t : ℕ) → t < counts.now.width → t ≢ thread → count_of counts.now b t ≡ slice_index row.now t) }
+{
+    let Some(base) = base else {
+        return None;
+    };
+    if counts.thread(base) != thread {
+        return None;
+    }
+    if are_alike(counts, spare, row, thread, base) {
+        Some(base)
+    } else {
+        None
+    }
+}
+
+// Whether the event counts of all threads but its own what the row does.
+fn are_alike(
+    counts: &SharedRows,
+    spare: &mut Vec<u32>,
+    row: &[u32],
+    thread: u32,
+    event: u32,
+) -> bool
+    requires spare { length spare.old.items ≡ counts.now.width }
+    requires wide { length row.now ≡ counts.now.width }
+    requires thread { thread < counts.now.width }
+    requires event { event < len_of counts.now }
+    ensures spare { length spare.new.items ≡ length spare.old.items }
+    ensures alike { result ≡ true
+        → (t : ℕ) → t < counts.now.width → t ≢ thread → count_of counts.now event t ≡ slice_index row.now t }
+{
+    counts.copy(event, spare);
+    spare[thread as usize] = row[thread as usize];
+    are_equal(spare.as_slice(), row)
+}
+
+fn are_equal(one: &[u32], other: &[u32]) -> bool
+    ensures { IsTrue result ↔ (one.now ≡ other.now) }
+{
+    one == other
 }
 
 /// The last event that comes before this one for what this one does.
@@ -88,10 +176,11 @@ pub(crate) fn source_at(indexed: &Indexed, event: u32) -> Option<u32>
 
 // Begins the row of the event: in its own thread all events up to it, in another those that its base or its source
 // counts.
-fn begin_row(row: &mut Vec<u32>, counts: &[u32], indexed: &Indexed, event: u32)
+fn begin_row(row: &mut Vec<u32>, counts: &SharedRows, indexed: &Indexed, event: u32)
     requires event { event < length indexed.now.events }
     requires row { length row.old.items ≡ length indexed.now.threads }
-    requires len { length counts.now ≡ event * length indexed.now.threads }
+    requires width { counts.now.width ≡ length indexed.now.threads }
+    requires len { len_of counts.now ≡ event }
     requires counts { AreCounts indexed.now.events (length indexed.now.threads) counts.now }
     ensures len { length row.new.items ≡ length indexed.now.threads }
     ensures begun { IsBegun indexed.now.events event (λ t. slice_index row.new.items t) }
@@ -107,7 +196,7 @@ fn begin_row(row: &mut Vec<u32>, counts: &[u32], indexed: &Indexed, event: u32)
 fn close_row(
     row: &mut Vec<u32>,
     joins: &mut Joins,
-    counts: &[u32],
+    counts: &SharedRows,
     indexed: &Indexed,
     event: u32,
     sections: &Sections,
@@ -116,7 +205,8 @@ fn close_row(
     requires well_formed { IsWellFormed indexed.now }
     requires event { event < length indexed.now.events }
     requires row { length row.old.items ≡ length indexed.now.threads }
-    requires len { length counts.now ≡ event * length indexed.now.threads }
+    requires width { counts.now.width ≡ length indexed.now.threads }
+    requires len { len_of counts.now ≡ event }
     requires counts { AreCounts indexed.now.events (length indexed.now.threads) counts.now }
     requires begun { IsBegun indexed.now.events event (λ t. slice_index row.old.items t) }
     requires fresh { IsFresh indexed.now.events event (λ t. slice_index row.old.items t) }
@@ -167,47 +257,29 @@ fn learns(indexed: &Indexed, event: u32) -> bool
     }
 }
 
-// Makes the row that of the event; of nothing where there is no such event.
-fn copy_row(row: &mut Vec<u32>, counts: &[u32], event: Option<u32>)
-    requires within { IfSome event (λ e. (e + 1) * length row.old.items ≤ length counts.now) }
+// Makes the row what the event counts; nothing where there is no such event.
+fn copy_row(row: &mut Vec<u32>, counts: &SharedRows, event: Option<u32>)
+    requires width { length row.old.items ≡ counts.now.width }
+    requires within { IfSome event (λ e. e < len_of counts.now) }
     ensures len { length row.new.items ≡ length row.old.items }
     ensures counts { (t : ℕ) → t < length row.old.items
-        → slice_index row.new.items t ≡ row_count counts.now (length row.old.items) event t }
+        → slice_index row.new.items t ≡ row_count counts.now event t }
 {
     match event {
         None => row.fill(0),
-        Some(event) => {
-            let width = row.len();
-            let start = event as usize * width;
-            row.as_mut_slice()
-                .copy_from_slice(&counts[start..start + width]);
-        }
+        Some(event) => counts.copy(event, row),
     }
 }
 
-// Raises each count of the row to that in the row of the event.
-fn raise_row(row: &mut Vec<u32>, counts: &[u32], event: Option<u32>)
-    requires within { IfSome event (λ e. (e + 1) * length row.old.items ≤ length counts.now) }
+// Raises each count of the row to that of the event.
+fn raise_row(row: &mut Vec<u32>, counts: &SharedRows, event: Option<u32>)
+    requires width { length row.old.items ≡ counts.now.width }
+    requires within { IfSome event (λ e. e < len_of counts.now) }
     ensures len { length row.new.items ≡ length row.old.items }
     ensures counts { (t : ℕ) → t < length row.old.items
-        → slice_index row.new.items t
-        ≡ max (slice_index row.old.items t) (row_count counts.now (length row.old.items) event t) }
+        → slice_index row.new.items t ≡ max (slice_index row.old.items t) (row_count counts.now event t) }
 {
     if let Some(event) = event {
-        let width = row.len();
-        let start = event as usize * width;
-        raise(row, &counts[start..start + width]);
-    }
-}
-
-// Raises each number of the row to that of the other.
-fn raise(row: &mut Vec<u32>, other: &[u32])
-    requires { length row.old.items ≡ length other.now }
-    ensures len { length row.new.items ≡ length row.old.items }
-    ensures larger { (t : ℕ) → t < length row.old.items
-        → slice_index row.new.items t ≡ max (slice_index row.old.items t) (slice_index other.now t) }
-{
-    for thread in 0..other.len() {
-        row[thread] = row[thread].max(other[thread]);
+        counts.raise(event, row);
     }
 }

@@ -9,6 +9,8 @@ mod fixtures;
 #[cfg(test)]
 mod index_tests;
 #[cfg(test)]
+mod large_tests;
+#[cfg(test)]
 mod memory_tests;
 #[cfg(test)]
 mod printing_tests;

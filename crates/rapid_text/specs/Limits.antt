@@ -4,11 +4,11 @@ use Rattle.std.specs.Prelude.{ℕ, ◌*◌}
 
 -- the most events of a trace
 abbrev pub event_limit : ℕ
-event_limit = 65536
+event_limit = 1048576
 
 -- the most threads of a trace
 abbrev pub thread_limit : ℕ
-thread_limit = 64
+thread_limit = 256
 
 -- A table of names has fewer names than this: each event brings two names at most, so the number of each
 -- name fits into a u32.

@@ -7,9 +7,9 @@ use crate::names::{Names, TextKeyed};
 use std::marker::Model;
 
 /// The most events of a trace.
-pub const MAX_EVENTS: usize = 65_536;
+pub const MAX_EVENTS: usize = 1_048_576;
 /// The most threads of a trace.
-pub const MAX_THREADS: usize = 64;
+pub const MAX_THREADS: usize = 256;
 /// The most bytes of a line, without the blanks at its ends.
 pub const MAX_LINE: usize = 4_096;
 /// The most bytes of a name.

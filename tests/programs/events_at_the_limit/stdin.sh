@@ -1,1 +1,1 @@
-yes "T1|w(x)|1" | head -n 65536; printf -- "---\n1 new A\n1 add A 0\n1 add A 2\n1 add A 65536\n"
+yes "T1|w(x)|1" | head -n 1048576; printf -- "---\n1 new A\n1 add A 0\n1 add A 2\n1 add A 1048576\n"

@@ -1,1 +1,1 @@
-yes "T1|w(x)|1" | head -n 65537
+yes "T1|w(x)|1" | head -n 1048577

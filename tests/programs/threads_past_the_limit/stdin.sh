@@ -1,1 +1,1 @@
-for i in $(seq 65); do echo "T$i|w(x)|$i"; done
+for i in $(seq 257); do echo "T$i|w(x)|$i"; done

@@ -1,1 +1,1 @@
-for i in $(seq 63); do echo "T$i|w(x)|$i"; done; echo "T64|fork(T65)|64"
+for i in $(seq 255); do echo "T$i|w(x)|$i"; done; echo "T256|fork(T257)|256"

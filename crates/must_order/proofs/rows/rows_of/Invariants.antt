@@ -1,4 +1,5 @@
-use Rattle.std.proofs.Common.{◌≡◌, ◌*◌, length}
+use Rattle.std.proofs.Common.{◌≡◌, ◌≤◌, length}
+use Rattle.shb_clocks.specs.SharedRows.{len_of, rows_in}
 use Rattle.must_order.specs.Joins.{AreJoins}
 use Rattle.must_order.specs.Layout.{AreCounts}
 use Rattle.must_order.specs.Sections.{AreSections}
@@ -7,9 +8,12 @@ use Rattle.must_order.proofs.rows.rows_of.Given as goal
 abbrev pub invariant-loop-event : goal.invariant-loop-event
 invariant-loop-event l =
     record {
-      len : length l.counts.items ≡ l.event * length l.indexed.threads;
-      counts : AreCounts l.indexed.events (length l.indexed.threads) l.counts.items;
+      width : l.counts.width ≡ length l.indexed.threads;
+      len : len_of l.counts ≡ l.event;
+      few : rows_in l.counts ≤ l.event;
+      counts : AreCounts l.indexed.events (length l.indexed.threads) l.counts;
       row : length l.row.items ≡ length l.indexed.threads;
+      spare : length l.spare.items ≡ length l.indexed.threads;
       known : AreSections l.indexed l.event l.sections;
       joins : AreJoins l.indexed.events l.event l.joins.list.items l.joins.starts.items;
     }
