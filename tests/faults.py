@@ -1,10 +1,11 @@
 """Runs the program with each call of a kind failing in turn, by tools/refuse.c, and judges what it writes.
 
 Each run has to write what is wanted, or to end with the fault's status and text after a beginning of it, and to write nothing else:
-  an allocation    `out of memory`; in a thread the call's line may say so, and the others go on; or only notes are missing, as below
+  an allocation    `out of memory`; in a thread the call's line may say so, and the others go on; beside workers one slice may not be
+                   proposed, whose worker wanted memory; or only notes are missing, as below
   a read, a file   `read failed` and nothing on standard output; or only notes are missing, for which a file is read once more
   a write          `write failed`; or only standard error is cut, where the fault's own text could not be written
-  a thread         what is wanted, since another thread makes the calls of such a script
+  a thread         what is wanted, since another thread makes the calls of such a script; or, where workers are asked for, `no thread`
 A call that is interrupted and one that moves a single byte change nothing.
 """
 
@@ -25,8 +26,8 @@ LONGEST = 600
 
 # How a run ended: its status or, below 0, its signal; whether it met the call that fails; and what it wrote.
 Run = namedtuple("Run", "status met out err")
-# What is wanted, and whether scripts run in threads.
-Wanted = namedtuple("Wanted", "status out err in_threads")
+# What is wanted, and whether scripts run in threads, and whether beside workers.
+Wanted = namedtuple("Wanted", "status out err in_threads has_workers")
 
 
 class Wrong(Exception):
@@ -81,13 +82,32 @@ def is_told_in_threads(run, wanted):
     )
 
 
+def parts_of(out):
+    """The lines before the log's, and its entries without their numbers, where these and their count are right; or None."""
+    lines = out.splitlines()
+    at = next((at for at, line in enumerate(lines) if line.startswith(b"log ")), len(lines))
+    numbers, _, entries = zip(*(line.partition(b" ") for line in lines[at + 1 :])) if lines[at + 1 :] else ((), (), ())
+    is_counted = lines[at : at + 1] == [b"log %d" % len(entries)] and list(numbers) == [b"%d" % number for number in range(len(entries))]
+    return (lines[:at], list(entries)) if is_counted else None
+
+
+def lacks_a_slice(run, wanted):
+    """Whether the run ended well, and one proposal is missing of the log that the case wants."""
+    told, known = parts_of(run.out), parts_of(wanted.out)
+    if (run.status, run.err) != (0, b"") or told is None or known is None or told[0] != known[0]:
+        return False
+    return any(b" propose " in entry and told[1] == known[1][:at] + known[1][at + 1 :] for at, entry in enumerate(known[1]))
+
+
 def is_right(run, wanted, kind, how):
     if (run.status, run.out, run.err) == wanted[:3]:
         return True
-    if not run.met or how in ("interrupted", "short") or kind == "thread":
+    if not run.met or how in ("interrupted", "short"):
         return False
+    if kind == "thread":
+        return wanted.has_workers and has_fault(run, b"no thread") and not run.out
     if kind == "memory":
-        if wanted.in_threads and is_told_in_threads(run, wanted):
+        if (wanted.in_threads and is_told_in_threads(run, wanted)) or (wanted.has_workers and lacks_a_slice(run, wanted)):
             return True
         is_told = has_fault(run, b"out of memory") and wanted.out.startswith(run.out) and not (wanted.in_threads and run.out)
         return is_told or (wanted.err and lacks_notes(run, wanted))

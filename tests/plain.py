@@ -247,6 +247,7 @@ class Trace:
             or (other.word == "r" and self.last_writer(second) == first)
         )
 
+    @asked_once
     def chains(self):
         """For each event all to which a chain of edges leads from it, itself too."""
         numbers = range(len(self.events))
@@ -268,6 +269,11 @@ class Trace:
                     if base is None or base not in after[first]:
                         pairs.append((first, second))
         return pairs
+
+    def slice(self, first, second):
+        """The events that are the base of one of the two, or from which a chain of edges leads to it."""
+        bases = {self.base(first), self.base(second)} - {None}
+        return tuple(event for event, after in enumerate(self.chains()) if after & bases)
 
     def info(self):
         """What is printed of what the trace holds."""

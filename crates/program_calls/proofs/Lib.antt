@@ -1,6 +1,7 @@
 pub mod InfoLemmas
 pub mod InputLemmas
 pub mod JobLemmas
+pub mod SearchLemmas
 pub mod SendLemmas
 pub mod ThreadsLemmas
 pub mod ToldLemmas

@@ -13,18 +13,18 @@ use Rattle.program_calls.specs.Threads.{StopsRun}
 use Rattle.program_calls.specs.declared.fault.BenchFault.{BenchFault}
 use Rattle.program_calls.specs.declared.fault.BenchFault.TheVariants.{Replay}
 
-module _ (rest : Option (List ℕ)) (rests : List (Option (List ℕ))) (failed : Bool) where
-  stopped : (bytes : List ℕ) (fault : ReplayFault) → IsTold rest bytes → (fault ≡ OutOfMemory) ⊎ IsFault (of_trace bytes) fault → StopsRun rest rests failed (Replay fault)
-  stopped bytes fault told (inl memory) = inr (inr (inl (ap Replay memory)))
+module _ (rest : Option (List ℕ)) (rests : List (Option (List ℕ))) (workers : ℕ) (failed : Bool) where
+  stopped : (bytes : List ℕ) (fault : ReplayFault) → IsTold rest bytes → (fault ≡ OutOfMemory) ⊎ IsFault (of_trace bytes) fault → StopsRun rest rests workers failed (Replay fault)
+  stopped bytes fault told (inl memory) = inr (inr (inl (inl (ap Replay memory))))
   stopped bytes fault told (inr h) = inr (inr (inr (bytes, told, inl (fault, refl, h))))
 
-  pub stopped-input : (fault : ReplayFault) → IsInput 1 rest (Err fault) → StopsRun rest rests failed (Replay fault)
+  pub stopped-input : (fault : ReplayFault) → IsInput 1 rest (Err fault) → StopsRun rest rests workers failed (Replay fault)
   stopped-input fault h = let input = input-fault of_trace (λ _. refl) rest fault h in stopped input.0 fault input.1 input.2
 
-  pub stopped-load : (bytes : List ℕ) (fault : ReplayFault) → IsShort bytes → IsTold rest bytes → (fault ≡ OutOfMemory) ⊎ (trace_of bytes ≡ Err fault) → StopsRun rest rests failed (Replay fault)
+  pub stopped-load : (bytes : List ℕ) (fault : ReplayFault) → IsShort bytes → IsTold rest bytes → (fault ≡ OutOfMemory) ⊎ (trace_of bytes ≡ Err fault) → StopsRun rest rests workers failed (Replay fault)
   stopped-load bytes fault short told h = stopped bytes fault told (load-fault (of_trace bytes) fault short h)
 
-  pub stopped-scripts : (bytes : List ℕ) (trace : Recording) (fault : BenchFault) → IsShort bytes → IsTold rest bytes → trace_of bytes ≡ Ok trace → IsFirstFault rests fault → StopsRun rest rests failed fault
+  pub stopped-scripts : (bytes : List ℕ) (trace : Recording) (fault : BenchFault) → IsShort bytes → IsTold rest bytes → trace_of bytes ≡ Ok trace → IsFirstFault rests fault → StopsRun rest rests workers failed fault
   stopped-scripts bytes trace fault short told is h = inr (inr (inr (bytes, told, inr ((short, trace, is), h))))
 
 -- what was loaded is the trace

@@ -12,6 +12,9 @@ use Rattle.workspace_lock.specs.Turns.{Sees}
 use Rattle.workspace_lock.specs.Seating.{Site, SeatView, SeatsView, TakesFirst, mark_in, fresh_seat, fresh_rows, Closes}
 use Rattle.script_language.specs.Scripts.{Asked}
 use Rattle.client_scripts.specs.Seats.{RunsScript}
+use Rattle.program_calls.specs.Requests.{AreBehind, SearchesBy}
+use Rattle.program_calls.specs.Searches.{further_clients, IsSearched}
+use Rattle.program_calls.proofs.SearchLemmas.{searched}
 use Rattle.program_calls.specs.Jobs.{Job, Told, lines_of, told_text, AnswersJob, AnswerJobs, AreSeated, Numbered, AllLines}
 use Rattle.program_calls.specs.Told.{client_text, clients_text, fresh_bench, AreAnswered, AreTold}
 
@@ -35,27 +38,31 @@ fresh_more site n zero = ap (λ m. Some (fresh_seat site m) ∷ []) (omega arith
 fresh_more site n (suc k) =
     ap (λ l. Some (fresh_seat site n) ∷ l) (fresh_more site (suc n) k ∙ ap (λ m. fresh_rows site (suc n) k ++ Some (fresh_seat site m) ∷ []) (omega arith))
 
--- the scripts so far have their seats, and the seats of the others are in
-pub record Handing (site : Site) (scripts : List (List Asked)) (jobs : List Job) (left : List (List Asked)) (rows : List (Option SeatView)) : Type 0 where
+fresh_step : (site : Site) (n k more : ℕ) → fresh_rows site n (suc k + more) ≡ Some (fresh_seat site n) ∷ fresh_rows site (suc n) (k + more)
+fresh_step site n k more = let longer : suc k + more ≡ suc (k + more) = omega arith in ap (fresh_rows site n) longer
+
+-- the scripts so far have their seats, and the seats of the others and so many more are in
+pub record Handing (site : Site) (more : ℕ) (scripts : List (List Asked)) (jobs : List Job) (left : List (List Asked)) (rows : List (Option SeatView)) : Type 0 where
   pub same : map (λ (j : Job). j.1) jobs ++ left ≡ scripts
   pub seats : map (λ (j : Job). Some j.0) jobs ≡ fresh_rows site 1 (length jobs)
-  pub rows_are : rows ≡ replicate (length jobs) None ++ fresh_rows site (suc (length jobs)) (length left)
+  pub rows_are : rows ≡ replicate (length jobs) None ++ fresh_rows site (suc (length jobs)) (length left + more)
 
-pub handing-start : (site : Site) (scripts : List (List Asked)) (rows : List (Option SeatView)) → rows ≡ fresh_rows site 1 (length scripts) → Handing site scripts [] scripts rows
-handing-start site scripts rows e = record { same = refl; seats = refl; rows_are = e }
+pub handing-start : (site : Site) (more : ℕ) (scripts : List (List Asked)) (rows : List (Option SeatView)) → rows ≡ fresh_rows site 1 (length scripts + more) → Handing site more scripts [] scripts rows
+handing-start site more scripts rows e = record { same = refl; seats = refl; rows_are = e }
 
 length-snoc : {A : Type 0} (xs : List A) (x : A) → length (xs ++ x ∷ []) ≡ suc (length xs)
 length-snoc [] x = refl
 length-snoc (y ∷ xs) x = ap suc (length-snoc xs x)
 
-pub handing-more : (site : Site) (scripts : List (List Asked)) (jobs : List Job) (script : List Asked) (left : List (List Asked)) (s n : SeatsView) (c : SeatView)
-    → Handing site scripts jobs (script ∷ left) s.rows → TakesFirst s c n → Handing site scripts (jobs ++ (c, script) ∷ []) left n.rows
-handing-more site scripts jobs script left s n c h t =
+pub handing-more : (site : Site) (more : ℕ) (scripts : List (List Asked)) (jobs : List Job) (script : List Asked) (left : List (List Asked)) (s n : SeatsView) (c : SeatView)
+    → Handing site more scripts jobs (script ∷ left) s.rows → TakesFirst s c n → Handing site more scripts (jobs ++ (c, script) ∷ []) left n.rows
+handing-more site more scripts jobs script left s n c h t =
     let k = length jobs in
     let first = fresh_seat site (suc k) in
-    let rest = fresh_rows site (suc (suc k)) (length left) in
+    let rest = fresh_rows site (suc (suc k)) (length left + more) in
     let p = c.number - 1 in
-    let step = first_taken k first rest p c (subst (λ l. slice_get l p ≡ Some (Some c)) h.rows_are t.there) (λ j below. subst (λ l. slice_get l j ≡ Some None) h.rows_are (t.least j below)) in
+    let rows = h.rows_are ∙ ap (λ l. replicate k None ++ l) (fresh_step site (suc k) (length left) more) in
+    let step = first_taken k first rest p c (subst (λ l. slice_get l p ≡ Some (Some c)) rows t.there) (λ j below. subst (λ l. slice_get l j ≡ Some None) rows (t.least j below)) in
     let long = length-snoc jobs (c, script) in
     record {
       same = ap (λ l. l ++ left) (map-append (λ (j : Job). j.1) jobs ((c, script) ∷ [])) ∙ append_assoc (map (λ (j : Job). j.1) jobs) (script ∷ []) left ∙ h.same;
@@ -68,15 +75,17 @@ handing-more site scripts jobs script left s n c h t =
           ∙ ap (fresh_rows site 1) (sym long);
       rows_are =
           ap (λ (x : SeatsView). x.rows) t.out
-          ∙ ap (λ l. slice_set l p None) h.rows_are
+          ∙ ap (λ l. slice_set l p None) rows
           ∙ step.1
-          ∙ ap (λ m. replicate m None ++ fresh_rows site (suc m) (length left)) (sym long);
+          ∙ ap (λ m. replicate m None ++ fresh_rows site (suc m) (length left + more)) (sym long);
     }
 
 -- no script is left
-pub handing-whole : (site : Site) (scripts : List (List Asked)) (jobs : List Job) (rows : List (Option SeatView)) → Handing site scripts jobs [] rows → AreSeated site scripts jobs × (rows ≡ replicate (length jobs) None)
-handing-whole site scripts jobs rows h =
-    ((sym (append-nil (map (λ (j : Job). j.1) jobs)) ∙ h.same, h.seats), h.rows_are ∙ append-nil (replicate (length jobs) None))
+pub handing-whole : (site : Site) (more : ℕ) (scripts : List (List Asked)) (jobs : List Job) (rows : List (Option SeatView)) → Handing site more scripts jobs [] rows
+    → AreSeated site scripts jobs × (rows ≡ replicate (length jobs) None ++ fresh_rows site (suc (length jobs)) more)
+handing-whole site more scripts jobs rows h =
+    let none : 0 + more ≡ more = omega arith in
+    ((sym (append-nil (map (λ (j : Job). j.1) jobs)) ∙ h.same, h.seats), h.rows_are ∙ ap (λ n. replicate (length jobs) None ++ fresh_rows site (suc (length jobs)) n) none)
 
 -- what each was given and gave back, one after another
 abbrev pub AnswerEach : Recording → List Job → List Told → Type 0
@@ -129,19 +138,15 @@ answered trace site log n (j ∷ jobs) (t ∷ told) h e lines seen =
     let first = subst (λ s. RunsScript trace j.1 s [] t.0 (lines_of t.1)) (some_is j.0 (fresh_seat site n) head) (ran trace j.1 j.0 t.0 t.1 lines.0 h.0.2) in
     (first, seen.0, answered trace site log (suc n) jobs told h.1 (cc e) lines.1 seen.1)
 
-pub all_seen : (log : List Entry) (told : List Told) → ((i : ℕ) (c : SeatView) → slice_get (map (λ (t : Told). Some t.0) told) i ≡ Some (Some c) → Sees (mark_in c) log) → AllSeen log told
-all_seen log [] h = tt
-all_seen log (t ∷ told) h = (h 0 t.0 refl, all_seen log told (λ i c e. h (suc i) c e))
-
 -- What has come back so far: its seats are in, and its lines are printed while memory lasts.
 pub record Putting (old : List ℕ) (were : List (Option SeatView)) (told : List Told) (outcome : Result Unit OutOfMemory) (out : List ℕ) (rows : List (Option SeatView)) (left : List Told) : Type 0 where
   pub given : List Told
   pub split : given ++ left ≡ told
   pub text : OnOk outcome (AllLines given × (out ≡ old ++ told_text given))
-  pub back : Numbered 1 told → were ≡ replicate (length told) None → rows ≡ map (λ (t : Told). Some t.0) given ++ replicate (length left) None
+  pub back : (rest : List (Option SeatView)) → Numbered 1 told → were ≡ replicate (length told) None ++ rest → rows ≡ map (λ (t : Told). Some t.0) given ++ (replicate (length left) None ++ rest)
 
 pub putting-start : (old : List ℕ) (were : List (Option SeatView)) (told : List Told) → Putting old were told (Ok tt) old were told
-putting-start old were told = record { given = []; split = refl; text = (tt, sym (append-nil old)); back = λ _ e. e }
+putting-start old were told = record { given = []; split = refl; text = (tt, sym (append-nil old)); back = λ rest _ e. e }
 
 lines_snoc : (given : List Told) (t : Told) → AllLines given → IsOk t.1 → AllLines (given ++ t ∷ [])
 lines_snoc [] t h ok = (ok, tt)
@@ -174,19 +179,19 @@ module _ (old : List ℕ) (were : List (Option SeatView)) (told : List Told) (so
   abbrev pub given_back : List (Option SeatView) → Type 0
   given_back new = slice_get rows (t.0.number - 1) ≡ Some None → new ≡ slice_set rows (t.0.number - 1) (Some t.0)
 
-  back_more : (new : List (Option SeatView)) → given_back new → Numbered 1 told → were ≡ replicate (length told) None → new ≡ map (λ (t : Told). Some t.0) (h.given ++ t ∷ []) ++ replicate (length left) None
-  back_more new put numbers none =
+  back_more : (new : List (Option SeatView)) → given_back new → (rest : List (Option SeatView)) → Numbered 1 told → were ≡ replicate (length told) None ++ rest → new ≡ map (λ (t : Told). Some t.0) (h.given ++ t ∷ []) ++ (replicate (length left) None ++ rest)
+  back_more new put rest numbers none =
       let seats = map (λ (t : Told). Some t.0) h.given in
-      let now = h.back numbers none in
+      let now = h.back rest numbers none in
       let number = number_of 1 h.given t left (subst (Numbered 1) (sym h.split) numbers) in
       let long = seats_len h.given in
       let place : t.0.number - 1 ≡ length seats = omega arith in
-      let vacant : slice_get rows (t.0.number - 1) ≡ Some None = ap (slice_get rows) place ∙ ap (λ l. slice_get l (length seats)) now ∙ get_at seats None (replicate (length left) None) in
+      let vacant : slice_get rows (t.0.number - 1) ≡ Some None = ap (slice_get rows) place ∙ ap (λ l. slice_get l (length seats)) now ∙ get_at seats None (replicate (length left) None ++ rest) in
       put vacant
       ∙ ap (λ i. slice_set rows i (Some t.0)) place
       ∙ ap (λ l. slice_set l (length seats) (Some t.0)) now
-      ∙ set_at seats None (Some t.0) (replicate (length left) None)
-      ∙ ap (λ l. l ++ replicate (length left) None) (sym (map-append (λ (t : Told). Some t.0) h.given (t ∷ [])))
+      ∙ set_at seats None (Some t.0) (replicate (length left) None ++ rest)
+      ∙ ap (λ l. l ++ (replicate (length left) None ++ rest)) (sym (map-append (λ (t : Told). Some t.0) h.given (t ∷ [])))
 
   pub putting-more : (outcome : Result Unit OutOfMemory) (new : List ℕ) (rows_now : List (Option SeatView)) → OnOk outcome (IsOk so_far) → OnOk outcome (IsOk t.1 × (new ≡ out ++ client_text t.0.number (lines_of t.1))) → given_back rows_now
       → Putting old were told outcome new rows_now left
@@ -203,19 +208,45 @@ putting-text old were told outcome out rows h =
     subst (λ g. OnOk outcome (AllLines g × (out ≡ old ++ told_text g))) (sym (append-nil h.given) ∙ h.split) h.text
 
 pub putting-back : (old : List ℕ) (were : List (Option SeatView)) (told : List Told) (outcome : Result Unit OutOfMemory) (out : List ℕ) (rows : List (Option SeatView)) → Putting old were told outcome out rows []
-    → Numbered 1 told → were ≡ replicate (length told) None → rows ≡ map (λ (t : Told). Some t.0) told
-putting-back old were told outcome out rows h numbers none =
-    h.back numbers none ∙ append-nil (map (λ (t : Told). Some t.0) h.given) ∙ ap (map (λ (t : Told). Some t.0)) (sym (append-nil h.given) ∙ h.split)
+    → (rest : List (Option SeatView)) → Numbered 1 told → were ≡ replicate (length told) None ++ rest → rows ≡ map (λ (t : Told). Some t.0) told ++ rest
+putting-back old were told outcome out rows h rest numbers none =
+    h.back rest numbers none ∙ ap (λ l. map (λ (t : Told). Some t.0) l ++ rest) (sym (append-nil h.given) ∙ h.split)
+
+calls_len : (jobs : List Job) → length (map (λ (j : Job). j.1) jobs) ≡ length jobs
+calls_len [] = refl
+calls_len (j ∷ jobs) = ap suc (calls_len jobs)
+
+same_len : (scripts : List (List Asked)) (jobs : List Job) → map (λ (j : Job). j.1) jobs ≡ scripts → length jobs ≡ length scripts
+same_len scripts jobs e = sym (calls_len jobs) ∙ ap length e
+
+-- a list behind the seats of those that were told
+rows-front : (log : List Entry) (told : List Told) (rest : List (Option SeatView)) → ((i : ℕ) (c : SeatView) → slice_get (map (λ (t : Told). Some t.0) told ++ rest) i ≡ Some (Some c) → Sees (mark_in c) log) → AllSeen log told
+rows-front log [] rest h = tt
+rows-front log (t ∷ told) rest h = (h 0 t.0 refl, rows-front log told rest (λ i c e. h (suc i) c e))
+
+-- what is said of each seat is said of the first one behind those that were told
+rows-behind : (log : List Entry) (told : List Told) (last : SeatView) → ((i : ℕ) (c : SeatView) → slice_get (map (λ (t : Told). Some t.0) told ++ Some last ∷ []) i ≡ Some (Some c) → Sees (mark_in c) log) → Sees (mark_in last) log
+rows-behind log [] last h = h 0 last refl
+rows-behind log (t ∷ told) last h = rows-behind log told last (λ i c e. h (suc i) c e)
+
+-- the client behind those of the scripts has searched
+behind-searched : (workers : ℕ) (trace : Recording) (site : Site) (log : List Entry) (told : List Told) (client : ℕ) (rest rows : List (Option SeatView)) → site.start ≡ fresh_bench trace → AreBehind workers trace site client rest
+    → rows ≡ map (λ (t : Told). Some t.0) told ++ rest → ((i : ℕ) (c : SeatView) → slice_get rows i ≡ Some (Some c) → Sees (mark_in c) log) → IsSearched workers trace site log client
+behind-searched zero trace site log told client rest rows start behind back seen = tt
+behind-searched (suc workers) trace site log told client rest rows start behind back seen =
+    let last = behind.0 in
+    let whole = rows-behind log told last (λ i c e. seen i c (ap (λ l. slice_get l i) (back ∙ ap (λ l. map (λ (t : Told). Some t.0) told ++ l) behind.2) ∙ e)) in
+    searched trace site log client last start behind.1 whole
 
 -- the whole run
-pub told_whole : (trace : Recording) (scripts : List (List Asked)) (site : Site) (jobs : List Job) (told : List Told) (seats : SeatsView) (bench : Benched) (out text : List ℕ)
-    → site.start ≡ fresh_bench trace → site.clients ≡ length scripts → AreSeated site scripts jobs → AnswerJobs trace jobs told → AllLines told → out ≡ told_text told
-    → seats.rows ≡ map (λ (t : Told). Some t.0) told → Closes seats bench → text ≡ out ++ log_text bench.log
-    → AreTold trace scripts text
-told_whole trace scripts site jobs told seats bench out text start clients seated answers lines printed back closes logged =
+pub told_whole : (trace : Recording) (scripts : List (List Asked)) (workers : ℕ) (site : Site) (jobs : List Job) (told : List Told) (rest : List (Option SeatView)) (seats : SeatsView) (bench : Benched) (out text : List ℕ)
+    → site.start ≡ fresh_bench trace → site.clients ≡ length scripts + further_clients workers → AreSeated site scripts jobs → AnswerJobs trace jobs told → AllLines told → out ≡ told_text told
+    → AreBehind workers trace site (suc (length jobs)) rest → seats.rows ≡ map (λ (t : Told). Some t.0) told ++ rest → Closes seats bench → text ≡ out ++ log_text bench.log
+    → AreTold trace scripts workers text
+told_whole trace scripts workers site jobs told rest seats bench out text start clients seated answers lines printed behind back closes logged =
     let each = answer_each trace jobs told answers in
     let numbers = numbered trace site 1 jobs told each seated.1 in
-    let seen = all_seen bench.log told (λ i c e. closes.1 i c (ap (λ l. slice_get l i) back ∙ e)) in
+    let seen = rows-front bench.log told rest (λ i c e. closes.1 i c (ap (λ l. slice_get l i) back ∙ e)) in
     record {
       site = site;
       log = bench.log;
@@ -223,6 +254,7 @@ told_whole trace scripts site jobs told seats bench out text start clients seate
       start = start;
       clients = clients;
       each = subst (λ l. AreAnswered trace site bench.log 1 l (plain told)) seated.0 (answered trace site bench.log 1 jobs told each seated.1 lines seen);
+      searched = subst (λ n. IsSearched workers trace site bench.log (suc n)) (same_len scripts jobs seated.0) (behind-searched workers trace site bench.log told (suc (length jobs)) rest seats.rows start behind back closes.1);
       printed = logged ∙ ap (λ l. l ++ log_text bench.log) (printed ∙ told_text-clients 1 told numbers);
     }
 
@@ -236,8 +268,53 @@ not_all_out zero first rest h = cc (some_is (Some first) None (h 0 (omega arith)
 not_all_out (suc k) first rest h = not_all_out k first rest (λ j below. h (suc j) (omega arith))
 
 -- while a script is left, a seat is in
-pub handing-seat : (site : Site) (scripts : List (List Asked)) (jobs : List Job) (script : List Asked) (left : List (List Asked)) (rows : List (Option SeatView)) → Handing site scripts jobs (script ∷ left) rows
+pub handing-seat : (site : Site) (more : ℕ) (scripts : List (List Asked)) (jobs : List Job) (script : List Asked) (left : List (List Asked)) (rows : List (Option SeatView)) → Handing site more scripts jobs (script ∷ left) rows
     → ((j : ℕ) → j < length rows → slice_get rows j ≡ Some None) → ⊥
-handing-seat site scripts jobs script left rows h out =
+handing-seat site more scripts jobs script left rows h out =
     let k = length jobs in
-    not_all_out k (fresh_seat site (suc k)) (fresh_rows site (suc (suc k)) (length left)) (subst (λ l. (j : ℕ) → j < length l → slice_get l j ≡ Some None) h.rows_are out)
+    not_all_out k (fresh_seat site (suc k)) (fresh_rows site (suc (suc k)) (length left + more)) (subst (λ l. (j : ℕ) → j < length l → slice_get l j ≡ Some None) (h.rows_are ∙ ap (λ l. replicate k None ++ l) (fresh_step site (suc k) (length left) more)) out)
+
+-- without workers no seat stands behind those of the scripts
+pub behind-none : (trace : Recording) (site : Site) (k workers : ℕ) (rows : List (Option SeatView)) → workers ≡ 0 → rows ≡ replicate k None ++ fresh_rows site (suc k) (further_clients workers)
+    → (rest : List (Option SeatView)) × AreBehind workers trace site (suc k) rest × (rows ≡ replicate k None ++ rest)
+behind-none trace site k zero rows none e = ([], refl, e)
+behind-none trace site k (suc workers) rows none e = absurd (cc none)
+
+-- with workers one does, which is in
+pub behind-seat : (site : Site) (k workers : ℕ) (rows : List (Option SeatView)) → ¬ (workers ≡ 0) → rows ≡ replicate k None ++ fresh_rows site (suc k) (further_clients workers) → ((j : ℕ) → j < length rows → slice_get rows j ≡ Some None) → ⊥
+behind-seat site k zero rows some e out = some refl
+behind-seat site k (suc workers) rows some e out = not_all_out k (fresh_seat site (suc k)) [] (subst (λ l. (j : ℕ) → j < length l → slice_get l j ≡ Some None) e out)
+
+-- the last of those that are out
+none_last : (k : ℕ) → replicate {A = Option SeatView} (suc k) None ++ [] ≡ replicate k None ++ None ∷ []
+none_last zero = refl
+none_last (suc k) = ap (λ l. None ∷ l) (none_last k)
+
+none_len : (k : ℕ) → length (replicate {A = Option SeatView} k None) ≡ k
+none_len zero = refl
+none_len (suc k) = ap suc (none_len k)
+
+-- That one is taken, and comes back with what it has done.
+module _ (trace : Recording) (k : ℕ) (s n : SeatsView) (c last : SeatView) (t : TakesFirst s c n) (by : SearchesBy trace c last) (same : last.number ≡ c.number) (new : List (Option SeatView)) (put : slice_get n.rows (last.number - 1) ≡ Some None → new ≡ slice_set n.rows (last.number - 1) (Some last)) where
+  one_back : s.rows ≡ replicate k None ++ Some (fresh_seat s.site (suc k)) ∷ [] → SearchesBy trace (fresh_seat s.site (suc k)) last × (new ≡ replicate k None ++ Some last ∷ [])
+  one_back e =
+      let first = fresh_seat s.site (suc k) in
+      let p = c.number - 1 in
+      let step = first_taken k first [] p c (subst (λ l. slice_get l p ≡ Some (Some c)) e t.there) (λ j below. subst (λ l. slice_get l j ≡ Some None) e (t.least j below)) in
+      let out : n.rows ≡ replicate k None ++ None ∷ [] = ap (λ (x : SeatsView). x.rows) t.out ∙ ap (λ l. slice_set l p None) e ∙ step.1 ∙ none_last k in
+      let number : c.number ≡ suc k = ap (λ (x : SeatView). x.number) step.0 in
+      let long = none_len k in
+      let place : last.number - 1 ≡ length (replicate {A = Option SeatView} k None) = omega (arith, same, number, long) in
+      let vacant : slice_get n.rows (last.number - 1) ≡ Some None = ap (slice_get n.rows) place ∙ ap (λ l. slice_get l (length (replicate {A = Option SeatView} k None))) out ∙ get_at (replicate k None) None [] in
+      let back =
+      put vacant
+      ∙ ap (λ i. slice_set n.rows i (Some last)) place
+      ∙ ap (λ l. slice_set l (length (replicate {A = Option SeatView} k None)) (Some last)) out
+      ∙ set_at (replicate k None) None (Some last) []
+      ∙ append-nil (replicate k None ++ Some last ∷ []) in
+      (subst (λ x. SearchesBy trace x last) step.0 by, back)
+
+  pub behind-back : (workers : ℕ) → ¬ (workers ≡ 0) → s.rows ≡ replicate k None ++ fresh_rows s.site (suc k) (further_clients workers)
+      → (rest : List (Option SeatView)) × AreBehind workers trace s.site (suc k) rest × (new ≡ replicate k None ++ rest)
+  behind-back zero some e = absurd (some refl)
+  behind-back (suc workers) some e = let back = one_back e in (Some last ∷ [], (last, back.0, refl), back.1)

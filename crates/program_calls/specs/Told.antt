@@ -1,5 +1,5 @@
 -- What several scripts that ran at once were told, and what is printed of that. All notions here are this project's own.
-use Rattle.std.specs.Prelude.{◌≡◌, ℕ, suc, List, [], ◌∷◌, ◌++◌, length, codes, decimal, ⊤}
+use Rattle.std.specs.Prelude.{◌≡◌, ℕ, suc, ◌+◌, List, [], ◌∷◌, ◌++◌, length, codes, decimal, ⊤}
 use Rattle.rapid_text.specs.Recording.{Recording}
 use Rattle.inverse_log.specs.declared.entry.Entry.{Entry}
 use Rattle.inverse_log.specs.Log.{Benched}
@@ -8,6 +8,7 @@ use Rattle.workspace_lock.specs.Seating.{Site, SeatView, mark_in, fresh_seat}
 use Rattle.report.specs.Log.{log_text}
 use Rattle.script_language.specs.Scripts.{Asked}
 use Rattle.client_scripts.specs.Seats.{RunsScript}
+use Rattle.program_calls.specs.Searches.{IsSearched, further_clients}
 
 -- the line of a client's number, and then the lines of its answers
 abbrev pub client_text : ℕ → List ℕ → List ℕ
@@ -31,13 +32,14 @@ AreAnswered trace site log n (script ∷ scripts) (t ∷ told) =
 abbrev pub fresh_bench : Recording → Benched
 fresh_bench trace = record { trace = trace; log = [] }
 
--- The text of scripts that ran at once, script i as client i's: what each client was told, in order, and the one log that all of
--- them have built from the empty one on.
-pub record AreTold (trace : Recording) (scripts : List (List Asked)) (text : List ℕ) : Type 0 where
+-- The text of scripts that ran at once, script i as client i's, beside so many workers: what each client was told, in order, and the
+-- one log that all of them have built from the empty one on, with the client that proposes what the workers find.
+pub record AreTold (trace : Recording) (scripts : List (List Asked)) (workers : ℕ) (text : List ℕ) : Type 0 where
   pub site : Site
   pub log : List Entry
   pub told : List (SeatView × List ℕ)
   pub start : site.start ≡ fresh_bench trace
-  pub clients : site.clients ≡ length scripts
+  pub clients : site.clients ≡ length scripts + further_clients workers
   pub each : AreAnswered trace site log 1 scripts told
+  pub searched : IsSearched workers trace site log (suc (length scripts))
   pub printed : text ≡ clients_text 1 told ++ log_text log

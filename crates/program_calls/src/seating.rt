@@ -1,14 +1,16 @@
 //! Runs scripts at once, each in a thread of its own, through the seats of one bench.
-ghost use Rattle.std.specs.Prelude.{◌≡◌, ◌≤◌, ◌<◌, ◌-◌, ◌++◌, [], length, map, replicate, slice_get, slice_set, All, vec_len, IfOk, IfErr, IsOk, OnOk, Some, None};
+ghost use Rattle.std.specs.Prelude.{◌≡◌, ◌≤◌, ◌<◌, ◌+◌, ◌-◌, ◌++◌, ℕ, suc, List, [], length, map, replicate, slice_get, slice_set, All, vec_len, IfOk, IfErr, IsOk, OnOk, Option, Some, None};
 ghost use Rattle.std.specs.Arc.{arc_value};
 ghost use Rattle.inverse_log.specs.Log.{Benched};
-ghost use Rattle.workspace_lock.specs.Seating.{Site, Closes, Opened, fresh_rows};
+ghost use Rattle.workspace_lock.specs.Seating.{Site, SeatView, Closes, Opened, fresh_rows};
 ghost use Rattle.report.specs.Log.{log_text};
 ghost use Rattle.client_scripts.specs.declared.fault.ReplayFault.TheVariants.{OutOfMemory as NoMemory};
 ghost use Rattle.program_calls.specs.declared.fault.BenchFault.TheVariants.{Replay};
 ghost use Rattle.program_calls.specs.Told.{client_text, fresh_bench, AreTold};
 ghost use Rattle.program_calls.specs.Jobs.{AnswersJob, AnswerJobs, AreSeated, Numbered, AllLines, lines_of, told_text};
+ghost use Rattle.program_calls.specs.Threads.{IsRunFault};
 
+use crate::beside::{clients_beside, run_beside};
 use crate::fault::BenchFault;
 use client_scripts::{Script, run_seat};
 use event_index::Indexed;
@@ -22,10 +24,10 @@ use std::thread::Threads;
 use workspace_lock::{Seat, Seats, open_with_room};
 
 /// What a thread is given: a seat, and the script whose calls it makes there.
-type Job = (Seat, Script);
+pub(crate) type Job = (Seat, Script);
 
 /// What a thread gives back: its seat, and the lines of its answers where there was memory for each.
-type Told = (Seat, Result<Vec<u8>, OutOfMemory>);
+pub(crate) type Told = (Seat, Result<Vec<u8>, OutOfMemory>);
 
 /// Makes the calls of a script through the seat.
 fn run_script<R: Wait>(
@@ -47,7 +49,7 @@ fn run_script<R: Wait>(
 
 /// Makes the calls of each script through its seat, each in a thread of its own where one can be made. Their order is
 /// that of the jobs.
-fn run_all<R: Threads + Wait + Sync>(
+pub(crate) fn run_all<R: Threads + Wait + Sync>(
     rt: &R,
     alloc: Global,
     indexed: &Indexed,
@@ -71,10 +73,11 @@ fn run_all<R: Threads + Wait + Sync>(
 fn seat_all(alloc: Global, seats: &mut Seats, scripts: Vec<Script>) -> Result<Vec<Job>, BenchFault>
     ensures seats { seats.new.site ≡ seats.old.site }
     ensures site { IfOk result (λ jobs. All (λ job. job.0.site ≡ seats.old.site) jobs.items) }
-    // Where as many seats are in as there are scripts, each script has its own, in order, and then none is in.
-    ensures jobs { seats.old.rows ≡ fresh_rows seats.old.site 1 (vec_len scripts) → IfOk result
-        (λ jobs. AreSeated seats.old.site scripts.items jobs.items × (seats.new.rows ≡ replicate (length jobs.items) None)) }
-    ensures fault { seats.old.rows ≡ fresh_rows seats.old.site 1 (vec_len scripts) → IfErr result (λ fault. fault ≡ Replay NoMemory) }
+    // Where all seats are in, and there are more than scripts, each script has its own, in order, and then the others alone are in.
+    ensures jobs { (more : ℕ) → seats.old.rows ≡ fresh_rows seats.old.site 1 (vec_len scripts + more) → IfOk result
+        (λ jobs. AreSeated seats.old.site scripts.items jobs.items
+        × (seats.new.rows ≡ replicate (length jobs.items) None ++ fresh_rows seats.old.site (suc (length jobs.items)) more)) }
+    ensures fault { (more : ℕ) → seats.old.rows ≡ fresh_rows seats.old.site 1 (vec_len scripts + more) → IfErr result (λ fault. fault ≡ Replay NoMemory) }
 {
     let mut jobs = Vec::new(alloc);
     for script in scripts {
@@ -121,7 +124,7 @@ fn append_next(
 }
 
 /// Puts a seat back.
-fn give_back(seats: &mut Seats, seat: Seat)
+pub(crate) fn give_back(seats: &mut Seats, seat: Seat)
     requires { seat.site ≡ seats.old.site }
     ensures site { seats.new.site ≡ seats.old.site }
     ensures back { slice_get seats.old.rows (seat.number - 1) ≡ Some None → seats.new.rows ≡ slice_set seats.old.rows (seat.number - 1) (Some seat) }
@@ -134,8 +137,9 @@ fn give_all(seats: &mut Seats, told: Vec<Told>, out: &mut Vec<u8>) -> Result<(),
     requires { All (λ t. t.0.site ≡ seats.old.site) told.items }
     ensures text { OnOk result (AllLines told.items × (out.new.items ≡ out.old.items ++ told_text told.items)) }
     ensures site { seats.new.site ≡ seats.old.site }
-    // Where none was in, and each is of its number, all are in then.
-    ensures back { Numbered 1 told.items → seats.old.rows ≡ replicate (length told.items) None → seats.new.rows ≡ map (λ t. Some t.0) told.items }
+    // Where none of them was in, and each is of its number, all are in then.
+    ensures back { (rest : List (Option SeatView)) → Numbered 1 told.items → seats.old.rows ≡ replicate (length told.items) None ++ rest
+        → seats.new.rows ≡ map (λ t. Some t.0) told.items ++ rest }
 {
     let mut outcome = Ok(());
     for (seat, lines) in told {
@@ -175,23 +179,27 @@ fn open_seats(
     }
 }
 
-/// Runs each script in a thread of its own. Gives, once all have ended, what each was told and the log.
-pub(crate) fn run_scripts<R: Threads + Wait + Sync>(
+/// Runs each script in a thread of its own, and beside them so many workers, whose finds a client behind the scripts' proposes. Gives, once
+/// all have ended, what each script was told and the log.
+pub(crate) fn run_scripts<R: Threads + Wait + Sync + Clone + Send + Drop + 'static>(
     rt: &R,
     alloc: Global,
     indexed: Indexed,
     names: TextKeyed,
     scripts: Vec<Script>,
+    workers: u32,
     room: u32,
 ) -> Result<Vec<u8>, BenchFault>
-    requires { (0 < vec_len scripts) × (vec_len scripts ≤ 31) }
-    ensures told { IfOk result (λ text. AreTold indexed scripts.items text.items) }
-    ensures fault { IfErr result (λ fault. fault ≡ Replay NoMemory) }
+    requires scripts { (0 < vec_len scripts) × (vec_len scripts ≤ 31) }
+    requires workers { workers ≤ 16 }
+    ensures told { IfOk result (λ text. AreTold indexed scripts.items workers text.items) }
+    ensures fault { IfErr result (λ fault. IsRunFault workers fault) }
 {
     let shared = Arc::new(alloc, indexed)?;
-    let mut seats = open_seats(alloc, &shared, names, scripts.len() as u32, room)?;
+    let clients = scripts.len() as u32 + clients_beside(workers);
+    let mut seats = open_seats(alloc, &shared, names, clients, room)?;
     let jobs = seat_all(alloc, &mut seats, scripts)?;
-    let told = run_all(rt, alloc, &shared, jobs)?;
+    let told = run_beside(rt, alloc, &shared, &mut seats, jobs, workers)?;
     let mut out = Vec::new(alloc);
     give_all(&mut seats, told, &mut out)?;
     append_log(seats, &mut out)?;

@@ -1,5 +1,5 @@
 //! Runs several scripts on one trace at once: reads all texts, runs the scripts, and writes what they were told.
-ghost use Rattle.std.specs.Prelude.{◌≡◌, ◌<◌, ℕ, List, All, false, true, map, vec_len, IfErr, OnErr, OnOk, Err};
+ghost use Rattle.std.specs.Prelude.{◌≡◌, ◌<◌, ◌≤◌, ℕ, List, All, false, true, map, vec_len, IfErr, OnErr, OnOk, Err};
 ghost use Rattle.std.specs.Io.KnownBytes.{Appends};
 ghost use Rattle.client_scripts.specs.declared.fault.ReplayFault.TheVariants.{Write, Read};
 ghost use Rattle.client_scripts.specs.declared.fault.ReadCause.TheVariants.{Device};
@@ -25,17 +25,24 @@ use workspace_lock::BEST_ROOM;
 ///
 /// The scripts' seats pass a door with so much room (`workspace_lock::open_with_room`): more room, up to 32, mixes the clients'
 /// calls more, and takes longer. Nothing that is promised rests on it.
-pub fn threads_with_room<R: Threads + Wait + Sync, S: Source, Q: Source + Drop, K: Sink>(
+pub fn threads_with_room<
+    R: Threads + Wait + Sync + Clone + Send + Drop + 'static,
+    S: Source,
+    Q: Source + Drop,
+    K: Sink,
+>(
     rt: &R,
     alloc: Global,
     trace: &mut S,
     scripts: Vec<Q>,
+    workers: u32,
     room: u32,
     writer: &mut K,
 ) -> Result<(), BenchFault>
     requires trace { S.has_failed trace.old ≡ false }
     requires scripts { All (λ q. Q.has_failed q ≡ false) scripts.items }
     requires some { 0 < vec_len scripts }
+    requires workers { workers ≤ 16 }
     requires writer { K.has_failed writer.old ≡ false }
     // Where no write fails, nothing is written at a fault; and where one fails, that is the fault.
     ensures unwritten { OnErr result (K.has_failed writer.new ≡ false → K.taken writer.new ≡ K.taken writer.old) }
@@ -45,11 +52,11 @@ pub fn threads_with_room<R: Threads + Wait + Sync, S: Source, Q: Source + Drop, 
     ensures read_failed { S.has_failed trace.new ≡ true → result ≡ Err (Replay (Read 1 Device)) }
     // There is a text, the one that the reader tells where it tells it, of which what is written comes.
     ensures told { OnOk result ((bytes : List ℕ) × IsTold (S.rest trace.old) bytes × (text : List ℕ)
-        × RunsTogether bytes (map (λ q. Q.rest q) scripts.items) text × Appends (K.taken writer.old) (K.taken writer.new) text) }
+        × RunsTogether bytes (map (λ q. Q.rest q) scripts.items) workers text × Appends (K.taken writer.old) (K.taken writer.new) text) }
     // Too many scripts come before all other faults, then those of the trace, then that of the first script that has one.
     ensures most { 31 < vec_len scripts → result ≡ Err TooManyScripts }
     ensures too_many { result ≡ Err TooManyScripts → 31 < vec_len scripts }
-    ensures fault { IfErr result (λ fault. StopsRun (S.rest trace.old) (map (λ q. Q.rest q) scripts.items) (K.has_failed writer.new) fault) }
+    ensures fault { IfErr result (λ fault. StopsRun (S.rest trace.old) (map (λ q. Q.rest q) scripts.items) workers (K.has_failed writer.new) fault) }
 {
     if scripts.len() > MAX_SCRIPTS {
         return Err(BenchFault::TooManyScripts);
@@ -67,7 +74,7 @@ pub fn threads_with_room<R: Threads + Wait + Sync, S: Source, Q: Source + Drop, 
         Err(fault) => return Err(fault),
     };
     let names = read.keyed();
-    let told = match run_scripts(rt, alloc, indexed, names, read.scripts, room) {
+    let told = match run_scripts(rt, alloc, indexed, names, read.scripts, workers, room) {
         Ok(told) => told,
         Err(fault) => return Err(fault),
     };
@@ -78,26 +85,33 @@ pub fn threads_with_room<R: Threads + Wait + Sync, S: Source, Q: Source + Drop, 
 }
 
 /// The same with the room that is fastest.
-pub fn threads<R: Threads + Wait + Sync, S: Source, Q: Source + Drop, K: Sink>(
+pub fn threads<
+    R: Threads + Wait + Sync + Clone + Send + Drop + 'static,
+    S: Source,
+    Q: Source + Drop,
+    K: Sink,
+>(
     rt: &R,
     alloc: Global,
     trace: &mut S,
     scripts: Vec<Q>,
+    workers: u32,
     writer: &mut K,
 ) -> Result<(), BenchFault>
     requires trace { S.has_failed trace.old ≡ false }
     requires scripts { All (λ q. Q.has_failed q ≡ false) scripts.items }
     requires some { 0 < vec_len scripts }
+    requires workers { workers ≤ 16 }
     requires writer { K.has_failed writer.old ≡ false }
     ensures unwritten { OnErr result (K.has_failed writer.new ≡ false → K.taken writer.new ≡ K.taken writer.old) }
     ensures write_failed { K.has_failed writer.new ≡ true → result ≡ Err (Replay Write) }
     ensures device { result ≡ Err (Replay (Read 1 Device)) → S.has_failed trace.new ≡ true }
     ensures read_failed { S.has_failed trace.new ≡ true → result ≡ Err (Replay (Read 1 Device)) }
     ensures told { OnOk result ((bytes : List ℕ) × IsTold (S.rest trace.old) bytes × (text : List ℕ)
-        × RunsTogether bytes (map (λ q. Q.rest q) scripts.items) text × Appends (K.taken writer.old) (K.taken writer.new) text) }
+        × RunsTogether bytes (map (λ q. Q.rest q) scripts.items) workers text × Appends (K.taken writer.old) (K.taken writer.new) text) }
     ensures most { 31 < vec_len scripts → result ≡ Err TooManyScripts }
     ensures too_many { result ≡ Err TooManyScripts → 31 < vec_len scripts }
-    ensures fault { IfErr result (λ fault. StopsRun (S.rest trace.old) (map (λ q. Q.rest q) scripts.items) (K.has_failed writer.new) fault) }
+    ensures fault { IfErr result (λ fault. StopsRun (S.rest trace.old) (map (λ q. Q.rest q) scripts.items) workers (K.has_failed writer.new) fault) }
 {
-    threads_with_room(rt, alloc, trace, scripts, BEST_ROOM, writer)
+    threads_with_room(rt, alloc, trace, scripts, workers, BEST_ROOM, writer)
 }

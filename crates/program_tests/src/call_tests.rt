@@ -1,5 +1,7 @@
 //! What no clause says of `info` and `threads`: that ample memory gives an answer. Texts and faults are those of docs/FORMATS.md.
 
+ghost use Rattle.std.specs.Prelude.{◌≤◌};
+
 use client_scripts::{FromRead, FromWrite, ReadCause, ReplayFault, ScriptCause, ScriptRefusal};
 use program_calls::{BenchFault, bench_fault_text, info, threads};
 use rapid_text::{TextCause, TextRefusal};
@@ -61,13 +63,17 @@ fn what_a_trace_holds(rt: HostRuntime) {
     assert!(rt; stops(rt.alloc(), b"T1|acq(l)|\nT2|acq(l)|", held));
 }
 
-/// What `threads` answers of one script, with what it has written.
-fn threads_of<R: Threads + Wait + Sync>(
+/// What `threads` answers of one script on a trace, beside so many workers, with what it has written.
+fn threads_of<R: Threads + Wait + Sync + Clone + Send + Drop + 'static>(
     rt: &R,
     alloc: Global,
+    trace: &[u8],
     script: &[u8],
-) -> Result<(Result<(), BenchFault>, Vec<u8>), AllocError> {
-    let mut trace = FromRead::new(ONE_LOCK);
+    workers: u32,
+) -> Result<(Result<(), BenchFault>, Vec<u8>), AllocError>
+    requires { workers ≤ 16 }
+{
+    let mut trace = FromRead::new(trace);
     let mut scripts = Vec::new(alloc);
     scripts.push(FromRead::new(script))?;
     let mut written = Vec::new(alloc);
@@ -76,20 +82,21 @@ fn threads_of<R: Threads + Wait + Sync>(
         alloc,
         &mut trace,
         scripts,
+        workers,
         &mut FromWrite::new(&mut written),
     );
     Ok((answer, written))
 }
 
-/// Whether `threads` answers this, and has written just this.
-fn threads_give<R: Threads + Wait + Sync>(
+/// Whether `threads` answers this without workers, and has written just this.
+fn threads_give<R: Threads + Wait + Sync + Clone + Send + Drop + 'static>(
     rt: &R,
     alloc: Global,
     script: &[u8],
     wanted: Result<(), BenchFault>,
     text: &[u8],
 ) -> bool {
-    match threads_of(rt, alloc, script) {
+    match threads_of(rt, alloc, ONE_LOCK, script, 0) {
         Ok((answer, written)) => answer == wanted && written.as_slice() == text,
         Err(_) => false,
     }
@@ -114,6 +121,29 @@ fn one_script_in_a_thread(rt: HostRuntime) {
     assert!(rt; threads_give(&rt, rt.alloc(), b"", Ok(()), b"client 1\nlog 0\n"));
     assert!(rt; threads_give(&rt, rt.alloc(), b"1 list\n2 list\n", Err(stranger), b""));
     assert!(rt; threads_give(&rt, rt.alloc(), b"1 New A\n", Err(bad_word), b""));
+}
+
+/// Whether a worker beside the script has this written.
+fn worker_gives<R: Threads + Wait + Sync + Clone + Send + Drop + 'static>(
+    rt: &R,
+    alloc: Global,
+    trace: &[u8],
+    script: &[u8],
+    text: &[u8],
+) -> bool {
+    match threads_of(rt, alloc, trace, script, 1) {
+        Ok((answer, written)) => answer == Ok(()) && written.as_slice() == text,
+        Err(_) => false,
+    }
+}
+
+#[test]
+fn a_worker_slices_and_a_further_client_proposes(rt: HostRuntime) {
+    let two_pairs = b"T1|w(x)|1\nT2|r(x)|2\nT2|w(z)|3\nT1|w(z)|4\n";
+    let proposed = b"client 1\nlog 2\n0 2 propose 0 1\n1 2 propose 2 3 0 1\n";
+    let alone = b"client 1\n0: done\nlog 1\n0 1 new A\n";
+    assert!(rt; worker_gives(&rt, rt.alloc(), two_pairs, b"", proposed));
+    assert!(rt; worker_gives(&rt, rt.alloc(), ONE_LOCK, b"1 new A\n", alone));
 }
 
 /// Whether the fault's text and its message are these.

@@ -4,7 +4,7 @@ use crate::input::{Watched, input_at, inputs_at};
 use crate::stop::{Stop, in_files, in_joint, say};
 use crate::words::no_script;
 use client_scripts::{FromWrite, ReplayFault, replay, replay_joint};
-use program_calls::{BenchFault, MAX_SCRIPTS, info, threads_with_room};
+use program_calls::{BenchFault, MAX_SCRIPTS, MAX_WORKERS, info, threads_with_room};
 use std::io;
 use std::sync::Wait;
 use std::thread::Threads;
@@ -55,12 +55,13 @@ pub(crate) fn replay_files<'a>(
     }
 }
 
-/// Runs the scripts in files on the trace in another, each in a thread of its own; the trace's path is the first. More scripts than
-/// there are clients for are refused before a file is opened.
-pub(crate) fn threads_on_files<R: Threads + Wait + Sync>(
+/// Runs the scripts in files on the trace in another, each in a thread of its own, beside so many workers; the trace's path is the
+/// first. More scripts than there are clients for are refused before a file is opened.
+pub(crate) fn threads_on_files<R: Threads + Wait + Sync + Clone + Send + Drop + 'static>(
     rt: &HostRuntime,
     starts: &R,
     paths: &[&str],
+    workers: u32,
     room: u32,
 ) -> Result<(), Stop> {
     let Some((trace, scripts)) = paths.split_first() else {
@@ -75,11 +76,13 @@ pub(crate) fn threads_on_files<R: Threads + Wait + Sync>(
     let mut trace_file = input_at(rt, trace);
     let inputs = inputs_at(rt, scripts)?;
     let mut writer = FromWrite::new(io::writer(rt));
+    // The words name no more workers than there may be.
     match threads_with_room(
         starts,
         rt.alloc(),
         &mut trace_file,
         inputs,
+        workers.min(MAX_WORKERS),
         room,
         &mut writer,
     ) {

@@ -28,13 +28,20 @@ fn read_words(rt: &HostRuntime) -> Result<Vec<String>, Stop> {
 }
 
 /// Does what the words ask for. What starts threads is passed beside the rest, since it is given to `main` alone.
-fn work<R: Threads + Wait + Sync>(rt: &HostRuntime, starts: &R) -> Result<(), Stop> {
+fn work<R: Threads + Wait + Sync + Clone + Send + Drop + 'static>(
+    rt: &HostRuntime,
+    starts: &R,
+) -> Result<(), Stop> {
     let words = read_words(rt)?;
     match task_of(rt.alloc(), words.as_slice())? {
         Task::Joint => replay_input(rt),
         Task::Info(path) => info_of_file(rt, path),
         Task::Replay(trace, script) => replay_files(rt, trace, script),
-        Task::Threads(paths, room) => threads_on_files(rt, starts, &paths, room),
+        Task::Threads {
+            paths,
+            workers,
+            room,
+        } => threads_on_files(rt, starts, &paths, workers, room),
     }
 }
 

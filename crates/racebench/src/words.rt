@@ -2,7 +2,7 @@
 
 use clap::error::{Error, ErrorKind};
 use clap::{Arg, ArgAction, ArgMatches, Command, value_parser};
-use program_calls::BEST_ROOM;
+use program_calls::{BEST_ROOM, MAX_WORKERS};
 use std::alloc::{AllocError, Global};
 
 /// What the words ask for.
@@ -13,8 +13,15 @@ pub(crate) enum Task<'a> {
     Info(&'a str),
     /// The script in the second file, on the trace in the first.
     Replay(&'a str, &'a str),
-    /// The scripts in the other files at once, on the trace in the first, with so much room before the lock.
-    Threads(Vec<&'a str>, u32),
+    /// The scripts in the other files at once, on the trace in the first.
+    Threads {
+        /// The paths, that of the trace first.
+        paths: Vec<&'a str>,
+        /// How many workers slice candidates meanwhile.
+        workers: u32,
+        /// How many seats at a time may queue for the lock.
+        room: u32,
+    },
 }
 
 const VERSION: &str = "0.1.0";
@@ -49,9 +56,12 @@ const THREADS_EXAMPLE: &str = "For example
 
 Script i is client i's: each of its lines begins with the number i. There may be 31 scripts. Once
 all have ended, a line `client i` and the answers to its calls are printed for each, and then the
-log, in whose order the calls were made. That order may be another at each run.";
+log, in whose order the calls were made. That order may be another at each run.
 
-const WORKERS: &str = "How many workers search for witnesses; so far only 0 is taken";
+With workers a client behind those of the scripts proposes, while they run, the slice of each of
+the first 64 candidates: the least that has to come before the pair.";
+
+const WORKERS: &str = "How many workers slice candidates meanwhile, from 0 to 16";
 
 /// The line of the help behind which the commands of a script stand, each with its arguments and what it does.
 pub(crate) const LISTED_BEHIND: &[u8] = b"Behind the client a line of a script has one of";
@@ -114,7 +124,7 @@ fn threads_words<'a>(alloc: Global) -> Result<Command<'a>, AllocError> {
     let workers = Arg::new(alloc, "workers")
         .long("workers")
         .value_name("N")
-        .value_parser(value_parser!(u32).range(0..=0))
+        .value_parser(value_parser!(u32).range(0..=MAX_WORKERS as i64))
         .default_value("0")
         .help(WORKERS);
     // It is for the tests, which judge how calls are mixed: help does not name it.
@@ -173,8 +183,11 @@ fn threads_task<'a>(alloc: Global, given: &ArgMatches<'a>) -> Result<Task<'a>, E
     let mut paths = Vec::new(alloc);
     paths.push(word(given, "TRACE"))?;
     paths.extend_from_slice(given.get_strs("SCRIPT").unwrap_or(&[]))?;
-    let room = given.get_one::<u32>("room").unwrap_or(BEST_ROOM);
-    Ok(Task::Threads(paths, room))
+    Ok(Task::Threads {
+        paths,
+        workers: given.get_one::<u32>("workers").unwrap_or(0),
+        room: given.get_one::<u32>("room").unwrap_or(BEST_ROOM),
+    })
 }
 
 /// What the words ask for, of which the first is the program's name; or why they are refused, or help.

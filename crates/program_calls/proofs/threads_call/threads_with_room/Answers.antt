@@ -4,14 +4,14 @@ use Rattle.program_calls.proofs.ThreadsLemmas.{err_is, not_the_trace, stopped-in
 use Rattle.program_calls.proofs.threads_call.threads_with_room.Goals as goal
 
 pub returns-in-Err-clause-fault : goal.returns-in-Err-clause-fault
-returns-in-Err-clause-fault g c = stopped-input _ _ _ c.in-Err.fault c.in-Err.ensures.input
+returns-in-Err-clause-fault g c = stopped-input _ _ _ _ c.in-Err.fault c.in-Err.ensures.input
 
 pub returns-in-Err-read_scripts-clause-fault : goal.returns-in-Err-read_scripts-clause-fault
 returns-in-Err-read_scripts-clause-fault g c =
     let input = c.in-Ok.ensures.input in
     let bytes = c.in-Ok.text.items in
     let trace = c.in-Ok-load.indexed in
-    stopped-scripts _ _ _ bytes trace _ input.0 input.1 (loaded bytes c.deref.result.now trace c.deref.ensures.value c.in-Ok-load.ensures) c.in-Err-read_scripts.ensures.fault
+    stopped-scripts _ _ _ _ bytes trace _ input.0 input.1 (loaded bytes c.deref.result.now trace c.deref.ensures.value c.in-Ok-load.ensures) c.in-Err-read_scripts.ensures.fault
 
 pub returns-clause-told : goal.returns-clause-told
 returns-clause-told g c =
