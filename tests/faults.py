@@ -2,7 +2,8 @@
 
 Each run has to write what is wanted, or to end with the fault's status and text after a beginning of it, and to write nothing else:
   an allocation    `out of memory`; in a thread the call's line may say so, and the others go on; beside workers one slice may not be
-                   proposed, whose worker wanted memory; or only notes are missing, as below
+                   proposed, whose worker wanted memory; or `no thread`, where the system wanted it to start one; or only notes are
+                   missing, as below
   a read, a file   `read failed` and nothing on standard output; or only notes are missing, for which a file is read once more
   a write          `write failed`; or only standard error is cut, where the fault's own text could not be written
   a thread         what is wanted, since another thread makes the calls of such a script; or, where workers are asked for, `no thread`
@@ -107,6 +108,8 @@ def is_right(run, wanted, kind, how):
     if kind == "thread":
         return wanted.has_workers and has_fault(run, b"no thread") and not run.out
     if kind == "memory":
+        if wanted.has_workers and has_fault(run, b"no thread") and not run.out:
+            return True
         if (wanted.in_threads and is_told_in_threads(run, wanted)) or (wanted.has_workers and lacks_a_slice(run, wanted)):
             return True
         is_told = has_fault(run, b"out of memory") and wanted.out.startswith(run.out) and not (wanted.in_threads and run.out)
