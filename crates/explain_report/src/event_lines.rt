@@ -1,5 +1,5 @@
 //! The lines of events.
-ghost use Rattle.std.specs.Prelude.{◌≡◌, ◌<◌, ◌++◌, length, All, OnOk, IfSome, codes};
+ghost use Rattle.std.specs.Prelude.{◌≡◌, ◌<◌, ◌++◌, [], length, slice_index_or, All, OnOk, IfSome, codes};
 ghost use Rattle.rapid_text.specs.Canonical.{event_text, op_text};
 ghost use Rattle.rapid_text.specs.Recording.{IsNamed, IsNamedOp};
 ghost use Rattle.explain_report.specs.EventLines.{event_line, event_lines, numbered_line, numbered_lines};
@@ -142,7 +142,9 @@ pub(crate) fn append_lock(
     out: &mut Vec<u8>,
     indexed: &Indexed,
     lock: u32,
-) -> Result<(), OutOfMemory> {
+) -> Result<(), OutOfMemory>
+    ensures { OnOk result (out.new.items ≡ out.old.items ++ slice_index_or indexed.now.locks lock []) }
+{
     let raw = indexed.trace().raw();
     if lock < raw.locks() {
         append_words(out, raw.lock_name(lock))?;

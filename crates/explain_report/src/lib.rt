@@ -4,7 +4,6 @@
 mod apart;
 mod chains;
 mod event_lines;
-mod forcing;
 mod holds;
 mod pieces;
 mod runs;
@@ -13,7 +12,6 @@ mod verdict;
 mod waiting;
 mod witness;
 
-pub use forcing::must_chains;
 pub use shb_order::shb_chain;
 pub use verdict::{How, Verdict, explain_text};
 pub use witness::{Form, witness_text};

@@ -1,5 +1,6 @@
 //! Words, numbers and blanks.
 ghost use Rattle.std.specs.Prelude.{◌≡◌, ◌++◌, OnOk, decimal};
+ghost use Rattle.explain_report.specs.Verdicts.{count_text, plural};
 
 use itoa::Buffer;
 use rapid_text::OutOfMemory;
@@ -22,18 +23,21 @@ pub(crate) fn append_number(out: &mut Vec<u8>, number: u64) -> Result<(), OutOfM
 }
 
 /// Appends the number and what is counted, in the plural where it is not one.
-pub(crate) fn append_count(
-    out: &mut Vec<u8>,
-    number: u64,
-    words: &[u8],
-) -> Result<(), OutOfMemory> {
+pub(crate) fn append_count(out: &mut Vec<u8>, number: u64, words: &[u8]) -> Result<(), OutOfMemory>
+    ensures { OnOk result (out.new.items ≡ out.old.items ++ count_text number words.now) }
+{
     append_number(out, number)?;
     append_words(out, b" ")?;
     append_words(out, words)?;
-    if number != 1 {
-        append_words(out, b"s")?;
-    }
+    append_words(out, plural_of(number))?;
     Ok(())
+}
+
+/// What stands behind the word for a thing where there are so many.
+fn plural_of(number: u64) -> &'static [u8]
+    ensures { result.now ≡ plural number }
+{
+    if number == 1 { b"" } else { b"s" }
 }
 
 /// Appends two blanks for each step of depth.

@@ -1,7 +1,11 @@
 //! Prints what is known of a pair of conflicting events, and why.
 ghost use Rattle.std.specs.Prelude.{◌≡◌, ◌++◌, List, ℕ, OnOk, OnErr};
+ghost use Rattle.explain_report.specs.Verdicts.{how_text, race_head, verdict_head};
 
-use crate::apart::{append_forced, append_guarded, append_undecided};
+use crate::apart::{
+    append_forced, append_forced_head, append_guarded, append_guarded_head, append_undecided,
+    append_undecided_head,
+};
 use crate::event_lines::append_line;
 use crate::holds::append_holds;
 use crate::pieces::{append_count, append_words};
@@ -60,16 +64,39 @@ pub fn explain_text(
     all: bool,
     out: &mut Vec<u8>,
 ) -> Result<(), OutOfMemory>
-    ensures ok { OnOk result ((text : List ℕ) × (out.new.items ≡ out.old.items ++ text)) }
+    // The text begins with the verdict.
+    ensures ok { OnOk result ((rest : List ℕ) × (out.new.items ≡ out.old.items ++ (verdict_head indexed.now verdict.now first second ++ rest))) }
     ensures err { OnErr result (out.new.items ≡ out.old.items) }
 {
     let mut text = Vec::new(*out.allocator());
-    append_verdict(&mut text, indexed, verdict, first, second, all)?;
-    out.extend_from_slice(&text)?;
+    append_head(&mut text, indexed, verdict, first, second)?;
+    let mut rest = Vec::new(*out.allocator());
+    append_rest(&mut rest, indexed, verdict, first, second, all)?;
+    text.extend_from_slice(rest.as_slice())?;
+    out.extend_from_slice(text.as_slice())?;
     Ok(())
 }
 
-fn append_verdict(
+/// Appends the words of the verdict.
+fn append_head(
+    out: &mut Vec<u8>,
+    indexed: &Indexed,
+    verdict: &Verdict<'_>,
+    first: u32,
+    second: u32,
+) -> Result<(), OutOfMemory>
+    ensures { OnOk result (out.new.items ≡ out.old.items ++ verdict_head indexed.now verdict.now first second) }
+{
+    match *verdict {
+        Verdict::Race { how, events } => append_race_head(out, how, events.len() as u64),
+        Verdict::Forced { chains: _ } => append_forced_head(out, first, second),
+        Verdict::Guarded { lock } => append_guarded_head(out, indexed, lock),
+        Verdict::Undecided { events: _ } => append_undecided_head(out),
+    }
+}
+
+/// Appends what stands behind the words of the verdict.
+fn append_rest(
     out: &mut Vec<u8>,
     indexed: &Indexed,
     verdict: &Verdict<'_>,
@@ -78,30 +105,34 @@ fn append_verdict(
     all: bool,
 ) -> Result<(), OutOfMemory> {
     match *verdict {
-        Verdict::Race { how, events } => {
-            append_race(out, indexed, how, events, first, second, all)
-        }
+        Verdict::Race { how: _, events } => append_race(out, indexed, events, first, second, all),
         Verdict::Forced { chains } => append_forced(out, indexed, chains, first, second),
         Verdict::Guarded { lock } => append_guarded(out, indexed, lock, first, second),
         Verdict::Undecided { events } => append_undecided(out, indexed, events, first, second),
     }
 }
 
-/// Appends a race, by the runs of its schedule.
+/// Appends that the pair is a race, and behind how many events.
+fn append_race_head(out: &mut Vec<u8>, how: How, events: u64) -> Result<(), OutOfMemory>
+    ensures { OnOk result (out.new.items ≡ out.old.items ++ race_head how events) }
+{
+    append_words(out, how_words(how))?;
+    append_words(out, b": after ")?;
+    append_count(out, events, b"event")?;
+    append_words(out, b" in ")?;
+    Ok(())
+}
+
+/// Appends in how many runs a schedule stands, the two events, and the runs.
 fn append_race(
     out: &mut Vec<u8>,
     indexed: &Indexed,
-    how: How,
     events: &[u32],
     first: u32,
     second: u32,
     all: bool,
 ) -> Result<(), OutOfMemory> {
     let runs = runs_of(*out.allocator(), indexed, events)?;
-    append_words(out, how_words(how))?;
-    append_words(out, b": after ")?;
-    append_count(out, events.len() as u64, b"event")?;
-    append_words(out, b" in ")?;
     append_count(out, runs.len() as u64, b"run")?;
     append_words(out, b" both can come next\n")?;
     append_access(out, indexed, first)?;
@@ -109,7 +140,9 @@ fn append_race(
     append_runs(out, indexed, events, runs.as_slice(), all)
 }
 
-fn how_words(how: How) -> &'static [u8] {
+fn how_words(how: How) -> &'static [u8]
+    ensures { result.now ≡ how_text how }
+{
     match how {
         How::Candidate => b"race candidate",
         How::Beyond => b"race beyond",

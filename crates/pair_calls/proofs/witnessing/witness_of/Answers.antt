@@ -1,0 +1,12 @@
+use Rattle.std.proofs.Common.{◌≡◌, [], rules}
+use Rattle.pair_calls.proofs.AnswerLemmas.{unlisted-unwitnessed, witness-text}
+use Rattle.pair_calls.proofs.witnessing.witness_of.Goals as goal
+
+pub returns-in-Err-clause-fault : goal.returns-in-Err-clause-fault
+returns-in-Err-clause-fault c =
+    unlisted-unwitnessed c.args.indexed.now c.args.one c.args.other c.in-Some.first c.in-Some.second (c.in-Some.ensures.first, c.in-Some.ensures.second) c.in-Err.fault c.in-Err.ensures.unlisted
+
+pub returns-clause-text : goal.returns-clause-text
+returns-clause-text c =
+    let none : c.new-text.result.items ≡ [] = search rules in
+    witness-text c.args.indexed.now c.args.one c.args.other c.in-Some.first c.in-Some.second c.args.form (c.in-Some.ensures.first, c.in-Some.ensures.second) c.in-Ok.events c.items.result.now _ _ c.in-Ok.ensures.listed c.items.ensures none c.in_ok-witness_text.ensures.ok

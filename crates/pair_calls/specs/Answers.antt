@@ -1,0 +1,138 @@
+-- What a call on a pair answers of the bytes that it reads, and what its writer has taken. `one` and `other` are the pair as it is
+-- given, `a` the earlier of the two, `b` the later. All notions here are this project's own.
+use Rattle.std.specs.Prelude.{◌≡◌, ◌⊎◌, ℕ, List, ◌++◌, length, min, max, None, Option, Result, Ok, Err, IfSome, ⊤}
+use Rattle.std.specs.Io.KnownBytes.{Appends}
+use Rattle.rapid_text.specs.Recording.{Recording}
+use Rattle.event_index.specs.Relations.{IsConflicting}
+use Rattle.must_order.specs.Kinds.{IsKind}
+use Rattle.must_order.specs.declared.kind.Kind.{Kind}
+use Rattle.must_order.specs.declared.kind.Kind.TheVariants.{Candidate as CandidateKind, Forced as ForcedKind, Guarded as GuardedKind, Open as OpenKind}
+use Rattle.in_order.specs.Orders.{IsTurned}
+use Rattle.in_order.specs.Refusals.{IsNeverShownInOrder}
+use Rattle.explain_report.specs.Verdicts.{race_head, forced_head, guarded_head, undecided_head}
+use Rattle.explain_report.specs.Witnesses.{witness_lines}
+use Rattle.explain_report.specs.declared.verdict.How.{How}
+use Rattle.explain_report.specs.declared.witness.Form.{Form}
+use Rattle.pair_findings.specs.Findings.{IsFinding, IsNeverShown, IsShownByNone}
+use Rattle.pair_findings.specs.declared.finding.Finding.{Finding}
+use Rattle.pair_findings.specs.declared.finding.Finding.TheVariants.{Race, Forced, Guarded, Undecided}
+use Rattle.pair_findings.specs.declared.searching.TheConstants.{BUDGET}
+use Rattle.client_scripts.specs.Replay.{AppendsPart, IsFault, IsShort, of_trace}
+use Rattle.client_scripts.specs.Traces.{trace_of}
+use Rattle.client_scripts.specs.declared.fault.ReplayFault.{ReplayFault}
+use Rattle.client_scripts.specs.declared.fault.ReplayFault.TheVariants.{Write, OutOfMemory}
+use Rattle.pair_calls.specs.declared.fault.PairFault.{PairFault}
+use Rattle.pair_calls.specs.declared.fault.PairFault.TheVariants.{Replay, NoSuchPair, NotShown}
+
+-- a and b are the two events, the earlier first
+abbrev pub IsPairOf : ℕ → ℕ → ℕ → ℕ → Type 0
+IsPairOf one other a b = (a ≡ min one other) × (b ≡ max one other)
+
+-- the words with which a finding is told
+abbrev pub finding_head : Recording → Finding → ℕ → ℕ → List ℕ
+finding_head r (Race how events) a b = race_head how (length events)
+finding_head r (Forced chains) a b = forced_head a b
+finding_head r (Guarded lock) a b = guarded_head r lock
+finding_head r (Undecided events) a b = undecided_head
+
+-- The text tells a right finding on the pair, in its first words; what stands behind them is presentation.
+pub record IsExplanation (r : Recording) (one other : ℕ) (text : List ℕ) : Type 0 where
+  pub a : ℕ
+  pub b : ℕ
+  pub pair : IsPairOf one other a b
+  pub finding : Finding
+  pub found : IsFinding r a b finding
+  pub never : IsNeverShown r.events a b finding
+  pub rest : List ℕ
+  pub printed : text ≡ finding_head r finding a b ++ rest
+
+-- the text prints, in this form, a correct reordering that shows the pair
+pub record IsWitness (r : Recording) (one other : ℕ) (form : Form) (text : List ℕ) : Type 0 where
+  pub a : ℕ
+  pub b : ℕ
+  pub pair : IsPairOf one other a b
+  pub how : How
+  pub events : List ℕ
+  pub found : IsFinding r a b (Race how events)
+  pub printed : text ≡ witness_lines r events a b form
+
+-- no schedule is printed of a pair of this kind: there is none, or none in the order of the trace, and none was found
+abbrev pub IsNotShown : Recording → ℕ → ℕ → Kind → Type 0
+IsNotShown r a b CandidateKind = ⊥
+IsNotShown r a b ForcedKind = IsKind r a b ForcedKind × IsShownByNone r.events a b
+IsNotShown r a b GuardedKind = IsKind r a b GuardedKind × IsShownByNone r.events a b
+IsNotShown r a b OpenKind = IsKind r a b OpenKind × IsNeverShownInOrder r.events a b × IsTurned r.events a b BUDGET None
+
+-- these events are a correct reordering that shows the pair
+abbrev pub IsListed : Recording → ℕ → ℕ → List ℕ → Type 0
+IsListed r a b events = (how : How) × IsFinding r a b (Race how events)
+
+-- why there are none
+abbrev pub IsUnlisted : Recording → ℕ → ℕ → PairFault → Type 0
+IsUnlisted r a b (Replay OutOfMemory) = ⊤
+IsUnlisted r a b (Replay fault) = ⊥
+IsUnlisted r a b NoSuchPair = ⊥
+IsUnlisted r a b (NotShown kind) = IsNotShown r a b kind
+
+-- one of the two is no event, or they do not conflict
+abbrev pub IsNoPair : Recording → ℕ → ℕ → Type 0
+IsNoPair r one other = ¬ IsConflicting r.events (min one other) (max one other)
+
+-- why a pair of this trace is not explained
+abbrev pub IsUnexplained : Recording → ℕ → ℕ → PairFault → Type 0
+IsUnexplained r one other (Replay OutOfMemory) = ⊤
+IsUnexplained r one other (Replay fault) = ⊥
+IsUnexplained r one other NoSuchPair = IsNoPair r one other
+IsUnexplained r one other (NotShown kind) = ⊥
+
+-- why no schedule of it is printed
+abbrev pub IsUnwitnessed : Recording → ℕ → ℕ → PairFault → Type 0
+IsUnwitnessed r one other (Replay OutOfMemory) = ⊤
+IsUnwitnessed r one other (Replay fault) = ⊥
+IsUnwitnessed r one other NoSuchPair = IsNoPair r one other
+IsUnwitnessed r one other (NotShown kind) = (a b : ℕ) × IsPairOf one other a b × IsNotShown r a b kind
+
+-- What was written of a trace where `Prints` says which texts are right, and `Refuses` which faults: the whole text; or the writer
+-- failed, and it is a beginning of the text; or, at another fault, nothing.
+abbrev pub IsWritten : (Recording → List ℕ → Type 0) → (Recording → PairFault → Type 0) → Recording → Option (List ℕ) → Option (List ℕ) → Result Unit PairFault → Type 0
+IsWritten Prints Refuses r old new (Ok done) = (text : List ℕ) × Prints r text × Appends old new text
+IsWritten Prints Refuses r old new (Err (Replay Write)) = (text : List ℕ) × Prints r text × AppendsPart old new text
+IsWritten Prints Refuses r old new (Err fault) = Refuses r fault × (new ≡ old)
+
+-- The bytes are of the trace r.
+abbrev pub IsRead : List ℕ → Recording → Type 0
+IsRead bytes r = IsShort bytes × (trace_of bytes ≡ Ok r)
+
+-- The bytes are those that the reader tells, where it tells them.
+abbrev pub IsTold : Option (List ℕ) → List ℕ → Type 0
+IsTold rest bytes = IfSome rest (λ told. bytes ≡ told)
+
+-- the trace was read
+abbrev pub IsReadFrom : Option (List ℕ) → Recording → Type 0
+IsReadFrom rest r = (bytes : List ℕ) × IsTold rest bytes × IsRead bytes r
+
+-- or was not, for this fault of its bytes or for want of memory
+abbrev pub IsUnread : Option (List ℕ) → ReplayFault → Type 0
+IsUnread rest fault = (bytes : List ℕ) × IsTold rest bytes × ((fault ≡ OutOfMemory) ⊎ IsFault (of_trace bytes) fault)
+
+-- The same of the trace that the bytes say; at a fault of theirs nothing was written.
+abbrev pub IsAnswered : (Recording → List ℕ → Type 0) → (Recording → PairFault → Type 0) → List ℕ → Option (List ℕ) → Option (List ℕ) → Result Unit PairFault → Type 0
+IsAnswered Prints Refuses bytes old new (Ok done) = (r : Recording) × IsRead bytes r × IsWritten Prints Refuses r old new (Ok done)
+IsAnswered Prints Refuses bytes old new (Err (Replay Write)) =
+    (r : Recording) × IsRead bytes r × IsWritten Prints Refuses r old new (Err (Replay Write))
+IsAnswered Prints Refuses bytes old new (Err (Replay OutOfMemory)) = new ≡ old
+IsAnswered Prints Refuses bytes old new (Err (Replay fault)) = IsFault (of_trace bytes) fault × (new ≡ old)
+IsAnswered Prints Refuses bytes old new (Err NoSuchPair) =
+    (r : Recording) × IsRead bytes r × IsWritten Prints Refuses r old new (Err NoSuchPair)
+IsAnswered Prints Refuses bytes old new (Err (NotShown kind)) =
+    (r : Recording) × IsRead bytes r × IsWritten Prints Refuses r old new (Err (NotShown kind))
+
+-- what `explain` answers of the pair
+abbrev pub IsExplained : List ℕ → ℕ → ℕ → Option (List ℕ) → Option (List ℕ) → Result Unit PairFault → Type 0
+IsExplained bytes one other old new result =
+    IsAnswered (λ r text. IsExplanation r one other text) (λ r fault. IsUnexplained r one other fault) bytes old new result
+
+-- what `witness` answers of the pair, in this form
+abbrev pub IsWitnessed : List ℕ → ℕ → ℕ → Form → Option (List ℕ) → Option (List ℕ) → Result Unit PairFault → Type 0
+IsWitnessed bytes one other form old new result =
+    IsAnswered (λ r text. IsWitness r one other form text) (λ r fault. IsUnwitnessed r one other fault) bytes old new result

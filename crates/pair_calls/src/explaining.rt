@@ -1,0 +1,151 @@
+//! Explains a pair: reads the trace, finds what is to be said of the pair, makes the text, and writes it.
+ghost use Rattle.std.specs.Prelude.{◌≡◌, ◌≢◌, ◌<◌, ◌++◌, ℕ, List, length, false, true, IfSome, IfOk, IfErr, OnOk, Err};
+ghost use Rattle.client_scripts.specs.declared.fault.ReadCause.{ReadCause};
+ghost use Rattle.client_scripts.specs.declared.fault.ReadCause.TheVariants.{Device};
+ghost use Rattle.client_scripts.specs.declared.fault.ReplayFault.TheVariants.{Write, Read};
+ghost use Rattle.event_index.specs.Relations.{IsConflicting};
+ghost use Rattle.pair_findings.specs.Findings.{IsFinding, IsNeverShown};
+ghost use Rattle.pair_calls.specs.Answers.{IsExplained, IsExplanation, IsUnexplained, IsWritten, finding_head};
+ghost use Rattle.pair_calls.specs.declared.fault.PairFault.TheVariants.{Replay};
+
+use crate::fault::PairFault;
+use crate::reading::read_trace;
+use crate::writing::write_text;
+use client_scripts::{Sink, Source};
+use event_index::Indexed;
+use explain_report::{Verdict, explain_text};
+use must_order::Must;
+use pair_findings::{Finding, find, pair_of};
+use rapid_text::OutOfMemory;
+use shb_clocks::Clocks;
+use std::alloc::Global;
+
+/// What is found of a conflicting pair, whose earlier event is the first.
+pub(crate) fn finding_of(
+    alloc: Global,
+    indexed: &Indexed,
+    first: u32,
+    second: u32,
+) -> Result<Finding, OutOfMemory>
+    requires first { first < length indexed.now.events }
+    requires second { second < length indexed.now.events }
+    requires conflict { IsConflicting indexed.now.events first second }
+    ensures finding { IfOk result (IsFinding indexed.now first second) }
+    ensures never { IfOk result (IsNeverShown indexed.now.events first second) }
+{
+    let clocks = Clocks::new(alloc, indexed)?;
+    let must = Must::new(alloc, indexed)?;
+    find(alloc, indexed, &clocks, &must, first, second)
+}
+
+/// Appends what was found of the pair.
+fn append_finding(
+    text: &mut Vec<u8>,
+    indexed: &Indexed,
+    finding: &Finding,
+    first: u32,
+    second: u32,
+    all: bool,
+) -> Result<(), OutOfMemory>
+    ensures { OnOk result ((rest : List ℕ) × (text.new.items ≡ text.old.items ++ (finding_head indexed.now finding.now first second ++ rest))) }
+{
+    match finding {
+        Finding::Race { how, events } => {
+            let verdict = Verdict::Race {
+                how: *how,
+                events: events.items(),
+            };
+            explain_text(indexed, &verdict, first, second, all, text)?;
+        }
+        Finding::Forced { chains } => {
+            let verdict = Verdict::Forced { chains };
+            explain_text(indexed, &verdict, first, second, all, text)?;
+        }
+        Finding::Guarded { lock } => {
+            let verdict = Verdict::Guarded { lock: *lock };
+            explain_text(indexed, &verdict, first, second, all, text)?;
+        }
+        Finding::Undecided { events } => {
+            let verdict = Verdict::Undecided { events };
+            explain_text(indexed, &verdict, first, second, all, text)?;
+        }
+    }
+    Ok(())
+}
+
+/// The text that explains the pair.
+fn explanation_of(
+    alloc: Global,
+    indexed: &Indexed,
+    one: u32,
+    other: u32,
+    all: bool,
+) -> Result<Vec<u8>, PairFault>
+    ensures text { IfOk result (λ text. IsExplanation indexed.now one other text.items) }
+    ensures fault { IfErr result (IsUnexplained indexed.now one other) }
+{
+    let Some((first, second)) = pair_of(indexed, one, other) else {
+        return Err(PairFault::NoSuchPair);
+    };
+    let finding = finding_of(alloc, indexed, first, second)?;
+    let mut text = Vec::new(alloc);
+    append_finding(&mut text, indexed, &finding, first, second, all)?;
+    Ok(text)
+}
+
+/// Writes the text that explains the pair.
+fn write_explanation<K: Sink>(
+    alloc: Global,
+    indexed: &Indexed,
+    one: u32,
+    other: u32,
+    all: bool,
+    writer: &mut K,
+) -> Result<(), PairFault>
+    requires { K.has_failed writer.old ≡ false }
+    ensures written { IsWritten (λ r text. IsExplanation r one other text) (λ r fault. IsUnexplained r one other fault)
+        indexed.now (K.taken writer.old) (K.taken writer.new) result }
+    ensures unread { (input : ℕ) (why : ReadCause) → result ≢ Err (Replay (Read input why)) }
+    ensures failed { K.has_failed writer.new ≡ true → result ≡ Err (Replay Write) }
+    ensures write { result ≡ Err (Replay Write) → K.has_failed writer.new ≡ true }
+{
+    let text = match explanation_of(alloc, indexed, one, other, all) {
+        Ok(text) => text,
+        Err(fault) => return Err(fault),
+    };
+    write_text(writer, text.as_slice())
+}
+
+/// Reads a trace text, whole, and writes what is found of the pair of these two events, given in either order: a schedule that
+/// shows it, told by its runs; what keeps the two apart in every correct reordering of this trace; or that neither was found.
+/// Of a schedule of more than eleven runs the first are one block, unless `all` is true.
+///
+/// Before the faults 91, 92, 94 and 98 nothing is written, nor where memory is refused. At 95 what was written is a beginning of
+/// the text.
+pub fn explain<S: Source, K: Sink>(
+    alloc: Global,
+    reader: &mut S,
+    one: u32,
+    other: u32,
+    all: bool,
+    writer: &mut K,
+) -> Result<(), PairFault>
+    requires reader { S.has_failed reader.old ≡ false }
+    requires writer { K.has_failed writer.old ≡ false }
+    // There is a text, the one that the reader tells where it tells it, of which this comes.
+    ensures explained { (bytes : List ℕ)
+        × IfSome (S.rest reader.old) (λ told. bytes ≡ told)
+        × IsExplained bytes one other (K.taken writer.old) (K.taken writer.new) result }
+    // There is one input, and no second one is named.
+    ensures input { (why : ReadCause) → result ≢ Err (Replay (Read 2 why)) }
+    // The device is at fault exactly where a read failed, and the writer exactly where a write failed.
+    ensures device { result ≡ Err (Replay (Read 1 Device)) → S.has_failed reader.new ≡ true }
+    ensures read_failed { S.has_failed reader.new ≡ true → result ≡ Err (Replay (Read 1 Device)) }
+    ensures write { result ≡ Err (Replay Write) → K.has_failed writer.new ≡ true }
+    ensures write_failed { K.has_failed writer.new ≡ true → result ≡ Err (Replay Write) }
+{
+    match read_trace(alloc, reader) {
+        Ok(indexed) => write_explanation(alloc, &indexed, one, other, all, writer),
+        Err(fault) => Err(PairFault::Replay(fault)),
+    }
+}

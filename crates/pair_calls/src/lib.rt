@@ -1,0 +1,15 @@
+//! The calls that the program makes on a pair of events: what is found of it, and the schedule that shows it, each over a reader
+//! and a writer.
+#![tactic(auto)]
+
+mod explaining;
+mod fault;
+mod reading;
+mod witnessing;
+mod writing;
+
+pub use explain_report::Form;
+pub use explaining::explain;
+pub use fault::{PairFault, pair_fault_text};
+pub use must_order::Kind;
+pub use witnessing::witness;

@@ -1,0 +1,120 @@
+//! Prints the schedule that shows a pair: reads the trace, finds the schedule, makes the text, and writes it.
+ghost use Rattle.std.specs.Prelude.{◌≡◌, ◌≢◌, ◌<◌, ℕ, List, length, false, true, IfSome, IfOk, IfErr, Err};
+ghost use Rattle.client_scripts.specs.declared.fault.ReadCause.{ReadCause};
+ghost use Rattle.client_scripts.specs.declared.fault.ReadCause.TheVariants.{Device};
+ghost use Rattle.client_scripts.specs.declared.fault.ReplayFault.TheVariants.{Write, Read};
+ghost use Rattle.event_index.specs.Relations.{IsConflicting};
+ghost use Rattle.pair_findings.specs.Findings.{IsFinding};
+ghost use Rattle.pair_calls.specs.Answers.{IsUnwitnessed, IsWitness, IsWitnessed, IsWritten, IsListed, IsUnlisted};
+ghost use Rattle.pair_calls.specs.declared.fault.PairFault.TheVariants.{Replay};
+
+use crate::explaining::finding_of;
+use crate::fault::PairFault;
+use crate::reading::read_trace;
+use crate::writing::write_text;
+use client_scripts::{Sink, Source};
+use event_index::{EventList, Indexed};
+use explain_report::{Form, witness_text};
+use must_order::Kind;
+use pair_findings::{Finding, pair_of};
+use std::alloc::Global;
+
+/// The schedule that shows a conflicting pair, whose earlier event is the first.
+fn schedule_of(
+    alloc: Global,
+    indexed: &Indexed,
+    first: u32,
+    second: u32,
+) -> Result<EventList, PairFault>
+    requires first { first < length indexed.now.events }
+    requires second { second < length indexed.now.events }
+    requires conflict { IsConflicting indexed.now.events first second }
+    ensures listed { IfOk result (IsListed indexed.now first second) }
+    ensures unlisted { IfErr result (IsUnlisted indexed.now first second) }
+{
+    match finding_of(alloc, indexed, first, second)? {
+        Finding::Race { how: _, events } => Ok(events),
+        Finding::Forced { chains: _ } => Err(PairFault::NotShown(Kind::Forced)),
+        Finding::Guarded { lock: _ } => Err(PairFault::NotShown(Kind::Guarded)),
+        Finding::Undecided { events: _ } => Err(PairFault::NotShown(Kind::Open)),
+    }
+}
+
+/// The text of the schedule that shows the pair.
+fn witness_of(
+    alloc: Global,
+    indexed: &Indexed,
+    one: u32,
+    other: u32,
+    form: Form,
+) -> Result<Vec<u8>, PairFault>
+    ensures text { IfOk result (λ text. IsWitness indexed.now one other form text.items) }
+    ensures fault { IfErr result (IsUnwitnessed indexed.now one other) }
+{
+    let Some((first, second)) = pair_of(indexed, one, other) else {
+        return Err(PairFault::NoSuchPair);
+    };
+    let events = match schedule_of(alloc, indexed, first, second) {
+        Ok(events) => events,
+        Err(fault) => return Err(fault),
+    };
+    let mut text = Vec::new(alloc);
+    witness_text(indexed, events.items(), first, second, form, &mut text)?;
+    Ok(text)
+}
+
+/// Writes the text of the schedule that shows the pair.
+fn write_witness<K: Sink>(
+    alloc: Global,
+    indexed: &Indexed,
+    one: u32,
+    other: u32,
+    form: Form,
+    writer: &mut K,
+) -> Result<(), PairFault>
+    requires { K.has_failed writer.old ≡ false }
+    ensures written { IsWritten (λ r text. IsWitness r one other form text) (λ r fault. IsUnwitnessed r one other fault)
+        indexed.now (K.taken writer.old) (K.taken writer.new) result }
+    ensures unread { (input : ℕ) (why : ReadCause) → result ≢ Err (Replay (Read input why)) }
+    ensures failed { K.has_failed writer.new ≡ true → result ≡ Err (Replay Write) }
+    ensures write { result ≡ Err (Replay Write) → K.has_failed writer.new ≡ true }
+{
+    let text = match witness_of(alloc, indexed, one, other, form) {
+        Ok(text) => text,
+        Err(fault) => return Err(fault),
+    };
+    write_text(writer, text.as_slice())
+}
+
+/// Reads a trace text, whole, and writes a schedule that shows the pair of these two events, given in either order, in this form:
+/// a correct reordering of the trace after which both can come next.
+///
+/// Before the faults 91, 92, 94, 98 and 99 nothing is written, nor where memory is refused. At 95 what was written is a beginning
+/// of the text.
+pub fn witness<S: Source, K: Sink>(
+    alloc: Global,
+    reader: &mut S,
+    one: u32,
+    other: u32,
+    form: Form,
+    writer: &mut K,
+) -> Result<(), PairFault>
+    requires reader { S.has_failed reader.old ≡ false }
+    requires writer { K.has_failed writer.old ≡ false }
+    // There is a text, the one that the reader tells where it tells it, of which this comes.
+    ensures witnessed { (bytes : List ℕ)
+        × IfSome (S.rest reader.old) (λ told. bytes ≡ told)
+        × IsWitnessed bytes one other form (K.taken writer.old) (K.taken writer.new) result }
+    // There is one input, and no second one is named.
+    ensures input { (why : ReadCause) → result ≢ Err (Replay (Read 2 why)) }
+    // The device is at fault exactly where a read failed, and the writer exactly where a write failed.
+    ensures device { result ≡ Err (Replay (Read 1 Device)) → S.has_failed reader.new ≡ true }
+    ensures read_failed { S.has_failed reader.new ≡ true → result ≡ Err (Replay (Read 1 Device)) }
+    ensures write { result ≡ Err (Replay Write) → K.has_failed writer.new ≡ true }
+    ensures write_failed { K.has_failed writer.new ≡ true → result ≡ Err (Replay Write) }
+{
+    match read_trace(alloc, reader) {
+        Ok(indexed) => write_witness(alloc, &indexed, one, other, form, writer),
+        Err(fault) => Err(PairFault::Replay(fault)),
+    }
+}

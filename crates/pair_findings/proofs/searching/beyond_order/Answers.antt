@@ -1,0 +1,8 @@
+use Rattle.std.proofs.Common.{List, ℕ, Option, subst}
+use Rattle.in_order.specs.Orders.{IsTurned}
+use Rattle.pair_findings.specs.declared.searching.TheConstants.{BUDGET}
+use Rattle.pair_findings.proofs.searching.beyond_order.Goals as goal
+
+pub returns-in_ok-events-in-None : goal.returns-in_ok-events-in-None
+returns-in_ok-events-in-None c =
+    (c.requires.kind, c.requires.never, subst (λ (found : Option (List ℕ)). IsTurned c.args.indexed.now.events c.args.first c.args.second BUDGET found) c.in-None.is c.in_ok-list.ensures.answer)
