@@ -14,6 +14,8 @@ def sized(count):
 
 
 EVENTS = sized(65_536)
+# as many as a trace may have
+MOST_EVENTS = sized(1_048_576)
 
 
 def locked_trace(events, threads, location, seed):
@@ -60,6 +62,11 @@ def unordered(events, threads):
     return [f"T{i % threads}|w(V{i % 509})|1" for i in range(events)]
 
 
+def one_variable(events, threads):
+    """All accesses are of one variable, and nothing orders those of two threads."""
+    return [f"T{i % threads}|w(x)|1" for i in range(events)]
+
+
 def readers(events, threads):
     """Each thread reads one variable again and again; nothing writes it, so that no two accesses conflict."""
     return [f"T{i % threads}|r(x)|1" for i in range(events)]
@@ -96,8 +103,32 @@ def write_traces(folder):
             write_trace(folder, f"ordered_{threads}_{events}", ordered_by_a_lock(events, threads))
             write_trace(folder, f"unordered_{threads}_{events}", unordered(events, threads))
             write_trace(folder, f"readers_{threads}_{events}", readers(events, threads))
+    for threads in (4, 256):
+        write_trace(folder, f"locked_{threads}_{MOST_EVENTS}", locked_trace(MOST_EVENTS, threads, short, 1))
+    write_trace(folder, f"one_variable_256_{MOST_EVENTS}", one_variable(MOST_EVENTS, 256))
     write_trace(folder, f"nested_{EVENTS}", nested(EVENTS))
     write_trace(folder, f"many_names_{EVENTS}", named_trace(EVENTS, 64, [f"variable_{i}" for i in range(EVENTS)]))
+
+
+def last_pair(lines):
+    """The last event that writes what another thread has written, and the first such write."""
+    fields = [line.split("|") for line in lines]
+    for last in range(len(fields) - 1, -1, -1):
+        thread, operation, _ = fields[last]
+        if operation.startswith("w"):
+            for first, (other, done, _) in enumerate(fields[:last]):
+                if done == operation and other != thread:
+                    return first, last
+    return 0, 0
+
+
+def write_pairs(folder):
+    """Traces, each with a pair of its events that lie far apart, for `explain`."""
+    os.makedirs(folder, exist_ok=True)
+    for threads, events in ((4, EVENTS), (16, EVENTS), (16, MOST_EVENTS)):
+        lines = locked_trace(events, threads, short, 1)
+        first, last = last_pair(lines)
+        write_trace(folder, f"locked_{threads}_{events}_{first}_{last}", lines)
 
 
 def interleaved(clients, rounds):
@@ -162,6 +193,7 @@ def write_batches(folder):
 def write_scripts(folder):
     """Scripts on a bench, each at two sizes, so that one sees how the cost grows."""
     writes = ["T1|w(x)|1"] * EVENTS
+    write(folder, f"replay_grow_{MOST_EVENTS}", ["T1|w(x)|1"] * MOST_EVENTS, ["1 new A"] + [f"1 add A {i}" for i in range(MOST_EVENTS - 1)])
     for events in (EVENTS // 8, EVENTS):
         grow = ["1 new A"] + [f"1 add A {i}" for i in range(events)]
         write(folder, f"replay_grow_{events}", writes, grow)
@@ -203,6 +235,7 @@ def main():
     folder = sys.argv[1]
     os.makedirs(folder, exist_ok=True)
     write_traces(os.path.join(folder, "info"))
+    write_pairs(os.path.join(folder, "explain"))
     write_seats(os.path.join(folder, "threads"))
     for threads in (4, 64):
         write(folder, f"locked_{threads}_short", locked_trace(EVENTS, threads, short, 1))

@@ -16,6 +16,8 @@ OPERATIONS = ["r", "w", "acq", "rel", "fork", "join"]
 BEGINNING = [4, 4, 3, 1, 6, 0]
 MIDDLES = [[7, 6, 4, 4, 1, 0], [3, 3, 9, 8, 1, 0]]
 END = [6, 4, 2, 6, 0, 3]
+# So deep are sections of locks at most that lie in one another.
+MOST_NESTED = 3
 
 # How often each call is drawn where schedules grow, and where much is taken back and copied.
 GROWING = {
@@ -63,6 +65,37 @@ def trace(chance, most):
         event = plain.Event(chance.choice(threads), word, chance.choice(names[word]))
         if plain.breach(events, event) is None:
             events.append(event)
+    return plain.Trace(events)
+
+
+def section(chance, depth):
+    """The operations of a part of a thread: an access, or a section of a lock with one to three parts."""
+    if depth == MOST_NESTED or chance.random() < 0.45:
+        return [(chance.choice("rw"), chance.choice(VARIABLES[:2]))]
+    lock = chance.choice(LOCKS)
+    within = [operation for _ in range(chance.randint(1, 3)) for operation in section(chance, depth + 1)]
+    return [("acq", lock), *within, ("rel", lock)]
+
+
+def locked_trace(chance, most):
+    """A trace of 2 or 3 threads with at most so many events, and most accesses in sections of locks. Some threads are forked
+    and joined by the first. It ends where the rules leave no thread that may go on."""
+    threads = chance.sample(THREADS, chance.randint(2, 3))
+    to_do = {thread: [operation for _ in range(chance.randint(1, 4)) for operation in section(chance, 0)] for thread in threads}
+    first, others = threads[0], [*threads[1:], IDLE]
+    for other in chance.sample(others, chance.choice([0, 0, 1, 2])):
+        at = chance.randint(0, len(to_do[first]))
+        to_do[first].insert(at, ("fork", other))
+        to_do[first].insert(chance.randint(at + 1, len(to_do[first])), ("join", other))
+    events = []
+    while len(events) < most:
+        nexts = [plain.Event(thread, *rest[0]) for thread, rest in to_do.items() if rest]
+        allowed = [event for event in nexts if plain.breach(events, event) is None]
+        if not allowed:
+            break
+        event = chance.choice(allowed)
+        to_do[event.thread].pop(0)
+        events.append(event)
     return plain.Trace(events)
 
 

@@ -1,4 +1,5 @@
-"""A plain program that answers as `replay` and `info` do, from the words of docs/DEFINITIONS.md and docs/FORMATS.md.
+"""A plain program that answers as `replay` and `info` do, from the words of docs/DEFINITIONS.md and docs/FORMATS.md; and what the
+definitions say of a pair of events, for judges of `explain` and `witness`.
 
 It goes over lists and over the trace, and has neither clocks nor tables nor steps back. Its log keeps the entries
 alone: the rows of each log are folded anew of the commands that were not undone. What the headline of docs/PROMISES.md
@@ -73,8 +74,13 @@ class Trace:
         self.events = tuple(events)
         self.asked = {}
 
+    def line(self, event):
+        """The line of the event, without its end."""
+        thread, word, name = self.events[event]
+        return f"{thread}|{word}({name})|"
+
     def text(self):
-        return "".join(f"{thread}|{word}({name})|\n" for thread, word, name in self.events)
+        return "".join(self.line(event) + "\n" for event in range(len(self.events)))
 
     def thread(self, event):
         return self.events[event].thread
@@ -258,22 +264,158 @@ class Trace:
                     after[first] |= after[between]
         return after
 
+    def is_candidate(self, first, second):
+        """Whether the first of two conflicting events is neither the base of the second nor SHB-before it."""
+        base = self.base(second)
+        return base is None or base not in self.chains()[first]
+
+    def conflicting(self):
+        """All pairs of events that conflict, in rising order."""
+        numbers = range(len(self.events))
+        return [(first, second) for first in numbers for second in numbers[first + 1 :] if self.conflict(first, second)]
+
     def candidates(self):
         """All candidates for a race, in rising order."""
-        after = self.chains()
-        pairs = []
-        for first in range(len(self.events)):
-            for second in range(first + 1, len(self.events)):
-                if self.conflict(first, second):
-                    base = self.base(second)
-                    if base is None or base not in after[first]:
-                        pairs.append((first, second))
-        return pairs
+        return [pair for pair in self.conflicting() if self.is_candidate(*pair)]
 
     def slice(self, first, second):
         """The events that are the base of one of the two, or from which a chain of edges leads to it."""
         bases = {self.base(first), self.base(second)} - {None}
         return tuple(event for event, after in enumerate(self.chains()) if after & bases)
+
+    # Must-before, and the kind of a pair.
+
+    def section_end(self, acquire):
+        """The release that ends the critical section of the acquire, after which its thread holds the lock as often as before it; or None."""
+        thread, _, lock = self.events[acquire]
+        for event in self.events_of(thread):
+            if event > acquire and self.does(event, "rel", lock):
+                if holds(self.events[: event + 1], thread, lock) == holds(self.events[:acquire], thread, lock):
+                    return event
+        return None
+
+    def acquires(self, events):
+        """Those of the events that acquire a lock."""
+        return [event for event in events if self.events[event].word == "acq"]
+
+    def locks(self):
+        """All locks in the order of their first uses, which is that of their numbers."""
+        return list(dict.fromkeys(event.name for event in self.events if event.word in ("acq", "rel")))
+
+    @asked_once
+    def locks_before(self, event):
+        """The locks that the event's thread holds before it, in the order of their numbers."""
+        return [lock for lock in self.locks() if holds(self.events[:event], self.thread(event), lock)]
+
+    def held_since(self, event, lock):
+        """The acquire since which the event's thread holds the lock before the event: of nested ones the outermost."""
+        own = [other for other in self.events_of(self.thread(event)) if other < event and self.does(other, "acq", lock)]
+        return [acquire for acquire in own if not holds(self.events[:acquire], self.thread(event), lock)][-1]
+
+    @asked_once
+    def links(self, event):
+        """What comes before the event with nothing between them: its base, the write that it reads, and what it joins."""
+        _, word, name = self.events[event]
+        before = [self.base(event)]
+        if word == "r":
+            before.append(self.last_writer(event))
+        if word == "join":
+            before += self.events_of(name) + self.forks_of(name)
+        return {other for other in before if other is not None}
+
+    def ends_first(self, acquire, event):
+        """Whether the section that the acquire begins has to end before the event, where the acquire has to come before it: the
+        event lies in a section of that lock in another thread, or begins one."""
+        lock = self.events[acquire].name
+        is_inside = lock in self.locks_before(event) or self.does(event, "acq", lock)
+        return is_inside and self.thread(acquire) != self.thread(event) and self.section_end(acquire) is not None
+
+    @asked_once
+    def must(self):
+        """For each event all that are must-before it, itself too: the least sets with these that are closed under links and ends of sections."""
+        numbers = range(len(self.events))
+        before = [{event} for event in numbers]
+        while True:
+            grown = []
+            for event in numbers:
+                ends = {self.section_end(acquire) for acquire in self.acquires(before[event]) if self.ends_first(acquire, event)}
+                grown.append(before[event].union(*[before[other] for other in self.links(event) | ends]))
+            if grown == before:
+                return before
+            before = grown
+
+    def is_forced(self, first, second):
+        """Whether the first event is the base of the second, or must-before that."""
+        base = self.base(second)
+        return base is not None and first in self.must()[base]
+
+    def guard(self, first, second):
+        """The least lock that both threads hold before the two events, or None."""
+        common = [lock for lock in self.locks_before(first) if lock in self.locks_before(second)]
+        return common[0] if common else None
+
+    def kind(self, first, second):
+        """Of which kind two conflicting events are, the earlier of which is the first."""
+        if self.is_candidate(first, second):
+            return "candidate"
+        if self.is_forced(first, second):
+            return "forced"
+        return "open" if self.guard(first, second) is None else "guarded"
+
+    # Schedules that show a pair.
+
+    def needed(self, events):
+        """The least set that has these events, with each event its links, and, of two acquires of one lock by different threads, the
+        end of the section of the earlier; in the order of the trace."""
+        needed = set(events)
+        while True:
+            grown = needed.union(*[self.links(event) for event in needed])
+            taken = self.acquires(needed)
+            for first in taken:
+                for second in taken:
+                    is_shared = self.events[first].name == self.events[second].name and self.thread(first) != self.thread(second)
+                    if first < second and is_shared:
+                        grown.add(self.section_end(first))
+            if grown == needed:
+                return tuple(sorted(needed))
+            needed = grown
+
+    def in_order(self, first, second):
+        """The least list in the order of the trace that shows the pair, or None where no such list does."""
+        listed = self.needed({self.base(first), self.base(second)} - {None})
+        return None if first in listed or second in listed else listed
+
+    def wanted(self, first, second):
+        """The least set that has the bases of both, with each event its links, and with each acquire the end of its section."""
+        wanted = {self.base(first), self.base(second)} - {None}
+        while True:
+            ends = {self.section_end(acquire) for acquire in self.acquires(wanted)} - {None}
+            grown = wanted.union(ends, *[self.links(event) for event in wanted])
+            if grown == wanted:
+                return sorted(wanted)
+            wanted = grown
+
+    def turned(self, first, second):
+        """What a search finds that begins with the least list in the order of the trace after which the second event can come next,
+        and goes on by the first event that is wanted and may come next, and never goes back; or None."""
+        listed = self.needed({self.base(second)} - {None})
+        wanted = [event for event in self.wanted(first, second) if event not in (first, second)]
+        while not self.shows(listed, first, second):
+            enabled = [event for event in wanted if self.cause(listed, event) is None]
+            if not enabled:
+                return None
+            listed += (enabled[0],)
+        return listed
+
+    @asked_once
+    def reorderings(self):
+        """All correct reorderings."""
+        found = [()]
+        for listed in found:
+            for event in range(len(self.events)):
+                if self.cause(listed, event) is None:
+                    found.append(self.extended(listed, event))
+        return found
 
     def info(self):
         """What is printed of what the trace holds."""

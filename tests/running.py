@@ -10,12 +10,18 @@ def write(name, text):
         out.write(text)
 
 
+def ended(program, words):
+    """The status with which the program ends, and what it writes on standard output and on standard error."""
+    done = subprocess.run([program, *words], capture_output=True, timeout=60, check=False)
+    return done.returncode, done.stdout, done.stderr
+
+
 def printed(program, words):
     """What the program writes, where it ends well."""
-    done = subprocess.run([program, *words], capture_output=True, timeout=60, check=False)
-    if done.returncode != 0 or done.stderr:
-        sys.exit(f"{words[0]}: status {done.returncode}: {done.stderr.decode()[:300]}{given(words)}")
-    return done.stdout
+    status, out, err = ended(program, words)
+    if status != 0 or err:
+        sys.exit(f"{words[0]}: status {status}: {err.decode()[:300]}{given(words)}")
+    return out
 
 
 def given(words):

@@ -7,6 +7,7 @@ ghost use Rattle.client_scripts.specs.Steps.{HandsOn, IsRun, IsScriptRun};
 ghost use Rattle.client_scripts.specs.declared.fault.ReadCause.{ReadCause};
 ghost use Rattle.client_scripts.specs.declared.fault.ReadCause.TheVariants.{Device};
 ghost use Rattle.client_scripts.specs.declared.fault.ReplayFault.TheVariants.{Write, Read};
+ghost use Rattle.dependence.specs.Limits.{client_limit};
 
 use crate::fault::{ReplayFault, Tally};
 use crate::joint::parts_of;
@@ -31,7 +32,7 @@ fn make_call(
     out: &mut Vec<u8>,
 ) -> Result<bool, OutOfMemory>
     requires low { 1 ≤ client }
-    requires high { client ≤ 32 }
+    requires high { client ≤ client_limit }
     ensures trace { bench.new.trace ≡ bench.old.trace }
     ensures text { OnOk result
         (out.new.items ≡ out.old.items ++ answer_text bench.old.trace (answer_of bench.old.trace bench.old.log client call.now)) }

@@ -1,5 +1,6 @@
 //! The entries of each client.
 ghost use Rattle.std.specs.Prelude.{◌≡◌, ◌≤◌, ◌<◌, ◌++◌, ◌∷◌, [], ℕ, All, OnOk, OnErr, IfOk, nat_eq};
+ghost use Rattle.dependence.specs.Limits.{client_limit};
 ghost use Rattle.std.specs.List.{list_any};
 ghost use Rattle.dependence.specs.Lists.{of_client, last_of, Entered, Left};
 
@@ -19,13 +20,14 @@ pub struct Clients {
 }
 
 impl Model for Clients {
-    ghost use Rattle.std.specs.Prelude.{◌≡◌, List, ℕ, length};
+    ghost use Rattle.std.specs.Prelude.{◌≡◌, ◌+◌, List, ℕ, length};
+    ghost use Rattle.dependence.specs.Limits.{client_limit};
 
     ghost Value = { List (List ℕ) };
 
     ghost view = { λ c. c.lists.items };
 
-    ghost invariant = { λ c. length c.lists.items ≡ 33 };
+    ghost invariant = { λ c. length c.lists.items ≡ client_limit + 1 };
 }
 
 impl Clients {
@@ -42,7 +44,7 @@ impl Clients {
 
     /// Puts the entry at the end of the client's, or leaves everything as it was.
     pub fn push(&mut self, client: u32, entry: u64) -> Result<(), OutOfMemory>
-        requires client { client ≤ 32 }
+        requires client { client ≤ client_limit }
         requires entry { All (λ k. k < entry) (of_client self.old client) }
         ensures ok { OnOk result (Entered client entry self.old self.new) }
         ensures err { OnErr result (self.new ≡ self.old) }
@@ -52,7 +54,7 @@ impl Clients {
 
     /// Takes the entry away from the client's.
     pub fn remove(&mut self, client: u32, entry: u64)
-        requires { client ≤ 32 }
+        requires { client ≤ client_limit }
         ensures { Left client entry self.old self.new }
     {
         self.lists[client as usize].remove(entry);
@@ -60,7 +62,7 @@ impl Clients {
 
     /// Whether the entry is one of the client's.
     pub fn contains(&self, client: u32, entry: u64) -> bool
-        requires { client ≤ 32 }
+        requires { client ≤ client_limit }
         ensures { result ≡ list_any (nat_eq entry) (of_client self.now client) }
     {
         self.lists[client as usize].contains(entry)
@@ -68,7 +70,7 @@ impl Clients {
 
     /// The client's greatest entry.
     pub fn last(&self, client: u32) -> Option<u64>
-        requires { client ≤ 32 }
+        requires { client ≤ client_limit }
         ensures { result ≡ last_of (of_client self.now client) }
     {
         self.lists[client as usize].last()

@@ -36,8 +36,8 @@ pub(crate) fn append_forced(
     first: u32,
     second: u32,
 ) -> Result<(), OutOfMemory> {
-    append_line(out, indexed, first)?;
-    append_line(out, indexed, second)?;
+    append_access(out, indexed, first)?;
+    append_access(out, indexed, second)?;
     append_words(out, b"since\n")?;
     append_chains(out, indexed, chains)
 }

@@ -74,9 +74,10 @@ fn append_cause(
     if let Some(thread) = thread_of(indexed, chain.last) {
         append_thread(out, indexed, thread)?;
     }
-    match op_of(indexed, chain.last) {
-        Some(Op::Acquire(_)) => append_words(out, b" takes ")?,
-        _ => append_words(out, b" holds ")?,
+    if op_of(indexed, chain.last) == op_of(indexed, chain.first) {
+        append_words(out, b" takes ")?;
+    } else {
+        append_words(out, b" holds ")?;
     }
     append_lock_of(out, indexed, chain.first)?;
     append_words(out, b" at ")?;

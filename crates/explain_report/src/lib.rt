@@ -12,6 +12,8 @@ mod verdict;
 mod waiting;
 mod witness;
 
+pub use runs::{Run, runs_of};
 pub use shb_order::shb_chain;
 pub use verdict::{How, Verdict, explain_text};
+pub use waiting::{waiters_of, words_between};
 pub use witness::{Form, witness_text};

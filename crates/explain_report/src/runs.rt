@@ -12,16 +12,19 @@ const MOST_RUNS: usize = 11;
 /// How many of the last are printed where there are more.
 const LAST_RUNS: usize = 10;
 
-/// A run: its thread, and from which place of the list up to which it goes.
+/// A run, a longest part of a list of events that is of one thread.
 #[derive(Clone, Copy)]
-pub(crate) struct Run {
-    thread: u32,
-    start: u32,
-    end: u32,
+pub struct Run {
+    /// Its thread.
+    pub thread: u32,
+    /// The place of its first event in the list.
+    pub start: u32,
+    /// The place behind its last event.
+    pub end: u32,
 }
 
-/// The runs of the list.
-pub(crate) fn runs_of(
+/// The runs of the list, in its order.
+pub fn runs_of(
     alloc: Global,
     indexed: &Indexed,
     list: &[u32],

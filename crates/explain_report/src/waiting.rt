@@ -6,7 +6,7 @@ use rapid_text::{Op, OutOfMemory};
 use std::alloc::Global;
 
 /// For each place of the list the first later event of another thread that waits for the event there.
-pub(crate) fn waiters_of(
+pub fn waiters_of(
     alloc: Global,
     indexed: &Indexed,
     list: &[u32],
@@ -43,8 +43,8 @@ fn note_waiter(
     }
 }
 
-/// Why the second event waits for the first.
-pub(crate) fn words_between(indexed: &Indexed, first: u32, second: u32) -> &'static [u8] {
+/// Why the second event waits for the first, in the words that are printed between them.
+pub fn words_between(indexed: &Indexed, first: u32, second: u32) -> &'static [u8] {
     match (op_of(indexed, first), op_of(indexed, second)) {
         (Some(Op::Fork(forked)), Some(Op::Join(joined))) => {
             if thread_of(indexed, second) == Some(forked) && forked != joined {

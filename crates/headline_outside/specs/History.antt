@@ -1,5 +1,6 @@
 -- A list of calls, each with its client.
 use Rattle.std.specs.Prelude.{◌≡◌, ◌≤◌, ℕ, List, [], ◌∷◌, Result}
+use Rattle.dependence.specs.Limits.{client_limit}
 use Rattle.rapid_text.specs.Recording.{Recording}
 use Rattle.inverse_log.specs.declared.entry.Entry.{Entry}
 use Rattle.inverse_log.specs.declared.reply.Reply.{Reply}
@@ -8,7 +9,7 @@ use Rattle.inverse_log.specs.Answer.{Called}
 use Rattle.headline_outside.specs.declared.driving.Asked.{Asked}
 
 abbrev pub IsClient : Asked → Type 0
-IsClient a = (1 ≤ a.client) × (a.client ≤ 32)
+IsClient a = (1 ≤ a.client) × (a.client ≤ client_limit)
 
 -- from L the calls lead to M, each answered as is promised
 abbrev pub Follows : Recording → List Entry → List Asked → List Entry → Type 0

@@ -1,11 +1,13 @@
 //! Calls of several clients on one bench.
 ghost use Rattle.std.specs.Prelude.{◌≡◌, ◌≤◌, ◌<◌, ◌+◌, ◌++◌, ◌∷◌, [], All, length, Ok, Err, fold, Some};
+ghost use Rattle.dependence.specs.Limits.{client_limit};
 ghost use Rattle.moves.specs.Rows.{Rows};
 ghost use Rattle.inverse_log.specs.Answer.{IsLegal, answer_of};
 ghost use Rattle.inverse_log.specs.Headline.{IsFoldOfLive, IsSound};
 ghost use Rattle.inverse_log.specs.Log.{rows_of, board_of};
 ghost use Rattle.inverse_log.specs.declared.entry.Entry.TheVariants.{Did};
 ghost use Rattle.headline_outside.specs.History.{IsClient, Follows};
+ghost use Rattle.inverse_log.specs.Limits.{entry_limit};
 
 use inverse_log::headline::{rows_are_the_fold, undo_directly_restores};
 use inverse_log::{Bench, Call, Refusal, Reply};
@@ -51,8 +53,8 @@ pub enum Outcome {
 /// Applies a command and takes it back at once.
 pub fn do_and_undo(bench: &mut Bench, client: u32, command: Command) -> Outcome
     requires low { 1 ≤ client }
-    requires high { client ≤ 32 }
-    requires room { length bench.old.log + 1 < 1000000 }
+    requires high { client ≤ client_limit }
+    requires room { length bench.old.log + 1 < entry_limit }
     ensures trace { bench.new.trace ≡ bench.old.trace }
     ensures refused { result ≡ Outcome.Refused → bench.new ≡ bench.old }
     // the rows are those before, whatever rows one finds to be those of the two logs

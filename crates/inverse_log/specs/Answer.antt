@@ -1,6 +1,8 @@
 -- What a call is answered after a log, and the log after it. All notions here are this project's own. `T` is
 -- the trace, `L` is the log.
 use Rattle.std.specs.Prelude.{◌≡◌, ◌⊎◌, ◌≤◌, ◌&&◌, ℕ, Bool, true, false, List, [], ◌∷◌, ◌++◌, Option, Some, None, Result, Ok, Err, All, length, nat_le, nat_lt, slice_get, if◌then◌else◌}
+use Rattle.dependence.specs.Limits.{client_limit}
+use Rattle.inverse_log.specs.Limits.{entry_limit}
 use Rattle.rapid_text.specs.Recording.{Recording}
 use Rattle.schedule.specs.Faults.{first_fault}
 use Rattle.schedule.specs.Shows.{does_show}
@@ -25,7 +27,7 @@ use Rattle.inverse_log.specs.Pairs.{shown_pairs}
 
 -- A call that would add an entry is refused first of all where the log holds 1,000,000.
 abbrev pub limited : List Entry → Result Reply Refusal → Result Reply Refusal
-limited L answer = if nat_lt (length L) 1000000 then answer else Err LogFull
+limited L answer = if nat_lt (length L) entry_limit then answer else Err LogFull
 
 -- the answer to a command, by what it makes of its row
 abbrev pub done_or : ℕ → Result (Option Row) MoveRefusal → Result Reply Refusal
@@ -112,7 +114,7 @@ log_after T L c call = L ++ logged c call (answer_of T L c call)
 -- The logs that calls of clients 1 to 32 build from the empty one.
 pub data IsLegal (T : Recording) : List Entry → Type 0 where
   starts : IsLegal T []
-  goes_on : (L : List Entry) (c : ℕ) (call : Call) → 1 ≤ c → c ≤ 32 → IsLegal T L → IsLegal T (log_after T L c call)
+  goes_on : (L : List Entry) (c : ℕ) (call : Call) → 1 ≤ c → c ≤ client_limit → IsLegal T L → IsLegal T (log_after T L c call)
 
 -- whether want of memory may stand in place of the answer: where that is a reply, a proposal was judged, or a batch was
 -- begun

@@ -1,5 +1,6 @@
 -- What the log promises, in the words of its reader. `T` is the trace, `L` is the log before a call.
 use Rattle.std.specs.Prelude.{◌≡◌, ◌≢◌, ◌↔◌, ℕ, ◌+◌, ◌<◌, ◌≤◌, true, List, [], ◌∷◌, ◌++◌, Some, Result, Ok, Err, All, Contains, find, length}
+use Rattle.dependence.specs.Limits.{client_limit}
 use Rattle.std.specs.List.{list_any}
 use Rattle.rapid_text.specs.Recording.{Recording}
 use Rattle.trace_rules.specs.Rules.{IsDisciplined}
@@ -21,6 +22,7 @@ use Rattle.inverse_log.specs.declared.refusal.Refusal.TheVariants.{RestsOn, NotR
 use Rattle.inverse_log.specs.declared.reply.Reply.{Reply}
 use Rattle.inverse_log.specs.declared.reply.Reply.TheVariants.{Done, Undone, Proposed}
 use Rattle.inverse_log.specs.Answer.{answer_of, log_after, IsLegal, Called, IsAlone}
+use Rattle.inverse_log.specs.Limits.{entry_limit}
 use Rattle.inverse_log.specs.Log.{Live, written, steps_of, live_of, live_at, commands_at, board_of, rows_of, last_live, edits_of}
 
 -- The rows are what the commands of the live entries, in their order, make of the empty workspace; no command is
@@ -62,7 +64,7 @@ pub record IsLeastBlocker (L : List Entry) (e : Live) (k : ℕ) (x : List ℕ) :
 abbrev pub UndoIsRefusedExactly : Type 0
 UndoIsRefusedExactly =
     (T : Recording) (L : List Entry) (c : ℕ) (e : Live)
-    → length L < 1000000
+    → length L < entry_limit
     → last_live L c ≡ Some e
     → ((k : ℕ) (x : List ℕ) → (answer_of T L c Undo ≡ Err (RestsOn k x)) ↔ IsLeastBlocker L e k x)
     × ((answer_of T L c Undo ≡ Ok (Undone (length L) e.number)) ↔ All (λ (b : Live). ¬ Blocks e b) (live_of L))
@@ -72,7 +74,7 @@ UndoIsRefusedExactly =
 abbrev pub UndoAtIsRefusedExactly : Type 0
 UndoAtIsRefusedExactly =
     (T : Recording) (L : List Entry) (c k : ℕ) (e : Live)
-    → length L < 1000000
+    → length L < entry_limit
     → live_at L k ≡ Some e
     → e.client ≡ c
     → ((j : ℕ) (x : List ℕ) → (answer_of T L c (UndoAt k) ≡ Err (RestsOn j x)) ↔ IsLeastBlocker L e j x)
@@ -91,10 +93,10 @@ UndoAtOfLatestIsUndo =
 abbrev pub UndoDirectlyRestores : Type 0
 UndoDirectlyRestores =
     (T : Recording) (L M : List Entry) (c n : ℕ) (call : Call)
-    → 1 ≤ c → c ≤ 32
+    → 1 ≤ c → c ≤ client_limit
     → IsLegal T L
     → Called T L c call (Ok (Done n)) M
-    → n + 1 < 1000000
+    → n + 1 < entry_limit
     → (answer_of T M c Undo ≡ Ok (Undone (n + 1) n)) × (rows_of T (log_after T M c Undo) ≡ rows_of T L)
 
 -- Where a legal log ends with an undo of the entry before it, the rows are those of the log before both.
@@ -111,7 +113,7 @@ abbrev pub ProposalsAreJudgedExactly : Type 0
 ProposalsAreJudgedExactly =
     (T : Recording) (L : List Entry) (c a b : ℕ) (P : List ℕ)
     → IsDisciplined T.events
-    → length L < 1000000
+    → length L < entry_limit
     → ((p : ℕ) → (answer_of T L c (Propose a b P) ≡ Err (NotReordering p)) ↔ IsFirstFault T.events P p)
     × ((answer_of T L c (Propose a b P) ≡ Err NotShown) ↔ (IsCorrectReordering T.events P × ¬ Shows T.events P a b))
     × ((answer_of T L c (Propose a b P) ≡ Ok (Proposed (length L) (length (board_of T L)))) ↔ (IsCorrectReordering T.events P × Shows T.events P a b))

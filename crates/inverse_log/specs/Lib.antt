@@ -2,6 +2,7 @@ pub mod Answer
 pub mod Counted
 pub mod Headline
 pub mod Kept
+pub mod Limits
 pub mod Log
 pub mod Nearest
 pub mod Next

@@ -1,9 +1,11 @@
 //! The bench: a workspace and its board, and the log of what clients did to them.
 ghost use Rattle.std.specs.Prelude.{◌≡◌, ◌<◌, ◌≤◌, ◌++◌, ◌∷◌, [], All, length, slice_get, Some, None, true, OnOk, OnErr, IfOk, IfErr};
+ghost use Rattle.dependence.specs.Limits.{client_limit};
 ghost use Rattle.std.specs.Arc.{arc_value};
 ghost use Rattle.inverse_log.specs.Answer.{Called, IsLegal, is_batch};
 ghost use Rattle.inverse_log.specs.Kept.{IsLive, live_there, IsUnblocked, IsUndone};
 ghost use Rattle.inverse_log.specs.Headline.{IsFoldOfLive, IsSound};
+ghost use Rattle.inverse_log.specs.Limits.{entry_limit};
 ghost use Rattle.inverse_log.specs.Log.{blocker_of, board_of, edits_of};
 
 use crate::call::Call;
@@ -152,7 +154,7 @@ impl Bench {
     /// Makes a client's call.
     pub fn call(&mut self, client: u32, call: &Call) -> Result<Reply, Refusal>
         requires low { 1 ≤ client }
-        requires high { client ≤ 32 }
+        requires high { client ≤ client_limit }
         ensures trace { self.new.trace ≡ self.old.trace }
         ensures call { Called self.old.trace self.old.log client call.now result self.new.log }
     {
@@ -174,7 +176,7 @@ impl Bench {
 
     fn perform(&mut self, client: u32, command: &Command) -> Result<Reply, Refusal>
         requires low { 1 ≤ client }
-        requires high { client ≤ 32 }
+        requires high { client ≤ client_limit }
         ensures trace { self.new.trace ≡ self.old.trace }
         ensures call { Called self.old.trace self.old.log client (Call.Do command.now) result self.new.log }
     {
@@ -225,7 +227,7 @@ impl Bench {
 
     fn perform_all(&mut self, client: u32, commands: &[Command]) -> Result<Reply, Refusal>
         requires low { 1 ≤ client }
-        requires high { client ≤ 32 }
+        requires high { client ≤ client_limit }
         ensures trace { self.new.trace ≡ self.old.trace }
         ensures call { Called self.old.trace self.old.log client (Call.Batch commands.now) result self.new.log }
     {
@@ -242,8 +244,8 @@ impl Bench {
     // Applies the commands of a batch of 1 to 64, where the log has room.
     fn perform_batch(&mut self, client: u32, commands: &[Command]) -> Result<Reply, Refusal>
         requires low { 1 ≤ client }
-        requires high { client ≤ 32 }
-        requires room { length self.old.log < 1000000 }
+        requires high { client ≤ client_limit }
+        requires room { length self.old.log < entry_limit }
         requires sizes { is_batch commands.now ≡ true }
         ensures trace { self.new.trace ≡ self.old.trace }
         ensures call { Called self.old.trace self.old.log client (Call.Batch commands.now) result self.new.log }
@@ -293,7 +295,7 @@ impl Bench {
 
     fn undo(&mut self, client: u32) -> Result<Reply, Refusal>
         requires low { 1 ≤ client }
-        requires high { client ≤ 32 }
+        requires high { client ≤ client_limit }
         ensures trace { self.new.trace ≡ self.old.trace }
         ensures call { Called self.old.trace self.old.log client Call.Undo result self.new.log }
     {
@@ -309,7 +311,7 @@ impl Bench {
 
     fn undo_at(&mut self, client: u32, entry: u64) -> Result<Reply, Refusal>
         requires low { 1 ≤ client }
-        requires high { client ≤ 32 }
+        requires high { client ≤ client_limit }
         ensures trace { self.new.trace ≡ self.old.trace }
         ensures call { Called self.old.trace self.old.log client (Call.UndoAt entry) result self.new.log }
     {
@@ -331,8 +333,8 @@ impl Bench {
 
     // Takes back a client's live entry, or tells what blocks it.
     fn undo_live(&mut self, client: u32, entry: u64) -> Result<Reply, Refusal>
-        requires client { client ≤ 32 }
-        requires room { length self.old.log < 1000000 }
+        requires client { client ≤ client_limit }
+        requires room { length self.old.log < entry_limit }
         requires live { IsLive self.old.log (live_there self.old.log client entry) }
         requires legal { blocker_of self.old.log (live_there self.old.log client entry) ≡ None
             → IsLegal self.old.trace (self.old.log ++ Entry.Undid client entry ∷ []) }
@@ -355,8 +357,8 @@ impl Bench {
 
     // Takes back a client's live entry that nothing blocks.
     fn take_back(&mut self, client: u32, entry: u64) -> Result<(), OutOfMemory>
-        requires client { client ≤ 32 }
-        requires room { length self.old.log < 1000000 }
+        requires client { client ≤ client_limit }
+        requires room { length self.old.log < entry_limit }
         requires free { IsUnblocked self.old.log (live_there self.old.log client entry) }
         requires legal { IsLegal self.old.trace (self.old.log ++ Entry.Undid client entry ∷ []) }
         ensures trace { self.new.trace ≡ self.old.trace }
@@ -392,7 +394,7 @@ impl Bench {
         events: &[u32],
     ) -> Result<Reply, Refusal>
         requires low { 1 ≤ client }
-        requires high { client ≤ 32 }
+        requires high { client ≤ client_limit }
         ensures trace { self.new.trace ≡ self.old.trace }
         ensures call { Called self.old.trace self.old.log client (Call.Propose first second events.now) result self.new.log }
     {

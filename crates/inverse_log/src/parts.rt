@@ -1,5 +1,6 @@
 //! Steps on the parts of a bench.
 ghost use Rattle.std.specs.Prelude.{◌≡◌, ℕ, ◌+◌, ◌++◌, ◌∷◌, [], ◌<◌, ◌≤◌, All, OnOk, OnErr, IfOk, IfErr, IsSome, Some, vec_len, vec_capacity, slice_get, slice_set, map};
+ghost use Rattle.dependence.specs.Limits.{client_limit};
 ghost use Rattle.dependence.specs.Lists.{AllBelow, Entered, Left, of_client, PushedAll, RemovedAll, Same};
 ghost use Rattle.moves.specs.Commands.{writes};
 ghost use Rattle.inverse_log.specs.declared.kept.Held.TheVariants as held;
@@ -104,7 +105,7 @@ pub(crate) fn enter(
     commands: &[Command],
     entry: u64,
 ) -> Result<(), OutOfMemory>
-    requires client { client ≤ 32 }
+    requires client { client ≤ client_limit }
     requires names { AllBelow entry touches.old }
     requires clients { All (λ k. k < entry) (of_client clients.old client) }
     ensures ok { OnOk result
@@ -129,7 +130,7 @@ pub(crate) fn leave(
     commands: &[Command],
     undone: u64,
 )
-    requires client { client ≤ 32 }
+    requires client { client ≤ client_limit }
     ensures names { RemovedAll undone commands.now touches.old touches.new }
     ensures clients { Left client undone clients.old clients.new }
 {

@@ -77,6 +77,15 @@ fn locked(file: &File, alloc: Global, at: usize) -> io::Result<Vec<u8>>
     read_from(file, alloc, at)
 }
 
+/// Why nothing was read.
+fn cause_of(error: &io::Error) -> DeviceError {
+    match error.kind() {
+        io::ErrorKind::OutOfMemory => DeviceError::Memory,
+        io::ErrorKind::InvalidData => DeviceError::Shorter,
+        _ => DeviceError::Failed,
+    }
+}
+
 impl Device for Host {
     ghost seen = { λ h. seen_of h.log.events };
 
@@ -100,9 +109,9 @@ impl Device for Host {
                 self.log.note(&[TAKEN, gate as u64, 1], &bytes);
                 Ok(bytes)
             }
-            Err(_) => {
+            Err(error) => {
                 self.log.note(&[TAKEN, gate as u64, 0], &[]);
-                Err(DeviceError::Failed)
+                Err(cause_of(&error))
             }
         }
     }

@@ -11,6 +11,8 @@ pub enum DeviceError {
     Memory,
     /// A call of the file failed.
     Failed,
+    /// The file ends before the place that is known: something else changed it.
+    Shorter,
 }
 
 impl From<AllocError> for DeviceError {

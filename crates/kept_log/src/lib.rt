@@ -7,12 +7,14 @@ mod lines;
 mod log;
 mod memory;
 mod steps;
+mod turns;
 
 pub use block::{Block, is_line};
 pub use device::{Device, DeviceError};
 pub use lines::first_line;
 pub use log::{AppendError, KeptLog, OpenError, create};
 pub use memory::Memory;
+pub use turns::EnterError;
 
 #[cfg(test)]
 mod tests;

@@ -2,7 +2,7 @@
 ghost use Rattle.std.specs.Prelude.{◌≡◌, ◌≢◌, ◌⊎◌, ◌≤◌, ◌<◌, ◌+◌, ◌++◌, [], ◌∷◌, All, List, ℕ, length, take, drop, IfOk, OnOk, IfErr, IsErr, OnErr, IsErrOf, ◌^◌, true, false};
 ghost use Rattle.kept_log.specs.Device.{Only, LeavesOnly, HasCause, AfterOthers};
 ghost use Rattle.kept_log.specs.Lines.{IsLine, IsEnd, lines_text};
-ghost use Rattle.kept_log.specs.Log.{StandsFor, IsOldOrNew, EndsBehind, at_rest, lines_behind, head_of, lines_of, IsAtRest, IsKnown, BeginsWith};
+ghost use Rattle.kept_log.specs.Log.{StandsFor, IsOldOrNew, EndsBehind, at_rest, lines_behind, head_of, lines_of, IsAtRest, IsKnown, IsLeft, BeginsWith};
 
 use crate::lines::lines_end;
 use crate::steps::{cut_through, write_through};
@@ -223,6 +223,7 @@ impl<D: Device> KeptLog<D> {
 
         ensures free { OnOk result (D.is_held self.new.device ≡ false) }
         ensures known { IsKnown D.seen self.new }
+        ensures left { IsLeft D.seen D.may_leave self.new }
         ensures same { (D.seen self.new.device ≡ D.seen self.old.device) × (self.new.start ≡ self.old.start) × (self.new.end ≡ self.old.end) }
         ensures kept { (c : List ℕ) → D.may_leave self.new.device c → BeginsWith (head_of D.seen self.old) (lines_of D.seen self.old) c }
         ensures any_moment { LeavesOnly D.moment D.left_since self.old.device self.new.device (BeginsWith (head_of D.seen self.old) (lines_of D.seen self.old)) }

@@ -1,9 +1,10 @@
 //! What the program does at each of its words: it opens the inputs, makes the call, and hands on what the writer keeps back.
 
 use crate::input::{Watched, input_at, inputs_at};
-use crate::stop::{Stop, in_files, in_joint, say};
+use crate::stop::{Stop, in_files, in_joint, in_pair, say};
 use crate::words::no_script;
 use client_scripts::{FromWrite, ReplayFault, replay, replay_joint};
+use pair_calls::{Form, explain, witness};
 use program_calls::{BenchFault, MAX_SCRIPTS, MAX_WORKERS, info, threads_with_room};
 use std::io;
 use std::sync::Wait;
@@ -37,6 +38,38 @@ pub(crate) fn info_of_file(rt: &HostRuntime, path: &str) -> Result<(), Stop> {
     match info(rt.alloc(), &mut input_at(rt, path), &mut writer) {
         Ok(()) => finish(&mut writer),
         Err(fault) => Err(in_files(rt, fault, &[path])),
+    }
+}
+
+/// Explains a pair of events of the trace in a file.
+pub(crate) fn explain_in_file(
+    rt: &HostRuntime,
+    path: &str,
+    one: u32,
+    other: u32,
+    all: bool,
+) -> Result<(), Stop> {
+    let mut writer = FromWrite::new(io::writer(rt));
+    let mut input = input_at(rt, path);
+    match explain(rt.alloc(), &mut input, one, other, all, &mut writer) {
+        Ok(()) => finish(&mut writer),
+        Err(fault) => Err(in_pair(rt, fault, path)),
+    }
+}
+
+/// Prints the schedule that shows a pair of events of the trace in a file.
+pub(crate) fn witness_in_file(
+    rt: &HostRuntime,
+    path: &str,
+    one: u32,
+    other: u32,
+    form: Form,
+) -> Result<(), Stop> {
+    let mut writer = FromWrite::new(io::writer(rt));
+    let mut input = input_at(rt, path);
+    match witness(rt.alloc(), &mut input, one, other, form, &mut writer) {
+        Ok(()) => finish(&mut writer),
+        Err(fault) => Err(in_pair(rt, fault, path)),
     }
 }
 

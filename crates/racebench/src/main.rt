@@ -1,4 +1,4 @@
-//! The workbench as a program: replays a script on a trace, runs several at once, or prints what a trace holds.
+//! The workbench as a program: replays a script on a trace, runs several at once, prints what a trace holds, or explains a pair.
 #![tactic(auto)]
 
 mod doing;
@@ -7,7 +7,9 @@ mod notes;
 mod stop;
 mod words;
 
-use crate::doing::{info_of_file, replay_files, replay_input, threads_on_files};
+use crate::doing::{
+    explain_in_file, info_of_file, replay_files, replay_input, threads_on_files, witness_in_file,
+};
 use crate::stop::{Stop, tell};
 use crate::words::{Task, no_text, task_of};
 use client_scripts::ReplayFault;
@@ -42,6 +44,8 @@ fn work<R: Threads + Wait + Sync + Clone + Send + Drop + 'static>(
             workers,
             room,
         } => threads_on_files(rt, starts, &paths, workers, room),
+        Task::Explain(path, one, other, all) => explain_in_file(rt, path, one, other, all),
+        Task::Witness(path, one, other, form) => witness_in_file(rt, path, one, other, form),
     }
 }
 

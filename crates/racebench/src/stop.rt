@@ -3,6 +3,7 @@
 use crate::notes::{append_file_notes, append_joint_notes};
 use clap::error::{Error, ErrorKind};
 use client_scripts::{FromWrite, ReplayFault, write_all};
+use pair_calls::{PairFault, pair_fault_text};
 use program_calls::{BenchFault, bench_fault_text};
 use std::alloc::{AllocError, AllocFailed, Global};
 use std::process::ExitCode;
@@ -14,6 +15,8 @@ pub(crate) enum Stop {
     Words(Error),
     /// A fault, and the notes on it, if there can be any.
     Fault(BenchFault, Option<Vec<u8>>),
+    /// A fault of a call on a pair.
+    Pair(PairFault),
 }
 
 impl From<BenchFault> for Stop {
@@ -67,6 +70,14 @@ pub(crate) fn in_files(rt: &HostRuntime, fault: BenchFault, paths: &[&str]) -> S
     }
 }
 
+/// A fault of a call on a pair of events of the trace at this path; a fault of the trace itself with its notes.
+pub(crate) fn in_pair(rt: &HostRuntime, fault: PairFault, path: &str) -> Stop {
+    match fault {
+        PairFault::Replay(fault) => in_files(rt, BenchFault::from(fault), &[path]),
+        _ => Stop::Pair(fault),
+    }
+}
+
 /// The line that tells a fault, and the notes behind it.
 fn fault_lines(
     alloc: Global,
@@ -81,6 +92,15 @@ fn fault_lines(
         lines.extend_from_slice(notes)?;
     }
     Ok(lines)
+}
+
+/// The line that tells a fault of a call on a pair.
+fn pair_fault_line(alloc: Global, fault: &PairFault) -> Result<Vec<u8>, BenchFault> {
+    let mut line = Vec::new(alloc);
+    line.extend_from_slice(b"racebench: ")?;
+    pair_fault_text(fault, &mut line)?;
+    line.extend_from_slice(b"\n")?;
+    Ok(line)
 }
 
 /// The status of a fault: 2 where the words ask for more than the program does.
@@ -107,6 +127,15 @@ fn tell_fault(rt: &HostRuntime, fault: &BenchFault, notes: &Option<Vec<u8>>) -> 
     status_of(fault)
 }
 
+/// Tells a fault of a call on a pair on standard error.
+fn tell_pair_fault(rt: &HostRuntime, fault: &PairFault) -> ExitCode {
+    match pair_fault_line(rt.alloc(), fault) {
+        Ok(line) => say(rt, &line),
+        Err(_) => say(rt, b"racebench: out of memory\n"),
+    }
+    ExitCode::FAILURE
+}
+
 /// Tells why the words are refused, or helps.
 fn tell_words(rt: &HostRuntime, error: &Error) -> ExitCode {
     let told = error.print(rt);
@@ -121,5 +150,6 @@ pub(crate) fn tell(rt: &HostRuntime, stop: &Stop) -> ExitCode {
     match stop {
         Stop::Words(error) => tell_words(rt, error),
         Stop::Fault(fault, notes) => tell_fault(rt, fault, notes),
+        Stop::Pair(fault) => tell_pair_fault(rt, fault),
     }
 }

@@ -2,6 +2,7 @@
 
 use clap::error::{Error, ErrorKind};
 use clap::{Arg, ArgAction, ArgMatches, Command, value_parser};
+use pair_calls::Form;
 use program_calls::{BEST_ROOM, MAX_WORKERS};
 use std::alloc::{AllocError, Global};
 
@@ -13,6 +14,10 @@ pub(crate) enum Task<'a> {
     Info(&'a str),
     /// The script in the second file, on the trace in the first.
     Replay(&'a str, &'a str),
+    /// What is found of a pair of events of the trace in this file, with all runs of its schedule or the last.
+    Explain(&'a str, u32, u32, bool),
+    /// The schedule that shows a pair of events of the trace in this file, in this form.
+    Witness(&'a str, u32, u32, Form),
     /// The scripts in the other files at once, on the trace in the first.
     Threads {
         /// The paths, that of the trace first.
@@ -61,6 +66,26 @@ log, in whose order the calls were made. That order may be another at each run.
 With workers a client behind those of the scripts proposes, while they run, the slice of each of
 the first 64 candidates: the least that has to come before the pair.";
 
+const EXPLAIN: &str = "Explains a pair of events: a schedule that shows it, or what keeps it apart";
+
+const EXPLAIN_EXAMPLE: &str = "For example
+
+  racebench explain trace.std 7 12
+
+Events are counted from 0, in the order of the trace. The first line is the verdict: `race`, with a
+schedule after which both can come next; `apart`, with what keeps the two apart in every correct
+reordering of this trace; or `undecided`. Apart is said of this trace alone: a read keeps its writer
+here, and in another run of the program it may have another one.";
+
+const WITNESS: &str = "Prints a schedule that shows a pair of events";
+
+const WITNESS_EXAMPLE: &str = "For example
+
+  racebench witness trace.std 7 12
+
+Each line has the number of an event and its line of the trace. After these events, in this order,
+both events of the pair can come next.";
+
 const WORKERS: &str = "How many workers slice candidates meanwhile, from 0 to 16";
 
 /// The line of the help behind which the commands of a script stand, each with its arguments and what it does.
@@ -97,8 +122,8 @@ Behind the client a line of a script has one of
   list                        shows the names of all schedules
   races NAME                  shows the pairs that a schedule shows";
 
-/// A file that the words name.
-fn file<'a>(alloc: Global, name: &'a str, holds: &'a str) -> Arg<'a> {
+/// A word that has to be there: the path of a file, or an event.
+fn named<'a>(alloc: Global, name: &'a str, holds: &'a str) -> Arg<'a> {
     Arg::new(alloc, name).required(true).help(holds)
 }
 
@@ -107,7 +132,7 @@ fn info_words<'a>(alloc: Global) -> Result<Command<'a>, AllocError> {
     Command::new(alloc, "info")
         .about(INFO)
         .after_help(INFO_EXAMPLE)
-        .arg(file(alloc, "TRACE", "A file that holds a trace"))
+        .arg(named(alloc, "TRACE", "A file that holds a trace"))
 }
 
 /// The words of `replay`.
@@ -115,8 +140,49 @@ fn replay_words<'a>(alloc: Global) -> Result<Command<'a>, AllocError> {
     Command::new(alloc, "replay")
         .about(REPLAY)
         .after_help(REPLAY_EXAMPLE)
-        .arg(file(alloc, "TRACE", "A file that holds a trace"))?
-        .arg(file(alloc, "SCRIPT", "A file that holds a script"))
+        .arg(named(alloc, "TRACE", "A file that holds a trace"))?
+        .arg(named(alloc, "SCRIPT", "A file that holds a script"))
+}
+
+/// An event that the words name.
+fn event<'a>(alloc: Global, name: &'a str) -> Arg<'a> {
+    named(alloc, name, "The number of an event, from 0")
+}
+
+/// The words of `explain`.
+fn explain_words<'a>(alloc: Global) -> Result<Command<'a>, AllocError> {
+    let all = Arg::new(alloc, "all")
+        .long("all")
+        .action(ArgAction::SetTrue)
+        .help("Prints all runs of a schedule, and not the last ten alone");
+    Command::new(alloc, "explain")
+        .about(EXPLAIN)
+        .after_help(EXPLAIN_EXAMPLE)
+        .arg(named(alloc, "TRACE", "A file that holds a trace"))?
+        .arg(event(alloc, "A"))?
+        .arg(event(alloc, "B"))?
+        .arg(all)
+}
+
+/// The words of `witness`.
+fn witness_words<'a>(alloc: Global) -> Result<Command<'a>, AllocError> {
+    let script = Arg::new(alloc, "script")
+        .long("script")
+        .action(ArgAction::SetTrue)
+        .help("Prints a script that makes the schedule");
+    let std = Arg::new(alloc, "std")
+        .long("std")
+        .action(ArgAction::SetTrue)
+        .help("Prints the schedule and the pair behind it as a trace")
+        .conflicts_with("script");
+    Command::new(alloc, "witness")
+        .about(WITNESS)
+        .after_help(WITNESS_EXAMPLE)
+        .arg(named(alloc, "TRACE", "A file that holds a trace"))?
+        .arg(event(alloc, "A"))?
+        .arg(event(alloc, "B"))?
+        .arg(script)?
+        .arg(std?)
 }
 
 /// The words of `threads`.
@@ -136,9 +202,9 @@ fn threads_words<'a>(alloc: Global) -> Result<Command<'a>, AllocError> {
     Command::new(alloc, "threads")
         .about(THREADS)
         .after_help(THREADS_EXAMPLE)
-        .arg(file(alloc, "TRACE", "A file that holds a trace"))?
+        .arg(named(alloc, "TRACE", "A file that holds a trace"))?
         .arg(
-            file(alloc, "SCRIPT", "Files that hold a script each")
+            named(alloc, "SCRIPT", "Files that hold a script each")
                 .action(ArgAction::Append)
                 .num_args(1..),
         )?
@@ -156,7 +222,9 @@ fn words_taken<'a>(alloc: Global) -> Result<Command<'a>, AllocError> {
         .disable_help_subcommand(true)
         .subcommand(info_words(alloc)?)?
         .subcommand(replay_words(alloc)?)?
-        .subcommand(threads_words(alloc)?)
+        .subcommand(threads_words(alloc)?)?
+        .subcommand(explain_words(alloc)?)?
+        .subcommand(witness_words(alloc)?)
 }
 
 /// A refusal of the words that `clap` itself does not make, in its form.
@@ -190,6 +258,37 @@ fn threads_task<'a>(alloc: Global, given: &ArgMatches<'a>) -> Result<Task<'a>, E
     })
 }
 
+/// The event that the words name so. A number that is larger than any event is one that no trace has.
+fn event_of<'a>(alloc: Global, given: &ArgMatches<'a>, name: &str) -> Result<u32, Error> {
+    let digits = word(given, name);
+    if !is_number(digits) {
+        let text = "an event is a number in decimal digits";
+        return Err(refusal(alloc, ErrorKind::InvalidValue, text)?);
+    }
+    Ok(digits.parse::<u32>().unwrap_or(u32::MAX))
+}
+
+/// What `explain` is asked for.
+fn explain_task<'a>(alloc: Global, given: &ArgMatches<'a>) -> Result<Task<'a>, Error> {
+    let one = event_of(alloc, given, "A")?;
+    let other = event_of(alloc, given, "B")?;
+    Ok(Task::Explain(word(given, "TRACE"), one, other, given.get_flag("all")))
+}
+
+/// What `witness` is asked for.
+fn witness_task<'a>(alloc: Global, given: &ArgMatches<'a>) -> Result<Task<'a>, Error> {
+    let one = event_of(alloc, given, "A")?;
+    let other = event_of(alloc, given, "B")?;
+    let form = if given.get_flag("script") {
+        Form::Script
+    } else if given.get_flag("std") {
+        Form::Trace
+    } else {
+        Form::Events
+    };
+    Ok(Task::Witness(word(given, "TRACE"), one, other, form))
+}
+
 /// What the words ask for, of which the first is the program's name; or why they are refused, or help.
 pub(crate) fn task_of<'a>(alloc: Global, words: &'a [String]) -> Result<Task<'a>, Error> {
     let given = words_taken(alloc)?.try_get_matches_from(words)?;
@@ -198,6 +297,8 @@ pub(crate) fn task_of<'a>(alloc: Global, words: &'a [String]) -> Result<Task<'a>
         Some(("info", given)) => Ok(Task::Info(word(given, "TRACE"))),
         Some(("replay", given)) => Ok(Task::Replay(word(given, "TRACE"), word(given, "SCRIPT"))),
         Some(("threads", given)) => threads_task(alloc, given),
+        Some(("explain", given)) => explain_task(alloc, given),
+        Some(("witness", given)) => witness_task(alloc, given),
         Some(_) => {
             let text = "nothing is done at this command";
             Err(refusal(alloc, ErrorKind::InvalidSubcommand, text)?)

@@ -5,7 +5,7 @@ use Rattle.moves.specs.Names.{is_name}
 use Rattle.moves.specs.declared.command.Command.TheVariants.{Fresh, Add, Back, Swap, Branch, Drop, Adopt}
 use Rattle.inverse_log.specs.declared.call.Call.{Call}
 use Rattle.inverse_log.specs.declared.call.Call.TheVariants.{Do, Undo, UndoAt, Show, List as ListNames, Races}
-use Rattle.script_language.specs.Limits.{client_limit}
+use Rattle.dependence.specs.Limits.{client_limit}
 use Rattle.script_language.specs.Scripts.{Asked}
 use Rattle.script_language.specs.declared.kept.Form.{Form}
 use Rattle.script_language.specs.declared.kept.Form.TheVariants.{Fresh as FreshForm, Add as AddForm, Back as BackForm, Swap as SwapForm, Branch as BranchForm, Drop as DropForm, Adopt as AdoptForm, Undo as UndoForm, UndoAt as UndoAtForm, Show as ShowForm, List as ListForm, Races as RacesForm, Owned}

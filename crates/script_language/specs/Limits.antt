@@ -1,10 +1,6 @@
 -- How large the numbers and lines of a script may be. The constants of the code are measured against these numbers.
 use Rattle.std.specs.Prelude.{ℕ}
 
--- the greatest number of a client; the least is 1
-abbrev pub client_limit : ℕ
-client_limit = 32
-
 -- the greatest number that a word may write
 abbrev pub number_limit : ℕ
 number_limit = 4294967295

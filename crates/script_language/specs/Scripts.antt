@@ -8,7 +8,8 @@ use Rattle.moves.specs.declared.command.Command.{Command}
 use Rattle.moves.specs.declared.command.Command.TheVariants.{Fresh, Add, Back, Swap, Branch, Drop, Adopt}
 use Rattle.inverse_log.specs.declared.call.Call.{Call}
 use Rattle.inverse_log.specs.declared.call.Call.TheVariants.{Do, Batch, Undo, UndoAt, Propose, Show, List as ListNames, Races}
-use Rattle.script_language.specs.Limits.{client_limit, script_line_limit}
+use Rattle.dependence.specs.Limits.{client_limit}
+use Rattle.script_language.specs.Limits.{script_line_limit}
 use Rattle.script_language.specs.LineWords.{words_of, is_separator, written_number}
 use Rattle.script_language.specs.declared.verb.Verb.{Verb}
 use Rattle.script_language.specs.declared.verb.CommandVerb.{CommandVerb}

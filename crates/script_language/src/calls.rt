@@ -1,7 +1,7 @@
 //! Reads the call that a script line asks for.
 ghost use Rattle.std.specs.Prelude.{◌≡◌, ◌⊎◌, ◌≤◌, ℕ, IfOk, IfSome, Ok, Err, Some, map};
 ghost use Rattle.std.specs.List.{list_any, slice_split};
-ghost use Rattle.script_language.specs.Limits.{client_limit};
+ghost use Rattle.dependence.specs.Limits.{client_limit};
 ghost use Rattle.script_language.specs.LineWords.{is_separator};
 ghost use Rattle.script_language.specs.Scripts.{name_reading, number_reading, numbers_reading, nothing_reading, one_name_reading, name_and_number_reading, branch_reading, command_arguments_reading, command_with, command_reading, is_bad_word, all_read, batch_reading, undo_reading, propose_reading, arguments_reading, call_reading, client_reading, words_reading, script_line_reading};
 ghost use Rattle.script_language.specs.declared.refusal.ScriptCause.TheVariants.{OutOfMemory};
@@ -296,8 +296,8 @@ fn read_words(alloc: Global, words: &mut Words<'_>) -> Result<(u32, Call), Scrip
     Ok((client, call))
 }
 
-/// The client and the call of a line; none for an empty line.
-pub(crate) fn read_line(alloc: Global, raw: &[u8]) -> Result<Option<(u32, Call)>, ScriptCause>
+/// The client and the call of a line; none for an empty line. `OutOfMemory` where memory was refused.
+pub fn read_line(alloc: Global, raw: &[u8]) -> Result<Option<(u32, Call)>, ScriptCause>
     ensures reading { (result ≡ Err OutOfMemory) ⊎ (result ≡ script_line_reading raw.now) }
     ensures client { IfOk result (λ asked. IfSome asked (λ pair. (1 ≤ pair.0) × (pair.0 ≤ client_limit))) }
 {

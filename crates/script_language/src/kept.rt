@@ -3,7 +3,7 @@ ghost use Rattle.std.specs.Prelude.{◌≡◌, ◌≢◌, ◌+◌, ◌<◌, ◌�
 ghost use Rattle.inverse_log.specs.declared.call.Call.{Call};
 ghost use Rattle.inverse_log.specs.declared.call.Call.TheVariants.{Do, Undo as UndoCall};
 ghost use Rattle.moves.specs.Names.{is_name};
-ghost use Rattle.script_language.specs.Limits.{client_limit};
+ghost use Rattle.dependence.specs.Limits.{client_limit};
 ghost use Rattle.script_language.specs.Kept.{name_in, to_in, call_in, call_of, asked_of, HasNames, IsWithin, IsKept, Begins};
 ghost use Rattle.script_language.specs.declared.kept.Form.TheVariants.{Owned};
 

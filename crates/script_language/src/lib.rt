@@ -10,6 +10,7 @@ mod refusal;
 mod script;
 mod verb;
 
+pub use calls::read_line;
 pub use lines::Lines;
 pub use reading::read_script;
 pub use refusal::{ScriptCause, ScriptRefusal};

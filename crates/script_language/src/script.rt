@@ -1,6 +1,6 @@
 //! A script: its calls, each with its line and its client.
 ghost use Rattle.std.specs.Prelude.{◌≡◌, ◌<◌, ◌≤◌, ◌==◌, [], ◌∷◌, ◌++◌, not, find, option_map, slice_get, length, OnOk, Some};
-ghost use Rattle.script_language.specs.Limits.{client_limit};
+ghost use Rattle.dependence.specs.Limits.{client_limit};
 ghost use Rattle.script_language.specs.ScriptCalls.{call_given};
 
 use crate::kept::{Form, Kept, keep, made};

@@ -1,6 +1,6 @@
 -- How many seats there may be.
 use Rattle.std.specs.Prelude.{◌≡◌, ◌<◌, ◌≤◌, ◌⊎◌, ℕ}
-use Rattle.workspace_lock.specs.Limits.{client_limit}
+use Rattle.dependence.specs.Limits.{client_limit}
 use Rattle.workspace_lock.specs.declared.seats.OpenRefusal.{OpenRefusal}
 use Rattle.workspace_lock.specs.declared.seats.OpenRefusal.TheVariants.{BadCount, OutOfMemory}
 

@@ -5,7 +5,8 @@ use Rattle.atomic_table.specs.Table.{Me}
 use Rattle.rapid_text.specs.Recording.{Recording}
 use Rattle.inverse_log.specs.declared.entry.Entry.{Entry}
 use Rattle.inverse_log.specs.Log.{Benched}
-use Rattle.workspace_lock.specs.Limits.{client_limit, turn_limit}
+use Rattle.dependence.specs.Limits.{client_limit}
+use Rattle.workspace_lock.specs.Limits.{turn_limit}
 use Rattle.workspace_lock.specs.Sights.{Mark, idle, waits, holds, Sight}
 use Rattle.workspace_lock.specs.Turns.{mark, saw, solo, mark_of, ticket_in, on_turn, Sees, Each, fresh_marks}
 

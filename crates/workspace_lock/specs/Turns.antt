@@ -12,7 +12,8 @@ use Rattle.rapid_text.specs.Recording.{Recording}
 use Rattle.inverse_log.specs.declared.entry.Entry.{Entry}
 use Rattle.inverse_log.specs.Answer.{IsLegal}
 use Rattle.inverse_log.specs.Log.{Benched, own_entries, client_of}
-use Rattle.workspace_lock.specs.Limits.{client_limit, turn_limit}
+use Rattle.dependence.specs.Limits.{client_limit}
+use Rattle.workspace_lock.specs.Limits.{turn_limit}
 use Rattle.workspace_lock.specs.Sights.{Mark, Stage, idle, waits, holds, Sight}
 
 abbrev pub bench_of : Recording → List Entry → Benched

@@ -3,7 +3,8 @@ ghost use Rattle.std.specs.Prelude.{◌≡◌, ℕ, ◌+◌, ◌*◌, ◌<◌, �
 ghost use Rattle.std.specs.Io.KnownBytes.{Appends};
 ghost use Rattle.std.specs.Arc.{arc_value};
 ghost use Rattle.inverse_log.specs.Answer.{IsLegal, Grown};
-ghost use Rattle.workspace_lock.specs.Limits.{client_limit, turn_limit};
+ghost use Rattle.dependence.specs.Limits.{client_limit};
+ghost use Rattle.workspace_lock.specs.Limits.{turn_limit};
 ghost use Rattle.workspace_lock.specs.Sights.{idle, holds};
 ghost use Rattle.workspace_lock.specs.Turns.{mark_of, saw, solo, ticket_in};
 ghost use Rattle.workspace_lock.specs.Seating.{mark_in, IsSized, IsResting, IsWaiting, IsBusy, GotTurn, TookBench, Looked, seat_view};

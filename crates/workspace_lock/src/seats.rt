@@ -2,7 +2,7 @@
 ghost use Rattle.std.specs.Prelude.{◌≡◌, ℕ, ◌+◌, ◌*◌, ◌<◌, ◌≤◌, [], ◌∷◌, ◌++◌, Some, None, length, IfSome, IfNone, true, false, IfErr, IfOk, slice_get, slice_set, OnOk, MatchBool};
 ghost use Rattle.std.specs.Prelude.{vec_capacity, ◌-◌};
 ghost use Rattle.std.specs.Arc.{arc_value};
-ghost use Rattle.workspace_lock.specs.Limits.{client_limit};
+ghost use Rattle.dependence.specs.Limits.{client_limit};
 ghost use Rattle.workspace_lock.specs.Sights.{idle};
 ghost use Rattle.workspace_lock.specs.Turns.{mark_of, saw, solo};
 ghost use Rattle.workspace_lock.specs.Seating.{IsSized, IsEnd, Gathers, mark_in, marks_in, AllSeated, HasAll, TakesFirst, Closes, SeatView, site_at, dealt, fresh_rows, Opened};

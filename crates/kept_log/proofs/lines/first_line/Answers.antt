@@ -1,4 +1,4 @@
-use Rattle.std.proofs.Common.{◌∙◌, sym, ap, subst, take, drop, length, List, ℕ, ◌∷◌, ◌-◌}
+use Rattle.std.proofs.Common.{◌∙◌, sym, ap, subst, take, drop, List, ℕ, ◌∷◌, ◌-◌}
 use Rattle.std.proofs.lemmas.List.{take_rest}
 use Rattle.kept_log.specs.Lines.{IsLine, kept_lines}
 use Rattle.kept_log.proofs.LineLemmas.{kept-end, kept-first, within-line_text}

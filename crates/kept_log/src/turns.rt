@@ -1,0 +1,63 @@
+//! Turns with a log that several processes share: each takes the lock, sees what others added, adds its own, and lets the lock go.
+ghost use Rattle.std.specs.Prelude.{◌≡◌, ◌<◌, ◌++◌, List, ℕ, true, IfOk, OnOk, IsErrOf};
+ghost use Rattle.kept_log.specs.Device.{LeavesOnly};
+ghost use Rattle.kept_log.specs.Lines.{kept_lines};
+ghost use Rattle.kept_log.specs.Log.{IsOldOrNew, IsAtRest, IsLeft, BeginsWith, head_of, lines_of};
+
+use crate::{AppendError, Block, Device, DeviceError, KeptLog};
+use std::alloc::Global;
+
+/// Why no turn was begun. The log may be opened anew.
+#[derive(Clone, Copy, Debug, PartialEq, Eq)]
+pub enum EnterError {
+    /// The lock was not taken, or the file was not read.
+    Unread(DeviceError),
+    /// What others wrote was not put on the disk, or what a torn write left was not taken away.
+    Unwritten(DeviceError),
+}
+
+impl<D: Device> KeptLog<D> {
+    /// Begins a turn: waits for the file's lock, and takes in what others added, which is on the disk then. It tells the text that
+    /// stood behind the lines that were known; those of its lines that count are the further ones.
+    pub fn enter(&mut self, alloc: Global) -> Result<Vec<u8>, EnterError>
+        requires left { IsLeft D.seen D.may_leave self.old }
+
+        ensures held { OnOk result (D.is_held self.new.device ≡ true) }
+        ensures at_rest { OnOk result (IsAtRest D.seen D.may_leave self.new) }
+        ensures head { OnOk result (head_of D.seen self.new ≡ head_of D.seen self.old) }
+        ensures lines { IfOk result (λ text. lines_of D.seen self.new ≡ lines_of D.seen self.old ++ kept_lines text.items) }
+
+        // A crash at any moment leaves a file whose lines begin with those that were known.
+        ensures any_moment { LeavesOnly D.moment D.left_since self.old.device self.new.device (BeginsWith (head_of D.seen self.old) (lines_of D.seen self.old)) }
+    {
+        let text = match self.take_over(alloc) {
+            Ok(text) => text,
+            Err(why) => return Err(EnterError::Unread(why)),
+        };
+        match self.catch_up(&text) {
+            Ok(_) => Ok(text),
+            Err(why) => Err(EnterError::Unwritten(why)),
+        }
+    }
+
+    /// Adds the lines of a block, all or none, where it has any. At `Ok` they are on the disk.
+    pub fn add(&mut self, block: Block) -> Result<(), AppendError>
+        requires held { D.is_held self.old.device ≡ true }
+        requires at_rest { IsAtRest D.seen D.may_leave self.old }
+
+        ensures held { D.is_held self.new.device ≡ true }
+        ensures at_rest { OnOk result (IsAtRest D.seen D.may_leave self.new) }
+        ensures head { OnOk result (head_of D.seen self.new ≡ head_of D.seen self.old) }
+        ensures lines { OnOk result (lines_of D.seen self.new ≡ lines_of D.seen self.old ++ block) }
+
+        // A crash at any moment leaves the lines from before, with those of the block or without.
+        ensures any_moment { LeavesOnly D.moment D.left_since self.old.device self.new.device
+            (IsOldOrNew (head_of D.seen self.old) (lines_of D.seen self.old) block) }
+        ensures failed { IsErrOf result (AppendError.Device DeviceError.Failed) → D.faults self.old.device < D.faults self.new.device }
+    {
+        if block.is_empty() {
+            return Ok(());
+        }
+        self.append(block)
+    }
+}

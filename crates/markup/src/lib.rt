@@ -1,0 +1,8 @@
+//! Text that comes from outside, written into markup (XML, SVG, HTML) so that it stays text.
+#![tactic(auto)]
+
+mod escaping;
+mod laws;
+
+pub use escaping::escape;
+pub use laws::{escaped_is_text, escaped_reads_back};

@@ -1,0 +1,334 @@
+"""Judges what `explain` printed of a pair, by tests/plain.py, which answers from the definitions.
+
+A schedule is told by its runs, a pair that is apart by a chain of reasons or by a lock, and one that is undecided by a chain of SHB.
+Each link of a chain has to be one of the definition, and what no definition fixes may be any of what is true.
+"""
+
+import collections
+
+
+
+
+class Wrong(Exception):
+    """What is wrong with a text."""
+
+
+# How many runs are printed one by one, and how many of the last where there are more.
+MOST_RUNS = 11
+LAST_RUNS = 10
+
+# A chain of a forced pair: the events that are printed, in order, and the words between each two.
+Chain = collections.namedtuple("Chain", "events words")
+
+
+class Lines:
+    """The lines of a text, which are taken one after another."""
+
+    def __init__(self, text):
+        if text and not text.endswith("\n"):
+            raise Wrong("the text ends within a line")
+        self.lines = text.split("\n")[:-1]
+        self.at = 0
+
+    def next(self):
+        """The line that comes next, or None after the last."""
+        return self.lines[self.at] if self.at < len(self.lines) else None
+
+    def take(self):
+        """Takes the line that comes next."""
+        line = self.next()
+        if line is None:
+            raise Wrong("the text ends early")
+        self.at += 1
+        return line
+
+    def expect(self, *lines):
+        """Takes these lines."""
+        for line in lines:
+            found = self.take()
+            if found != line:
+                raise Wrong(f"line {self.at} is {found!r}, and plainly {line!r}")
+
+    def end(self):
+        if self.next() is not None:
+            raise Wrong(f"line {self.at + 1} is one too many: {self.next()!r}")
+
+
+def numbered(trace, event):
+    return f"{event}  {trace.line(event)}"
+
+
+def with_locks(trace, event):
+    """The line of the event, and those of the locks that its thread holds before it."""
+    return [numbered(trace, event)] + [f"    holds {lock}" for lock in trace.locks_before(event)]
+
+
+def count(number, word):
+    return f"{number} {word}" if number == 1 else f"{number} {word}s"
+
+
+def blanks_of(line):
+    """How many blanks the line begins with."""
+    return len(line) - len(line.lstrip(" "))
+
+
+def event_of(trace, line, blanks):
+    """The number of the event whose line this is, behind so many blanks."""
+    number = line[blanks:].split(" ")[0]
+    event = int(number) if number.isdecimal() else None
+    if event is None or not trace.is_event(event) or line != " " * blanks + numbered(trace, event):
+        raise Wrong(f"no line of an event behind {blanks} blanks: {line!r}")
+    return event
+
+
+# What the words between two events say. A part of a chain along one thread is drawn together.
+
+
+def is_later(trace, first, second):
+    return first < second and trace.thread(first) == trace.thread(second)
+
+
+def begins_thread(trace, first, second):
+    return trace.base(second) == first and trace.thread(first) != trace.thread(second)
+
+
+def is_read_by(trace, first, second):
+    return trace.events[second].word == "r" and trace.last_writer(second) == first
+
+
+def ends_thread(trace, first, second):
+    return trace.does(second, "join", trace.thread(first)) and trace.events_of(trace.thread(first))[-1] == first
+
+
+def forks_joined(trace, first, second):
+    name = trace.events[second].name
+    return trace.does(second, "join", name) and trace.does(first, "fork", name) and not trace.events_of(name)
+
+
+def lets_go(trace, first, second):
+    lock = trace.events[first].name
+    return first < second and trace.does(first, "rel", lock) and trace.does(second, "acq", lock)
+
+
+LINKS = {
+    "and later in its thread": is_later,
+    "begins the thread of": begins_thread,
+    "is read by": is_read_by,
+    "ends the thread that is joined by": ends_thread,
+    "forks the thread that is joined by": forks_joined,
+}
+SHB_LINKS = {**LINKS, "lets the lock go that is taken by": lets_go}
+
+
+# Races.
+
+
+def runs_of(trace, listed):
+    """The longest parts of the list that are of one thread."""
+    runs = []
+    for event in listed:
+        if runs and trace.thread(runs[-1][-1]) == trace.thread(event):
+            runs[-1].append(event)
+        else:
+            runs.append([event])
+    return runs
+
+
+def folded(trace, runs):
+    """The lines of the first runs of many: of each thread, in the order of their numbers, how many events they have, and the last."""
+    events = [event for run in runs for event in run]
+    lines = [f"runs 1 to {len(runs)}, {count(len(events), 'event')}"]
+    for thread in trace.threads():
+        own = [event for event in events if trace.thread(event) == thread]
+        if own:
+            lines.append(f"  {count(len(own), 'event')} to {numbered(trace, own[-1])}")
+    return lines
+
+
+def is_before_write(word):
+    """Whether the first event, which does `word`, has to stand before the second, a write of its variable, in the list: no write of it is between."""
+
+    def is_before(trace, listed, first, second):
+        variable = trace.events[first].name
+        between = listed[listed.index(first) + 1 : listed.index(second)]
+        return trace.does(first, word, variable) and trace.does(second, "w", variable) and trace.last_write(variable, between) is None
+
+    return is_before
+
+
+def is_last_release(trace, listed, first, second):
+    lock = trace.events[first].name
+    between = listed[listed.index(first) + 1 : listed.index(second)]
+    return trace.does(first, "rel", lock) and trace.does(second, "acq", lock) and not any(trace.does(event, "rel", lock) for event in between)
+
+
+def of_trace(link):
+    return lambda trace, _, first, second: link(trace, first, second)
+
+
+# Why an event of a list waits for an earlier one of another thread.
+WAITS = {
+    "begins the thread of": of_trace(begins_thread),
+    "is read by": of_trace(is_read_by),
+    "ends the thread that is joined by": of_trace(ends_thread),
+    "forks the thread that is joined by": of_trace(forks_joined),
+    "lets the lock go that is taken by": is_last_release,
+    "reads before": is_before_write("r"),
+    "writes before": is_before_write("w"),
+}
+
+
+def judge_wait(trace, tally, listed, last, line):
+    """Judges a line that tells which event waits for the last one of a run."""
+    for words, waits in WAITS.items():
+        if line.startswith(f"  {words} "):
+            waiter = event_of(trace, line[len(words) + 3 :], 0)
+            if trace.thread(waiter) == trace.thread(last) or waiter not in listed[listed.index(last) :]:
+                raise Wrong(f"{waiter} is no later event of another thread: {line!r}")
+            if not waits(trace, listed, last, waiter):
+                raise Wrong(f"of {last} that is not so: {line!r}")
+            tally[f"waits|{words}"] += 1
+            return
+    raise Wrong(f"no line of an event that waits: {line!r}")
+
+
+def judge_race(trace, tally, text, how, pair, listed, is_all):
+    """Judges the text on a pair that this list shows."""
+    runs = runs_of(trace, listed)
+    lines = Lines(text)
+    lines.expect(f"race {how}: after {count(len(listed), 'event')} in {count(len(runs), 'run')} both can come next")
+    lines.expect(*with_locks(trace, pair[0]), *with_locks(trace, pair[1]))
+    first = 0 if is_all or len(runs) <= MOST_RUNS else len(runs) - LAST_RUNS
+    if first:
+        lines.expect(*folded(trace, runs[:first]))
+        tally["folded"] += 1
+    for number, run in enumerate(runs[first:], start=first + 1):
+        lines.expect(f"run {number} of {trace.thread(run[0])}, {count(len(run), 'event')}", f"  {numbered(trace, run[0])}")
+        lines.expect(*["  .."] * (len(run) > 2), *[f"  {numbered(trace, run[-1])}"] * (len(run) > 1))
+        if lines.next() is not None and lines.next().startswith("  "):
+            judge_wait(trace, tally, listed, run[-1], lines.take())
+    lines.end()
+
+
+# Forced pairs.
+
+
+def chain_of(trace, lines, depth):
+    """The chain that comes next, so deep."""
+    blanks = 2 * depth
+    chain = Chain([event_of(trace, lines.take(), blanks)], [])
+    while lines.next() is not None and blanks_of(lines.next()) == blanks + 2:
+        chain.words.append(lines.take()[blanks + 2 :])
+        chain.events.append(event_of(trace, lines.take(), blanks))
+    return chain
+
+
+def section_begun(trace, release):
+    """The acquire that begins the section which the release ends."""
+    return next(acquire for acquire in trace.acquires(range(release)) if trace.section_end(acquire) == release)
+
+
+def judge_link(trace, tally, first, words, second):
+    """Judges a link of a chain. Of one that ends a section, the event that begins it and the event before which it has to end; else None."""
+    if words in LINKS:
+        if not LINKS[words](trace, first, second):
+            raise Wrong(f"of {first} and {second} that is not so: {words}")
+        tally[f"links|{words}"] += 1
+        return None
+    lock = trace.events[first].name
+    if not trace.does(first, "rel", lock) or words != f"ends a section of {lock} that comes before the one of":
+        raise Wrong(f"no words of a link from {first}: {words!r}")
+    acquire = section_begun(trace, first)
+    if not trace.ends_first(acquire, second):
+        raise Wrong(f"{second} lies in no section of {lock} in another thread than {first}")
+    tally["links|section"] += 1
+    return (acquire, second)
+
+
+def cause_line(trace, begun, depth):
+    """The lines that may stand before the chain that tells why this section began first."""
+    acquire, event = begun
+    lock = trace.events[acquire].name
+    words = []
+    if lock in trace.locks_before(event):
+        words.append("holds")
+    if trace.does(event, "acq", lock):
+        words.append("takes")
+    blanks = "  " * (depth - 1)
+    return [f"{blanks}for {trace.thread(event)} {word} {lock} at {event}, and that section began before:" for word in words]
+
+
+def judge_causes(needs):
+    """Judges that each chain that is needed was printed, and rests on no chain that rests on it. `needs` has for each chain, by its ends,
+    the ends of those that it needs."""
+    told = set()
+    while True:
+        next_told = {ends for ends, needed in needs.items() if told.issuperset(needed)}
+        if next_told == told:
+            break
+        told = next_told
+    if told != set(needs):
+        raise Wrong(f"these chains rest on themselves, or on chains that are not printed: {sorted(set(needs) - told)}")
+
+
+def judge_forced(trace, tally, text, pair):
+    """Judges the text on a forced pair."""
+    lines = Lines(text)
+    lines.expect(f"apart: {pair[0]} comes before {pair[1]} in every correct reordering")
+    lines.expect(*with_locks(trace, pair[0]), *with_locks(trace, pair[1]), "since")
+    needs = {}
+    # For each depth what the last chain there needs.
+    open_needs = []
+    depth = 0
+    while True:
+        chain = chain_of(trace, lines, depth)
+        ends = (chain.events[0], chain.events[-1])
+        if ends in needs:
+            raise Wrong(f"the chain from {ends[0]} to {ends[1]} is printed twice")
+        if depth and ends not in open_needs[depth - 1]:
+            raise Wrong(f"no chain above needs the one from {ends[0]} to {ends[1]}")
+        links = zip(chain.events, chain.words, chain.events[1:])
+        begun = [judge_link(trace, tally, *link) for link in links]
+        needs[ends] = [section for section in begun if section]
+        open_needs[depth:] = [needs[ends]]
+        tally[f"chains|{depth}"] += 1
+        if not depth and (ends != pair or chain.words[-1] not in ("and later in its thread", "begins the thread of")):
+            raise Wrong(f"the first chain does not lead from {pair[0]} to the base of {pair[1]}, and on")
+        if lines.next() is None:
+            break
+        line = lines.take()
+        depth = blanks_of(line) // 2 + 1
+        waiting = [section for section in open_needs[depth - 1] if section not in needs] if depth <= len(open_needs) else []
+        if not waiting or line not in cause_line(trace, waiting[0], depth):
+            raise Wrong(f"that is not for the next chain that is needed: {line!r}")
+    judge_causes(needs)
+
+
+# Guarded and undecided pairs.
+
+
+def judge_guarded(trace, text, pair, lock):
+    """Judges the text on a pair whose threads both hold this lock, the least."""
+    lines = Lines(text)
+    lines.expect(f"apart: both threads hold {lock}", *with_locks(trace, pair[0]), *with_locks(trace, pair[1]))
+    for event in pair:
+        acquire = trace.held_since(event, lock)
+        release = trace.section_end(acquire)
+        lines.expect(f"{trace.thread(event)} holds it from {numbered(trace, acquire)}")
+        lines.expect("  to the end" if release is None else f"  to {numbered(trace, release)}")
+    lines.end()
+
+
+def judge_undecided(trace, tally, text, pair):
+    """Judges the text on a pair of which nothing is known but that SHB orders it."""
+    lines = Lines(text)
+    lines.expect("undecided: no schedule was found, and neither order nor lock forbids one")
+    lines.expect(*with_locks(trace, pair[0]), *with_locks(trace, pair[1]), "in SHB")
+    chain = chain_of(trace, lines, 0)
+    lines.end()
+    if (chain.events[0], chain.events[-1]) != pair:
+        raise Wrong(f"the chain leads from {chain.events[0]} to {chain.events[-1]}")
+    for first, words, second in zip(chain.events, chain.words, chain.events[1:]):
+        if words not in SHB_LINKS or not SHB_LINKS[words](trace, first, second):
+            raise Wrong(f"of {first} and {second} that is not so: {words}")
+        tally[f"SHB|{words}"] += 1

@@ -1,0 +1,239 @@
+#!/usr/bin/env python3
+"""Judges what `explain` and `witness` print of each pair of events, by tests/plain.py, which answers from the definitions.
+
+Of each conflicting pair of traces drawn by chance, and of some that were made for what chance draws seldom: the verdict, with all that
+stands behind it (explained.py); that the schedule is a correct reordering which shows the pair, and has exactly the events of the least list in the
+order of the trace where there is one; that `replay` of its script tells the pair, and `info` of its trace has it as a candidate.
+On small traces all correct reorderings are gone over: none shows a pair that is forced or guarded, and each list in the order of the trace that
+shows a pair has all events of the least one.
+
+    judge_explain.py PROGRAM [TRACES [SEED]]      so many drawn traces, the first of this seed
+
+Says what is wrong, if something is, and ends with status 1 then.
+"""
+
+import collections
+import os
+import random
+import sys
+import tempfile
+
+sys.dont_write_bytecode = True
+import by_chance
+import explained
+import plain
+import running
+
+TRACES = 120
+# How many events a drawn trace has at most; those of the first number are gone over whole. Most have locks.
+MOST_EVENTS = [8, 8, 14, 22]
+SMALL = 8
+DRAWS = [by_chance.locked_trace, by_chance.locked_trace, by_chance.trace]
+# How many pairs that do not conflict are asked of, of each trace.
+NO_PAIRS = 3
+FORMS = [[], ["--script"], ["--std"]]
+
+# What has to be reached: each verdict, what a small trace has, folded runs, each kind of link, and a chain on which a chain rests on which one rests.
+REACHED = [
+    *"none candidate beyond turned forced guarded undecided small folded links|section chains|2".split(),
+    *[f"links|{words}" for words in explained.LINKS],
+    *["SHB|and later in its thread", "SHB|lets the lock go that is taken by"],
+    *[f"waits|{words}" for words in explained.WAITS if not words.startswith("forks")],
+]
+
+
+class Judge:
+    """Runs the program in this folder, and compares."""
+
+    def __init__(self, program):
+        self.program = program
+        self.tally = collections.Counter()
+
+    def printed(self, *words):
+        """What the program prints, where it ends well."""
+        status, out, err = running.ended(self.program, words)
+        if status != 0 or err:
+            raise explained.Wrong(f"{' '.join(words)}: status {status}: {err[:300]!r}")
+        return out.decode("ascii")
+
+    def expect(self, text, *words):
+        """Compares what the program prints with this text."""
+        printed = self.printed(*words)
+        if printed != text:
+            raise explained.Wrong(f"{' '.join(words)} printed\n{printed}--- and plainly\n{text}")
+
+    def expect_fault(self, told, *words):
+        """Compares why the program stops with this text; it has to print nothing else."""
+        status, out, err = running.ended(self.program, words)
+        if (status, out, err) != (1, b"", f"racebench: {told}\n".encode("ascii")):
+            raise explained.Wrong(f"{' '.join(words)}: status {status}, printed {out[:300]!r}, and {err[:300]!r}, which is not {told!r}")
+
+    def judge_trace(self, trace, chance):
+        """Judges all conflicting pairs of the trace, and a few others."""
+        running.write("trace", trace.text())
+        pairs = trace.conflicting()
+        for pair in pairs:
+            self.judge_pair(trace, pair, chance)
+        numbers = [*range(len(trace.events) + 2), 2**32 - 1]
+        for _ in range(NO_PAIRS):
+            first, second = chance.choice(numbers), chance.choice(numbers)
+            if (min(first, second), max(first, second)) not in pairs:
+                self.expect_fault("no such pair", "explain", "trace", str(first), str(second))
+                self.expect_fault("no such pair", "witness", "trace", str(first), str(second), *chance.choice(FORMS))
+                self.tally["none"] += 1
+        if len(trace.events) <= SMALL:
+            judge_reorderings(trace, pairs)
+            self.tally["small"] += 1
+            self.tally["reorderings"] += len(trace.reorderings())
+        self.tally["traces"] += 1
+
+    def judge_pair(self, trace, pair, chance):
+        """Judges what is printed of a conflicting pair, given in either order."""
+        verdict, listed = verdict_of(trace, pair)
+        self.tally[verdict] += 1
+        self.tally["pairs"] += 1
+        words = [str(event) for event in (pair if chance.random() < 0.5 else pair[::-1])]
+        is_all = chance.random() < 0.3
+        text = self.printed("explain", "trace", *words, *["--all"] * is_all)
+        try:
+            if verdict in ("candidate", "beyond", "turned"):
+                shown = self.judge_witness(trace, pair, words, listed)
+                explained.judge_race(trace, self.tally, text, verdict, pair, shown, is_all)
+                return
+            if verdict == "forced":
+                explained.judge_forced(trace, self.tally, text, pair)
+            elif verdict == "guarded":
+                explained.judge_guarded(trace, text, pair, trace.guard(*pair))
+            else:
+                explained.judge_undecided(trace, self.tally, text, pair)
+        except explained.Wrong as what:
+            raise explained.Wrong(f"{what}\n--- explain {' '.join(words)}, which is {verdict}\n{text}") from what
+        kind = trace.kind(*pair)
+        self.expect_fault(f"not shown: {kind}", "witness", "trace", *words, *chance.choice(FORMS))
+
+    def judge_witness(self, trace, pair, words, listed):
+        """The schedule that is printed, where it shows the pair, and has the events of this list, if one is given."""
+        lines = explained.Lines(self.printed("witness", "trace", *words))
+        shown = []
+        while lines.next() is not None:
+            shown.append(explained.event_of(trace, lines.take(), 0))
+        shown = tuple(shown)
+        if not trace.is_reordering(shown) or not trace.shows(shown, *pair):
+            raise explained.Wrong(f"this list does not show the pair: {shown}")
+        if listed is not None and tuple(sorted(shown)) != listed:
+            raise explained.Wrong(f"the schedule is {shown}, and the least list in the order of the trace is {listed}")
+        self.judge_script(trace, pair, words, shown)
+        self.judge_std(trace, words, shown + pair)
+        return shown
+
+    def judge_script(self, trace, pair, words, shown):
+        """Judges the script of the schedule, and what `replay` answers to it."""
+        script = "".join(["1 new S\n", *[f"1 add S {event}\n" for event in shown], "1 races S\n"])
+        self.expect(script, "witness", "trace", *words, "--script")
+        running.write("script", script)
+        told = trace.shown_pairs(shown)
+        if pair not in told:
+            raise explained.Wrong(f"the pair is none of those that are shown: {told}")
+        answers = [f"{number}: done\n" for number in range(len(shown) + 1)]
+        self.expect("".join(answers) + " ".join(["pairs", *[f"{a}-{b}" for a, b in told]]) + "\n", "replay", "trace", "script")
+
+    def judge_std(self, trace, words, events):
+        """Judges the trace of these events, the pair last, and what `info` says of it."""
+        std = plain.Trace(trace.events[event] for event in events)
+        self.expect(std.text(), "witness", "trace", *words, "--std")
+        running.write("std", std.text())
+        if (len(events) - 2, len(events) - 1) not in std.candidates():
+            raise explained.Wrong(f"the pair is no candidate of the schedule's trace\n{std.text()}")
+        self.expect(std.info(), "info", "std")
+
+
+def verdict_of(trace, pair):
+    """What is to be said of a conflicting pair, and the least list in the order of the trace that shows it, or None."""
+    kind = trace.kind(*pair)
+    listed = trace.in_order(*pair)
+    if kind == "candidate":
+        if listed is None:
+            raise plain.Contradiction(f"no list in the order of the trace shows the candidate {pair}")
+        return kind, listed
+    if kind != "open":
+        return kind, None
+    if listed is not None:
+        return "beyond", listed
+    return "undecided" if trace.turned(*pair) is None else "turned", None
+
+
+def judge_reorderings(trace, pairs):
+    """Compares the kinds and lists of the pairs with all correct reorderings of a small trace."""
+    for first, second in pairs:
+        showing = [listed for listed in trace.reorderings() if trace.shows(listed, first, second)]
+        kind = trace.kind(first, second)
+        if kind in ("forced", "guarded") and showing:
+            raise plain.Contradiction(f"{first} and {second} are {kind}, and {showing[0]} shows them")
+        least = trace.in_order(first, second)
+        rising = [listed for listed in showing if list(listed) == sorted(listed)]
+        if (least is None and rising) or (least is not None and least not in rising):
+            raise plain.Contradiction(f"the least list of {first} and {second} is {least}, and {rising} show them")
+        if any(not set(least) <= set(listed) for listed in rising):
+            raise plain.Contradiction(f"{least} is not the least list of {first} and {second}: {rising}")
+
+
+def made(*lines):
+    """The trace of these events, each by its thread, operation and name."""
+    return plain.Trace(plain.Event(*line.split(" ")) for line in lines)
+
+
+def in_turns(times):
+    """Two threads that each read what the other wrote, in turns, and then write one variable."""
+    turns = []
+    for turn in range(times):
+        one, other = ("A", "B") if turn % 2 else ("B", "A")
+        turns += [f"{one} w {turn}", f"{other} r {turn}"]
+    return made(*turns, "A w last", "B w last")
+
+
+# What chance draws seldom: many runs; a thread without an event, and one that is forked and joined; accesses that stay before others; a pair that
+# SHB orders and a list in the order of the trace shows, one that is shown by sections in another order, and one of which no schedule is found; a chain
+# that rests on one that rests on another; a section that has to end before another thread, which holds its lock, takes another lock; two locks that both
+# threads hold, one of them twice.
+MADE = [
+    in_turns(14),
+    made("A w x", "A fork W", "B join W", "B w x"),
+    made("A w x", "A fork B", "B w x", "A join B", "A w x", "C w x"),
+    made("A r x", "A w v", "B w x", "B w v", "C w x", "C w v"),
+    made("A w x", "A acq l", "A rel l", "B acq l", "B rel l", "B w x"),
+    made("A acq l", "A fork W", "A w x", "A rel l", "B acq l", "B r y", "B rel l", "B r x"),
+    made("A acq l", "A r x", "A w y", "A w x", "A rel l", "B acq l", "B w x", "B rel l", "B w x"),
+    made("A acq m", "A w x", "A acq l", "A rel m", "A w v", "A rel l", "B acq l", "B acq m", "B r x", "B rel m", "B w v", "B rel l"),
+    made("A acq m", "A w x", "A acq l", "A rel m", "A w v", "A rel l", "B r x", "B acq l", "B acq m", "B w v", "B rel m", "B rel l"),
+    made("A acq l", "A acq m", "A w x", "A rel m", "A rel l", "B acq m", "B acq l", "B acq m", "B w x", "B rel m"),
+]
+
+
+def main():
+    judge = Judge(os.path.abspath(sys.argv[1]))
+    traces = int(sys.argv[2]) if sys.argv[2:] else TRACES
+    first = int(sys.argv[3]) if sys.argv[3:] else 0
+    with tempfile.TemporaryDirectory() as folder:
+        os.chdir(folder)
+        drawn = [(f"made {number}", trace) for number, trace in enumerate(MADE)]
+        for seed in range(first, first + traces):
+            chance = random.Random(seed)
+            drawn.append((f"seed {seed}", chance.choice(DRAWS)(chance, chance.choice(MOST_EVENTS))))
+        for name, trace in drawn:
+            try:
+                judge.judge_trace(trace, random.Random(name))
+            except (explained.Wrong, plain.Contradiction) as what:
+                sys.exit(f"explain, {name}: {what}{running.given(['', 'trace'])}")
+    tally = judge.tally
+    missing = [kind for kind in REACHED if not tally[kind]]
+    if missing:
+        sys.exit(f"explain: never reached: {missing}")
+    verdicts = ", ".join(f"{tally[verdict]} {verdict}" for verdict in ["candidate", "beyond", "turned", "forced", "guarded", "undecided"])
+    links = sum(number for kind, number in tally.items() if kind.startswith(("links|", "SHB|", "waits|")))
+    print(
+        f"explain: {tally['pairs']} pairs of {tally['traces']} traces, seeds {first} to {first + traces - 1}, are told as the definitions say ({verdicts}), "
+        f"with {links} links; {tally['none']} others are none; on {tally['small']} small traces with all {tally['reorderings']} correct reorderings"
+    )
+
+
+main()
