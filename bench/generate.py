@@ -231,12 +231,21 @@ def write_seats(folder):
             write_trace(folder, f"{rows}_{clients}_in_turn", in_turn)
 
 
+def write_sessions(folder):
+    """Scripts for sessions, each line of which adds an entry to the log."""
+    os.makedirs(folder, exist_ok=True)
+    write_trace(folder, "trace", ["T1|w(x)|1"])
+    for entries in (sized(100_000), sized(1_000_000)):
+        write_trace(folder, f"new_and_undo_{entries}", ["1 new A", "1 undo"] * (entries // 2))
+
+
 def main():
     folder = sys.argv[1]
     os.makedirs(folder, exist_ok=True)
     write_traces(os.path.join(folder, "info"))
     write_pairs(os.path.join(folder, "explain"))
     write_seats(os.path.join(folder, "threads"))
+    write_sessions(os.path.join(folder, "sessions"))
     for threads in (4, 64):
         write(folder, f"locked_{threads}_short", locked_trace(EVENTS, threads, short, 1))
         write(folder, f"locked_{threads}_long", locked_trace(EVENTS, threads, long, 2))

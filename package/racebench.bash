@@ -1,7 +1,7 @@
 # Completion of racebench for bash. A new word of the program is named in `commands` and gets a line of `flags`.
 
 _racebench() {
-    local commands="info replay threads explain witness" word=${COMP_WORDS[COMP_CWORD]} command= flags= at
+    local commands="info replay session log threads triage explain witness" word=${COMP_WORDS[COMP_CWORD]} command= flags= at
     for ((at = 1; at < COMP_CWORD; at++)); do
         if [[ " $commands " == *" ${COMP_WORDS[at]} "* ]]; then
             command=${COMP_WORDS[at]}
@@ -12,12 +12,15 @@ _racebench() {
         "") flags="--help --version -h -V" ;;
         info) flags="--help -h" ;;
         replay) flags="--help -h" ;;
+        session) flags="--client --help -h" ;;
+        log) flags="--help -h" ;;
         threads) flags="--workers --help -h" ;;
+        triage) flags="--known --only --hide --apart --tries --workers --json --page --fail --help -h" ;;
         explain) flags="--all --help -h" ;;
-        witness) flags="--script --std --help -h" ;;
+        witness) flags="--script --std --svg --help -h" ;;
     esac
-    if [[ ${COMP_WORDS[COMP_CWORD - 1]} == --workers ]]; then
-        COMPREPLY=() # a number
+    if [[ " --workers --client --tries --only --hide " == *" ${COMP_WORDS[COMP_CWORD - 1]} "* ]]; then
+        COMPREPLY=() # a number or a text
     elif [[ $word == -* ]]; then
         COMPREPLY=($(compgen -W "$flags" -- "$word"))
     elif [[ -z $command ]]; then

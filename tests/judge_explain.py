@@ -3,7 +3,7 @@
 
 Of each conflicting pair of traces drawn by chance, and of some that were made for what chance draws seldom: the verdict, with all that
 stands behind it (explained.py); that the schedule is a correct reordering which shows the pair, and has exactly the events of the least list in the
-order of the trace where there is one; that `replay` of its script tells the pair, and `info` of its trace has it as a candidate.
+order of the trace where there is one; that `replay` of its script tells the pair, and `info` of its trace has it as a candidate; and its picture (pictured.py).
 On small traces all correct reorderings are gone over: none shows a pair that is forced or guarded, and each list in the order of the trace that
 shows a pair has all events of the least one.
 
@@ -21,6 +21,7 @@ import tempfile
 sys.dont_write_bytecode = True
 import by_chance
 import explained
+import pictured
 import plain
 import running
 
@@ -31,11 +32,12 @@ SMALL = 8
 DRAWS = [by_chance.locked_trace, by_chance.locked_trace, by_chance.trace]
 # How many pairs that do not conflict are asked of, of each trace.
 NO_PAIRS = 3
-FORMS = [[], ["--script"], ["--std"]]
+FORMS = [[], ["--script"], ["--std"], ["--svg"]]
 
 # What has to be reached: each verdict, what a small trace has, folded runs, each kind of link, and a chain on which a chain rests on which one rests.
 REACHED = [
-    *"none candidate beyond turned forced guarded undecided small folded links|section chains|2".split(),
+    *"none candidate beyond turned forced guarded undecided small folded links|section chains|2 pictures arrows".split(),
+    "pictures with earlier runs",
     *[f"links|{words}" for words in explained.LINKS],
     *["SHB|and later in its thread", "SHB|lets the lock go that is taken by"],
     *[f"waits|{words}" for words in explained.WAITS if not words.startswith("forks")],
@@ -54,7 +56,7 @@ class Judge:
         status, out, err = running.ended(self.program, words)
         if status != 0 or err:
             raise explained.Wrong(f"{' '.join(words)}: status {status}: {err[:300]!r}")
-        return out.decode("ascii")
+        return out.decode("utf-8")
 
     def expect(self, text, *words):
         """Compares what the program prints with this text."""
@@ -124,6 +126,7 @@ class Judge:
             raise explained.Wrong(f"the schedule is {shown}, and the least list in the order of the trace is {listed}")
         self.judge_script(trace, pair, words, shown)
         self.judge_std(trace, words, shown + pair)
+        pictured.judge_picture(trace, self.tally, self.printed("witness", "trace", *words, "--svg"), pair, shown)
         return shown
 
     def judge_script(self, trace, pair, words, shown):
@@ -197,6 +200,7 @@ def in_turns(times):
 # threads hold, one of them twice.
 MADE = [
     in_turns(14),
+    in_turns(70),
     made("A w x", "A fork W", "B join W", "B w x"),
     made("A w x", "A fork B", "B w x", "A join B", "A w x", "C w x"),
     made("A r x", "A w v", "B w x", "B w v", "C w x", "C w v"),
@@ -232,7 +236,7 @@ def main():
     links = sum(number for kind, number in tally.items() if kind.startswith(("links|", "SHB|", "waits|")))
     print(
         f"explain: {tally['pairs']} pairs of {tally['traces']} traces, seeds {first} to {first + traces - 1}, are told as the definitions say ({verdicts}), "
-        f"with {links} links; {tally['none']} others are none; on {tally['small']} small traces with all {tally['reorderings']} correct reorderings"
+        f"with {links} links and {tally['pictures']} pictures; {tally['none']} others are none; on {tally['small']} small traces with all {tally['reorderings']} correct reorderings"
     )
 
 

@@ -14,6 +14,6 @@ mod witness;
 
 pub use runs::{Run, runs_of};
 pub use shb_order::shb_chain;
-pub use verdict::{How, Verdict, explain_text};
+pub use verdict::{How, Verdict, append_head, explain_text};
 pub use waiting::{waiters_of, words_between};
 pub use witness::{Form, witness_text};

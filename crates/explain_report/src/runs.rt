@@ -24,11 +24,7 @@ pub struct Run {
 }
 
 /// The runs of the list, in its order.
-pub fn runs_of(
-    alloc: Global,
-    indexed: &Indexed,
-    list: &[u32],
-) -> Result<Vec<Run>, OutOfMemory> {
+pub fn runs_of(alloc: Global, indexed: &Indexed, list: &[u32]) -> Result<Vec<Run>, OutOfMemory> {
     let mut runs: Vec<Run> = Vec::new(alloc);
     let mut place = 0u32;
     for event in list {

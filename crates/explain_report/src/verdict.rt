@@ -77,8 +77,8 @@ pub fn explain_text(
     Ok(())
 }
 
-/// Appends the words of the verdict.
-fn append_head(
+/// Appends the words of the verdict, with which `explain_text` begins. Where memory is refused a beginning of them may stand.
+pub fn append_head(
     out: &mut Vec<u8>,
     indexed: &Indexed,
     verdict: &Verdict<'_>,

@@ -16,7 +16,7 @@ none_within : (text : List ℕ) (k : ℕ) → ¬ (is_line_feed (get_or text k 0)
 none_within text k not_so = elim (cases_Bool (is_line_feed (get_or text k 0))) [ inl y ↦ absurd (not_so y) | inr n ↦ n ]
 
 -- what stands before the first line feed, and with it
-first_line : (text : List ℕ) (len : ℕ) → IsFirstByte (is_byte 10) text (Some len) → IsLine (take len text) × (take (len + 1) text ≡ take len text ++ 10 ∷ [])
+pub first_line : (text : List ℕ) (len : ℕ) → IsFirstByte (is_byte 10) text (Some len) → IsLine (take len text) × (take (len + 1) text ≡ take len text ++ 10 ∷ [])
 first_line text len first =
     let lt : len < length text = first.0.high in
     let feed : get_or text len 0 ≡ 10 = grind (arith, common_steps, first.1) in (

@@ -7,3 +7,4 @@ pub mod Layout
 pub mod MustBefore
 pub mod Sections
 pub mod Sound
+pub mod Telling

@@ -5,6 +5,8 @@ ghost use Rattle.must_order.specs.Held.{IsHeldFrom, AreLocksHeld};
 ghost use Rattle.must_order.specs.Kinds.{IsKind};
 ghost use Rattle.must_order.specs.MustBefore.{IsForced, IsHeldBefore, IsMustBefore, IsSharedBefore};
 ghost use Rattle.must_order.specs.Sections.{AreSections};
+ghost use Rattle.must_order.specs.Telling.{TellsMust};
+ghost use Rattle.shb_clocks.specs.SharedRows.{len_of, count_of};
 
 use crate::chains::Chain;
 use crate::events::locks_in;
@@ -71,6 +73,16 @@ impl Must {
     {
         let thread = self.threads[first as usize];
         self.counts.count(first, thread) <= self.counts.count(second, thread)
+    }
+
+    /// The rows by which it tells: what each event counts of a thread are so many of the thread's first events, those that are
+    /// must-before it or are it.
+    pub fn rows(&self) -> &SharedRows
+        ensures len { len_of result.now ≡ length self.now.events }
+        ensures width { result.now.width ≡ length self.now.threads }
+        ensures tells { TellsMust self.now.events (length self.now.threads) (count_of result.now) }
+    {
+        &self.counts
     }
 
     /// Whether the first event is the second's base, or must-before it.

@@ -1,15 +1,15 @@
 -- What the steps of a call on a pair say of the whole.
 use Rattle.std.proofs.Common.{◌≡◌, ◌≢◌, ◌⊎◌, ◌++◌, ℕ, List, [], Option, Result, Ok, Err, OnOk, OnErr, IfErr, refl, sym, ap, ◌∙◌, subst, inl, inr}
 use Rattle.rapid_text.specs.Recording.{Recording}
-use Rattle.explain_report.specs.Witnesses.{witness_lines}
-use Rattle.explain_report.specs.declared.witness.Form.{Form}
 use Rattle.std.specs.Io.KnownBytes.{Appends}
 use Rattle.client_scripts.specs.Replay.{AppendsPart, IsFault, of_trace}
 use Rattle.client_scripts.specs.declared.fault.ReadCause.{ReadCause}
 use Rattle.client_scripts.specs.declared.fault.ReplayFault.{ReplayFault}
 use Rattle.client_scripts.specs.declared.fault.ReplayFault.TheVariants.{Text, Rule, Script, Read, Write, OutOfMemory}
 use Rattle.pair_calls.specs.Answers.{IsAnswered, IsListed, IsPairOf, IsRead, IsUnexplained, IsUnlisted, IsUnwitnessed, IsWitness, IsWritten}
+use Rattle.pair_calls.specs.Forms.{IsPrinted}
 use Rattle.pair_calls.specs.declared.fault.PairFault.{PairFault}
+use Rattle.pair_calls.specs.declared.form.Form.{Form}
 use Rattle.pair_calls.specs.declared.fault.PairFault.TheVariants.{Replay, NoSuchPair, NotShown}
 
 -- a fault that is not for want of memory is one of the bytes
@@ -83,14 +83,17 @@ unlisted-unwitnessed r one other a b pair NoSuchPair h = absurd h
 unlisted-unwitnessed r one other a b pair (NotShown kind) h = (a, b, pair, h)
 
 -- the text of a schedule that was found
-pub witness-text : (r : Recording) (one other a b : ℕ) (form : Form) → IsPairOf one other a b → (events shown empty text : List ℕ) → IsListed r a b events → shown ≡ events → empty ≡ [] → text ≡ empty ++ witness_lines r shown a b form
-    → IsWitness r one other form text
-witness-text r one other a b form pair events shown empty text listed same none e = record {
-  a = a;
-  b = b;
-  pair = pair;
-  how = listed.0;
-  events = events;
-  found = listed.1;
-  printed = e ∙ ap (λ (before : List ℕ). before ++ witness_lines r shown a b form) none ∙ ap (λ (es : List ℕ). witness_lines r es a b form) same;
-}
+pub witness-text : (r : Recording) (one other a b : ℕ) (form : Form) → IsPairOf one other a b → (events shown empty printed text : List ℕ) → IsListed r a b events → shown ≡ events → empty ≡ []
+    → text ≡ empty ++ printed → IsPrinted r shown a b form printed → IsWitness r one other form text
+witness-text r one other a b form pair events shown empty printed text listed same none e is =
+    let whole : text ≡ printed = e ∙ ap (λ (before : List ℕ). before ++ printed) none in
+    let told : IsPrinted r shown a b form text = subst (λ (t : List ℕ). IsPrinted r shown a b form t) (sym whole) is in
+    record {
+      a = a;
+      b = b;
+      pair = pair;
+      how = listed.0;
+      events = events;
+      found = listed.1;
+      printed = subst (λ (es : List ℕ). IsPrinted r es a b form text) same told;
+    }

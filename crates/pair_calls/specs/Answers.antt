@@ -10,9 +10,7 @@ use Rattle.must_order.specs.declared.kind.Kind.TheVariants.{Candidate as Candida
 use Rattle.in_order.specs.Orders.{IsTurned}
 use Rattle.in_order.specs.Refusals.{IsNeverShownInOrder}
 use Rattle.explain_report.specs.Verdicts.{race_head, forced_head, guarded_head, undecided_head}
-use Rattle.explain_report.specs.Witnesses.{witness_lines}
 use Rattle.explain_report.specs.declared.verdict.How.{How}
-use Rattle.explain_report.specs.declared.witness.Form.{Form}
 use Rattle.pair_findings.specs.Findings.{IsFinding, IsNeverShown, IsShownByNone}
 use Rattle.pair_findings.specs.declared.finding.Finding.{Finding}
 use Rattle.pair_findings.specs.declared.finding.Finding.TheVariants.{Race, Forced, Guarded, Undecided}
@@ -21,7 +19,9 @@ use Rattle.client_scripts.specs.Replay.{AppendsPart, IsFault, IsShort, of_trace}
 use Rattle.client_scripts.specs.Traces.{trace_of}
 use Rattle.client_scripts.specs.declared.fault.ReplayFault.{ReplayFault}
 use Rattle.client_scripts.specs.declared.fault.ReplayFault.TheVariants.{Write, OutOfMemory}
+use Rattle.pair_calls.specs.Forms.{IsPrinted}
 use Rattle.pair_calls.specs.declared.fault.PairFault.{PairFault}
+use Rattle.pair_calls.specs.declared.form.Form.{Form}
 use Rattle.pair_calls.specs.declared.fault.PairFault.TheVariants.{Replay, NoSuchPair, NotShown}
 
 -- a and b are the two events, the earlier first
@@ -54,7 +54,7 @@ pub record IsWitness (r : Recording) (one other : ℕ) (form : Form) (text : Lis
   pub how : How
   pub events : List ℕ
   pub found : IsFinding r a b (Race how events)
-  pub printed : text ≡ witness_lines r events a b form
+  pub printed : IsPrinted r events a b form text
 
 -- no schedule is printed of a pair of this kind: there is none, or none in the order of the trace, and none was found
 abbrev pub IsNotShown : Recording → ℕ → ℕ → Kind → Type 0

@@ -4,12 +4,13 @@
 
 mod explaining;
 mod fault;
+mod form;
 mod reading;
 mod witnessing;
 mod writing;
 
-pub use explain_report::Form;
 pub use explaining::explain;
 pub use fault::{PairFault, pair_fault_text};
+pub use form::Form;
 pub use must_order::Kind;
 pub use witnessing::witness;

@@ -10,11 +10,11 @@ ghost use Rattle.pair_calls.specs.declared.fault.PairFault.TheVariants.{Replay};
 
 use crate::explaining::finding_of;
 use crate::fault::PairFault;
+use crate::form::{Form, append_schedule};
 use crate::reading::read_trace;
 use crate::writing::write_text;
 use client_scripts::{Sink, Source};
 use event_index::{EventList, Indexed};
-use explain_report::{Form, witness_text};
 use must_order::Kind;
 use pair_findings::{Finding, pair_of};
 use std::alloc::Global;
@@ -59,7 +59,7 @@ fn witness_of(
         Err(fault) => return Err(fault),
     };
     let mut text = Vec::new(alloc);
-    witness_text(indexed, events.items(), first, second, form, &mut text)?;
+    append_schedule(&mut text, indexed, events.items(), first, second, form)?;
     Ok(text)
 }
 

@@ -11,7 +11,7 @@ use std::sync::Wait;
 use std::thread::Threads;
 
 /// Hands on what a writer keeps back.
-fn finish<W: io::Write>(writer: &mut FromWrite<W>) -> Result<(), Stop> {
+pub(crate) fn finish<W: io::Write>(writer: &mut FromWrite<W>) -> Result<(), Stop> {
     match writer.flush() {
         Ok(()) => Ok(()),
         Err(_) => Err(Stop::from(ReplayFault::Write)),

@@ -1,16 +1,21 @@
-//! The workbench as a program: replays a script on a trace, runs several at once, prints what a trace holds, or explains a pair.
+//! The workbench as a program: replays a script on a trace, runs several at once, answers lines as they come, prints what a trace holds, or explains a
+//! pair of its events.
 #![tactic(auto)]
 
 mod doing;
 mod input;
 mod notes;
+mod sessions;
 mod stop;
+mod triaging;
 mod words;
 
 use crate::doing::{
     explain_in_file, info_of_file, replay_files, replay_input, threads_on_files, witness_in_file,
 };
+use crate::sessions::{log_of_file, session_on_files};
 use crate::stop::{Stop, tell};
+use crate::triaging::triage_file;
 use crate::words::{Task, no_text, task_of};
 use client_scripts::ReplayFault;
 use std::io;
@@ -39,6 +44,8 @@ fn work<R: Threads + Wait + Sync + Clone + Send + Drop + 'static>(
         Task::Joint => replay_input(rt),
         Task::Info(path) => info_of_file(rt, path),
         Task::Replay(trace, script) => replay_files(rt, trace, script),
+        Task::Session { trace, log, client } => session_on_files(rt, trace, log, client),
+        Task::Log(path) => log_of_file(rt, path),
         Task::Threads {
             paths,
             workers,
@@ -46,6 +53,7 @@ fn work<R: Threads + Wait + Sync + Clone + Send + Drop + 'static>(
         } => threads_on_files(rt, starts, &paths, workers, room),
         Task::Explain(path, one, other, all) => explain_in_file(rt, path, one, other, all),
         Task::Witness(path, one, other, form) => witness_in_file(rt, path, one, other, form),
+        Task::Triage(task) => triage_file(rt, starts, task),
     }
 }
 

@@ -3,10 +3,12 @@
 use crate::notes::{append_file_notes, append_joint_notes};
 use clap::error::{Error, ErrorKind};
 use client_scripts::{FromWrite, ReplayFault, write_all};
+use kept_session::{SessionFault, session_fault_text};
 use pair_calls::{PairFault, pair_fault_text};
 use program_calls::{BenchFault, bench_fault_text};
 use std::alloc::{AllocError, AllocFailed, Global};
 use std::process::ExitCode;
+use triage_calls::{TriageFault, triage_fault_text};
 
 /// Why nothing more is done.
 #[derive(Drop)]
@@ -17,6 +19,12 @@ pub(crate) enum Stop {
     Fault(BenchFault, Option<Vec<u8>>),
     /// A fault of a call on a pair.
     Pair(PairFault),
+    /// A fault of a log's file.
+    Log(SessionFault),
+    /// There are too many pairs of places.
+    TooManyPlaces,
+    /// A race was printed, where that is asked for.
+    Races,
 }
 
 impl From<BenchFault> for Stop {
@@ -78,6 +86,49 @@ pub(crate) fn in_pair(rt: &HostRuntime, fault: PairFault, path: &str) -> Stop {
     }
 }
 
+/// A fault of a session on the trace and the log at these paths, with its notes.
+pub(crate) fn in_session(rt: &HostRuntime, fault: SessionFault, trace: &str, log: &str) -> Stop {
+    match fault {
+        SessionFault::Replay(ReplayFault::Read { input: 3, why }) => {
+            let fault = ReplayFault::Read { input: 1, why };
+            in_joint(rt, fault, &[], true)
+        }
+        SessionFault::Replay(fault) => in_files(rt, BenchFault::from(fault), &[trace, log]),
+        fault => Stop::Log(fault),
+    }
+}
+
+/// A fault of the log at this path, which is input 2, with its notes.
+pub(crate) fn in_log(rt: &HostRuntime, fault: SessionFault, path: &str) -> Stop {
+    in_session(rt, fault, path, path)
+}
+
+/// The line that tells a fault of a log's file.
+fn log_fault_lines(alloc: Global, fault: &SessionFault) -> Result<Vec<u8>, BenchFault> {
+    let mut lines = Vec::new(alloc);
+    lines.extend_from_slice(b"racebench: ")?;
+    session_fault_text(fault, &mut lines)?;
+    lines.extend_from_slice(b"\n")?;
+    Ok(lines)
+}
+
+/// Tells a fault of a log's file on standard error.
+fn tell_log_fault(rt: &HostRuntime, fault: &SessionFault) -> ExitCode {
+    match log_fault_lines(rt.alloc(), fault) {
+        Ok(lines) => say(rt, &lines),
+        Err(_) => say(rt, b"racebench: out of memory\n"),
+    }
+    ExitCode::FAILURE
+}
+
+/// A fault of `triage`, with its notes.
+pub(crate) fn in_triage(rt: &HostRuntime, fault: TriageFault, paths: &[&str]) -> Stop {
+    match fault {
+        TriageFault::Replay(fault) => in_files(rt, BenchFault::from(fault), paths),
+        TriageFault::TooMany => Stop::TooManyPlaces,
+    }
+}
+
 /// The line that tells a fault, and the notes behind it.
 fn fault_lines(
     alloc: Global,
@@ -136,6 +187,20 @@ fn tell_pair_fault(rt: &HostRuntime, fault: &PairFault) -> ExitCode {
     ExitCode::FAILURE
 }
 
+/// Tells that there are too many pairs of places.
+fn tell_too_many(rt: &HostRuntime) -> ExitCode {
+    let mut words = Vec::new(rt.alloc());
+    match triage_fault_text(&TriageFault::TooMany, &mut words) {
+        Ok(()) => {
+            say(rt, b"racebench: ");
+            say(rt, &words);
+            say(rt, b"\n");
+        }
+        Err(_) => say(rt, b"racebench: out of memory\n"),
+    }
+    ExitCode::FAILURE
+}
+
 /// Tells why the words are refused, or helps.
 fn tell_words(rt: &HostRuntime, error: &Error) -> ExitCode {
     let told = error.print(rt);
@@ -151,5 +216,8 @@ pub(crate) fn tell(rt: &HostRuntime, stop: &Stop) -> ExitCode {
         Stop::Words(error) => tell_words(rt, error),
         Stop::Fault(fault, notes) => tell_fault(rt, fault, notes),
         Stop::Pair(fault) => tell_pair_fault(rt, fault),
+        Stop::Log(fault) => tell_log_fault(rt, fault),
+        Stop::TooManyPlaces => tell_too_many(rt),
+        Stop::Races => ExitCode::from(3),
     }
 }

@@ -1,5 +1,6 @@
 //! The words that the program is called with.
 
+use crate::triaging::{TriageTask, triage_task, triage_words};
 use clap::error::{Error, ErrorKind};
 use clap::{Arg, ArgAction, ArgMatches, Command, value_parser};
 use pair_calls::Form;
@@ -18,6 +19,17 @@ pub(crate) enum Task<'a> {
     Explain(&'a str, u32, u32, bool),
     /// The schedule that shows a pair of events of the trace in this file, in this form.
     Witness(&'a str, u32, u32, Form),
+    /// The lines on standard input as they come, on the trace in a file and the log in another.
+    Session {
+        /// The path of the trace.
+        trace: &'a str,
+        /// The path of the log.
+        log: &'a str,
+        /// Whose calls the lines are, where they do not say it.
+        client: Option<u32>,
+    },
+    /// The lines of the log in this file.
+    Log(&'a str),
     /// The scripts in the other files at once, on the trace in the first.
     Threads {
         /// The paths, that of the trace first.
@@ -27,6 +39,8 @@ pub(crate) enum Task<'a> {
         /// How many seats at a time may queue for the lock.
         room: u32,
     },
+    /// The races of a trace by pairs of places.
+    Triage(TriageTask<'a>),
 }
 
 const VERSION: &str = "0.1.0";
@@ -52,6 +66,29 @@ const REPLAY_EXAMPLE: &str = "For example
 
 Each line of the script is the number of a client, from 1 to 32, a command word and its
 arguments, such as `1 new A` or `2 add A 3`. Events of the trace are counted from 0.";
+
+const SESSION: &str = "Answers each line as it comes, on a log that is kept in a file";
+
+const SESSION_EXAMPLE: &str = "For example
+
+  racebench session trace.std work.log --client 1
+
+Standard input has the lines of a script, and each is answered as soon as it is read. What is
+answered stands in the log: the next session goes on from there, after a kill too. Several
+sessions may have one log open, and each sees what the others were answered. The log is made
+where it is missing; a log of another trace is refused.";
+
+const CLIENT: &str =
+    "Whose calls the lines are, from 1 to 32; without it each line begins with its client";
+
+const LOG: &str = "Prints the log that a session keeps, as a script";
+
+const LOG_EXAMPLE: &str = "For example
+
+  racebench log work.log > script.txt
+  racebench replay trace.std script.txt
+
+Each entry of the log is a line, and `replay` answers them as the session did.";
 
 const THREADS: &str = "Runs scripts on a trace at once, each in a thread of its own";
 
@@ -175,6 +212,12 @@ fn witness_words<'a>(alloc: Global) -> Result<Command<'a>, AllocError> {
         .action(ArgAction::SetTrue)
         .help("Prints the schedule and the pair behind it as a trace")
         .conflicts_with("script");
+    let svg = Arg::new(alloc, "svg")
+        .long("svg")
+        .action(ArgAction::SetTrue)
+        .help("Prints a picture of the schedule, as SVG")
+        .conflicts_with("script")?
+        .conflicts_with("std");
     Command::new(alloc, "witness")
         .about(WITNESS)
         .after_help(WITNESS_EXAMPLE)
@@ -182,7 +225,31 @@ fn witness_words<'a>(alloc: Global) -> Result<Command<'a>, AllocError> {
         .arg(event(alloc, "A"))?
         .arg(event(alloc, "B"))?
         .arg(script)?
-        .arg(std?)
+        .arg(std?)?
+        .arg(svg?)
+}
+
+/// The words of `session`.
+fn session_words<'a>(alloc: Global) -> Result<Command<'a>, AllocError> {
+    let client = Arg::new(alloc, "client")
+        .long("client")
+        .value_name("N")
+        .value_parser(value_parser!(u32).range(1..=32))
+        .help(CLIENT);
+    Command::new(alloc, "session")
+        .about(SESSION)
+        .after_help(SESSION_EXAMPLE)
+        .arg(named(alloc, "TRACE", "A file that holds a trace"))?
+        .arg(named(alloc, "LOG", "The file of the log"))?
+        .arg(client)
+}
+
+/// The words of `log`.
+fn log_words<'a>(alloc: Global) -> Result<Command<'a>, AllocError> {
+    Command::new(alloc, "log")
+        .about(LOG)
+        .after_help(LOG_EXAMPLE)
+        .arg(named(alloc, "LOG", "The file of a log"))
 }
 
 /// The words of `threads`.
@@ -222,7 +289,10 @@ fn words_taken<'a>(alloc: Global) -> Result<Command<'a>, AllocError> {
         .disable_help_subcommand(true)
         .subcommand(info_words(alloc)?)?
         .subcommand(replay_words(alloc)?)?
+        .subcommand(session_words(alloc)?)?
+        .subcommand(log_words(alloc)?)?
         .subcommand(threads_words(alloc)?)?
+        .subcommand(triage_words(alloc)?)?
         .subcommand(explain_words(alloc)?)?
         .subcommand(witness_words(alloc)?)
 }
@@ -283,10 +353,35 @@ fn witness_task<'a>(alloc: Global, given: &ArgMatches<'a>) -> Result<Task<'a>, E
         Form::Script
     } else if given.get_flag("std") {
         Form::Trace
+    } else if given.get_flag("svg") {
+        Form::Svg
     } else {
         Form::Events
     };
     Ok(Task::Witness(word(given, "TRACE"), one, other, form))
+}
+
+/// What `session` is asked for.
+fn session_task<'a>(alloc: Global, given: &ArgMatches<'a>) -> Result<Task<'a>, Error> {
+    let client = given.get_one::<u32>("client");
+    if client.is_some() && !is_number(word(given, "client")) {
+        let text = "`--client` takes a number in decimal digits";
+        return Err(refusal(alloc, ErrorKind::InvalidValue, text)?);
+    }
+    Ok(Task::Session {
+        trace: word(given, "TRACE"),
+        log: word(given, "LOG"),
+        client,
+    })
+}
+
+/// What `triage` is asked for.
+fn checked_triage<'a>(alloc: Global, given: &ArgMatches<'a>) -> Result<Task<'a>, Error> {
+    if !is_number(word(given, "tries")) || !is_number(word(given, "workers")) {
+        let text = "`--tries` and `--workers` take numbers in decimal digits";
+        return Err(refusal(alloc, ErrorKind::InvalidValue, text)?);
+    }
+    Ok(Task::Triage(triage_task(alloc, given)?))
 }
 
 /// What the words ask for, of which the first is the program's name; or why they are refused, or help.
@@ -296,9 +391,12 @@ pub(crate) fn task_of<'a>(alloc: Global, words: &'a [String]) -> Result<Task<'a>
         None => Ok(Task::Joint),
         Some(("info", given)) => Ok(Task::Info(word(given, "TRACE"))),
         Some(("replay", given)) => Ok(Task::Replay(word(given, "TRACE"), word(given, "SCRIPT"))),
+        Some(("session", given)) => session_task(alloc, given),
+        Some(("log", given)) => Ok(Task::Log(word(given, "LOG"))),
         Some(("threads", given)) => threads_task(alloc, given),
         Some(("explain", given)) => explain_task(alloc, given),
         Some(("witness", given)) => witness_task(alloc, given),
+        Some(("triage", given)) => checked_triage(alloc, given),
         Some(_) => {
             let text = "nothing is done at this command";
             Err(refusal(alloc, ErrorKind::InvalidSubcommand, text)?)

@@ -9,4 +9,5 @@ returns-in-Err-clause-fault c =
 pub returns-clause-text : goal.returns-clause-text
 returns-clause-text c =
     let none : c.new-text.result.items ≡ [] = search rules in
-    witness-text c.args.indexed.now c.args.one c.args.other c.in-Some.first c.in-Some.second c.args.form (c.in-Some.ensures.first, c.in-Some.ensures.second) c.in-Ok.events c.items.result.now _ _ c.in-Ok.ensures.listed c.items.ensures none c.in_ok-witness_text.ensures.ok
+    let appended = c.in_ok-append_schedule.ensures in
+    witness-text c.args.indexed.now c.args.one c.args.other c.in-Some.first c.in-Some.second c.args.form (c.in-Some.ensures.first, c.in-Some.ensures.second) c.in-Ok.events c.items.result.now _ appended.0 _ c.in-Ok.ensures.listed c.items.ensures none appended.1 appended.2

@@ -1,0 +1,117 @@
+-- The lines of a file, whose calls are made one after another.
+use Rattle.std.proofs.Common.{◌≡◌, ◌≢◌, ◌⊎◌, inl, inr, ℕ, ◌+◌, ◌≤◌, List, [], ◌∷◌, ◌++◌, length, take, refl, sym, ap, ◌∙◌, subst, append_assoc, append-nil, length-append, arith}
+use Rattle.rapid_text.specs.Recording.{Recording}
+use Rattle.inverse_log.specs.declared.entry.Entry.{Entry}
+use Rattle.script_language.specs.Scripts.{script_line_reading}
+use Rattle.kept_session.specs.Sessions.{log_by, log_of, log_behind, IsLogged, AreLogged}
+use Rattle.kept_session.specs.Faults.{IsFirstRefused, IsLineFault, IsLinesFault, IsTurnFault, IsOpenFault}
+use Rattle.kept_session.specs.declared.fault.SessionFault.{SessionFault}
+use Rattle.kept_session.specs.declared.fault.SessionFault.TheVariants.{Replay, LogLine, OtherTrace}
+use Rattle.client_scripts.specs.declared.fault.ReadCause.TheVariants.{Device as DeviceFailed}
+use Rattle.client_scripts.specs.declared.fault.ReplayFault.TheVariants.{Read, Write, OutOfMemory as NoMemory}
+use Rattle.kept_log.specs.declared.device.DeviceError.{DeviceError}
+use Rattle.kept_log.specs.declared.device.DeviceError.TheVariants.{Memory, Failed, Shorter}
+use Rattle.kept_log.specs.Log.{lines_behind}
+use Rattle.std.proofs.lemmas.List.{length-take-le}
+use Rattle.kept_session.proofs.LogLemmas.{log_behind-append, AreLogged-append, logged_length}
+
+module _ (T : Recording) (L : List Entry) (lines : List (List ℕ)) where
+  -- the calls of some of the lines made M, and these are left
+  pub record IsCatching (left : List (List ℕ)) (M : List Entry) : Type 0 where
+    pub done : List (List ℕ)
+    pub split : lines ≡ done ++ left
+    pub logged : AreLogged T L done
+    pub made : log_behind T L done ≡ M
+
+  pub catching-start : IsCatching lines L
+  catching-start = record { done = []; split = refl; logged = tt; made = refl }
+
+  pub catching-more : (left more : List (List ℕ)) (line : List ℕ) (M N : List Entry) → IsCatching left M → left ≡ line ∷ more → IsLogged T M line → N ≡ log_by T M (script_line_reading line) → IsCatching more N
+  catching-more left more line M N h is one next = record {
+    done = h.done ++ line ∷ [];
+    split = h.split ∙ ap (λ (ls : List (List ℕ)). h.done ++ ls) is ∙ sym (append_assoc h.done (line ∷ []) more);
+    logged = AreLogged-append T L h.done (line ∷ []) h.logged (subst (λ X. AreLogged T X (line ∷ [])) (sym h.made) (one, tt));
+    made = log_behind-append T L h.done (line ∷ []) ∙ ap (λ (X : List Entry). log_by T X (script_line_reading line)) h.made ∙ sym next;
+  }
+
+  pub catching-end : (left : List (List ℕ)) (M : List Entry) → IsCatching left M → left ≡ [] → AreLogged T L lines × (M ≡ log_behind T L lines)
+  catching-end left M h is =
+      let all : h.done ≡ lines = sym (h.split ∙ ap (λ (ls : List (List ℕ)). h.done ++ ls) is ∙ append-nil h.done) in (
+        subst (λ ls. AreLogged T L ls) all h.logged,
+        sym h.made ∙ ap (log_behind T L) all,
+      )
+
+  pub catching-refused : (left more : List (List ℕ)) (line : List ℕ) (M : List Entry) (number : ℕ) → IsCatching left M → left ≡ line ∷ more → ¬ IsLogged T M line → number ≡ length M + 2 → IsFirstRefused T L lines number
+  catching-refused left more line M number h is refused place = record {
+    before = h.done;
+    line = line;
+    behind = more;
+    split = h.split ∙ ap (λ (ls : List (List ℕ)). h.done ++ ls) is;
+    logged = h.logged;
+    refused = subst (λ X. ¬ IsLogged T X line) (sym h.made) refused;
+    place = omega (arith, place, ap length h.made, logged_length T L h.done h.logged);
+  }
+
+  -- the fault of a line that is refused is that of all lines
+  pub catching-fault : (left more : List (List ℕ)) (line : List ℕ) (M : List Entry) (fault : SessionFault) → IsCatching left M → left ≡ line ∷ more → IsLineFault T M line fault → IsLinesFault T L lines fault
+  catching-fault left more line M fault h is (inl memory) = inl memory
+  catching-fault left more line M fault h is (inr refused) = inr (length M + 2, refused.0, catching-refused left more line M (length M + 2) h is refused.1 refl)
+
+-- what is refused behind lines that were known is refused of all lines
+pub refused_behind : (T : Recording) (known more lines : List (List ℕ)) (L : List Entry) (number : ℕ) → lines ≡ known ++ more → log_of T known ≡ L → AreLogged T [] known → IsFirstRefused T L more number
+    → IsFirstRefused T [] lines number
+refused_behind T known more lines L number is says all h = record {
+  before = known ++ h.before;
+  line = h.line;
+  behind = h.behind;
+  split = is ∙ ap (λ (ls : List (List ℕ)). known ++ ls) h.split ∙ sym (append_assoc known h.before (h.line ∷ h.behind));
+  logged = AreLogged-append T [] known h.before all (subst (λ X. AreLogged T X h.before) (sym says) h.logged);
+  refused = subst (λ X. ¬ IsLogged T X h.line) (sym (log_behind-append T [] known h.before ∙ ap (λ (X : List Entry). log_behind T X h.before) says)) h.refused;
+  place = omega (arith, h.place, ap length says, logged_length T [] known all, length-append known h.before);
+}
+
+-- a fault of the lines behind those that were known is one of the turn
+pub turn-lines : (T : Recording) (known more seen : List (List ℕ)) (L : List Entry) (fault : SessionFault) → seen ≡ known ++ more → log_of T known ≡ L → AreLogged T [] known → IsLinesFault T L more fault → IsTurnFault T known seen fault
+turn-lines T known more seen L fault is says all (inl memory) = subst (IsTurnFault T known seen) (sym memory) tt
+turn-lines T known more seen L fault is says all (inr (number, told, refused)) = subst (IsTurnFault T known seen) (sym told) (inl (refused_behind T known more seen L number is says all refused))
+
+-- so is the number of the last known line
+pub turn-last : (T : Recording) (known seen : List (List ℕ)) (L : List Entry) (number : ℕ) → log_of T known ≡ L → AreLogged T [] known → number ≡ length L + 1 → IsTurnFault T known seen (LogLine number)
+turn-last T known seen L number says all is = inr (omega (arith, is, ap length says, logged_length T [] known all))
+
+-- and each that is no fault of a line
+pub turn-memory : (T : Recording) (known seen : List (List ℕ)) (fault : SessionFault) → (fault ≡ Replay NoMemory) ⊎ (fault ≡ Replay Write) → IsTurnFault T known seen fault
+turn-memory T known seen fault (inl memory) = subst (IsTurnFault T known seen) (sym memory) tt
+turn-memory T known seen fault (inr write) = subst (IsTurnFault T known seen) (sym write) tt
+
+-- what is told of a device that was not written
+pub unwritten_fault : (why : DeviceError) (fault : SessionFault) → (why ≡ Memory → fault ≡ Replay NoMemory) → (why ≢ Memory → fault ≡ Replay Write) → (fault ≡ Replay NoMemory) ⊎ (fault ≡ Replay Write)
+unwritten_fault Memory fault memory others = inl (memory refl)
+unwritten_fault Failed fault memory others = inr (others (λ e. absurd cc))
+unwritten_fault Shorter fault memory others = inr (others (λ e. absurd cc))
+
+-- what is told of a device that was not read
+pub unread_turn : (T : Recording) (known seen : List (List ℕ)) (L : List Entry) (last : ℕ) → log_of T known ≡ L → AreLogged T [] known → last ≡ length L + 1 → (why : DeviceError) (fault : SessionFault) → (why ≡ Memory → fault ≡ Replay NoMemory)
+    → (why ≡ Failed → fault ≡ Replay (Read 2 DeviceFailed)) → (why ≡ Shorter → fault ≡ LogLine last) → IsTurnFault T known seen fault
+unread_turn T known seen L last says all is Memory fault memory failed shorter = subst (IsTurnFault T known seen) (sym (memory refl)) tt
+unread_turn T known seen L last says all is Failed fault memory failed shorter = subst (IsTurnFault T known seen) (sym (failed refl)) tt
+unread_turn T known seen L last says all is Shorter fault memory failed shorter = subst (IsTurnFault T known seen) (sym (shorter refl)) (turn-last T known seen L last says all is)
+
+-- a fault of all lines of a file is one of opening it
+pub open-lines : (T : Recording) (head seen : List ℕ) (lines : List (List ℕ)) (L : List Entry) (fault : SessionFault) → L ≡ [] → lines_behind (length head) seen ≡ lines → IsLinesFault T L lines fault → IsOpenFault T head seen fault
+open-lines T head seen lines L fault new is (inl memory) = subst (IsOpenFault T head seen) (sym memory) tt
+open-lines T head seen lines L fault new is (inr (number, told, refused)) = subst (IsOpenFault T head seen) (sym told) (inl (subst (λ ls. IsFirstRefused T [] ls number) (sym is) (subst (λ X. IsFirstRefused T X lines number) new refused)))
+
+pub open-memory : (T : Recording) (head seen : List ℕ) (fault : SessionFault) → (fault ≡ Replay NoMemory) ⊎ (fault ≡ Replay Write) → IsOpenFault T head seen fault
+open-memory T head seen fault (inl memory) = subst (IsOpenFault T head seen) (sym memory) tt
+open-memory T head seen fault (inr write) = subst (IsOpenFault T head seen) (sym write) tt
+
+-- what is told of a file that was not opened
+pub open-told : (T : Recording) (head seen : List ℕ) (fault : SessionFault) → (fault ≡ OtherTrace → take (length head) seen ≢ head) → ((number : ℕ) → fault ≡ LogLine number → number ≡ 1) → IsOpenFault T head seen fault
+open-told T head seen (Replay fault) stranger line = tt
+open-told T head seen (LogLine number) stranger line = inr (line number refl)
+open-told T head seen OtherTrace stranger line = stranger refl
+
+-- a log of this head begins its lines behind it
+pub start_behind : (start : ℕ) (head seen : List ℕ) → start ≤ length seen → take start seen ≡ head → lines_behind (length head) seen ≡ lines_behind start seen
+start_behind start head seen within is = ap (λ (n : ℕ). lines_behind n seen) (sym (ap length is) ∙ length-take-le start seen within)

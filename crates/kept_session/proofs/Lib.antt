@@ -1,0 +1,6 @@
+pub mod CatchingLemmas
+pub mod FrontLemmas
+pub mod HeadLemmas
+pub mod LineLemmas
+pub mod LogLemmas
+pub mod PieceLemmas

@@ -1,0 +1,44 @@
+use Rattle.std.proofs.Common.{List, ℕ}
+use Rattle.kept_log.specs.Log.{BeginsWith, head_of, lines_of}
+use Rattle.kept_log.proofs.MomentLemmas.{then_on}
+use Rattle.kept_session.proofs.FrontLemmas.{in_front, old_or_new_front}
+use Rattle.kept_session.proofs.session.Session.answer.Goals as goal
+
+pub returns-in_err-next-clause-any_moment : goal.returns-in_err-next-clause-any_moment
+returns-in_err-next-clause-any_moment g c =
+    let head = c.in_ok-catch_up.ensures.head in
+    let others = c.in_ok-catch_up.ensures.lines in
+    let front : (f : List ℕ) → BeginsWith (head_of g.D.Device.seen c.catch_up.new.self.log) (lines_of g.D.Device.seen c.catch_up.new.self.log) f → BeginsWith (head_of g.D.Device.seen c.args.self.now.log) (lines_of g.D.Device.seen c.args.self.now.log) f =
+    λ f. in_front _ _ _ others.0 _ f head others.1 in
+    let worked = then_on g.D.Device.moment g.D.Device.left_since c.args.self.now.log.device c.catch_up.new.self.log.device c.make_piece.new.self.log.device _ _
+    (BeginsWith (head_of g.D.Device.seen c.args.self.now.log) (lines_of g.D.Device.seen c.args.self.now.log)) c.catch_up.ensures.any_moment c.make_piece.ensures.any_moment.1 (λ f b. b)
+    (λ f b. front f (old_or_new_front _ _ _ f b)) in
+    worked
+
+pub returns-in-Ok-clause-any_moment : goal.returns-in-Ok-clause-any_moment
+returns-in-Ok-clause-any_moment g c =
+    let head = c.in_ok-catch_up.ensures.head in
+    let others = c.in_ok-catch_up.ensures.lines in
+    let front : (f : List ℕ) → BeginsWith (head_of g.D.Device.seen c.catch_up.new.self.log) (lines_of g.D.Device.seen c.catch_up.new.self.log) f → BeginsWith (head_of g.D.Device.seen c.args.self.now.log) (lines_of g.D.Device.seen c.args.self.now.log) f =
+    λ f. in_front _ _ _ others.0 _ f head others.1 in
+    let worked = then_on g.D.Device.moment g.D.Device.left_since c.args.self.now.log.device c.catch_up.new.self.log.device c.make_piece.new.self.log.device _ _
+    (BeginsWith (head_of g.D.Device.seen c.args.self.now.log) (lines_of g.D.Device.seen c.args.self.now.log)) c.catch_up.ensures.any_moment c.make_piece.ensures.any_moment.1 (λ f b. b)
+    (λ f b. front f (old_or_new_front _ _ _ f b)) in
+    let answered = c.in_ok-next.ensures.answered in
+    then_on g.D.Device.moment g.D.Device.left_since c.args.self.now.log.device c.make_piece.new.self.log.device c.release.new.self.device _ _
+    (BeginsWith (head_of g.D.Device.seen c.args.self.now.log) (lines_of g.D.Device.seen c.args.self.now.log)) worked c.release.ensures.any_moment (λ f b. b)
+    (λ f b. front f (in_front _ _ _ answered.lines _ f c.in_ok-next.ensures.head answered.kept b))
+
+pub returns-in-Err-clause-any_moment : goal.returns-in-Err-clause-any_moment
+returns-in-Err-clause-any_moment g c =
+    let head = c.in_ok-catch_up.ensures.head in
+    let others = c.in_ok-catch_up.ensures.lines in
+    let front : (f : List ℕ) → BeginsWith (head_of g.D.Device.seen c.catch_up.new.self.log) (lines_of g.D.Device.seen c.catch_up.new.self.log) f → BeginsWith (head_of g.D.Device.seen c.args.self.now.log) (lines_of g.D.Device.seen c.args.self.now.log) f =
+    λ f. in_front _ _ _ others.0 _ f head others.1 in
+    let worked = then_on g.D.Device.moment g.D.Device.left_since c.args.self.now.log.device c.catch_up.new.self.log.device c.make_piece.new.self.log.device _ _
+    (BeginsWith (head_of g.D.Device.seen c.args.self.now.log) (lines_of g.D.Device.seen c.args.self.now.log)) c.catch_up.ensures.any_moment c.make_piece.ensures.any_moment.1 (λ f b. b)
+    (λ f b. front f (old_or_new_front _ _ _ f b)) in
+    let answered = c.in_ok-next.ensures.answered in
+    then_on g.D.Device.moment g.D.Device.left_since c.args.self.now.log.device c.make_piece.new.self.log.device c.release.new.self.device _ _
+    (BeginsWith (head_of g.D.Device.seen c.args.self.now.log) (lines_of g.D.Device.seen c.args.self.now.log)) worked c.release.ensures.any_moment (λ f b. b)
+    (λ f b. front f (in_front _ _ _ answered.lines _ f c.in_ok-next.ensures.head answered.kept b))

@@ -1,0 +1,51 @@
+-- What a fault of a session says of the log's file. All notions here are this project's own. `T` is the trace.
+use Rattle.std.specs.Prelude.{◌≡◌, ◌≢◌, ◌⊎◌, ℕ, ◌+◌, List, [], ◌∷◌, ◌++◌, length, take, ⊤}
+use Rattle.rapid_text.specs.Recording.{Recording}
+use Rattle.inverse_log.specs.declared.entry.Entry.{Entry}
+use Rattle.client_scripts.specs.declared.fault.ReplayFault.TheVariants.{Write, OutOfMemory as NoMemory}
+use Rattle.kept_log.specs.Log.{lines_behind}
+use Rattle.kept_log.specs.declared.device.DeviceError.TheVariants.{Memory}
+use Rattle.kept_log.specs.declared.log.AppendError.{AppendError}
+use Rattle.kept_log.specs.declared.log.AppendError.TheVariants.{OutOfMemory as NoRoom, Full, Device}
+use Rattle.kept_session.specs.Sessions.{log_behind, IsLogged, AreLogged}
+use Rattle.kept_session.specs.declared.fault.SessionFault.{SessionFault}
+use Rattle.kept_session.specs.declared.fault.SessionFault.TheVariants.{Replay, LogLine, OtherTrace}
+
+-- Of these lines, which are called from the log L on, the first that adds no entry has this number in the file. The head is line 1,
+-- and each entry of L has a line.
+pub record IsFirstRefused (T : Recording) (L : List Entry) (lines : List (List ℕ)) (number : ℕ) : Type 0 where
+  pub before : List (List ℕ)
+  pub line : List ℕ
+  pub behind : List (List ℕ)
+  pub split : lines ≡ before ++ line ∷ behind
+  pub logged : AreLogged T L before
+  pub refused : ¬ IsLogged T (log_behind T L before) line
+  pub place : number ≡ length L + length before + 2
+
+-- a fault of the line behind those of L: want of memory, or its number where it adds no entry
+abbrev pub IsLineFault : Recording → List Entry → List ℕ → SessionFault → Type 0
+IsLineFault T L line fault = (fault ≡ Replay NoMemory) ⊎ ((fault ≡ LogLine (length L + 2)) × ¬ IsLogged T L line)
+
+-- a fault of lines that are called from the log L on
+abbrev pub IsLinesFault : Recording → List Entry → List (List ℕ) → SessionFault → Type 0
+IsLinesFault T L lines fault = (fault ≡ Replay NoMemory) ⊎ ((number : ℕ) × (fault ≡ LogLine number) × IsFirstRefused T L lines number)
+
+-- A fault of a turn. `known` are the lines from before it, `seen` those that the file has now. A line is told which is the first that adds no
+-- entry; or, where the file is shorter than it was, that of the last known entry.
+abbrev pub IsTurnFault : Recording → List (List ℕ) → List (List ℕ) → SessionFault → Type 0
+IsTurnFault T known seen (Replay fault) = ⊤
+IsTurnFault T known seen (LogLine number) = IsFirstRefused T [] seen number ⊎ (number ≡ length known + 1)
+IsTurnFault T known seen OtherTrace = ⊥
+
+-- A fault of opening: another head is told where the file, of which this is seen, does not begin with this one.
+abbrev pub IsOpenFault : Recording → List ℕ → List ℕ → SessionFault → Type 0
+IsOpenFault T head seen (Replay fault) = ⊤
+IsOpenFault T head seen (LogLine number) = IsFirstRefused T [] (lines_behind (length head) seen) number ⊎ (number ≡ 1)
+IsOpenFault T head seen OtherTrace = take (length head) seen ≢ head
+
+-- the fault of a block that was not added
+abbrev pub IsWriteFault : AppendError → SessionFault → Type 0
+IsWriteFault NoRoom fault = fault ≡ Replay NoMemory
+IsWriteFault Full fault = fault ≡ Replay Write
+IsWriteFault (Device Memory) fault = fault ≡ Replay NoMemory
+IsWriteFault (Device why) fault = fault ≡ Replay Write

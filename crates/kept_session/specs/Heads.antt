@@ -1,0 +1,19 @@
+-- The head of a log's file. The format is this project's own; the digest is SHA-256 of FIPS 180-4.
+use Rattle.std.specs.Prelude.{◌≡◌, ℕ, List, ◌++◌, codes, length}
+use Rattle.rapid_text.specs.Recording.{Recording}
+use Rattle.rapid_text.specs.Canonical.{canonical_text}
+use Rattle.sha2.specs.Sha256.{sha256}
+use Rattle.kept_log.specs.Lines.{IsLine}
+use Rattle.hex.specs.Hex.{encode_lower}
+
+-- the name of the format, and the digest of the trace's canonical text
+abbrev pub head_text : Recording → List ℕ
+head_text trace = codes "racebench log 1 " ++ encode_lower (sha256 (canonical_text trace)) ++ codes "\n"
+
+-- The bytes begin as the file of a log: with the name of the format, 64 bytes with no line feed among them, and a line feed. Behind that stands
+-- this text.
+pub record IsHeaded (bytes text : List ℕ) : Type 0 where
+  pub digest : List ℕ
+  pub size : length digest ≡ 64
+  pub line : IsLine digest
+  pub split : bytes ≡ codes "racebench log 1 " ++ digest ++ codes "\n" ++ text

@@ -1,0 +1,6 @@
+pub mod FaultTexts
+pub mod Faults
+pub mod Heads
+pub mod Lines
+pub mod Sessions
+pub mod Steps

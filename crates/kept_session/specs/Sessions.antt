@@ -1,0 +1,92 @@
+-- What the lines of a log's file stand for, what a session answers, and when its bench and its file are in step. All notions here are this
+-- project's own. `T` is the trace.
+use Rattle.std.specs.Prelude.{◌≡◌, ℕ, ◌+◌, ◌-◌, ◌^◌, min, List, [], ◌∷◌, ◌++◌, Option, Some, None, Result, Ok, Err, codes, decimal, length, unwrap_or, ⊤}
+use Rattle.rapid_text.specs.Recording.{Recording}
+use Rattle.inverse_log.specs.declared.call.Call.{Call}
+use Rattle.inverse_log.specs.declared.entry.Entry.{Entry}
+use Rattle.inverse_log.specs.declared.reply.Reply.{Reply}
+use Rattle.inverse_log.specs.declared.refusal.Refusal.{Refusal}
+use Rattle.inverse_log.specs.Answer.{log_after, Called}
+use Rattle.script_language.specs.Scripts.{script_line_reading}
+use Rattle.script_language.specs.declared.refusal.ScriptCause.{ScriptCause}
+use Rattle.client_scripts.specs.FaultTexts.{script_cause_words}
+use Rattle.client_scripts.specs.Replay.{answer_text}
+use Rattle.kept_log.specs.Log.{IsAtRest, IsLeft, lines_of}
+use Rattle.kept_log.specs.declared.log.KeptLog.{KeptLog}
+use Rattle.kept_session.specs.Lines.{line_for}
+
+-- the log L after the call that a line reads as
+abbrev pub log_by : Recording → List Entry → Result (Option (ℕ × Call)) ScriptCause → List Entry
+log_by T L (Ok (Some (client, call))) = log_after T L client call
+log_by T L reading = L
+
+-- the log that the calls of these lines make of L, one after another
+abbrev pub log_behind : Recording → List Entry → List (List ℕ) → List Entry
+log_behind T L [] = L
+log_behind T L (line ∷ lines) = log_behind T (log_by T L (script_line_reading line)) lines
+
+-- The log that the lines of a file stand for: what a replay of them leaves. So the lines determine the log.
+abbrev pub log_of : Recording → List (List ℕ) → List Entry
+log_of T lines = log_behind T [] lines
+
+-- the call of this line adds an entry to the log L
+abbrev pub IsLogged : Recording → List Entry → List ℕ → Type 0
+IsLogged T L line = length (log_by T L (script_line_reading line)) ≡ length L + 1
+
+-- The call of each line adds an entry, at the log that those before it make of L. So there is a line for each entry.
+abbrev pub AreLogged : Recording → List Entry → List (List ℕ) → Type 0
+AreLogged T L [] = ⊤
+AreLogged T L (line ∷ lines) = IsLogged T L line × AreLogged T (log_by T L (script_line_reading line)) lines
+
+-- what is said of the line of this number that is no script line
+abbrev pub line_fault : ℕ → ScriptCause → List ℕ
+line_fault number why = codes "line " ++ decimal number ++ codes ": " ++ unwrap_or (script_cause_words why) [] ++ codes "\n"
+
+-- the number behind that of a line; the last number has no next
+abbrev pub number_after : ℕ → ℕ
+number_after n = min (n + 1) (2 ^ 64 - 1)
+
+-- the number of the line behind these, of which the first has this number
+abbrev pub number_behind : ℕ → List (List ℕ) → ℕ
+number_behind n [] = n
+number_behind n (raw ∷ more) = number_behind (number_after n) more
+
+-- The line of this number reads so, is answered by this text, and leaves the log M. An empty line has no answer. Want of
+-- memory may stand in place of an answer, as in `Called`, and then the log is as it was.
+abbrev pub IsAnswered : Recording → ℕ → Result (Option (ℕ × Call)) ScriptCause → List Entry → List ℕ → List Entry → Type 0
+IsAnswered T number (Ok None) L text M = (text ≡ []) × (M ≡ L)
+IsAnswered T number (Err why) L text M = (text ≡ line_fault number why) × (M ≡ L)
+IsAnswered T number (Ok (Some (client, call))) L text M =
+    (answer : Result Reply Refusal) × Called T L client call answer M × (text ≡ answer_text T answer)
+
+-- These lines, of which the first has this number, are answered one after another, from the log L on, by these texts together, and
+-- leave the log M.
+abbrev pub AreAnswered : Recording → Option ℕ → ℕ → List (List ℕ) → List Entry → List ℕ → List Entry → Type 0
+AreAnswered T client number [] L text M = (text ≡ []) × (M ≡ L)
+AreAnswered T client number (raw ∷ more) L text M =
+    (first : List ℕ) × (rest : List ℕ) × (K : List Entry)
+    × IsAnswered T number (script_line_reading (line_for client raw)) L first K
+    × AreAnswered T client (number_after number) more K rest M
+    × (text ≡ first ++ rest)
+
+-- The log is left between two turns, and its lines, each of which added an entry, stand for the log L of the bench.
+pub record IsInStep {D : Type 0} (seen : D → List ℕ) (may_leave : D → List ℕ → Type 0) (T : Recording) (log : KeptLog D) (L : List Entry) : Type 0 where
+  pub left : IsLeft seen may_leave log
+  pub says : log_of T (lines_of seen log) ≡ L
+  pub logged : AreLogged T [] (lines_of seen log)
+
+-- The lock is held, the file is at rest, and its lines, each of which added an entry, stand for the log L of the bench.
+pub record IsAtWork {D : Type 0} (seen : D → List ℕ) (may_leave : D → List ℕ → Type 0) (T : Recording) (log : KeptLog D) (L : List Entry) : Type 0 where
+  pub at_rest : IsAtRest seen may_leave log
+  pub says : log_of T (lines_of seen log) ≡ L
+  pub logged : AreLogged T [] (lines_of seen log)
+
+-- Lines were answered under one lock. The file stood for `before` when it was known last, and others had added lines; each answer is given at the
+-- log that all these stand for, and then come the lines of the calls that the log gained.
+pub record IsTurn (T : Recording) (client : Option ℕ) (first : ℕ) (raws before after : List (List ℕ)) (M : List Entry) (out_old out_new : List ℕ) : Type 0 where
+  pub others : List (List ℕ)
+  pub gained : List (List ℕ)
+  pub text : List ℕ
+  pub lines : after ≡ before ++ others ++ gained
+  pub answered : AreAnswered T client first raws (log_of T (before ++ others)) text M
+  pub told : out_new ≡ out_old ++ text

@@ -1,0 +1,50 @@
+-- What the steps of a session do. No public clause cites this module. `T` is the trace; L and M are the bench's logs before and after a step.
+use Rattle.std.specs.Prelude.{◌≡◌, ◌⊎◌, ℕ, List, ◌++◌, Option, Some, Result, Ok}
+use Rattle.rapid_text.specs.Recording.{Recording}
+use Rattle.inverse_log.specs.Answer.{Called}
+use Rattle.inverse_log.specs.declared.call.Call.{Call}
+use Rattle.inverse_log.specs.declared.call.Call.TheVariants.{Undo, UndoAt}
+use Rattle.inverse_log.specs.declared.entry.Entry.{Entry}
+use Rattle.inverse_log.specs.declared.refusal.Refusal.{Refusal}
+use Rattle.inverse_log.specs.declared.reply.Reply.{Reply}
+use Rattle.inverse_log.specs.declared.reply.Reply.TheVariants.{Undone}
+use Rattle.script_language.specs.Scripts.{script_line_reading}
+use Rattle.script_language.specs.declared.refusal.ScriptCause.{ScriptCause}
+use Rattle.client_scripts.specs.Replay.{answer_text}
+use Rattle.kept_session.specs.Sessions.{log_behind, AreLogged, IsAnswered, AreAnswered}
+
+-- the line reads as the call, or, of an undo that was answered so, as the undo of that entry by its number
+abbrev pub SaysCall : ℕ → Call → Reply → List ℕ → Type 0
+SaysCall client call reply line =
+    (script_line_reading line ≡ Ok (Some (client, call)))
+    ⊎ ((n : ℕ) × (k : ℕ) × (call ≡ Undo) × (reply ≡ Undone n k) × (script_line_reading line ≡ Ok (Some (client, UndoAt k))))
+
+-- A call was made: its answer was told, and the lines that the block gained are those of the entries that the log gained.
+pub record CallMade (T : Recording) (client : ℕ) (call : Call) (L M : List Entry) (out_old out_new : List ℕ) (block_old block_new : List (List ℕ)) : Type 0 where
+  pub answer : Result Reply Refusal
+  pub lines : List (List ℕ)
+  pub called : Called T L client call answer M
+  pub told : out_new ≡ out_old ++ answer_text T answer
+  pub kept : block_new ≡ block_old ++ lines
+  pub gained : log_behind T L lines ≡ M
+  pub logged : AreLogged T L lines
+
+-- the same of a line that reads so
+pub record LineAnswered (T : Recording) (number : ℕ) (reading : Result (Option (ℕ × Call)) ScriptCause) (L M : List Entry) (out_old out_new : List ℕ) (block_old block_new : List (List ℕ)) : Type 0 where
+  pub text : List ℕ
+  pub lines : List (List ℕ)
+  pub answered : IsAnswered T number reading L text M
+  pub told : out_new ≡ out_old ++ text
+  pub kept : block_new ≡ block_old ++ lines
+  pub gained : log_behind T L lines ≡ M
+  pub logged : AreLogged T L lines
+
+-- the same of lines, one after another
+pub record PieceAnswered (T : Recording) (client : Option ℕ) (first : ℕ) (raws : List (List ℕ)) (L M : List Entry) (out_old out_new : List ℕ) (block_old block_new : List (List ℕ)) : Type 0 where
+  pub text : List ℕ
+  pub lines : List (List ℕ)
+  pub answered : AreAnswered T client first raws L text M
+  pub told : out_new ≡ out_old ++ text
+  pub kept : block_new ≡ block_old ++ lines
+  pub gained : log_behind T L lines ≡ M
+  pub logged : AreLogged T L lines

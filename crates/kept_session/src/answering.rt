@@ -1,0 +1,207 @@
+//! Answers lines: makes their calls, and gathers the texts of the answers and the lines that the log gains.
+ghost use Rattle.std.specs.Prelude.{◌≡◌, ◌≢◌, ℕ, ◌≤◌, ◌++◌, ◌∷◌, [], List, IsTrue, ◌↔◌, OnOk, IfOk, IfSome, Ok, Some};
+ghost use Rattle.inverse_log.specs.Answer.{Called};
+ghost use Rattle.inverse_log.specs.declared.call.Call.TheVariants.{Undo, UndoAt};
+ghost use Rattle.inverse_log.specs.declared.reply.Reply.TheVariants.{Undone};
+ghost use Rattle.script_language.specs.Scripts.{script_line_reading};
+ghost use Rattle.script_language.specs.declared.refusal.ScriptCause.TheVariants.{OutOfMemory as NoMemory};
+ghost use Rattle.rapid_text.specs.Reading.{is_line_feed};
+ghost use Rattle.std.specs.List.{slice_split};
+ghost use Rattle.kept_log.specs.Lines.{IsLine};
+ghost use Rattle.kept_session.specs.Lines.{line_for};
+ghost use Rattle.kept_session.specs.Sessions.{line_fault, number_behind};
+ghost use Rattle.kept_session.specs.Steps.{SaysCall, CallMade, LineAnswered, PieceAnswered};
+
+use crate::asking::line_for;
+use client_scripts::script_words;
+use inverse_log::{Bench, Call, Reply};
+use kept_log::Block;
+use rapid_text::OutOfMemory;
+use report::{Piece, append_pieces};
+use script_language::{Lines, ScriptCause, read_line};
+use std::alloc::Global;
+
+/// The line of an undo that names its entry.
+fn undo_line(alloc: Global, client: u32, entry: u64) -> Result<Vec<u8>, OutOfMemory>
+    ensures { IfOk result (λ line. IsLine line.items) }
+{
+    let mut line = Vec::new(alloc);
+    append_pieces(
+        &mut line,
+        &[
+            Piece::Number(u64::from(client)),
+            Piece::Words(b" undo "),
+            Piece::Number(entry),
+        ],
+    )?;
+    Ok(line)
+}
+
+/// Whether the call is the undo of this entry.
+fn is_undo(call: &Call, entry: u64) -> bool
+    ensures { IsTrue result → call.now ≡ UndoAt entry }
+{
+    match call {
+        Call::UndoAt { entry: number } => *number == entry,
+        _ => false,
+    }
+}
+
+/// Whether the line reads as this client's undo of this entry.
+fn reads_as_undo(alloc: Global, line: &[u8], client: u32, entry: u64) -> Result<bool, OutOfMemory>
+    ensures { IfOk result (λ yes. IsTrue yes → script_line_reading line.now ≡ Ok (Some (client, UndoAt entry))) }
+{
+    match read_line(alloc, line) {
+        Ok(Some((reader, call))) => Ok(reader == client && is_undo(&call, entry)),
+        Ok(None) => Ok(false),
+        Err(ScriptCause::OutOfMemory) => Err(OutOfMemory),
+        Err(_) => Ok(false),
+    }
+}
+
+/// The entry that an undo without a number took back.
+fn undone_entry(call: &Call, reply: &Reply) -> Option<u64>
+    ensures { IfSome result (λ k. (call.now ≡ Undo) × (n : ℕ) × (reply.now ≡ Undone n k)) }
+{
+    match call {
+        Call::Undo => match reply {
+            Reply::Undone { number: _, entry } => Some(*entry),
+            _ => None,
+        },
+        _ => None,
+    }
+}
+
+/// Adds the line of a call that the log gained: of an undo the line that names its entry, so that a reader sees it.
+fn keep_line(
+    alloc: Global,
+    client: u32,
+    call: &Call,
+    reply: &Reply,
+    line: &[u8],
+    block: &mut Block,
+) -> Result<(), OutOfMemory>
+    requires line { IsLine line.now }
+    requires reads { script_line_reading line.now ≡ Ok (Some (client, call.now)) }
+    ensures { OnOk result ((kept : List ℕ) × (block.new ≡ block.old ++ kept ∷ []) × SaysCall client call.now reply.now kept) }
+{
+    let Some(entry) = undone_entry(call, reply) else {
+        block.push(line)?;
+        return Ok(());
+    };
+    let numbered = undo_line(alloc, client, entry)?;
+    if reads_as_undo(alloc, &numbered, client, entry)? {
+        block.push(&numbered)?;
+        return Ok(());
+    }
+    block.push(line)?;
+    Ok(())
+}
+
+/// Makes a call, appends the line of its answer, and adds the call's line where the log gained an entry.
+fn make_call(
+    alloc: Global,
+    bench: &mut Bench,
+    client: u32,
+    call: &Call,
+    line: &[u8],
+    block: &mut Block,
+    out: &mut Vec<u8>,
+) -> Result<(), OutOfMemory>
+    requires low { 1 ≤ client }
+    requires high { client ≤ 32 }
+    requires line { IsLine line.now }
+    requires reads { script_line_reading line.now ≡ Ok (Some (client, call.now)) }
+    ensures trace { bench.new.trace ≡ bench.old.trace }
+    ensures made { OnOk result (CallMade bench.old.trace client call.now bench.old.log bench.new.log out.old.items out.new.items block.old block.new) }
+{
+    let before = bench.log_len();
+    match bench.call(client, call) {
+        Ok(reply) => {
+            report::reply(&reply, out)?;
+            if bench.log_len() == before {
+                return Ok(());
+            }
+            keep_line(alloc, client, call, &reply, line, block)?;
+            Ok(())
+        }
+        Err(why) => {
+            report::refusal(bench.indexed(), &why, out)?;
+            Ok(())
+        }
+    }
+}
+
+/// Appends what is wrong with the line of this number.
+fn append_fault(out: &mut Vec<u8>, number: u64, why: ScriptCause) -> Result<(), OutOfMemory>
+    requires { why ≢ NoMemory }
+    ensures { OnOk result (out.new.items ≡ out.old.items ++ line_fault number why) }
+{
+    match script_words(why) {
+        Some(words) => append_pieces(
+            out,
+            &[
+                Piece::Words(b"line "),
+                Piece::Number(number),
+                Piece::Words(b": "),
+                Piece::Words(words.as_bytes()),
+                Piece::Words(b"\n"),
+            ],
+        ),
+        None => Err(OutOfMemory),
+    }
+}
+
+/// Answers the line of this number.
+fn answer_line(
+    alloc: Global,
+    bench: &mut Bench,
+    client: Option<u32>,
+    number: u64,
+    raw: &[u8],
+    block: &mut Block,
+    out: &mut Vec<u8>,
+) -> Result<(), OutOfMemory>
+    requires line { IsLine raw.now }
+    ensures trace { bench.new.trace ≡ bench.old.trace }
+    ensures answered { OnOk result (LineAnswered bench.old.trace number (script_line_reading (line_for client raw.now)) bench.old.log bench.new.log
+        out.old.items out.new.items block.old block.new) }
+{
+    let line = line_for(alloc, client, raw)?;
+    match read_line(alloc, &line) {
+        Ok(None) => Ok(()),
+        Ok(Some((client, call))) => {
+            make_call(alloc, bench, client, &call, &line, block, out)?;
+            Ok(())
+        }
+        Err(ScriptCause::OutOfMemory) => Err(OutOfMemory),
+        Err(why) => {
+            append_fault(out, number, why)?;
+            Ok(())
+        }
+    }
+}
+
+/// Answers the lines of a piece, of which the first has this number. It tells the number of the line behind them.
+pub(crate) fn answer_lines(
+    alloc: Global,
+    bench: &mut Bench,
+    client: Option<u32>,
+    first: u64,
+    piece: &[u8],
+    block: &mut Block,
+    out: &mut Vec<u8>,
+) -> Result<u64, OutOfMemory>
+    ensures trace { bench.new.trace ≡ bench.old.trace }
+    ensures next { IfOk result (λ next. next ≡ number_behind first (slice_split is_line_feed piece.now)) }
+    ensures answered { OnOk result (PieceAnswered bench.old.trace client first (slice_split is_line_feed piece.now) bench.old.log bench.new.log
+        out.old.items out.new.items block.old block.new) }
+{
+    let mut number = first;
+    let mut lines = Lines::of(piece);
+    while let Some(raw) = lines.next() {
+        answer_line(alloc, bench, client, number, raw, block, out)?;
+        number = number.saturating_add(1);
+    }
+    Ok(number)
+}

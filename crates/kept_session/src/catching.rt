@@ -1,0 +1,76 @@
+//! Makes the calls of lines that stand in the log's file.
+ghost use Rattle.std.specs.Prelude.{◌≡◌, ◌≢◌, ◌⊎◌, ◌+◌, ◌≤◌, length, OnOk, IfErr};
+ghost use Rattle.inverse_log.specs.Answer.{log_after};
+ghost use Rattle.client_scripts.specs.declared.fault.ReplayFault.TheVariants.{OutOfMemory as NoMemory};
+ghost use Rattle.script_language.specs.Scripts.{script_line_reading};
+ghost use Rattle.kept_log.specs.Lines.{kept_lines};
+ghost use Rattle.kept_session.specs.declared.fault.SessionFault.TheVariants.{Replay, LogLine};
+ghost use Rattle.kept_session.specs.Sessions.{log_by, log_behind, IsLogged, AreLogged};
+ghost use Rattle.kept_session.specs.Faults.{IsLineFault, IsLinesFault};
+
+use crate::fault::SessionFault;
+use client_scripts::ReplayFault;
+use inverse_log::{Bench, Call, Refusal};
+use kept_log::first_line;
+use script_language::{ScriptCause, read_line};
+use std::alloc::Global;
+
+/// Makes the call of this line of the file, which has to add an entry to the log.
+fn make_logged(bench: &mut Bench, client: u32, call: &Call, line: u64) -> Result<(), SessionFault>
+    requires low { 1 ≤ client }
+    requires high { client ≤ 32 }
+    ensures trace { bench.new.trace ≡ bench.old.trace }
+    ensures log { OnOk result (bench.new.log ≡ log_after bench.old.trace bench.old.log client call.now) }
+    ensures logged { OnOk result (length bench.new.log ≡ length bench.old.log + 1) }
+    ensures refused { IfErr result (λ fault. (fault ≡ Replay NoMemory)
+        ⊎ ((fault ≡ LogLine line) × (length (log_after bench.old.trace bench.old.log client call.now) ≢ length bench.old.log + 1))) }
+{
+    let before = bench.log_len();
+    match bench.call(client, call) {
+        Ok(_) => {}
+        Err(Refusal::OutOfMemory) => return Err(SessionFault::from(ReplayFault::OutOfMemory)),
+        Err(_) => return Err(SessionFault::LogLine { line }),
+    }
+    if bench.log_len() == before {
+        return Err(SessionFault::LogLine { line });
+    }
+    Ok(())
+}
+
+/// The number of the line behind those of the log's entries. Each entry has one, and before the first stands the head.
+pub(crate) fn line_behind(bench: &Bench) -> u64
+    ensures { result ≡ length bench.now.log + 2 }
+{
+    bench.log_len() + 2
+}
+
+/// Makes the call of a line that stands in the file. It has to add an entry to the log.
+fn make_kept(alloc: Global, bench: &mut Bench, line: &[u8]) -> Result<(), SessionFault>
+    ensures trace { bench.new.trace ≡ bench.old.trace }
+    ensures log { OnOk result (bench.new.log ≡ log_by bench.old.trace bench.old.log (script_line_reading line.now)) }
+    ensures logged { OnOk result (IsLogged bench.old.trace bench.old.log line.now) }
+    ensures refused { IfErr result (IsLineFault bench.old.trace bench.old.log line.now) }
+{
+    let number = line_behind(bench);
+    match read_line(alloc, line) {
+        Ok(Some((client, call))) => make_logged(bench, client, &call, number),
+        Ok(None) => Err(SessionFault::LogLine { line: number }),
+        Err(ScriptCause::OutOfMemory) => Err(SessionFault::from(ReplayFault::OutOfMemory)),
+        Err(_) => Err(SessionFault::LogLine { line: number }),
+    }
+}
+
+/// Makes the calls of the lines that count in a text.
+pub(crate) fn make_all(alloc: Global, bench: &mut Bench, text: &[u8]) -> Result<(), SessionFault>
+    ensures trace { bench.new.trace ≡ bench.old.trace }
+    ensures log { OnOk result (bench.new.log ≡ log_behind bench.old.trace bench.old.log (kept_lines text.now)) }
+    ensures logged { OnOk result (AreLogged bench.old.trace bench.old.log (kept_lines text.now)) }
+    ensures refused { IfErr result (IsLinesFault bench.old.trace bench.old.log (kept_lines text.now)) }
+{
+    let mut rest = text;
+    while let Some((line, others)) = first_line(rest) {
+        make_kept(alloc, bench, line)?;
+        rest = others;
+    }
+    Ok(())
+}

@@ -1,0 +1,50 @@
+//! The head of a log's file: its first line, which names the format and the trace.
+ghost use Rattle.std.specs.Prelude.{◌≡◌, ℕ, List, IfOk, IfNone, IfSome};
+ghost use Rattle.kept_session.specs.Heads.{head_text, IsHeaded};
+
+use event_index::Indexed;
+use memchr::memchr;
+use rapid_text::{OutOfMemory, print};
+use report::{Piece, append_pieces};
+use sha2::{Digest, Sha256};
+use std::alloc::Global;
+
+/// The words before the digest.
+const FORMAT: &[u8] = b"racebench log 1 ";
+
+/// How many hexadecimal digits a digest has.
+const DIGITS: usize = 64;
+
+/// The head of the file of a log on this trace: a line of the format's name and the SHA-256 digest of the trace's canonical text.
+pub fn head_of(alloc: Global, indexed: &Indexed) -> Result<Vec<u8>, OutOfMemory>
+    ensures { IfOk result (λ head. head.items ≡ head_text indexed.now) }
+{
+    let text = print(alloc, indexed.trace().raw())?;
+    let digits = hex::encode(alloc, Sha256::digest(text.items()))?;
+    let mut head = Vec::new(alloc);
+    append_pieces(
+        &mut head,
+        &[
+            Piece::Words(FORMAT),
+            Piece::Words(digits.as_bytes()),
+            Piece::Words(b"\n"),
+        ],
+    )?;
+    Ok(head)
+}
+
+/// What stands behind the head of a log's file, whatever its trace is.
+pub(crate) fn behind_head(bytes: &[u8]) -> Option<&[u8]>
+    ensures some { IfSome result (λ text. IsHeaded bytes.now text.now) }
+    ensures none { IfNone result ((text : List ℕ) → ¬ IsHeaded bytes.now text) }
+{
+    if !bytes.starts_with(FORMAT) {
+        return None;
+    }
+    let line = &bytes[FORMAT.len()..];
+    let end = memchr(b'\n', line)?;
+    if end != DIGITS {
+        return None;
+    }
+    Some(&line[DIGITS + 1..])
+}

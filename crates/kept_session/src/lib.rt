@@ -1,0 +1,17 @@
+//! A session: scripts' lines that are answered one by one, on a bench whose log is kept in a file that several processes share.
+#![tactic(auto)]
+
+mod answering;
+mod asking;
+mod catching;
+mod fault;
+mod head;
+mod printing;
+mod running;
+mod session;
+
+pub use fault::{SessionFault, session_fault_text};
+pub use head::head_of;
+pub use printing::print_log;
+pub use running::run_session;
+pub use session::{Session, make_log};

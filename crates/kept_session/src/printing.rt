@@ -1,0 +1,54 @@
+//! Prints the lines that count in the file of a log.
+ghost use Rattle.std.specs.Io.KnownBytes.{Appends};
+ghost use Rattle.std.specs.Prelude.{◌≡◌, ◌++◌, false, flat_map, ℕ, List, Err, IfSome, OnOk};
+ghost use Rattle.client_scripts.specs.Joint.{ended};
+ghost use Rattle.kept_log.specs.Lines.{kept_lines};
+ghost use Rattle.kept_session.specs.Heads.{IsHeaded};
+ghost use Rattle.kept_session.specs.declared.fault.SessionFault.TheVariants.{LogLine};
+
+use crate::fault::{LOG_INPUT, SessionFault};
+use crate::head::behind_head;
+use client_scripts::{ReplayFault, Sink, Source, read_input, write_all};
+use kept_log::first_line;
+use rapid_text::OutOfMemory;
+use std::alloc::Global;
+
+/// Appends the lines that count in a text, as a script.
+fn append_lines(out: &mut Vec<u8>, text: &[u8]) -> Result<(), OutOfMemory>
+    ensures { OnOk result (out.new.items ≡ out.old.items ++ flat_map ended (kept_lines text.now)) }
+{
+    let mut rest = text;
+    while let Some((line, others)) = first_line(rest) {
+        out.extend_from_slice(line)?;
+        out.push(b'\n')?;
+        rest = others;
+    }
+    Ok(())
+}
+
+/// Reads the file of a log, whole, and writes the lines of it that count, as a script. A file that does not begin as one is
+/// refused with its first line.
+pub fn print_log<S: Source, K: Sink>(
+    alloc: Global,
+    reader: &mut S,
+    writer: &mut K,
+) -> Result<(), SessionFault>
+    requires reader { S.has_failed reader.old ≡ false }
+    requires writer { K.has_failed writer.old ≡ false }
+
+    // What is written is, as a script, the lines that count behind the head of the file.
+    ensures printed { OnOk result (IfSome (S.rest reader.old) (λ bytes. (text : List ℕ) × IsHeaded bytes text
+        × Appends (K.taken writer.old) (K.taken writer.new) (flat_map ended (kept_lines text)))) }
+    ensures refused { result ≡ Err (LogLine 1) → IfSome (S.rest reader.old) (λ bytes. (text : List ℕ) → ¬ IsHeaded bytes text) }
+{
+    let bytes = read_input(alloc, reader, LOG_INPUT)?;
+    let Some(text) = behind_head(&bytes) else {
+        return Err(SessionFault::LogLine { line: 1 });
+    };
+    let mut out = Vec::new(alloc);
+    append_lines(&mut out, text)?;
+    if write_all(writer, &out).is_err() {
+        return Err(SessionFault::from(ReplayFault::Write));
+    }
+    Ok(())
+}

@@ -1,0 +1,270 @@
+//! A bench and the file of its log, in step.
+ghost use Rattle.std.specs.Prelude.{◌≡◌, ◌≢◌, ◌⊎◌, ◌≤◌, ◌++◌, List, [], ℕ, true, false, length, take, IfOk, IfErr, OnOk};
+ghost use Rattle.std.specs.List.{slice_split};
+ghost use Rattle.rapid_text.specs.Reading.{is_line_feed};
+ghost use Rattle.kept_log.specs.Device.{Only, LeavesOnly};
+ghost use Rattle.kept_log.specs.Lines.{kept_lines};
+ghost use Rattle.kept_log.specs.Log.{at_rest, head_of, lines_of, lines_behind, BeginsWith, IsAtRest, IsOldOrNew};
+ghost use Rattle.client_scripts.specs.declared.fault.ReplayFault.TheVariants.{Write, OutOfMemory as NoMemory};
+ghost use Rattle.kept_session.specs.declared.fault.SessionFault.TheVariants.{Replay, LogLine, OtherTrace};
+ghost use Rattle.kept_session.specs.Faults.{IsTurnFault, IsOpenFault};
+ghost use Rattle.kept_session.specs.Sessions.{IsInStep, IsAtWork, IsTurn, log_of, number_behind, AreLogged};
+ghost use Rattle.kept_session.specs.Steps.{PieceAnswered};
+
+use crate::answering::answer_lines;
+use crate::catching::{line_behind, make_all};
+use crate::fault::SessionFault;
+use event_index::Indexed;
+use inverse_log::Bench;
+use kept_log::{Block, Device, EnterError, KeptLog, OpenError, create};
+use rapid_text::OutOfMemory;
+use std::alloc::Global;
+use std::sync::Arc;
+
+/// How much longer than its line of the input a line of a block can be: its client and a blank before it, the number of an undone
+/// entry and a blank before that, and its gate and its end.
+const LONGER: usize = 16;
+
+/// A bench and the file of its log. Between two calls the file's lock is free, and others may add to it.
+#[derive(Drop)]
+pub struct Session<D: Device> {
+    pub bench: Bench,
+    pub log: KeptLog<D>,
+}
+
+/// Makes the file of a log with this head and no entry, of one that is empty. Its lock stays held.
+pub fn make_log<D: Device>(alloc: Global, device: &mut D, head: &[u8]) -> Result<(), SessionFault>
+    ensures made { OnOk result (D.seen device.new ≡ at_rest head.now []) }
+    ensures durable { OnOk result (Only (D.seen device.new) (D.may_leave device.new)) }
+{
+    match device.take_over(alloc, 0) {
+        Ok(bytes) => {
+            if !bytes.is_empty() {
+                return Err(SessionFault::OtherTrace);
+            }
+        }
+        Err(why) => return Err(SessionFault::unread(why, 1)),
+    }
+    match create(alloc, device, head) {
+        Ok(()) => Ok(()),
+        Err(why) => Err(SessionFault::unwritten(why)),
+    }
+}
+
+/// The bench of a trace.
+fn new_bench(alloc: Global, indexed: Indexed) -> Result<Bench, OutOfMemory>
+    ensures trace { IfOk result (λ bench. bench.trace ≡ indexed) }
+    ensures log { IfOk result (λ bench. bench.log ≡ []) }
+{
+    let shared = Arc::new(alloc, indexed)?;
+    match Bench::new(alloc, shared) {
+        Ok(bench) => Ok(bench),
+        Err(_) => Err(OutOfMemory),
+    }
+}
+
+/// Opens the file of a log. With its bytes, in which the lines that count stand behind the head.
+fn open_log<D: Device + Drop>(
+    alloc: Global,
+    mut device: D,
+    head: &[u8],
+) -> Result<(KeptLog<D>, Vec<u8>), (SessionFault, D)>
+    ensures held { IfOk result (λ opened. D.is_held opened.0.device ≡ true) }
+    ensures at_rest { IfOk result (λ opened. IsAtRest D.seen D.may_leave opened.0) }
+    ensures head { IfOk result (λ opened. head_of D.seen opened.0 ≡ head.now) }
+    ensures lines { IfOk result (λ opened. lines_of D.seen opened.0 ≡ lines_behind (length head.now) opened.1.items) }
+    ensures within { IfOk result (λ opened. length head.now ≤ length opened.1.items) }
+    ensures stranger { IfErr result (λ e. e.0 ≡ OtherTrace → take (length head.now) (D.seen e.1) ≢ head.now) }
+    ensures line { IfErr result (λ e. (number : ℕ) → e.0 ≡ LogLine number → number ≡ 1) }
+{
+    let bytes = match device.take_over(alloc, 0) {
+        Ok(bytes) => bytes,
+        Err(why) => return Err((SessionFault::unread(why, 1), device)),
+    };
+    if bytes.len() < head.len() {
+        return Err((SessionFault::OtherTrace, device));
+    }
+    match KeptLog::open(device, head, &bytes) {
+        Ok((log, _)) => Ok((log, bytes)),
+        Err((OpenError::Stranger, device)) => Err((SessionFault::OtherTrace, device)),
+        Err((OpenError::Device(why), device)) => Err((SessionFault::unwritten(why), device)),
+    }
+}
+
+/// Makes the calls of the lines that stand in a text, which are those of a log, on a bench that has made none, and lets the log's lock go.
+fn begin<D: Device + Drop>(
+    alloc: Global,
+    mut bench: Bench,
+    mut log: KeptLog<D>,
+    text: &[u8],
+) -> Result<Session<D>, (SessionFault, D)>
+    requires new { bench.log ≡ [] }
+    requires at_rest { IsAtRest D.seen D.may_leave log }
+    requires lines { lines_of D.seen log ≡ kept_lines text.now }
+    ensures in_step { IfOk result (λ s. IsInStep D.seen D.may_leave bench.trace s.log s.bench.log) }
+    ensures trace { IfOk result (λ s. s.bench.trace ≡ bench.trace) }
+    ensures head { IfOk result (λ s. head_of D.seen s.log ≡ head_of D.seen log) }
+    ensures free { IfOk result (λ s. D.is_held s.log.device ≡ false) }
+    ensures fault { IfErr result (λ e. IsOpenFault bench.trace (head_of D.seen log) (D.seen e.1) e.0) }
+{
+    if let Err(fault) = make_all(alloc, &mut bench, text) {
+        return Err((fault, log.device));
+    }
+    match log.release() {
+        Ok(()) => Ok(Session { bench, log }),
+        Err(why) => Err((SessionFault::unwritten(why), log.device)),
+    }
+}
+
+/// How many lines a text has.
+fn count_lines(text: &[u8]) -> usize {
+    text.iter()
+        .filter(|byte| **byte == b'\n')
+        .count()
+        .saturating_add(1)
+}
+
+/// Makes room for the lines of a piece, so that no want of memory can come between a call and its block.
+fn make_room(block: &mut Block, piece: &[u8]) -> Result<(), OutOfMemory>
+    ensures { block.new ≡ block.old }
+{
+    let bytes = count_lines(piece)
+        .saturating_mul(LONGER)
+        .saturating_add(piece.len());
+    block.reserve(bytes)?;
+    Ok(())
+}
+
+impl<D: Device + Drop> Session<D> {
+    /// Opens the file of a log on this trace, whose head this is, and makes the calls of its lines on a new bench. With a fault the file is
+    /// handed back.
+    pub fn open(
+        alloc: Global,
+        indexed: Indexed,
+        head: &[u8],
+        device: D,
+    ) -> Result<Session<D>, (SessionFault, D)>
+        ensures in_step { IfOk result (λ s. IsInStep D.seen D.may_leave indexed s.log s.bench.log) }
+        ensures trace { IfOk result (λ s. s.bench.trace ≡ indexed) }
+        ensures head { IfOk result (λ s. head_of D.seen s.log ≡ head.now) }
+        ensures free { IfOk result (λ s. D.is_held s.log.device ≡ false) }
+
+        // 102 is told of a file that does not begin with the head; 101 with the first line that adds no entry.
+        ensures fault { IfErr result (λ e. IsOpenFault indexed head.now (D.seen e.1) e.0) }
+    {
+        let bench = match new_bench(alloc, indexed) {
+            Ok(bench) => bench,
+            Err(why) => return Err((SessionFault::from(why), device)),
+        };
+        match open_log(alloc, device, head) {
+            Ok((log, bytes)) => begin(alloc, bench, log, &bytes[head.len()..]),
+            Err(refused) => Err(refused),
+        }
+    }
+
+    /// Takes the file's lock, and makes the calls that others added.
+    fn catch_up(&mut self, alloc: Global) -> Result<(), SessionFault>
+        requires in_step { IsInStep D.seen D.may_leave self.old.bench.trace self.old.log self.old.bench.log }
+
+        ensures held { OnOk result (D.is_held self.new.log.device ≡ true) }
+        ensures at_work { OnOk result (IsAtWork D.seen D.may_leave self.new.bench.trace self.new.log self.new.bench.log) }
+        ensures trace { self.new.bench.trace ≡ self.old.bench.trace }
+        ensures head { OnOk result (head_of D.seen self.new.log ≡ head_of D.seen self.old.log) }
+        ensures lines { OnOk result ((others : List (List ℕ)) × (lines_of D.seen self.new.log ≡ lines_of D.seen self.old.log ++ others)) }
+
+        // A crash at any moment leaves a file whose lines begin with those that were known.
+        ensures any_moment { LeavesOnly D.moment D.left_since self.old.log.device self.new.log.device
+            (BeginsWith (head_of D.seen self.old.log) (lines_of D.seen self.old.log)) }
+        ensures fault { IfErr result (IsTurnFault self.old.bench.trace (lines_of D.seen self.old.log) (lines_of D.seen self.new.log)) }
+    {
+        match self.log.enter(alloc) {
+            Ok(text) => {
+                make_all(alloc, &mut self.bench, &text)?;
+                Ok(())
+            }
+            Err(EnterError::Unread(why)) => {
+                Err(SessionFault::unread(why, line_behind(&self.bench) - 1))
+            }
+            Err(EnterError::Unwritten(why)) => Err(SessionFault::unwritten(why)),
+        }
+    }
+
+    /// Makes the calls of a piece, and puts their lines into the file as one block.
+    fn make_piece(
+        &mut self,
+        alloc: Global,
+        client: Option<u32>,
+        first: u64,
+        piece: &[u8],
+        out: &mut Vec<u8>,
+    ) -> Result<u64, SessionFault>
+        requires held { D.is_held self.old.log.device ≡ true }
+        requires at_work { IsAtWork D.seen D.may_leave self.old.bench.trace self.old.log self.old.bench.log }
+
+        ensures at_work { OnOk result (IsAtWork D.seen D.may_leave self.new.bench.trace self.new.log self.new.bench.log) }
+        ensures trace { self.new.bench.trace ≡ self.old.bench.trace }
+        ensures head { OnOk result (head_of D.seen self.new.log ≡ head_of D.seen self.old.log) }
+        ensures next { IfOk result (λ next. next ≡ number_behind first (slice_split is_line_feed piece.now)) }
+        ensures answered { OnOk result (PieceAnswered self.old.bench.trace client first (slice_split is_line_feed piece.now) self.old.bench.log self.new.bench.log
+            out.old.items out.new.items (lines_of D.seen self.old.log) (lines_of D.seen self.new.log)) }
+
+        // A crash at any moment leaves the lines from before, and of the piece all or none.
+        ensures any_moment { (gained : List (List ℕ)) × LeavesOnly D.moment D.left_since self.old.log.device self.new.log.device
+            (IsOldOrNew (head_of D.seen self.old.log) (lines_of D.seen self.old.log) gained) }
+        ensures fault { IfErr result (λ fault. (fault ≡ Replay NoMemory) ⊎ (fault ≡ Replay Write)) }
+    {
+        let mut block = Block::new(alloc);
+        make_room(&mut block, piece)?;
+        let next = answer_lines(
+            alloc,
+            &mut self.bench,
+            client,
+            first,
+            piece,
+            &mut block,
+            out,
+        )?;
+        self.log.add(block)?;
+        Ok(next)
+    }
+
+    /// Answers the lines of a piece under one lock, and appends the texts of the answers. The first line has this number in the
+    /// input; it tells that of the line behind them. Once it returns, the entries that the answers tell of are on the disk.
+    pub fn answer(
+        &mut self,
+        alloc: Global,
+        client: Option<u32>,
+        first: u64,
+        piece: &[u8],
+        out: &mut Vec<u8>,
+    ) -> Result<u64, SessionFault>
+        requires in_step { IsInStep D.seen D.may_leave self.old.bench.trace self.old.log self.old.bench.log }
+
+        ensures in_step { OnOk result (IsInStep D.seen D.may_leave self.new.bench.trace self.new.log self.new.bench.log) }
+        ensures free { OnOk result (D.is_held self.new.log.device ≡ false) }
+        ensures trace { self.new.bench.trace ≡ self.old.bench.trace }
+        ensures head { OnOk result (head_of D.seen self.new.log ≡ head_of D.seen self.old.log) }
+        ensures next { IfOk result (λ next. next ≡ number_behind first (slice_split is_line_feed piece.now)) }
+
+        // Each answer is that of the log which the file stood for while the lock was held; the file has gained the lines of the calls.
+        ensures answers { OnOk result (IsTurn self.old.bench.trace client first (slice_split is_line_feed piece.now)
+            (lines_of D.seen self.old.log) (lines_of D.seen self.new.log) self.new.bench.log out.old.items out.new.items) }
+
+        // What was answered is kept: from then on each crash leaves a file whose lines begin with these, whatever others do.
+        ensures kept { OnOk result ((c : List ℕ) → D.may_leave self.new.log.device c → BeginsWith (head_of D.seen self.new.log) (lines_of D.seen self.new.log) c) }
+
+        // A crash at any moment, also where it fails, leaves a file whose lines begin with those that were known.
+        ensures any_moment { LeavesOnly D.moment D.left_since self.old.log.device self.new.log.device
+            (BeginsWith (head_of D.seen self.old.log) (lines_of D.seen self.old.log)) }
+
+        // 101 is told with the first line that adds no entry, or with the last known one where the file is shorter than it was.
+        ensures fault { IfErr result (IsTurnFault self.old.bench.trace (lines_of D.seen self.old.log) (lines_of D.seen self.new.log)) }
+    {
+        self.catch_up(alloc)?;
+        let next = self.make_piece(alloc, client, first, piece, out)?;
+        match self.log.release() {
+            Ok(()) => Ok(next),
+            Err(why) => Err(SessionFault::unwritten(why)),
+        }
+    }
+}

@@ -1,0 +1,16 @@
+//! A picture of the schedule that shows a pair, as SVG.
+#![tactic(auto)]
+
+mod accesses;
+mod arrows;
+mod columns;
+mod drawing;
+mod head;
+mod labels;
+mod layout;
+mod pieces;
+mod rows;
+mod shades;
+mod style;
+
+pub use drawing::{figure_text, picture_text};

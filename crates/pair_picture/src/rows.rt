@@ -1,0 +1,167 @@
+//! The boxes of runs.
+use crate::columns::Columns;
+use crate::labels::{append_label, append_line};
+use crate::layout::{BOX, GAP, INDENT, Placed, base_of, height_of};
+use crate::pieces::{append_attribute, append_count, append_number, append_words};
+use crate::shades::append_bar;
+use event_index::Indexed;
+use explain_report::{Run, words_between};
+use rapid_text::OutOfMemory;
+
+/// Appends an empty box.
+pub(crate) fn append_box(
+    out: &mut Vec<u8>,
+    class: &[u8],
+    left: u64,
+    top: u64,
+    height: u64,
+) -> Result<(), OutOfMemory> {
+    append_words(out, b"<rect class=\"")?;
+    append_words(out, class)?;
+    append_words(out, b"\"")?;
+    append_attribute(out, b"x", left)?;
+    append_attribute(out, b"y", top)?;
+    append_attribute(out, b"width", BOX)?;
+    append_attribute(out, b"height", height)?;
+    append_words(out, b"/>\n")
+}
+
+/// Appends a line of a box that begins at `left` and `top`.
+pub(crate) fn append_box_line(
+    out: &mut Vec<u8>,
+    class: &[u8],
+    left: u64,
+    top: u64,
+    line: u64,
+    text: &[u8],
+) -> Result<(), OutOfMemory> {
+    append_line(
+        out,
+        class,
+        left.saturating_add(INDENT),
+        base_of(top, line),
+        text,
+    )
+}
+
+/// Appends the box of a run: how many events it has, its first, its last, and for which event of another thread it was.
+pub(crate) fn append_run(
+    out: &mut Vec<u8>,
+    indexed: &Indexed,
+    columns: &Columns,
+    list: &[u32],
+    held: &[bool],
+    placed: &Placed,
+) -> Result<(), OutOfMemory> {
+    let left = columns.left(placed.run.thread);
+    let top = placed.top;
+    append_box(out, b"box", left, top, placed.height)?;
+    append_bar(out, left, placed, held)?;
+    let mut text = Vec::new(*out.allocator());
+    append_words(&mut text, b"run ")?;
+    append_number(&mut text, placed.number)?;
+    append_words(&mut text, b", ")?;
+    let count = placed.run.end.saturating_sub(placed.run.start);
+    append_count(&mut text, u64::from(count), b"event")?;
+    append_box_line(out, b"note", left, top, 0, &text)?;
+    let last = placed.run.end.saturating_sub(1);
+    let mut line = 1u64;
+    if count > 1 {
+        append_event(out, indexed, list, placed.run.start, left, top, line)?;
+        line = 2;
+    }
+    append_event(out, indexed, list, last, left, top, line)?;
+    append_waiter(out, indexed, list, placed, left, line.saturating_add(1))
+}
+
+/// Appends a line with the event at this place of the list.
+fn append_event(
+    out: &mut Vec<u8>,
+    indexed: &Indexed,
+    list: &[u32],
+    place: u32,
+    left: u64,
+    top: u64,
+    line: u64,
+) -> Result<(), OutOfMemory> {
+    let Some(event) = list.get(place as usize).copied() else {
+        return Ok(());
+    };
+    let mut text = Vec::new(*out.allocator());
+    append_label(&mut text, indexed, event)?;
+    append_box_line(out, b"event", left, top, line, &text)
+}
+
+/// Appends a line that tells why an event of another thread waits for the run, if one does.
+fn append_waiter(
+    out: &mut Vec<u8>,
+    indexed: &Indexed,
+    list: &[u32],
+    placed: &Placed,
+    left: u64,
+    line: u64,
+) -> Result<(), OutOfMemory> {
+    let last = placed.run.end.saturating_sub(1);
+    let Some(event) = list.get(last as usize).copied() else {
+        return Ok(());
+    };
+    let Some(waiter) = placed.waiter else {
+        return Ok(());
+    };
+    let mut text = Vec::new(*out.allocator());
+    append_words(&mut text, words_between(indexed, event, waiter))?;
+    append_words(&mut text, b" ")?;
+    append_number(&mut text, u64::from(waiter))?;
+    append_box_line(out, b"note", left, placed.top, line, &text)
+}
+
+/// Appends a box for each thread that has events in these runs, the first of many, side by side. Below them the next begins at what is
+/// answered.
+pub(crate) fn append_earlier(
+    out: &mut Vec<u8>,
+    indexed: &Indexed,
+    columns: &Columns,
+    list: &[u32],
+    runs: &[Run],
+    top: u64,
+) -> Result<(), OutOfMemory> {
+    for thread in columns.threads() {
+        append_earlier_of(out, indexed, columns, list, runs, *thread, top)?;
+    }
+    Ok(())
+}
+
+/// How high the boxes of earlier runs are, with what stands free below them.
+pub(crate) fn earlier_height() -> u64 {
+    height_of(2).saturating_add(GAP)
+}
+
+/// Appends the box of a thread's earlier runs: how many events they have, and the last.
+fn append_earlier_of(
+    out: &mut Vec<u8>,
+    indexed: &Indexed,
+    columns: &Columns,
+    list: &[u32],
+    runs: &[Run],
+    thread: u32,
+    top: u64,
+) -> Result<(), OutOfMemory> {
+    let mut count = 0u64;
+    let mut last = 0u32;
+    for run in runs {
+        if run.thread == thread {
+            count = count.saturating_add(u64::from(run.end.saturating_sub(run.start)));
+            last = run.end.saturating_sub(1);
+        }
+    }
+    if count == 0 {
+        return Ok(());
+    }
+    let left = columns.left(thread);
+    append_box(out, b"box", left, top, height_of(2))?;
+    let mut text = Vec::new(*out.allocator());
+    append_count(&mut text, count, b"event")?;
+    append_words(&mut text, b" in earlier runs, up to")?;
+    append_box_line(out, b"note", left, top, 0, &text)?;
+    append_event(out, indexed, list, last, left, top, 1)
+}

@@ -1,0 +1,12 @@
+use Rattle.std.proofs.Common.{◌≡◌, length, slice_index}
+use Rattle.race_groups.specs.Building.{AreNumbered}
+use Rattle.race_groups.specs.Holding.{AreHeld}
+use Rattle.race_groups.proofs.classes.numbering_of.Given as goal
+
+abbrev pub invariant-loop-event : goal.invariant-loop-event
+invariant-loop-event l =
+    record {
+      held : AreHeld l.indexed.events l.event l.held.items;
+      len : length l.held.items ≡ length l.indexed.threads;
+      numbered : AreNumbered l.indexed.events (slice_index l.places) l.event l.numbering.numbers.items l.numbering.infos.items l.numbering.lists.keys;
+    }

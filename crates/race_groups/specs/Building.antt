@@ -1,0 +1,42 @@
+-- Classes and places in the making. No public clause cites this module. `T` is the events of a trace.
+use Rattle.std.specs.Prelude.{true, ◌≡◌, ℕ, ◌+◌, ◌<◌, ◌≤◌, List, filter, length, All, slice_get, slice_index, option_map, Option, Some, Vec}
+use Rattle.std.specs.declared.alloc.Global.{Global}
+use Rattle.rapid_text.specs.declared.event.Event.{Event}
+use Rattle.event_index.specs.Events.{op_at}
+use Rattle.event_index.specs.Lookups.{before}
+use Rattle.event_index.specs.Relations.{is_access}
+use Rattle.race_groups.specs.Classes.{accesses}
+use Rattle.race_groups.specs.Holding.{AreLocksOf}
+use Rattle.race_groups.specs.declared.class.Class.{Class}
+
+-- The list keeps what it had, and has one element more, or none.
+pub record IsGrown {X : Type 0} (old new : List X) : Type 0 where
+  pub kept : (k : ℕ) (x : X) → slice_get old k ≡ Some x → slice_get new k ≡ Some x
+  pub le : length old ≤ length new
+  pub few : length new ≤ length old + 1
+
+-- class c has the operation and the place of event e, and for an access the locks that the event's thread holds before it
+pub record IsClassOf (T : List Event) (place : ℕ → ℕ) (infos : List Class) (lists : List (Vec ℕ Global)) (e c : ℕ) : Type 0 where
+  pub info : Class
+  pub at : slice_get infos c ≡ Some info
+  pub op : op_at T e ≡ Some info.op
+  pub located : info.place ≡ place e
+  pub locks : (x : ℕ) → is_access x info.op ≡ true → AreLocksOf T lists e info.held
+
+-- Each of the first n events has a class.
+pub record AreNumbered (T : List Event) (place : ℕ → ℕ) (n : ℕ) (numbers : List ℕ) (infos : List Class) (lists : List (Vec ℕ Global)) : Type 0 where
+  pub len : length numbers ≡ n
+  pub few : length infos ≤ n
+  pub few_lists : length lists ≤ n
+  pub classes : (e : ℕ) → e < n → IsClassOf T place infos lists e (slice_index numbers e)
+  -- each class is that of an event
+  pub used : (k : ℕ) (i : Class) → slice_get infos k ≡ Some i → (e : ℕ) × (op_at T e ≡ Some i.op)
+
+-- the first n classes that access each variable
+abbrev pub AreMembersBelow : List Class → ℕ → List (Vec ℕ Global) → Type 0
+AreMembersBelow infos n members =
+    (x : ℕ) (v : Vec ℕ Global) → slice_get members x ≡ Some v → v.items ≡ filter (λ c. accesses x (slice_get infos c)) (before n)
+
+-- the texts of a numbered set
+abbrev pub text_at : List (Vec ℕ Global) → ℕ → Option (List ℕ)
+text_at keys n = option_map (λ v. v.items) (slice_get keys n)

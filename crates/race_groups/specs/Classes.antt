@@ -1,0 +1,50 @@
+-- Classes of events: events of one class are alike in place and operation. `T` is the events of a trace.
+use Rattle.std.specs.Prelude.{◌≡◌, ℕ, ◌<◌, ◌&&◌, Bool, true, false, List, filter, length, All, slice_get, slice_index, Option, Some, None, Vec}
+use Rattle.std.specs.declared.alloc.Global.{Global}
+use Rattle.rapid_text.specs.declared.event.Event.{Event}
+use Rattle.event_index.specs.Lookups.{before}
+use Rattle.event_index.specs.Relations.{is_access, is_clash_of_ops}
+use Rattle.race_groups.specs.Groups.{is_between}
+use Rattle.race_groups.specs.Holding.{AreLocksOf}
+use Rattle.race_groups.specs.declared.class.Class.{Class}
+
+-- Each event has a class, with its place and its operation.
+pub record AreClasses (T : List Event) (place : ℕ → ℕ) (classes : List ℕ) (infos : List Class) : Type 0 where
+  pub len : length classes ≡ length T
+  pub within : All (λ c. c < length infos) classes
+  pub op : (e : ℕ) (v : Event) (i : Class) → slice_get T e ≡ Some v → slice_get infos (slice_index classes e) ≡ Some i → i.op ≡ v.op
+  pub located : (e : ℕ) (i : Class) → e < length T → slice_get infos (slice_index classes e) ≡ Some i → i.place ≡ place e
+
+-- there is such a class, and it accesses the variable
+abbrev pub accesses : ℕ → Option Class → Bool
+accesses x None = false
+accesses x (Some i) = is_access x i.op
+
+-- the classes that access the variable
+abbrev pub members_of : List Class → ℕ → List ℕ
+members_of infos x = filter (λ c. accesses x (slice_get infos c)) (before (length infos))
+
+-- there is such a class, an event of it clashes with one of class j that is later and of another thread, their places
+-- are p and q, and the pair is one of those that are kept
+abbrev pub adds_to : (Class → Class → Bool) → ℕ → ℕ → Class → Option Class → Bool
+adds_to keeps p q j None = false
+adds_to keeps p q j (Some i) = is_clash_of_ops i.op j.op && keeps i j && is_between p q i.place j.place
+
+-- For each variable that a class accesses, the classes that access it.
+pub record AreMembers (infos : List Class) (members : List (Vec ℕ Global)) : Type 0 where
+  pub within : (x : ℕ) → All (λ i. is_access x i.op ≡ true → x < length members) infos
+  pub lists : (x : ℕ) (v : Vec ℕ Global) → slice_get members x ≡ Some v → v.items ≡ members_of infos x
+
+-- The class of an access names the locks that the event's thread holds before it.
+abbrev pub AreLocks : List Event → List (Vec ℕ Global) → List ℕ → List Class → Type 0
+AreLocks T lists classes infos =
+    (e x : ℕ) (i : Class) → e < length T → slice_get infos (slice_index classes e) ≡ Some i → is_access x i.op ≡ true → AreLocksOf T lists e i.held
+
+-- whether pairs of these two classes are kept
+abbrev pub keeps_by : (Class → Class → Bool) → Option Class → Option Class → Bool
+keeps_by keeps (Some i) (Some j) = keeps i j
+keeps_by keeps i j = false
+
+-- whether the pair of events is kept, by the classes of the two
+abbrev pub is_kept_pair : (Class → Class → Bool) → List ℕ → List Class → ℕ → ℕ → Bool
+is_kept_pair keeps classes infos a b = keeps_by keeps (slice_get infos (slice_index classes a)) (slice_get infos (slice_index classes b))

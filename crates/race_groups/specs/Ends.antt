@@ -1,0 +1,27 @@
+-- Where the cuts of SHB and of must-before end. `T` is the events of a trace.
+use Rattle.std.specs.Prelude.{◌≡◌, ℕ, cond, nat_lt, List, Option, Some, None}
+use Rattle.rapid_text.specs.declared.event.Event.{Event}
+use Rattle.event_index.specs.Lookups.{base_of}
+use Rattle.shb_clocks.specs.HappensBefore.{IsShbBefore}
+use Rattle.shb_clocks.specs.Known.{known_of}
+use Rattle.shb_clocks.specs.SharedRows.{Counted, count_of}
+
+abbrev pub known_by : List Event → Option ℕ → ℕ → ℕ
+known_by T None t = 0
+known_by T (Some c) t = known_of T c t
+
+-- how many events of thread t are b's base, or are SHB-before it
+abbrev pub known_before : List Event → ℕ → ℕ → ℕ
+known_before T b t = known_by T (base_of T b) t
+
+abbrev pub counted_by : Counted → Option ℕ → ℕ → ℕ
+counted_by rows None t = 0
+counted_by rows (Some c) t = cond (nat_lt t rows.width) (count_of rows c t) 0
+
+-- how many events of thread t the row of b's base counts
+abbrev pub counted_before : Counted → List Event → ℕ → ℕ → ℕ
+counted_before rows T b t = counted_by rows (base_of T b) t
+
+-- a is b's base, or SHB-before it
+abbrev pub IsKnownBefore : List Event → ℕ → ℕ → Type 0
+IsKnownBefore T a b = (c : ℕ) × (base_of T b ≡ Some c) × IsShbBefore T a c

@@ -1,0 +1,21 @@
+-- The locks that threads hold, as lists, and the lists that classes name. `T` is the events of a trace.
+use Rattle.std.specs.Prelude.{◌≡◌, ◌↔◌, ℕ, ◌==◌, true, List, take, count_by, Some, slice_get, Vec}
+use Rattle.std.specs.List.{list_any}
+use Rattle.std.specs.declared.alloc.Global.{Global}
+use Rattle.rapid_text.specs.declared.event.Event.{Event}
+use Rattle.trace_rules.specs.Rules.{hold_count}
+use Rattle.must_order.specs.MustBefore.{IsHeldBefore}
+
+-- how often the lock stands in the list
+abbrev pub times : ℕ → List ℕ → ℕ
+times l locks = count_by (λ k. k == l) locks
+
+-- Each thread's list has each lock as often as the thread holds it after the first n events.
+abbrev pub AreHeld : List Event → ℕ → List (Vec ℕ Global) → Type 0
+AreHeld T n held = (t : ℕ) (v : Vec ℕ Global) (l : ℕ) → slice_get held t ≡ Some v → times l v.items ≡ hold_count (take n T) t l
+
+-- List n is there, and has exactly the locks that event e's thread holds before it.
+pub record AreLocksOf (T : List Event) (lists : List (Vec ℕ Global)) (e n : ℕ) : Type 0 where
+  pub locks : Vec ℕ Global
+  pub at : slice_get lists n ≡ Some locks
+  pub held : (l : ℕ) → (list_any (λ k. k == l) locks.items ≡ true) ↔ IsHeldBefore T e l

@@ -1,0 +1,49 @@
+-- The kinds of pairs, how many there are of each in a list, and rows that tell it of a pair of places. `r` is a recording, `place`
+-- tells the place of each event.
+use Rattle.std.specs.Prelude.{◌≡◌, ℕ, ◌-◌, ◌≤◌, Bool, true, false, List, count_by}
+use Rattle.rapid_text.specs.Recording.{Recording}
+use Rattle.rapid_text.specs.declared.event.Event.{Event}
+use Rattle.schedule.specs.Reordering.{IsCorrectReordering}
+use Rattle.schedule.specs.Shows.{Shows}
+use Rattle.must_order.specs.Kinds.{IsKind}
+use Rattle.must_order.specs.declared.kind.Kind.{Kind}
+use Rattle.must_order.specs.declared.kind.Kind.TheVariants.{Candidate, Open, Guarded, Forced}
+use Rattle.race_groups.specs.Groups.{kind_by, group_of, is_between, IsCountOf}
+use Rattle.race_groups.specs.Rows.{count_at}
+use Rattle.race_groups.specs.declared.counted.Counted.{Counted}
+use Rattle.race_groups.specs.declared.kinds.Counts.{Counts}
+use Rattle.race_groups.specs.declared.kinds.Row.{Row}
+
+abbrev pub is_kind : Kind → Kind → Bool
+is_kind Candidate Candidate = true
+is_kind Open Open = true
+is_kind Guarded Guarded = true
+is_kind Forced Forced = true
+is_kind k l = false
+
+-- how many of the pairs are of the kind, from the three tests of a pair
+abbrev pub kind_count : {X : Type 0} → (X → Bool) → (X → Bool) → (X → Bool) → Kind → List X → ℕ
+kind_count known forced guarded k xs = count_by (λ e. is_kind k (kind_by (known e) (forced e) (guarded e))) xs
+
+-- Each count is that of the conflicting pairs of the two places that are of the kind; the lesser place is the first.
+pub record IsRowAt (r : Recording) (place : ℕ → ℕ) (places : ℕ × ℕ) (counts : Counts) : Type 0 where
+  pub rising : places.0 ≤ places.1
+  pub candidates : IsCountOf (λ e. IsKind r e.0 e.1 Candidate) (group_of r.events place places.0 places.1) counts.candidates
+  pub open_pairs : IsCountOf (λ e. IsKind r e.0 e.1 Open) (group_of r.events place places.0 places.1) counts.open_pairs
+  pub guarded : IsCountOf (λ e. IsKind r e.0 e.1 Guarded) (group_of r.events place places.0 places.1) counts.guarded
+  pub forced : IsCountOf (λ e. IsKind r e.0 e.1 Forced) (group_of r.events place places.0 places.1) counts.forced
+
+abbrev pub IsRow : Recording → (ℕ → ℕ) → Row → Type 0
+IsRow r place row = IsRowAt r place row.places row.counts
+
+-- no correct reordering shows two events of these places
+abbrev pub IsNeverShownBetween : List Event → (ℕ → ℕ) → ℕ → ℕ → Type 0
+IsNeverShownBetween T place p q =
+    (a b : ℕ) (P : List ℕ) → is_between p q (place a) (place b) ≡ true → IsCorrectReordering T P → ¬ Shows T P a b
+
+-- The counts are differences of counts below the cuts.
+pub record IsDifference (s : Counted) (p q : ℕ) (counts : Counts) : Type 0 where
+  pub candidates : counts.candidates ≡ count_at s.all p q - count_at s.known p q
+  pub guarded : counts.guarded ≡ count_at s.known_shared p q - count_at s.forced_shared p q
+  pub open_pairs : counts.open_pairs ≡ count_at s.known p q - count_at s.forced p q - counts.guarded
+  pub forced : counts.forced ≡ count_at s.forced p q

@@ -1,0 +1,11 @@
+pub mod Groups
+pub mod Cuts
+pub mod Counting
+pub mod Rows
+pub mod Classes
+pub mod Kinds
+pub mod Ends
+pub mod Shared
+pub mod Holding
+pub mod Building
+pub mod Counts

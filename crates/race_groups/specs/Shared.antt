@@ -1,0 +1,16 @@
+-- Lists of locks that have one in common.
+use Rattle.std.specs.Prelude.{ℕ, ◌==◌, Bool, false, List, Option, Some, None, Vec, slice_get}
+use Rattle.std.specs.List.{list_any}
+use Rattle.std.specs.declared.alloc.Global.{Global}
+
+-- whether the two lists have an element in common
+abbrev pub is_meeting : List ℕ → List ℕ → Bool
+is_meeting xs ys = list_any (λ l. list_any (λ k. k == l) ys) xs
+
+abbrev pub is_sharing_by : Option (Vec ℕ Global) → Option (Vec ℕ Global) → Bool
+is_sharing_by (Some v) (Some w) = is_meeting v.items w.items
+is_sharing_by v w = false
+
+-- whether the lists of these numbers have one
+abbrev pub is_sharing : List (Vec ℕ Global) → ℕ → ℕ → Bool
+is_sharing lists i j = is_sharing_by (slice_get lists i) (slice_get lists j)

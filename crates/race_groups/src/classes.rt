@@ -1,0 +1,259 @@
+//! The classes of a trace's events.
+ghost use Rattle.std.specs.Prelude.{◌≡◌, ◌+◌, ◌++◌, ◌∷◌, ◌⊎◌, [], ◌<◌, ◌≤◌, ℕ, true, false, IfOk, OnOk, All, Some, None, IfSome, length, slice_get, slice_index};
+ghost use Rattle.event_index.specs.Relations.{is_access};
+ghost use Rattle.race_groups.specs.Building.{AreNumbered, AreMembersBelow, IsGrown, text_at};
+ghost use Rattle.race_groups.specs.Classes.{AreClasses, AreLocks, AreMembers};
+ghost use Rattle.race_groups.specs.Holding.{AreHeld};
+
+use crate::class::Class;
+use crate::events::event_at;
+use crate::holding::{begin, note, number_of};
+use event_index::Indexed;
+use indexmap::IndexSet;
+use rapid_text::{Op, OutOfMemory};
+use std::alloc::Global;
+
+/// What a class is looked up by: its place and its locks, what is done, and to what.
+type Key = ((u32, u32), (u32, u32));
+
+/// The classes of a trace, and for each event its own.
+#[derive(Drop)]
+pub struct Classes {
+    /// The number of each event's class.
+    pub numbers: Vec<u32>,
+    /// The classes.
+    pub infos: Vec<Class>,
+    /// For each variable the classes that access it.
+    pub members: Vec<Vec<u32>>,
+    /// The lists of locks that the classes name.
+    pub lists: IndexSet<Vec<u32>>,
+}
+
+impl Classes {
+    /// The classes of all events. `places` has for each event the number of its place.
+    pub fn of(alloc: Global, indexed: &Indexed, places: &[u32]) -> Result<Classes, OutOfMemory>
+        requires places { length places.now ≡ length indexed.now.events }
+        ensures classes { IfOk result
+            (λ made. AreClasses indexed.now.events (slice_index places.now) made.numbers.items made.infos.items) }
+        ensures few { IfOk result (λ made. length made.infos.items ≤ 1048576) }
+        ensures members { IfOk result (λ made. AreMembers made.infos.items made.members.items) }
+        // The locks of a class are those that the threads of its accesses hold before them.
+        ensures locks { IfOk result (λ made. AreLocks indexed.now.events made.lists.keys made.numbers.items made.infos.items) }
+    {
+        let _len = indexed.len();
+        let numbering = numbering_of(alloc, indexed, places)?;
+        let Numbering {
+            numbers,
+            infos,
+            lists,
+            ..
+        } = numbering;
+        let members = members_of(alloc, indexed, infos.as_slice())?;
+        Ok(Classes {
+            numbers,
+            infos,
+            members,
+            lists,
+        })
+    }
+}
+
+/// The classes of the events that were gone through.
+#[derive(Drop)]
+struct Numbering {
+    keys: IndexSet<Key>,
+    numbers: Vec<u32>,
+    infos: Vec<Class>,
+    lists: IndexSet<Vec<u32>>,
+}
+
+// The classes of all events.
+fn numbering_of(alloc: Global, indexed: &Indexed, places: &[u32]) -> Result<Numbering, OutOfMemory>
+    requires places { length places.now ≡ length indexed.now.events }
+    ensures { IfOk result (λ made. AreNumbered indexed.now.events (slice_index places.now) (length indexed.now.events)
+        made.numbers.items made.infos.items made.lists.keys) }
+{
+    let mut numbering = Numbering {
+        keys: IndexSet::new(alloc),
+        numbers: Vec::with_capacity(alloc, indexed.len() as usize)?,
+        infos: Vec::new(alloc),
+        lists: IndexSet::new(alloc),
+    };
+    let mut held = begin(alloc, indexed)?;
+    for event in 0..indexed.len() {
+        numbering.add(alloc, indexed, places, held.as_slice(), event)?;
+        note(&mut held, indexed, event)?;
+    }
+    Ok(numbering)
+}
+
+impl Numbering {
+    // Takes in the next event. `held` has for each thread the locks that it holds before that.
+    fn add(
+        &mut self,
+        alloc: Global,
+        indexed: &Indexed,
+        places: &[u32],
+        held: &[Vec<u32>],
+        event: u32,
+    ) -> Result<(), OutOfMemory>
+        requires event { event < length indexed.now.events }
+        requires places { length places.now ≡ length indexed.now.events }
+        requires held { AreHeld indexed.now.events event held.now }
+        requires len { length held.now ≡ length indexed.now.threads }
+        requires numbered { AreNumbered indexed.now.events (slice_index places.now) event self.old.numbers.items self.old.infos.items self.old.lists.keys }
+        ensures { OnOk result (AreNumbered indexed.now.events (slice_index places.now) (event + 1)
+            self.new.numbers.items self.new.infos.items self.new.lists.keys) }
+    {
+        let found = event_at(indexed, event);
+        let locks = held[found.thread as usize].as_slice();
+        let class = Class {
+            place: places[event as usize],
+            op: found.op,
+            held: list_number(&mut self.lists, alloc, locks, found.op)?,
+        };
+        let number = class_number(&mut self.keys, &mut self.infos, class)?;
+        self.numbers.push(number)?;
+        Ok(())
+    }
+}
+
+// The number of the list of locks under which this is done; 0 where it is no access.
+fn list_number(
+    lists: &mut IndexSet<Vec<u32>>,
+    alloc: Global,
+    locks: &[u32],
+    op: Op,
+) -> Result<u32, OutOfMemory>
+    requires { length lists.old.keys < 1048576 }
+    ensures at { IfOk result (λ n. (x : ℕ) → is_access x op ≡ true → text_at lists.new.keys n ≡ Some locks.now) }
+    ensures grown { OnOk result (IsGrown lists.old.keys lists.new.keys) }
+{
+    match variable_of(op) {
+        Some(_) => number_of(lists, alloc, locks),
+        None => Ok(0),
+    }
+}
+
+// The number of the class, which is noted as the last one if it is new.
+fn class_number(
+    keys: &mut IndexSet<Key>,
+    infos: &mut Vec<Class>,
+    class: Class,
+) -> Result<u32, OutOfMemory>
+    requires few { length infos.old.items < 1048576 }
+    ensures found { IfOk result (λ n. slice_get infos.new.items n ≡ Some class) }
+    ensures grown { OnOk result ((infos.new.items ≡ infos.old.items) ⊎ (infos.new.items ≡ infos.old.items ++ class ∷ [])) }
+{
+    let key = key_of(class);
+    if let Some(at) = keys.get_index_of(&key) {
+        if is_at(infos.as_slice(), at, class) {
+            return Ok(at as u32);
+        }
+    }
+    let at = infos.len() as u32;
+    infos.push(class)?;
+    keys.insert(key)?;
+    Ok(at)
+}
+
+// Whether the class stands at this place.
+fn is_at(infos: &[Class], at: usize, class: Class) -> bool
+    ensures within { result ≡ true → at < length infos.now }
+    ensures found { result ≡ true → slice_get infos.now at ≡ Some class }
+{
+    match infos.get(at) {
+        Some(info) => is_same(*info, class),
+        None => false,
+    }
+}
+
+fn is_same(first: Class, second: Class) -> bool
+    ensures { result ≡ true → first ≡ second }
+{
+    if first.place != second.place {
+        return false;
+    }
+    if first.held != second.held {
+        return false;
+    }
+    is_same_op(first.op, second.op)
+}
+
+fn is_same_op(first: Op, second: Op) -> bool
+    ensures { result ≡ true → first ≡ second }
+{
+    match (first, second) {
+        (Op::Read(x), Op::Read(y)) => x == y,
+        (Op::Write(x), Op::Write(y)) => x == y,
+        (Op::Acquire(x), Op::Acquire(y)) => x == y,
+        (Op::Release(x), Op::Release(y)) => x == y,
+        (Op::Fork(x), Op::Fork(y)) => x == y,
+        (Op::Join(x), Op::Join(y)) => x == y,
+        _ => false,
+    }
+}
+
+// For each variable the classes that access it.
+fn members_of(
+    alloc: Global,
+    indexed: &Indexed,
+    infos: &[Class],
+) -> Result<Vec<Vec<u32>>, OutOfMemory>
+    requires few { length infos.now ≤ 1048576 }
+    requires named { (x : ℕ) → All (λ i. is_access x i.op ≡ true → x < length indexed.now.variables) infos.now }
+    ensures { IfOk result (λ members. AreMembers infos.now members.items) }
+{
+    let mut members = Vec::with_capacity(alloc, indexed.variables() as usize)?;
+    for _variable in 0..indexed.variables() {
+        members.push(Vec::new(alloc))?;
+    }
+    for class in 0..infos.len() {
+        add_member(&mut members, infos, class)?;
+    }
+    Ok(members)
+}
+
+// Adds the class to those of its variable, where it has one.
+fn add_member(members: &mut Vec<Vec<u32>>, infos: &[Class], class: usize) -> Result<(), OutOfMemory>
+    requires class { class < length infos.now }
+    requires few { length infos.now ≤ 1048576 }
+    requires named { (x : ℕ) → All (λ i. is_access x i.op ≡ true → x < length members.old.items) infos.now }
+    requires members { AreMembersBelow infos.now class members.old.items }
+    ensures members { OnOk result (AreMembersBelow infos.now (class + 1) members.new.items) }
+    ensures len { OnOk result (length members.new.items ≡ length members.old.items) }
+{
+    let Some(variable) = variable_of(infos[class].op) else {
+        return Ok(());
+    };
+    members[variable as usize].push(class as u32)?;
+    Ok(())
+}
+
+fn key_of(class: Class) -> Key {
+    ((class.place, class.held), word_of(class.op))
+}
+
+// What an operation does, and to what.
+fn word_of(op: Op) -> (u32, u32) {
+    match op {
+        Op::Read(variable) => (0, variable),
+        Op::Write(variable) => (1, variable),
+        Op::Acquire(lock) => (2, lock),
+        Op::Release(lock) => (3, lock),
+        Op::Fork(thread) => (4, thread),
+        Op::Join(thread) => (5, thread),
+    }
+}
+
+/// The variable that the operation accesses, where it does.
+pub(crate) fn variable_of(op: Op) -> Option<u32>
+    ensures some { IfSome result (λ x. is_access x op ≡ true) }
+    ensures one { IfSome result (λ x. (y : ℕ) → is_access y op ≡ true → y ≡ x) }
+    ensures none { result ≡ None → (x : ℕ) → is_access x op ≡ false }
+{
+    match op {
+        Op::Read(variable) | Op::Write(variable) => Some(variable),
+        Op::Acquire(_) | Op::Release(_) | Op::Fork(_) | Op::Join(_) => None,
+    }
+}

@@ -1,0 +1,95 @@
+//! Counts by class of the events that come before a cut, as the events of one thread are gone through. No event is
+//! counted twice: each front only moves on.
+ghost use Rattle.std.specs.Prelude.{◌≡◌, ◌≢◌, ℕ, ◌+◌, ◌^◌, ◌<◌, ◌≤◌, length, All, Some, slice_index, slice_set};
+ghost use Rattle.rapid_text.specs.Recording.{IsWellFormed};
+ghost use Rattle.event_index.specs.Events.{thread_at};
+ghost use Rattle.event_index.specs.Lookups.{events_of};
+ghost use Rattle.race_groups.specs.Cuts.{IsCut};
+ghost use Rattle.race_groups.specs.Counting.{AreCounts, AreFronts, class_count};
+
+use crate::events::threads_in;
+use event_index::Indexed;
+
+/// For each later event and each other thread, how many of that thread's events come before it.
+pub trait Cut {
+    /// Which ends it tells.
+    ghost can_end: { Self → ℕ → ℕ → Type 0 };
+
+    ghost end_of: { Self → ℕ → ℕ → ℕ };
+
+    /// How many of the thread's events come before the later one, of which it is known that so many do.
+    fn end(&self, later: u32, thread: u32, from: u32) -> u32
+        requires can { can_end self.now later thread }
+        requires from { from ≤ end_of self.now later thread }
+        ensures end { result ≡ end_of self.now later thread };
+}
+
+// Counts these events, each by its class.
+fn count(counts: &mut [u32], classes: &[u32], events: &[u32])
+    requires events { All (λ e. e < length classes.now) events.now }
+    requires classes { All (λ c. c < length counts.old) classes.now }
+    requires room { (c : ℕ) → c < length counts.old → slice_index counts.old c + length events.now < 2 ^ 32 }
+    ensures counted { (c : ℕ) → c < length counts.new
+        → slice_index counts.new c ≡ slice_index counts.old c + class_count classes.now c events.now }
+{
+    for event in events {
+        counts[classes[*event as usize] as usize] += 1;
+    }
+}
+
+// Moves the front of one thread on.
+fn move_on(
+    counts: &mut [u32],
+    fronts: &mut [u32],
+    classes: &[u32],
+    indexed: &Indexed,
+    thread: u32,
+    to: u32,
+)
+    requires formed { IsWellFormed indexed.now }
+    requires thread { thread < length indexed.now.threads }
+    requires len { length classes.now ≡ length indexed.now.events }
+    requires classes { All (λ c. c < length counts.old) classes.now }
+    requires counts { AreCounts indexed.now.events (length indexed.now.threads) classes.now fronts.old counts.old }
+    requires from { slice_index fronts.old thread ≤ to }
+    requires to { to ≤ length (events_of indexed.now.events thread) }
+    ensures counts { AreCounts indexed.now.events (length indexed.now.threads) classes.now fronts.new counts.new }
+    ensures fronts { fronts.new ≡ slice_set fronts.old thread to }
+{
+    let from = fronts[thread as usize] as usize;
+    count(
+        counts,
+        classes,
+        &indexed.thread_events(thread)[from..to as usize],
+    );
+    fronts[thread as usize] = to;
+}
+
+// Moves the fronts of all other threads on to the ends of a later event.
+pub(crate) fn advance<C: Cut>(
+    counts: &mut [u32],
+    fronts: &mut [u32],
+    classes: &[u32],
+    indexed: &Indexed,
+    cut: &C,
+    later: u32,
+    own: u32,
+)
+    requires len { length classes.now ≡ length indexed.now.events }
+    requires classes { All (λ c. c < length counts.old) classes.now }
+    requires counts { AreCounts indexed.now.events (length indexed.now.threads) classes.now fronts.old counts.old }
+    requires can { (t : ℕ) → t < length indexed.now.threads → C.can_end cut.now later t }
+    requires own { slice_index fronts.old own ≡ 0 }
+    requires behind { (t : ℕ) → t < length indexed.now.threads → t ≢ own → slice_index fronts.old t ≤ C.end_of cut.now later t }
+    requires within { (t : ℕ) → t < length indexed.now.threads → C.end_of cut.now later t ≤ length (events_of indexed.now.events t) }
+    ensures counts { AreCounts indexed.now.events (length indexed.now.threads) classes.now fronts.new counts.new }
+    ensures fronts { AreFronts (length indexed.now.threads) own (C.end_of cut.now later) fronts.new }
+{
+    for thread in 0..threads_in(indexed) {
+        if thread != own {
+            let from = fronts[thread as usize];
+            let to = cut.end(later, thread, from);
+            move_on(counts, fronts, classes, indexed, thread, to);
+        }
+    }
+}

@@ -1,0 +1,141 @@
+//! Which locks the threads hold while the events of a trace are gone through, as numbered lists.
+ghost use Rattle.std.specs.Prelude.{◌≡◌, ◌+◌, ◌<◌, ℕ, Some, None, IfOk, IfSome, OnOk, length, All, false, slice_get, cond, ◌==◌};
+ghost use Rattle.rapid_text.specs.Operations.{is_acquire, is_release};
+ghost use Rattle.rapid_text.specs.declared.event.Op.TheVariants.{Acquire, Release};
+ghost use Rattle.race_groups.specs.Building.{IsGrown, text_at};
+ghost use Rattle.race_groups.specs.Holding.{AreHeld, times};
+
+use crate::events::{event_at, threads_in};
+use event_index::Indexed;
+use indexmap::IndexSet;
+use rapid_text::{Event, Op, OutOfMemory};
+use std::alloc::Global;
+
+/// Lists of locks, one a thread. A lock that is taken twice stands twice in a list.
+pub(crate) type Held = Vec<Vec<u32>>;
+
+/// Nothing is held before the first event.
+pub(crate) fn begin(alloc: Global, indexed: &Indexed) -> Result<Held, OutOfMemory>
+    ensures held { IfOk result (λ held. AreHeld indexed.now.events 0 held.items) }
+    ensures len { IfOk result (λ held. length held.items ≡ length indexed.now.threads) }
+{
+    let threads = threads_in(indexed);
+    let mut held = Vec::with_capacity(alloc, threads as usize)?;
+    for _thread in 0..threads {
+        held.push(Vec::new(alloc))?;
+    }
+    Ok(held)
+}
+
+/// Takes in what an event does: the lists are those after it.
+pub(crate) fn note(held: &mut Held, indexed: &Indexed, event: u32) -> Result<(), OutOfMemory>
+    requires event { event < length indexed.now.events }
+    requires held { AreHeld indexed.now.events event held.old.items }
+    requires len { length held.old.items ≡ length indexed.now.threads }
+    ensures held { OnOk result (AreHeld indexed.now.events (event + 1) held.new.items) }
+    ensures len { OnOk result (length held.new.items ≡ length held.old.items) }
+{
+    let _len = indexed.len();
+    let found = event_at(indexed, event);
+    if let Some(lock) = acquired(found.op) {
+        return take(held, indexed, event, found, lock);
+    }
+    if let Some(lock) = released(found.op) {
+        free(held, indexed, event, found, lock);
+    }
+    Ok(())
+}
+
+// The event takes the lock.
+fn take(
+    held: &mut Held,
+    indexed: &Indexed,
+    event: u32,
+    found: Event,
+    lock: u32,
+) -> Result<(), OutOfMemory>
+    requires found { slice_get indexed.now.events event ≡ Some found }
+    requires op { found.op ≡ Acquire lock }
+    requires thread { found.thread < length held.old.items }
+    requires held { AreHeld indexed.now.events event held.old.items }
+    ensures held { OnOk result (AreHeld indexed.now.events (event + 1) held.new.items) }
+    ensures len { OnOk result (length held.new.items ≡ length held.old.items) }
+{
+    let _len = indexed.len();
+    held[found.thread as usize].push(lock)?;
+    Ok(())
+}
+
+// The event lets the lock go.
+fn free(held: &mut Held, indexed: &Indexed, event: u32, found: Event, lock: u32)
+    requires found { slice_get indexed.now.events event ≡ Some found }
+    requires op { found.op ≡ Release lock }
+    requires thread { found.thread < length held.old.items }
+    requires held { AreHeld indexed.now.events event held.old.items }
+    ensures held { AreHeld indexed.now.events (event + 1) held.new.items }
+    ensures len { length held.new.items ≡ length held.old.items }
+{
+    let _len = indexed.len();
+    let_go(&mut held[found.thread as usize], lock);
+}
+
+// The lock that the operation takes, where it takes one.
+fn acquired(op: Op) -> Option<u32>
+    ensures some { IfSome result (λ l. op ≡ Acquire l) }
+    ensures none { result ≡ None → (l : ℕ) → is_acquire l op ≡ false }
+{
+    match op {
+        Op::Acquire(lock) => Some(lock),
+        Op::Read(_) => None,
+        Op::Write(_) => None,
+        Op::Release(_) => None,
+        Op::Fork(_) => None,
+        Op::Join(_) => None,
+    }
+}
+
+// The lock that the operation lets go, where it lets one go.
+fn released(op: Op) -> Option<u32>
+    ensures some { IfSome result (λ l. op ≡ Release l) }
+    ensures none { result ≡ None → (l : ℕ) → is_release l op ≡ false }
+{
+    match op {
+        Op::Release(lock) => Some(lock),
+        Op::Read(_) => None,
+        Op::Write(_) => None,
+        Op::Acquire(_) => None,
+        Op::Fork(_) => None,
+        Op::Join(_) => None,
+    }
+}
+
+// The lock stands in the list once less.
+fn let_go(locks: &mut Vec<u32>, lock: u32)
+    requires { 0 < times lock locks.old.items }
+    ensures { (k : ℕ) → times k locks.new.items + cond (lock == k) 1 0 ≡ times k locks.old.items }
+{
+    for at in 0..locks.len() {
+        if locks[at] == lock {
+            locks.remove(at);
+            return;
+        }
+    }
+}
+
+/// The number of the list, which is noted as the last one if it is new.
+pub(crate) fn number_of(
+    lists: &mut IndexSet<Vec<u32>>,
+    alloc: Global,
+    list: &[u32],
+) -> Result<u32, OutOfMemory>
+    requires { length lists.old.keys < 1048576 }
+    ensures at { IfOk result (λ n. text_at lists.new.keys n ≡ Some list.now) }
+    ensures grown { OnOk result (IsGrown lists.old.keys lists.new.keys) }
+{
+    if let Some(at) = lists.get_index_of(list) {
+        return Ok(at as u32);
+    }
+    let owned = Vec::from_slice(alloc, list)?;
+    let (at, _) = lists.insert_full(owned)?;
+    Ok(at as u32)
+}

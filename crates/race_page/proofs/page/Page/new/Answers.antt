@@ -1,0 +1,5 @@
+use Rattle.race_page.proofs.PieceLemmas.{no_page}
+use Rattle.race_page.proofs.page.Page.new.Goals as goal
+
+pub invariant_of-result : goal.invariant_of-result
+invariant_of-result c = no_page _ _ c.new.ensures.items c.new-2.ensures.items

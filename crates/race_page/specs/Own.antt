@@ -1,0 +1,82 @@
+-- The page's own markup: a closed list. Nothing else stands on a page unescaped but digits and pictures.
+use Rattle.std.specs.Prelude.{ℕ, List, ◌++◌, codes, decimal}
+use Rattle.race_page.specs.declared.own.Part.{Part}
+use Rattle.race_page.specs.declared.own.Part.TheVariants.{Top, Body, Foot, LineEnd}
+use Rattle.race_page.specs.declared.own.Tag.{Tag}
+use Rattle.race_page.specs.declared.own.Tag.TheVariants.{Title, Header, Main, Section, PageHeading, SectionHeading, RowHeading, PartHeading, Paragraph, Isolated, Table, TableHead, TableBody, Line, ColumnHead, LineHead, Cell, NumberCell, Summary, Facts, Lines, Code, Figure, Caption, Wide}
+use Rattle.race_page.specs.declared.shown.Sort.{Sort}
+use Rattle.race_page.specs.declared.shown.Sort.TheVariants.{Race, Undecided, Apart}
+use Rattle.race_page.specs.declared.style.TheConstants.{TOP, BODY, FOOT}
+
+-- how an element begins
+abbrev pub begin_text : Tag → List ℕ
+begin_text Title = codes "<title>"
+begin_text Header = codes "<header>\n"
+begin_text Main = codes "<main>\n"
+begin_text Section = codes "<section>\n"
+begin_text PageHeading = codes "<h1>"
+begin_text SectionHeading = codes "<h2>"
+begin_text RowHeading = codes "<h3>"
+begin_text PartHeading = codes "<h4>"
+begin_text Paragraph = codes "<p>"
+begin_text Isolated = codes "<bdi>"
+begin_text Table = codes "<table>\n"
+begin_text TableHead = codes "<thead>\n"
+begin_text TableBody = codes "<tbody>\n"
+begin_text Line = codes "<tr>"
+begin_text ColumnHead = codes "<th scope=\"col\">"
+begin_text LineHead = codes "<th scope=\"row\">"
+begin_text Cell = codes "<td>"
+begin_text NumberCell = codes "<td class=\"number\">"
+begin_text Summary = codes "<summary>"
+begin_text Facts = codes " <span class=\"facts\">"
+begin_text Lines = codes "<pre tabindex=\"0\">"
+begin_text Code = codes "<code>"
+begin_text Figure = codes "<figure>\n"
+begin_text Caption = codes "<figcaption>"
+begin_text Wide = codes "<div class=\"wide\" tabindex=\"0\">\n"
+
+-- how it ends
+abbrev pub end_text : Tag → List ℕ
+end_text Title = codes "</title>\n"
+end_text Header = codes "</header>\n"
+end_text Main = codes "</main>\n"
+end_text Section = codes "</section>\n"
+end_text PageHeading = codes "</h1>\n"
+end_text SectionHeading = codes "</h2>\n"
+end_text RowHeading = codes "</h3>"
+end_text PartHeading = codes "</h4>\n"
+end_text Paragraph = codes "</p>\n"
+end_text Isolated = codes "</bdi>"
+end_text Table = codes "</table>\n"
+end_text TableHead = codes "</thead>\n"
+end_text TableBody = codes "</tbody>\n"
+end_text Line = codes "</tr>\n"
+end_text ColumnHead = codes "</th>"
+end_text LineHead = codes "</th>"
+end_text Cell = codes "</td>"
+end_text NumberCell = codes "</td>"
+end_text Summary = codes "</summary>\n"
+end_text Facts = codes "</span>"
+end_text Lines = codes "</pre>\n"
+end_text Code = codes "</code>"
+end_text Figure = codes "</figure>\n"
+end_text Caption = codes "</figcaption>\n"
+end_text Wide = codes "</div>\n"
+
+-- a part that is always the same
+abbrev pub part_text : Part → List ℕ
+part_text Top = TOP.now
+part_text Body = BODY.now
+part_text Foot = FOOT.now
+part_text LineEnd = codes "\n"
+
+-- how a row of the sort begins, up to its numbers
+abbrev pub row_begin : Sort → List ℕ
+row_begin Race = codes "<details id=\"race-"
+row_begin Undecided = codes "<details id=\"undecided-"
+row_begin Apart = codes "<details id=\"apart-"
+
+-- the row of a pair in which a text stands
+abbrev pub row_text : Sort → ℕ → ℕ → List ℕ → List ℕ
+row_text sort a b text = row_begin sort ++ decimal a ++ codes "-" ++ decimal b ++ codes "\">\n" ++ text ++ codes "</details>\n"

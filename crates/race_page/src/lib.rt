@@ -1,0 +1,24 @@
+//! The races of a trace as a page: one HTML file that fetches nothing and runs nothing.
+#![tactic(auto)]
+
+mod accesses;
+mod commands;
+mod counting;
+mod heading;
+mod leftovers;
+mod own;
+mod page;
+mod piece;
+mod reasons;
+mod rows;
+mod schedules;
+mod selecting;
+mod shown;
+mod style;
+mod whole;
+mod words;
+
+pub use own::{Part, Tag};
+pub use rows::{MOST_PICTURES, MOST_ROWS};
+pub use shown::{Shown, Sort};
+pub use whole::page_text;

@@ -1,0 +1,95 @@
+//! The one writer of a page's pieces. What it writes is own markup of a closed list, a number, a text that is escaped, or a picture.
+ghost use Rattle.std.specs.Prelude.{◌≡◌};
+ghost use Rattle.race_page.specs.Pages.{IsPiece};
+
+use crate::own::{Part, Tag, begin_of, bytes_of, end_of};
+use event_index::Indexed;
+use itoa::Buffer;
+use markup::escape;
+use pair_picture::figure_text;
+use rapid_text::OutOfMemory;
+use std::alloc::Global;
+use std::marker::Model;
+
+/// A piece of a page that is being written. Contracts see its text so far.
+#[derive(Drop)]
+pub(crate) struct Piece {
+    text: Vec<u8>,
+}
+
+impl Model for Piece {
+    ghost use Rattle.std.specs.Prelude.{List, ℕ};
+    ghost use Rattle.race_page.specs.Pages.{IsPiece};
+
+    ghost Value = { List ℕ };
+
+    ghost view = { λ p. p.text.items };
+
+    ghost invariant = { λ p. IsPiece p.text.items };
+}
+
+impl Piece {
+    /// An empty piece.
+    pub(crate) fn new(alloc: Global) -> Piece {
+        Piece {
+            text: Vec::new(alloc),
+        }
+    }
+
+    /// The allocator.
+    pub(crate) fn allocator(&self) -> Global {
+        *self.text.allocator()
+    }
+
+    /// What was written.
+    pub(crate) fn bytes(&self) -> &[u8]
+        ensures text { result.now ≡ self.now }
+        ensures piece { IsPiece self.now }
+    {
+        self.text.as_slice()
+    }
+
+    /// Begins an element.
+    pub(crate) fn begin(&mut self, tag: Tag) -> Result<(), OutOfMemory> {
+        self.text.extend_from_slice(begin_of(tag))?;
+        Ok(())
+    }
+
+    /// Ends an element.
+    pub(crate) fn end(&mut self, tag: Tag) -> Result<(), OutOfMemory> {
+        self.text.extend_from_slice(end_of(tag))?;
+        Ok(())
+    }
+
+    /// Writes a part that is always the same.
+    pub(crate) fn part(&mut self, part: Part) -> Result<(), OutOfMemory> {
+        self.text.extend_from_slice(bytes_of(part))?;
+        Ok(())
+    }
+
+    /// Writes a number in decimal digits.
+    pub(crate) fn number(&mut self, number: u64) -> Result<(), OutOfMemory> {
+        let mut digits = Buffer::new();
+        let written = digits.format(number);
+        self.text.extend_from_slice(written.as_bytes())?;
+        Ok(())
+    }
+
+    /// Writes a text, whatever it is: it is escaped.
+    pub(crate) fn text(&mut self, text: &[u8]) -> Result<(), OutOfMemory> {
+        escape(text, &mut self.text)?;
+        Ok(())
+    }
+
+    /// Writes a picture of the schedule of these events, which shows the pair.
+    pub(crate) fn picture(
+        &mut self,
+        indexed: &Indexed,
+        events: &[u32],
+        first: u32,
+        second: u32,
+    ) -> Result<(), OutOfMemory> {
+        figure_text(indexed, events, first, second, &mut self.text)?;
+        Ok(())
+    }
+}

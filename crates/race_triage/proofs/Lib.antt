@@ -1,0 +1,2 @@
+mod ChosenLemmas
+pub mod VerdictLemmas

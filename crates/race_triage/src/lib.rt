@@ -1,0 +1,35 @@
+//! A verdict for each pair of places of a trace's conflicting pairs: a race that a schedule shows, apart in every correct reordering,
+//! or undecided; and the text that lists them.
+#![tactic(auto)]
+
+mod blocks;
+mod chosen;
+mod class;
+mod classes;
+mod counts;
+mod filters;
+mod firsts;
+mod groups;
+mod holding;
+mod known;
+mod lanes;
+mod leasts;
+mod pieces;
+mod places;
+mod sides;
+mod text;
+mod totals;
+mod tries;
+mod verdicts;
+mod windows;
+
+pub use chosen::{Chosen, chosen_of, is_kept, is_known};
+pub use counts::Counts;
+pub use filters::Filters;
+pub use groups::Row;
+pub use known::{Known, known_of};
+pub use pieces::append_event;
+pub use places::Places;
+pub use text::triage_text;
+pub use totals::Totals;
+pub use verdicts::{MAX_PLACES, MAX_TRIES, Outcome, TriageRefusal, Verdict, Verdicts, triage};

@@ -1,0 +1,64 @@
+//! Places: the locations of events, numbered by their first uses.
+ghost use Rattle.std.specs.Prelude.{◌≡◌, IfOk};
+
+use event_index::Indexed;
+use indexmap::IndexSet;
+use rapid_text::{OutOfMemory, TextKeyed};
+use std::alloc::Global;
+
+/// The locations of a trace, each once; a location's number is its place.
+pub type Locations = IndexSet<Vec<u8>, TextKeyed>;
+
+/// The locations of a trace, and for each event the number of its own.
+#[derive(Drop)]
+pub struct Places {
+    /// The locations.
+    pub locations: Locations,
+    /// The number of each event's location.
+    pub numbers: Vec<u32>,
+}
+
+impl Places {
+    /// The places of all events.
+    pub fn of(alloc: Global, indexed: &Indexed) -> Result<Places, OutOfMemory> {
+        let raw = indexed.trace().raw();
+        let mut locations = IndexSet::with_hasher(alloc, raw.keyed());
+        let mut numbers = Vec::with_capacity(alloc, raw.len() as usize)?;
+        for event in 0..raw.len() {
+            numbers.push(number_of(&mut locations, alloc, raw.location(event))?)?;
+        }
+        Ok(Places { locations, numbers })
+    }
+
+    /// The number of the location with this text, where the trace has it.
+    pub fn number(&self, location: &[u8]) -> Option<u32> {
+        match self.locations.get_index_of(location) {
+            Some(at) => u32::try_from(at).ok(),
+            None => None,
+        }
+    }
+}
+
+// The number of the location, which is noted as the last one if it is new.
+fn number_of(
+    locations: &mut Locations,
+    alloc: Global,
+    location: &[u8],
+) -> Result<u32, OutOfMemory> {
+    if let Some(at) = locations.get_index_of(location) {
+        return small(at);
+    }
+    let owned = Vec::from_slice(alloc, location)?;
+    let (at, _) = locations.insert_full(owned)?;
+    small(at)
+}
+
+/// A number of a place or a list; there are no more of them than events.
+pub(crate) fn small(number: usize) -> Result<u32, OutOfMemory>
+    ensures { IfOk result (λ small. small ≡ number) }
+{
+    match u32::try_from(number) {
+        Ok(number) => Ok(number),
+        Err(_) => Err(OutOfMemory),
+    }
+}

@@ -1,0 +1,11 @@
+//! The call that the program makes for `triage`, over readers and a writer.
+#![tactic(auto)]
+
+mod fault;
+mod listing;
+mod reading;
+mod writing;
+
+pub use fault::{TriageFault, triage_fault_text};
+pub use listing::{Asked, Form, triage};
+pub use race_triage::{Filters, MAX_TRIES};

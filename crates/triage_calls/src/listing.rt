@@ -1,0 +1,237 @@
+//! Lists the races of a trace by pairs of places: reads the trace, finds the verdicts, makes the text, and writes it.
+ghost use Rattle.std.specs.Prelude.{◌≡◌, false, IfSome};
+
+use crate::fault::TriageFault;
+use crate::reading::read_trace;
+use crate::writing::write_text;
+use client_scripts::{ReplayFault, Sink, Source, read_input};
+use event_index::Indexed;
+use must_order::Must;
+use race_json::triage_json;
+use race_page::page_text;
+use race_triage::{
+    Chosen, Filters, Known, Places, Verdicts, chosen_of, known_of, triage as verdicts_of,
+    triage_text,
+};
+use rapid_text::OutOfMemory;
+use shb_clocks::Clocks;
+use std::alloc::Global;
+use std::thread::Threads;
+
+/// What is asked for.
+#[derive(Clone, Copy)]
+pub struct Asked<'a> {
+    /// Which blocks are printed.
+    pub filters: Filters<'a>,
+    /// Whether blocks are printed of what is apart.
+    pub apart: bool,
+    /// How many open pairs of a pair of places are tried.
+    pub tries: u32,
+    /// How many threads look for schedules at once; 0 for the one that calls.
+    pub workers: u32,
+    /// In which form it is written.
+    pub form: Form<'a>,
+}
+
+/// In which form the verdicts are written.
+#[derive(Clone, Copy)]
+pub enum Form<'a> {
+    /// Lines of text.
+    Text,
+    /// An object a line.
+    Json,
+    /// A page (HTML), which calls the trace by this name.
+    Page {
+        /// The name.
+        name: &'a [u8],
+    },
+}
+
+/// Reads a trace text, whole, and writes what is found of its conflicting pairs by pair of places: the counts, and a block for each
+/// race, or the same in another form. Races that the text of `known` lists, where it is given, are left out. Before a fault nothing is written, but at 95, where
+/// what was written is a beginning of the text. Answers how many races were written.
+pub fn triage<R: Threads + Sync, S: Source, L: Source + Drop, K: Sink>(
+    rt: &R,
+    alloc: Global,
+    reader: &mut S,
+    known: Option<L>,
+    asked: Asked<'_>,
+    writer: &mut K,
+) -> Result<u64, TriageFault>
+    requires reader { S.has_failed reader.old ≡ false }
+    requires known { IfSome known (λ k. L.has_failed k ≡ false) }
+    requires writer { K.has_failed writer.old ≡ false }
+{
+    let indexed = match read_trace(alloc, reader) {
+        Ok(indexed) => indexed,
+        Err(fault) => return Err(TriageFault::Replay(fault)),
+    };
+    let listed = match read_known(alloc, known) {
+        Ok(listed) => listed,
+        Err(fault) => return Err(fault),
+    };
+    let (text, races) = match text_of(rt, alloc, &indexed, &listed, asked) {
+        Ok(made) => made,
+        Err(fault) => return Err(fault),
+    };
+    match write_text(writer, text.as_slice()) {
+        Ok(()) => Ok(races),
+        Err(fault) => Err(fault),
+    }
+}
+
+/// The text of races that are known, where there is one.
+fn read_known<L: Source + Drop>(
+    alloc: Global,
+    known: Option<L>,
+) -> Result<Option<Vec<u8>>, TriageFault>
+    requires { IfSome known (λ k. L.has_failed k ≡ false) }
+{
+    let Some(mut source) = known else {
+        return Ok(None);
+    };
+    match read_input(alloc, &mut source, 2) {
+        Ok(text) => Ok(Some(text)),
+        Err(fault) => Err(TriageFault::Replay(fault)),
+    }
+}
+
+/// The verdicts on the trace's pairs of places, told in the form that is asked for, and how many races it tells of.
+fn text_of<R: Threads + Sync>(
+    rt: &R,
+    alloc: Global,
+    indexed: &Indexed,
+    listed: &Option<Vec<u8>>,
+    asked: Asked<'_>,
+) -> Result<(Vec<u8>, u64), TriageFault> {
+    let must = match Must::new(alloc, indexed) {
+        Ok(must) => must,
+        Err(_) => return Err(TriageFault::Replay(ReplayFault::OutOfMemory)),
+    };
+    let clocks = match Clocks::new(alloc, indexed) {
+        Ok(clocks) => clocks,
+        Err(_) => return Err(TriageFault::Replay(ReplayFault::OutOfMemory)),
+    };
+    let found = match found_of(rt, alloc, indexed, &clocks, &must, asked) {
+        Ok(found) => found,
+        Err(fault) => return Err(fault),
+    };
+    match told(alloc, indexed, &clocks, &must, &found, listed, asked) {
+        Ok(made) => Ok(made),
+        Err(_) => Err(TriageFault::Replay(ReplayFault::OutOfMemory)),
+    }
+}
+
+/// The same of verdicts that were found.
+fn told(
+    alloc: Global,
+    indexed: &Indexed,
+    clocks: &Clocks,
+    must: &Must,
+    found: &Verdicts,
+    listed: &Option<Vec<u8>>,
+    asked: Asked<'_>,
+) -> Result<(Vec<u8>, u64), OutOfMemory>
+    requires clocks { clocks.now ≡ indexed.now }
+    requires must { must.now ≡ indexed.now }
+{
+    let known = known_places(alloc, &found.places, listed)?;
+    let mut text = Vec::new(alloc);
+    let races = append_told(indexed, clocks, must, found, &known, asked, &mut text)?;
+    Ok((text, races))
+}
+
+/// Appends the verdicts in the form that is asked for. Answers how many races are told of.
+fn append_told(
+    indexed: &Indexed,
+    clocks: &Clocks,
+    must: &Must,
+    found: &Verdicts,
+    known: &Option<Known>,
+    asked: Asked<'_>,
+    out: &mut Vec<u8>,
+) -> Result<u64, OutOfMemory>
+    requires clocks { clocks.now ≡ indexed.now }
+    requires must { must.now ≡ indexed.now }
+{
+    match asked.form {
+        Form::Text => {
+            let chosen = chosen(indexed, found, known, asked, out)?;
+            triage_text(indexed, must, found, &chosen, out)?;
+            Ok(chosen.races)
+        }
+        Form::Json => {
+            let chosen = chosen(indexed, found, known, asked, out)?;
+            triage_json(indexed, must, found, &chosen, out)?;
+            Ok(chosen.races)
+        }
+        Form::Page { name } => page_text(
+            indexed,
+            clocks,
+            must,
+            found,
+            known,
+            asked.filters,
+            asked.apart,
+            name,
+            out,
+        ),
+    }
+}
+
+/// The verdicts that are told.
+fn chosen(
+    indexed: &Indexed,
+    found: &Verdicts,
+    known: &Option<Known>,
+    asked: Asked<'_>,
+    out: &Vec<u8>,
+) -> Result<Chosen, OutOfMemory> {
+    chosen_of(
+        *out.allocator(),
+        indexed,
+        found,
+        known,
+        asked.filters,
+        asked.apart,
+    )
+}
+
+/// What is found of the trace's pairs of places.
+fn found_of<R: Threads + Sync>(
+    rt: &R,
+    alloc: Global,
+    indexed: &Indexed,
+    clocks: &Clocks,
+    must: &Must,
+    asked: Asked<'_>,
+) -> Result<Verdicts, TriageFault>
+    requires clocks { clocks.now ≡ indexed.now }
+    requires must { must.now ≡ indexed.now }
+{
+    match verdicts_of(
+        rt,
+        alloc,
+        indexed,
+        clocks,
+        must,
+        asked.tries,
+        asked.apart,
+        asked.workers,
+    ) {
+        Ok(found) => Ok(found),
+        Err(refusal) => Err(TriageFault::from(refusal)),
+    }
+}
+
+/// The pairs of places that a text lists as races.
+fn known_places(
+    alloc: Global,
+    places: &Places,
+    listed: &Option<Vec<u8>>,
+) -> Result<Option<Known>, OutOfMemory> {
+    match listed {
+        Some(text) => Ok(Some(known_of(alloc, places, text.as_slice())?)),
+        None => Ok(None),
+    }
+}

@@ -1,0 +1,356 @@
+#!/usr/bin/env python3
+"""Compares the page that `triage --page` writes with the text that `triage` prints, and judges it as HTML by Python's html.parser.
+
+Takes the program's path, how many traces to draw, and the first seed. Each page is read as a browser's parser would read it: every tag is closed in
+its order, nothing runs and nothing is fetched, and the policy in its head forbids both. Its counts, its rows with their accesses and locks, and
+its runs are those of the texts that `triage` and `explain` print, neither more nor fewer. The traces are those of examples/, traces whose names look like markup, and such
+that are drawn by chance. Says what is wrong, if something is, and ends with status 1 then, also where something that has to be seen was never met.
+"""
+
+import collections
+import html.parser
+import os
+import random
+import re
+import shutil
+import sys
+import tempfile
+
+sys.dont_write_bytecode = True
+import by_chance
+import running
+
+TRACES = 40
+MOST_EVENTS = [8, 16, 28]
+REACHED = ["race", "undecided", "apart", "picture", "locks", "replaced", "known", "hidden", "left out", "undrawn"]
+POLICY = "default-src 'none'; style-src 'unsafe-inline'; base-uri 'none'; form-action 'none'"
+VOID = {"meta", "path", "rect"}
+ALLOWED = {
+    *("html", "head", "meta", "title", "style", "body", "header", "main", "section", "h1", "h2", "h3", "h4", "p", "bdi", "table", "thead", "tbody"),
+    *("tr", "th", "td", "details", "summary", "span", "pre", "code", "figure", "figcaption", "div"),
+    *("svg", "defs", "marker", "path", "rect", "text"),
+}
+ATTRIBUTES = {
+    *("lang", "charset", "http-equiv", "content", "name", "id", "class", "scope", "tabindex", "role", "aria-label", "aria-hidden"),
+    *("xmlns", "viewbox", "width", "height", "x", "y", "d", "refx", "refy", "markerwidth", "markerheight", "markerunits", "orient", "marker-end"),
+}
+# What stands in values that a browser would fetch, follow or run; the one link is that of an arrow to its tip, within the page.
+FORBIDDEN = re.compile(r"url\((?!#tip\))|javascript:|data:|@import|https?:(?!//www\.w3\.org/2000/svg$)", re.IGNORECASE)
+
+
+class Wrong(Exception):
+    """The page is not well formed, not safe, or says something else than the text."""
+
+
+class Element:
+    def __init__(self, tag, attributes):
+        self.tag = tag
+        self.attributes = attributes
+        self.children = []
+
+    def all(self, tag):
+        for child in self.children:
+            if isinstance(child, Element):
+                if child.tag == tag:
+                    yield child
+                yield from child.all(tag)
+
+    def one(self, tag):
+        found = list(self.all(tag))
+        if len(found) != 1:
+            raise Wrong(f"{len(found)} elements {tag} in {self.tag}, and not 1")
+        return found[0]
+
+    def text(self):
+        return "".join(child if isinstance(child, str) else child.text() for child in self.children)
+
+
+class Reader(html.parser.HTMLParser):
+    """The tree of a page whose every tag is closed in its order."""
+
+    def __init__(self):
+        super().__init__(convert_charrefs=True)
+        self.root = Element("", {})
+        self.open = [self.root]
+        self.declared = 0
+
+    def handle_decl(self, decl):
+        if decl != "DOCTYPE html" or self.root.children:
+            raise Wrong(f"a declaration: {decl}")
+        self.declared += 1
+
+    def handle_starttag(self, tag, attrs):
+        self.begin(tag, attrs)
+        if tag in VOID - {"path", "rect"}:
+            self.open.pop()
+
+    def handle_startendtag(self, tag, attrs):
+        self.begin(tag, attrs)
+        self.open.pop()
+
+    def begin(self, tag, attrs):
+        attributes = dict(attrs)
+        if tag not in ALLOWED:
+            raise Wrong(f"an element {tag}")
+        if len(attributes) != len(attrs) or not attributes.keys() <= ATTRIBUTES:
+            raise Wrong(f"{tag} has the attributes {sorted(name for name, _ in attrs)}")
+        for name, value in attrs:
+            if value is None or FORBIDDEN.search(value):
+                raise Wrong(f"{tag} has {name}={value}")
+        element = Element(tag, attributes)
+        self.open[-1].children.append(element)
+        self.open.append(element)
+
+    def handle_endtag(self, tag):
+        if self.open[-1].tag != tag or len(self.open) == 1:
+            raise Wrong(f"</{tag}> ends {self.open[-1].tag}")
+        self.open.pop()
+
+    def handle_data(self, data):
+        if self.open[-1].tag == "style" and FORBIDDEN.search(data):
+            raise Wrong("a style that fetches")
+        self.open[-1].children.append(data)
+
+    def handle_comment(self, data):
+        raise Wrong(f"a comment: {data}")
+
+    def unknown_decl(self, data):
+        raise Wrong(f"a section: {data}")
+
+    def handle_pi(self, data):
+        raise Wrong(f"an instruction: {data}")
+
+
+def read(page):
+    text = page.decode("utf-8")
+    if re.search("[\x00-\x09\x0b-\x1f\x7f]", text.replace("\x7f", "")):
+        raise Wrong("a control character")
+    reader = Reader()
+    reader.feed(text)
+    reader.close()
+    if len(reader.open) != 1 or reader.declared != 1:
+        raise Wrong(f"not closed: {[element.tag for element in reader.open[1:]]}")
+    root = reader.root.one("html")
+    policies = [meta for meta in root.one("head").all("meta") if meta.attributes.get("http-equiv") == "Content-Security-Policy"]
+    if len(policies) != 1 or policies[0].attributes["content"] != POLICY or list(root.one("body").all("meta")):
+        raise Wrong("the policy is another one")
+    ids = [element.attributes["id"] for tag in ALLOWED for element in root.all(tag) if "id" in element.attributes]
+    if len(set(ids)) != len(ids):
+        raise Wrong("two elements have one id")
+    if list(root.all("style"))[1:] or list(root.one("body").all("style")):
+        raise Wrong("a style in the body")
+    return root
+
+
+def shown(line):
+    """The text as which bytes are seen: what is no UTF-8, and what markup has not, is replaced."""
+    return re.sub("[\x00-\x1f\ufffe\uffff]", "\ufffd", line.decode("utf-8", "replace"))
+
+
+# The blocks of a text: of each its sort, its events, the numbers behind them, and the accesses with their locks.
+Block = collections.namedtuple("Block", "sort first second facts accesses")
+
+
+def blocks_of(lines):
+    blocks = []
+    for line in lines:
+        if line.startswith(b"    holds "):
+            blocks[-1].accesses[-1][1].append(shown(line[len(b"    holds ") :]))
+        elif line.startswith(b"  "):
+            blocks[-1].accesses.append((shown(line[2:]), []))
+        elif re.match(rb"(race|undecided|apart) \d+ \d+ ", line):
+            sort, first, second, *facts = line.decode("ascii").split(" ")
+            blocks.append(Block(sort, int(first), int(second), facts, []))
+    return blocks
+
+
+def counted(number, word):
+    return f"{number} {word}{'' if number == '1' else 's'}"
+
+
+def facts_of(block):
+    """What the page says in short of a block."""
+    facts = dict(zip(block.facts[block.sort == "race" :: 2], block.facts[1 + (block.sort == "race") :: 2]))
+    begin = f"Events {block.first} and {block.second}: "
+    if block.sort == "apart":
+        return begin + f"apart, {counted(facts['pairs'], 'pair')}"
+    of = f"{counted(facts['pairs'], 'pair')} of {counted(facts['variables'], 'variable')}"
+    if block.sort == "undecided":
+        return begin + f"undecided, {of}, {facts['tried']} tried"
+    return begin + f"{block.facts[0]}, {of}, a schedule of {counted(facts['events'], 'event')} of {counted(facts['threads'], 'thread')}"
+
+
+def access_of(line):
+    event, code, locks = line.children
+    found = [lock.text() for lock in locks.all("bdi")]
+    if not found and locks.text() != "none":
+        raise Wrong(f"no locks: {locks.text()}")
+    return int(event.text()), code.text(), found
+
+
+def shell_word(name):
+    plain = re.fullmatch(r"[A-Za-z0-9./_+,:@%-]+", name)
+    return ("./" if name.startswith("-") else "") + (name if plain else "'" + name.replace("'", "'\\''") + "'")
+
+
+class Judge:
+    def __init__(self, program):
+        self.program = program
+        self.tally = collections.Counter()
+
+    def explained(self, name, block):
+        out = running.printed(self.program, ["explain", name, str(block.first), str(block.second)])
+        return [shown(line) for line in out.split(b"\n")[:-1]]
+
+    def judge_row(self, row, block, name, is_drawn):
+        if row.attributes != {"id": f"{block.sort}-{block.first}-{block.second}"}:
+            raise Wrong(f"a row {row.attributes}, and not {block}")
+        facts = [span.text() for span in row.one("summary").all("span")]
+        explained = self.explained(name, block)
+        wanted = [facts_of(block)] + ([] if block.sort == "race" else explained[:1])
+        if facts != wanted:
+            raise Wrong(f"{facts}, and not {wanted}")
+        lines = [access_of(line) for line in row.one("table").one("tbody").all("tr")]
+        accesses = [(event, *access) for event, access in zip((block.first, block.second), block.accesses)]
+        if lines != accesses:
+            raise Wrong(f"{lines}, and not {accesses}")
+        pictures = list(row.all("svg"))
+        runs, commands = [], list(row.all("pre"))[-1].text()
+        if is_drawn:
+            runs = list(row.all("pre"))[0].text().split("\n")[:-1]
+            if len(pictures) != 1 or pictures[0].one("title").text() != f"A schedule that shows {block.first} and {block.second}":
+                raise Wrong("no picture")
+            if runs != explained:
+                raise Wrong(f"{runs}, and not {explained}")
+        elif pictures:
+            raise Wrong("a picture")
+        if f"racebench explain {shell_word(name)} {block.first} {block.second} --all\n" not in commands:
+            raise Wrong(f"the commands are {commands}")
+        self.tally[block.sort] += 1
+        self.tally["picture"] += len(pictures)
+        self.tally["locks"] += sum(len(access[1]) for access in block.accesses)
+        self.tally["replaced"] += any("\ufffd" in access[0] for access in block.accesses)
+
+    def judge(self, name, words):
+        """Judges the page that these words give."""
+        lines = running.printed(self.program, ["triage", name, *words]).split(b"\n")[:-1]
+        root = read(running.printed(self.program, ["triage", name, "--page", *words]))
+        if root.one("h1").text() != f"Races of {name}" or root.one("head").one("title").text() != f"Races of {name}":
+            raise Wrong("another name")
+        sections = list(root.one("main").all("section"))
+        counts = [f"{line.one('th').text()} {line.one('td').text()}" for line in sections[0].one("tbody").all("tr")]
+        if counts != [line.decode("ascii") for line in lines[:11]]:
+            raise Wrong(f"the counts are {counts}")
+        sorts = ["race", "undecided"] + ["apart"] * ("--apart" in words)
+        if [section.one("h2").text() for section in sections] != ["Counts", "Races", "Undecided", "Apart"][: 1 + len(sorts)]:
+            raise Wrong("other sections")
+        blocks = blocks_of(lines[11:])
+        for sort, section in zip(sorts, sections[1:]):
+            self.judge_section(section, [block for block in blocks if block.sort == sort], name)
+        told = "".join(paragraph.text() for paragraph in root.one("main").all("p"))
+        for line in lines[11:]:
+            if re.fullmatch(rb"(known|hidden) [1-9]\d*", line):
+                word, number = line.decode("ascii").split(" ")
+                end = " left out as known before." if word == "known" else " left out by --only and --hide."
+                if counted(number, "row") + end not in told:
+                    raise Wrong(f"no word of {line}")
+                self.tally[word] += 1
+
+    def judge_section(self, section, blocks, name):
+        rows = list(section.all("details"))
+        if len(rows) != min(len(blocks), 2000):
+            raise Wrong(f"{len(rows)} rows of {len(blocks)}")
+        told = section.text()
+        if len(blocks) > 2000 and counted(str(len(blocks) - 2000), "row") not in told:
+            raise Wrong("no word of what is left out")
+        self.tally["left out"] += len(blocks) > 2000
+        pictures = len(list(section.all("svg")))
+        if pictures != (min(len(blocks), 200) if blocks and blocks[0].sort == "race" else 0):
+            raise Wrong(f"{pictures} pictures of {len(blocks)} rows")
+        if pictures and len(blocks) > 200:
+            if f"Without a picture here: {counted(str(len(blocks) - 200), 'race')}." not in told:
+                raise Wrong("no word of what is not drawn")
+            self.tally["undrawn"] += 1
+        for number, (row, block) in enumerate(zip(rows, blocks)):
+            if number < 20 or number >= len(rows) - 3 or number in (199, 200):
+                self.judge_row(row, block, name, block.sort == "race" and number < 200)
+
+
+def named(names):
+    """A trace with these names and places, of threads that race, and of such that hold a lock."""
+    lines = []
+    lock = b"'&<b>\""
+    for number, name in enumerate(names):
+        guarded = b"w(g%d)|" % number + name
+        lines += [b"A|w(" + name + b")|" + name, b"A|acq(" + lock + b")|1", b"A|" + guarded, b"A|rel(" + lock + b")|2"]
+        lines += [b"B|acq(" + lock + b")|3", b"B|" + guarded, b"B|rel(" + lock + b")|4", b"B|w(" + name + b")|'" + name]
+    return b"\n".join(lines) + b"\n"
+
+
+NAMES = [b"<script>alert(1)</script>", b'"onload="', b"]]>", b"\xff" * 255, "\u200f\u202eabc".encode(), b"&lt;&#39;&amp;", b"--><!--", b"\x01\x7f\x1b[2J", "ä€😀".encode()]
+
+
+def many(races):
+    """A trace with so many races, each at places of its own."""
+    return b"".join(b"%s|w(x%d)|%s%d\n" % (thread, number, thread, number) for thread in (b"A", b"B") for number in range(races))
+
+
+# Two open pairs of one pair of places that nothing shows.
+UNDECIDED = b"A|acq(l)|1\nA|w(x)|2\nA|r(y)|3\nA|rel(l)|4\nB|acq(l)|5\nB|w(y)|6\nB|r(x)|7\nB|rel(l)|8\n"
+
+
+def write(name, text):
+    with open(name, "wb") as out:
+        out.write(text)
+
+
+def judge_made(judge, here):
+    """The traces that are not drawn."""
+    for name in ["count.std", "pdsh.std", "two_pairs.std"]:
+        shutil.copy(os.path.join(here, "..", "examples", name), name)
+        judge.judge(name, ["--apart"])
+        judge.judge(name, [])
+    for number, names in enumerate([NAMES, *([name] for name in NAMES)]):
+        write(f"named{number}", named(names))
+        judge.judge(f"named{number}", ["--apart"])
+    for name in ["'; echo '\"<b>&", "-dash"]:
+        write(name, named(NAMES[:1]))
+    judge.judge("'; echo '\"<b>&", ["--apart"])
+    write("many", many(2003))
+    judge.judge("many", [])
+    judge.judge("many", ["--only", "|A12|", "--only", "A7"])
+    write("empty", b"")
+    judge.judge("empty", ["--apart"])
+
+
+def main():
+    judge = Judge(os.path.abspath(sys.argv[1]))
+    traces = int(sys.argv[2]) if sys.argv[2:] else TRACES
+    first = int(sys.argv[3]) if sys.argv[3:] else 0
+    here = os.path.dirname(os.path.abspath(__file__))
+    with tempfile.TemporaryDirectory() as folder:
+        os.chdir(folder)
+        try:
+            judge_made(judge, here)
+        except Wrong as what:
+            sys.exit(f"page: {what}")
+        for number in range(first, first + traces):
+            chance = random.Random(number)
+            draw = chance.choice([by_chance.trace, by_chance.locked_trace])
+            trace = draw(chance, chance.choice(MOST_EVENTS))
+            places = [f"p{place}.c" for place in range(chance.randint(1, 6))]
+            running.write("trace", "".join(trace.line(event) + chance.choice(places) + "\n" for event in range(len(trace.events))))
+            running.write("known", running.printed(judge.program, ["triage", "trace"]).decode("ascii"))
+            words = ["--tries", chance.choice(["0", "1", "16"]), *chance.choice([[], ["--apart"], ["--known", "known"], ["--hide", "p0.c"]])]
+            try:
+                judge.judge("trace", words)
+            except Wrong as what:
+                sys.exit(f"page, seed {number}, {words}: {what}{running.given(['', 'trace'])}")
+    tally = judge.tally
+    missing = [kind for kind in REACHED if not tally[kind]]
+    if missing:
+        sys.exit(f"page: never reached: {missing}")
+    print(f"page: {traces} traces, seeds {first} to {first + traces - 1}, and {len(NAMES)} names: {tally['race']} races, {tally['undecided']} undecided, {tally['apart']} apart, {tally['picture']} pictures, as the texts say")
+
+
+main()

@@ -1,0 +1,233 @@
+#!/usr/bin/env python3
+"""Compares all that `triage` prints of traces drawn by chance with a plain program that goes over all pairs of events, by tests/plain.py.
+
+Takes the program's path, how many traces to draw, and the first seed. Each trace is listed with what is apart and a drawn number of tries; again with its own
+output as what is known, which leaves no race; with texts that blocks need or must not have; with a status that tells of races; and by workers and as JSON,
+which has to tell the same.
+Says what is wrong, if something is, and ends with status 1 then, also where something that has to be seen was never met.
+"""
+
+import collections
+import json
+import os
+import random
+import sys
+import tempfile
+
+sys.dont_write_bytecode = True
+import by_chance
+import plain
+import running
+
+TRACES = 240
+MOST_EVENTS = [8, 16, 28, 40]
+TRIES = [0, 1, 2, 16, 16, 16]
+# What JSON tells by number, in the order of the text.
+COUNTS = "events threads pairs candidates open guarded forced places races undecided apart".split()
+NUMBERS = "pairs variables events threads tried".split()
+REACHED = ["candidate", "beyond", "turned", "undecided", "apart", "untried", "known", "hidden", "failed", "holds", "one place", "more variables"]
+
+
+class Wrong(Exception):
+    """What the program prints is not what the definitions say."""
+
+
+class Located:
+    """A trace with a drawn location for each event."""
+
+    def __init__(self, trace, chance):
+        self.trace = trace
+        places = [f"p{number}.c:{number}" for number in range(chance.randint(1, 6))]
+        self.places = [chance.choice(places) for _ in trace.events]
+
+    def line(self, event):
+        return self.trace.line(event) + self.places[event]
+
+    def text(self):
+        return "".join(self.line(event) + "\n" for event in range(len(self.places)))
+
+    def groups(self):
+        """The conflicting pairs by pair of places, each by its later event and then its earlier one, with its kind."""
+        groups = collections.defaultdict(list)
+        for first, second in self.trace.conflicting():
+            groups[tuple(sorted((self.places[first], self.places[second])))].append((second, first, self.trace.kind(first, second)))
+        return {places: sorted(pairs) for places, pairs in groups.items()}
+
+
+def tries_of(trace, pairs):
+    """The least open pair of each variable and two threads, in rising order."""
+    least = {}
+    for second, first, kind in pairs:
+        if kind == "open":
+            least.setdefault((trace.events[first].name, trace.thread(first), trace.thread(second)), (second, first))
+    return sorted(least.values())
+
+
+def size(trace, listed):
+    return f"events {len(listed)} threads {len({trace.thread(event) for event in listed})}"
+
+
+def variables(trace, pairs):
+    return len({trace.events[first].name for _, first, kind in pairs if kind in ("candidate", "open")})
+
+
+def verdict(trace, pairs, tries):
+    """The order of the block among others, its first line, and the two events; of a list in another order than the trace's no size is told."""
+    counted = collections.Counter(kind for _, _, kind in pairs)
+    of_open = f"variables {variables(trace, pairs)}"
+    if counted["candidate"]:
+        second, first = next((second, first) for second, first, kind in pairs if kind == "candidate")
+        return 0, (second, first), f"race {first} {second} candidate pairs {counted['candidate']} {of_open} {size(trace, trace.in_order(first, second))}"
+    if not counted["open"]:
+        second, first, _ = pairs[0]
+        return 2, (second, first), f"apart {first} {second} pairs {len(pairs)}"
+    all_tries = tries_of(trace, pairs)
+    for second, first in all_tries[:tries]:
+        listed = trace.in_order(first, second)
+        if listed is not None:
+            return 0, (second, first), f"race {first} {second} beyond pairs {counted['open']} {of_open} {size(trace, listed)}"
+        if trace.turned(first, second) is not None:
+            return 0, (second, first), f"race {first} {second} turned pairs {counted['open']} {of_open} events"
+    second, first = all_tries[0]
+    return 1, (second, first), f"undecided {first} {second} pairs {counted['open']} {of_open} tried {min(tries, len(all_tries))}"
+
+
+def text_of(objects):
+    """The lines of text that tell what these objects tell."""
+    lines = []
+    for told in map(json.loads, objects):
+        kind = told.pop("kind")
+        if kind == "counts":
+            lines += [f"{name} {told.pop(name)}" for name in COUNTS]
+        elif kind in ("known", "hidden"):
+            lines.append(f"{kind} {told.pop('count')}")
+        else:
+            accesses = told.pop("accesses")
+            numbers = [f"{name} {told.pop(name)}" for name in NUMBERS if name in told]
+            lines.append(" ".join([kind, *[str(access["event"]) for access in accesses], *[told.pop("how")] * (kind == "race"), *numbers]))
+            for access in accesses:
+                lines.append(f"  {access['thread']}|{access['operation']}({access['variable']})|{access['location']}")
+                lines += [f"    holds {lock}" for lock in access["holds"]]
+        if told:
+            raise Wrong(f"more is told of a {kind}: {told}")
+    return lines
+
+
+class Judge:
+    def __init__(self, program):
+        self.program = program
+        self.tally = collections.Counter()
+
+    def access(self, located, event):
+        holds = [f"    holds {lock}" for lock in located.trace.locks_before(event)]
+        self.tally["holds"] += len(holds)
+        return ["  " + located.line(event), *holds]
+
+    def wanted(self, located, tries):
+        """The counts, and the blocks in their order, each as its lines."""
+        trace = located.trace
+        groups = located.groups()
+        kinds = collections.Counter(kind for pairs in groups.values() for _, _, kind in pairs)
+        found = sorted((*verdict(trace, pairs, tries), places) for places, pairs in groups.items())
+        parts = collections.Counter(part for part, _, _, _ in found)
+        counts = [
+            *(f"events {len(trace.events)}", f"threads {len(trace.threads())}", f"pairs {sum(kinds.values())}"),
+            *(f"{word} {kinds[kind]}" for word, kind in [("candidates", "candidate"), ("open", "open"), ("guarded", "guarded"), ("forced", "forced")]),
+            *(f"places {len(groups)}", f"races {parts[0]}", f"undecided {parts[1]}", f"apart {parts[2]}"),
+        ]
+        blocks = []
+        for part, (second, first), head, places in found:
+            self.tally["untried" if head.endswith(" tried 0") else head.split(" ")[3] if part == 0 else head.split(" ")[0]] += 1
+            self.tally["one place"] += places[0] == places[1]
+            self.tally["more variables"] += part == 0 and " variables 1 " not in head
+            blocks.append([head, *self.access(located, first), *self.access(located, second)])
+        return counts, blocks
+
+    def compare(self, wanted, out):
+        lines = out.decode("ascii").split("\n")[:-1]
+        if len(lines) != len(wanted):
+            raise Wrong(f"{len(lines)} lines are printed, and not {len(wanted)}: {lines}, and not {wanted}")
+        for line, want in zip(lines, wanted):
+            if line != want and not (" turned " in want and line.startswith(want + " ")):
+                raise Wrong(f"`{line}` is printed, and not `{want}`")
+
+    def judge_trace(self, located, chance):
+        running.write("trace", located.text())
+        tries = chance.choice(TRIES)
+        counts, blocks = self.wanted(located, tries)
+        flag = ["--tries", str(tries)]
+        out = running.printed(self.program, ["triage", "trace", "--apart", *flag])
+        self.compare(counts + sum(blocks, []), out)
+        self.judge_json(out, "--apart", *flag)
+        workers = str(chance.choice([1, 2, 16]))
+        if running.printed(self.program, ["triage", "trace", "--apart", "--workers", workers, *flag]) != out:
+            raise Wrong(f"{workers} workers print another text")
+        self.tally["workers"] += 1
+        races = [block for block in blocks if block[0].startswith("race ")]
+        rest = [block for block in blocks if not block[0].startswith("apart ")]
+        self.compare(counts + sum(rest, []), running.printed(self.program, ["triage", "trace", *flag]))
+        running.write("known", out.decode("ascii"))
+        kept = [block for block in rest if block not in races]
+        self.compare(counts + sum(kept, []) + [f"known {len(races)}"], running.printed(self.program, ["triage", "trace", "--known", "known", *flag]))
+        self.tally["known"] += len(races)
+        self.judge_filters(counts, rest, flag, chance)
+        status, _, _ = running.ended(self.program, ["triage", "trace", "--fail", *flag])
+        if status != (3 if races else 0):
+            raise Wrong(f"the status is {status} at {len(races)} races")
+        self.tally["failed"] += bool(races)
+        self.tally["traces"] += 1
+        self.tally["pairs"] += int(counts[2].split(" ")[1])
+
+    def judge_json(self, out, *words):
+        """Compares the objects that are printed with the text for the same words."""
+        told = text_of(running.printed(self.program, ["triage", "trace", "--json", *words]).decode("utf-8").splitlines())
+        if told != out.decode("utf-8").splitlines():
+            raise Wrong(f"JSON tells {told}, and the text {out!r}")
+        self.tally["objects"] += len(told)
+
+    def judge_filters(self, counts, rest, flag, chance):
+        text = chance.choice(["p0.c", "|w(", "|r(x)", "T1|", "p1.c:1"])
+        word = chance.choice(["--only", "--hide"])
+        has = [block for block in rest if any(text in line for line in block[1:] if line.startswith("  ") and not line.startswith("    "))]
+        kept = [block for block in rest if (block in has) == (word == "--only")]
+        out = running.printed(self.program, ["triage", "trace", word, text, *flag])
+        self.compare(counts + sum(kept, []) + [f"hidden {len(rest) - len(kept)}"], out)
+        self.judge_json(out, word, text, *flag)
+        self.tally["hidden"] += len(rest) - len(kept)
+
+
+def made(*lines):
+    return plain.Trace(plain.Event(*line.split(" ")) for line in lines)
+
+
+# What chance draws seldom: a pair that sections in another order show.
+MADE = [
+    made("A acq l", "A fork W", "A w x", "A rel l", "B acq l", "B r y", "B rel l", "B r x"),
+    made("A w x", "A acq l", "A rel l", "B acq l", "B rel l", "B w x"),
+    made("A acq l", "A r x", "A w y", "A w x", "A rel l", "B acq l", "B w x", "B rel l", "B w x"),
+]
+
+
+def main():
+    judge = Judge(os.path.abspath(sys.argv[1]))
+    traces = int(sys.argv[2]) if sys.argv[2:] else TRACES
+    first = int(sys.argv[3]) if sys.argv[3:] else 0
+    with tempfile.TemporaryDirectory() as folder:
+        os.chdir(folder)
+        for number in range(-len(MADE), traces):
+            chance = random.Random(first + number)
+            draw = chance.choice([by_chance.trace, by_chance.locked_trace])
+            located = Located(MADE[number] if number < 0 else draw(chance, chance.choice(MOST_EVENTS)), chance)
+            try:
+                judge.judge_trace(located, chance)
+            except (Wrong, plain.Contradiction) as what:
+                sys.exit(f"triage, seed {first + number}: {what}{running.given(['', 'trace'])}")
+    tally = judge.tally
+    missing = [kind for kind in REACHED if not tally[kind]]
+    if missing:
+        sys.exit(f"triage: never reached: {missing}")
+    kinds = ", ".join(f"{tally[kind]} {kind}" for kind in ["candidate", "beyond", "turned", "undecided", "untried", "apart"])
+    print(f"triage: {tally['traces']} traces with {tally['pairs']} pairs, seeds {first} to {first + traces - 1}, are listed as the definitions say ({kinds})")
+
+
+main()
