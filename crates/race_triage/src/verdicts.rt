@@ -119,13 +119,9 @@ pub fn triage<R: Threads + Sync>(
 {
     let places = Places::of(alloc, indexed)?;
     let found = found_of(alloc, indexed, clocks, must, &places, tries, apart)?;
-    let mut verdicts = if workers == 0 {
-        verdicts_of(alloc, indexed, clocks, must, &found, tries, apart, 0, 1)?
-    } else {
-        by_workers(
-            rt, alloc, indexed, clocks, must, &found, tries, apart, workers,
-        )?
-    };
+    let mut verdicts = all_verdicts(
+        rt, alloc, indexed, clocks, must, &found, tries, apart, workers,
+    )?;
     sort(indexed, &mut verdicts, apart);
     Ok(Verdicts { verdicts, places })
 }
@@ -169,6 +165,30 @@ fn found_of(
         leasts,
         firsts,
     })
+}
+
+// The verdicts, found by so many threads, or by this one.
+fn all_verdicts<R: Threads + Sync>(
+    rt: &R,
+    alloc: Global,
+    indexed: &Indexed,
+    clocks: &Clocks,
+    must: &Must,
+    found: &Found,
+    tries: u32,
+    apart: bool,
+    workers: u32,
+) -> Result<Vec<Verdict>, OutOfMemory>
+    requires clocks { clocks.now ≡ indexed.now }
+    requires must { must.now ≡ indexed.now }
+    ensures { IfOk result (λ verdicts. All (IsVerdict indexed.now apart) verdicts.items) }
+{
+    if workers == 0 {
+        return verdicts_of(alloc, indexed, clocks, must, found, tries, apart, 0, 1);
+    }
+    by_workers(
+        rt, alloc, indexed, clocks, must, found, tries, apart, workers,
+    )
 }
 
 // The verdicts, found by several threads: each takes as many of the rows as the others.
