@@ -104,7 +104,7 @@ def text_of(objects):
         else:
             accesses = told.pop("accesses")
             numbers = [f"{name} {told.pop(name)}" for name in NUMBERS if name in told]
-            lines.append(" ".join([kind, *[str(access["event"]) for access in accesses], *[told.pop("how")] * (kind == "race"), *numbers]))
+            lines.append(" ".join([kind, *[str(access["event"]) for access in accesses], *([told.pop("how")] if kind == "race" else []), *numbers]))
             for access in accesses:
                 lines.append(f"  {access['thread']}|{access['operation']}({access['variable']})|{access['location']}")
                 lines += [f"    holds {lock}" for lock in access["holds"]]
