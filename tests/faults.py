@@ -1,10 +1,10 @@
 """Runs the program with each call of a kind failing in turn, by tools/refuse.c, and judges what it writes.
 
 Each run has to write what is wanted, or to end with the fault's status and text after a beginning of it, and to write nothing else:
-  an allocation    `out of memory`; in a thread the call's line may say so, and the others go on; beside workers one slice may not be
+  an allocation    `out of memory`; in a thread or a session the call's line may say so, and the others go on; beside workers one slice may not be
                    proposed, whose worker wanted memory; or `no thread`, where the system wanted it to start one; or only notes are
                    missing, as below
-  a read, a file   `read failed` and nothing on standard output; or only notes are missing, for which a file is read once more
+  a read, a file   `read failed` and nothing on standard output, or in a session the answers before it; or only notes are missing, for which a file is read once more
   a write          `write failed`; or only standard error is cut, where the fault's own text could not be written
   a thread         what is wanted, since another thread makes the calls of such a script; or, where workers are asked for, `no thread`
 A call that is interrupted and one that moves a single byte change nothing.
@@ -27,8 +27,8 @@ LONGEST = 600
 
 # How a run ended: its status or, below 0, its signal; whether it met the call that fails; and what it wrote.
 Run = namedtuple("Run", "status met out err")
-# What is wanted, and whether scripts run in threads, and whether beside workers.
-Wanted = namedtuple("Wanted", "status out err in_threads has_workers")
+# What is wanted, and whether scripts run in threads, whether beside workers, and whether a session answers.
+Wanted = namedtuple("Wanted", "status out err in_threads has_workers in_session")
 
 
 class Wrong(Exception):
@@ -44,10 +44,13 @@ def library(folder):
     return made
 
 
-def runs_of(made, program, words, stdin, here, way):
-    """The program's runs in the folder `here` with each call of one kind failing in turn; the last one met none."""
+def runs_of(made, program, words, stdin, here, way, files):
+    """The program's runs in the folder `here` with each call of one kind failing in turn; the last one met none. Where they change files, each finds
+    those of the folder `files`."""
     report = made.parent / "report"
     told = {"REFUSE": way[0], "REFUSE_HOW": way[1], "REFUSE_IN": str(stdin), "REFUSE_EACH": str(report), "LD_PRELOAD": str(made)}
+    if files:
+        told["REFUSE_FILES"] = str(files)
     status = subprocess.run([program, *words], cwd=here, env={**os.environ, **told}, timeout=LONGEST, check=False).returncode
     if status != 0:
         raise Wrong(f"the runs were not made: status {status}")
@@ -83,6 +86,14 @@ def is_told_in_threads(run, wanted):
     )
 
 
+def is_told_in_session(run, wanted):
+    """Whether one line is answered by want of memory, those before it as the case wants, and each behind it by something."""
+    lines, known = run.out.splitlines(), wanted.out.splitlines()
+    at = next((at for at, line in enumerate(lines) if line == b"refused 56 out of memory"), 0)
+    is_one = lines.count(b"refused 56 out of memory") == 1
+    return (run.status, run.err) == (0, b"") and is_one and len(lines) == len(known) and lines[:at] == known[:at]
+
+
 def parts_of(out):
     """The lines before the log's, and its entries without their numbers, where these and their count are right; or None."""
     lines = out.splitlines()
@@ -110,12 +121,15 @@ def is_right(run, wanted, kind, how):
     if kind == "memory":
         if wanted.has_workers and has_fault(run, b"no thread") and not run.out:
             return True
+        if wanted.in_session and is_told_in_session(run, wanted):
+            return True
         if (wanted.in_threads and is_told_in_threads(run, wanted)) or (wanted.has_workers and lacks_a_slice(run, wanted)):
             return True
         is_told = has_fault(run, b"out of memory") and wanted.out.startswith(run.out) and not (wanted.in_threads and run.out)
         return is_told or (wanted.err and lacks_notes(run, wanted))
     if kind in ("read", "open"):
-        return (has_fault(run, b"read failed", b"note: ") and not run.out) or (wanted.err and lacks_notes(run, wanted))
+        is_begun = wanted.out.startswith(run.out) if wanted.in_session else not run.out
+        return (has_fault(run, b"read failed", b"note: ") and is_begun) or (wanted.err and lacks_notes(run, wanted))
     if run.out != wanted.out:
         return has_fault(run, b"write failed") and wanted.out.startswith(run.out)
     return run.status == wanted.status and wanted.err.startswith(run.err)

@@ -10,6 +10,7 @@
  *               the signal that ended it; whether the call came; and how many bytes stand behind the line of its standard output and of
  *               its standard error
  *   REFUSE_IN   the path of the standard input of these runs
+ *   REFUSE_FILES the folder whose files each of them finds where it runs, and nothing else there; without it they find what is left by the one before
  * A run of these may take 20 seconds. */
 #define _GNU_SOURCE
 #include <errno.h>
@@ -129,6 +130,19 @@ static void use_as(int file, int number) {
     close(file);
 }
 
+/* Puts these files where the runs are, and takes away all others there. */
+static void put_files(const char *files) {
+    int status;
+    pid_t child = files ? fork() : 0;
+    if (!files) return;
+    if (child == 0) {
+        unsetenv("LD_PRELOAD");
+        execl("/bin/sh", "sh", "-c", "find . -mindepth 1 -delete && cp -a \"$REFUSE_FILES/.\" .", (char *)0);
+        _exit(127);
+    }
+    if (child < 0 || waitpid(child, &status, 0) != child || status != 0) _exit(3);
+}
+
 /* Runs the program with each call failing in turn. Returns in the runs alone. */
 static void run_each(const char *report) {
     FILE *to = fopen(report, "w");
@@ -138,6 +152,7 @@ static void run_each(const char *report) {
         int out = memfd_create("out", 0), err = memfd_create("err", 0), status;
         *met = 0;
         fflush(to);
+        put_files(getenv("REFUSE_FILES"));
         pid_t child = fork();
         if (child == 0) {
             int in = syscall(SYS_openat, AT_FDCWD, getenv("REFUSE_IN"), O_RDONLY);
