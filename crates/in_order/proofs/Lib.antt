@@ -2,10 +2,14 @@ pub mod AnswerLemmas
 pub mod CandidateLemmas
 pub mod ClosedLemmas
 pub mod ClosingLemmas
+pub mod JoinLemmas
+pub mod LaneLemmas
+pub mod LastLemmas
 pub mod ListingLemmas
 pub mod LoopLemmas
 pub mod NeededLemmas
 pub mod RisingLemmas
 pub mod SizeLemmas
+pub mod SumLemmas
 pub mod TakeLemmas
 pub mod TurnLemmas

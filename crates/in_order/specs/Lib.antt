@@ -1,4 +1,6 @@
+pub mod Acquires
 pub mod InOrder
+pub mod Joining
 pub mod Laws
 pub mod Layout
 pub mod Orders

@@ -47,7 +47,7 @@ pub(crate) fn needed_row(
     Ok(row)
 }
 
-fn zeros(alloc: Global, count: usize) -> Result<Vec<u32>, OutOfMemory>
+pub(crate) fn zeros(alloc: Global, count: usize) -> Result<Vec<u32>, OutOfMemory>
     ensures items { IfOk result (λ made. made.items ≡ replicate count 0) }
     ensures len { IfOk result (λ made. length made.items ≡ count) }
 {
@@ -122,8 +122,8 @@ fn visit(row: &mut Vec<u32>, latest: &mut Vec<Option<u32>>, indexed: &Indexed, e
     }
 }
 
-// The lock that the event acquires, if it does.
-fn lock_of(indexed: &Indexed, event: u32) -> Option<u32>
+/// The lock that the event acquires, if it does.
+pub(crate) fn lock_of(indexed: &Indexed, event: u32) -> Option<u32>
     requires event { event < length indexed.now.events }
     ensures acquires { IfSome result (λ l. op_at indexed.now.events event ≡ Some (Acquire l)) }
     ensures named { IfSome result (λ l. l < length indexed.now.locks) }

@@ -2,8 +2,11 @@
 //! M. Viswanathan, "Optimal prediction of synchronization-preserving races" (POPL 2021).
 #![tactic(auto)]
 
+mod acquires;
 mod closing;
 mod events;
+mod joining;
+mod lasting;
 mod laws;
 mod listing;
 mod needing;
@@ -12,6 +15,7 @@ mod refusal;
 mod sizing;
 mod turning;
 
+pub use acquires::Acquires;
 pub use laws::{
     candidates_are_in_order, in_order_is_least, in_order_is_sound, ready_in_order_is_least,
     rising_reorderings_are_closed,

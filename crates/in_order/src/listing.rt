@@ -68,6 +68,28 @@ pub(crate) fn row_in_order(
     let Ok(row) = row_for(alloc, indexed, first, second) else {
         return Err(InOrderRefusal::OutOfMemory);
     };
+    unless_needed(row, indexed, first, second)
+}
+
+/// The row of what is needed for the pair, unless one of the two is.
+pub(crate) fn unless_needed(
+    row: Vec<u32>,
+    indexed: &Indexed,
+    first: u32,
+    second: u32,
+) -> Result<Vec<u32>, InOrderRefusal>
+    requires conflict { IsConflicting indexed.now.events first second }
+    requires first { first < length indexed.now.events }
+    requires second { second < length indexed.now.events }
+    requires len { length row.items ≡ length indexed.now.threads }
+    requires row { IsNeededRow indexed.now.events (IsBaseOfPair indexed.now.events first second) (λ t. slice_index row.items t) }
+    ensures same { IfOk result (λ kept. kept ≡ row) }
+    ensures there { IsOk result → HasListInOrder indexed.now.events first second }
+    ensures refused { IfErr result (IsRefusalOf indexed.now.events first second) }
+    ensures never_shown { IfErr result
+        (λ why. why ≢ NoMemory → IsNeverShownInOrder indexed.now.events first second) }
+{
+    let _len = indexed.len();
     if is_counted(row.as_slice(), indexed, first) {
         return Err(InOrderRefusal::NotInOrder);
     }
@@ -77,8 +99,8 @@ pub(crate) fn row_in_order(
     Ok(row)
 }
 
-// Whether the pair conflicts, and if not the first cause.
-fn judge(indexed: &Indexed, first: u32, second: u32) -> Result<(), InOrderRefusal>
+/// Whether the pair conflicts, and if not the first cause.
+pub(crate) fn judge(indexed: &Indexed, first: u32, second: u32) -> Result<(), InOrderRefusal>
     ensures disciplined { IsDisciplined indexed.now.events }
     ensures well_formed { IsWellFormed indexed.now }
     ensures there { IsOk result → AreThere indexed.now.events first second }

@@ -18,7 +18,7 @@ fn must_of(alloc: Global, indexed: &Indexed) -> Option<Must>
     }
 }
 
-fn must_again(alloc: Global, indexed: &Indexed) -> Option<Must>
+pub(crate) fn must_again(alloc: Global, indexed: &Indexed) -> Option<Must>
     ensures { IfSome result (λ must. must ≡ indexed.now) }
 {
     match must_of(alloc, indexed) {

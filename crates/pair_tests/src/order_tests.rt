@@ -1,12 +1,21 @@
 //! What no clause says of lists in the order of the trace, and of searches beyond it: that they are told where there is memory.
 
+ghost use Rattle.std.specs.Prelude.{◌≡◌, IfSome};
+
 use crate::fixtures::indexed_again;
-use event_index::Indexed;
-use in_order::{InOrderRefusal, fewer_runs, in_order, in_order_size, needs_of, turned};
+use crate::must_tests::must_again;
+use event_index::{EventList, Indexed};
+use in_order::{Acquires, InOrderRefusal, fewer_runs, in_order, in_order_size, needs_of, turned};
+use must_order::Must;
 use std::alloc::Global;
 
 // Two threads use one lock, and write one variable outside it.
 const ONE_LOCK: &[u8] = b"T1|w(x)|1\nT1|acq(l)|2\nT1|rel(l)|3\nT2|acq(l)|4\nT2|rel(l)|5\nT2|w(x)|6";
+
+// A thread writes v while it holds m, and l twice; another goes through l and then m; a third reads v.
+const TWO_LOCKS: &[u8] =
+    b"T1|acq(m)|1\nT1|acq(l)|2\nT1|acq(l)|3\nT1|w(v)|4\nT1|rel(l)|5\nT1|rel(l)|6\nT1|rel(m)|7\nT1|w(y)|8\n\
+T2|acq(l)|9\nT2|rel(l)|10\nT2|w(u)|11\nT2|acq(m)|12\nT2|rel(m)|13\nT2|w(x)|14\nT3|r(v)|15\nT3|w(x)|16\nT3|w(u)|17\nT3|w(y)|18\nT3|w(v)|19";
 
 // Whether the list of the pair 0, 5 is this one, and stays so as its runs are put together; None where memory was wanting.
 fn is_listed(alloc: Global, indexed: &Indexed, wanted: &[u32]) -> Option<bool> {
@@ -20,13 +29,96 @@ fn is_listed(alloc: Global, indexed: &Indexed, wanted: &[u32]) -> Option<bool> {
     }
 }
 
+fn acquires_of(alloc: Global, indexed: &Indexed) -> Option<Acquires>
+    ensures { IfSome result (λ acquires. acquires ≡ indexed.now) }
+{
+    match Acquires::new(alloc, indexed) {
+        Ok(acquires) => Some(acquires),
+        Err(_) => None,
+    }
+}
+
+fn acquires_again(alloc: Global, indexed: &Indexed) -> Option<Acquires>
+    ensures { IfSome result (λ acquires. acquires ≡ indexed.now) }
+{
+    match acquires_of(alloc, indexed) {
+        Some(acquires) => Some(acquires),
+        None => acquires_of(alloc, indexed),
+    }
+}
+
+// The size of the pair's list, or why there is none.
+fn size_of(
+    alloc: Global,
+    indexed: &Indexed,
+    first: u32,
+    second: u32,
+) -> Result<(u32, u32), InOrderRefusal> {
+    let Some(must) = must_again(alloc, indexed) else {
+        return Err(InOrderRefusal::OutOfMemory);
+    };
+    let Some(acquires) = acquires_again(alloc, indexed) else {
+        return Err(InOrderRefusal::OutOfMemory);
+    };
+    in_order_size(alloc, indexed, &must, &acquires, first, second)
+}
+
 // Whether it has two events of one thread.
 fn is_sized(alloc: Global, indexed: &Indexed) -> Option<bool> {
-    match in_order_size(alloc, indexed, 0, 5) {
+    match size_of(alloc, indexed, 0, 5) {
         Ok(size) => Some(size == (2, 1)),
         Err(InOrderRefusal::OutOfMemory) => None,
         Err(_) => Some(false),
     }
+}
+
+// Whether the list has so many events.
+fn is_of_len(list: &EventList, len: u32) -> bool {
+    list.items().len() == len as usize
+}
+
+// Whether of this pair the list has as many events as its size tells, or both are refused alike.
+fn is_sized_as_listed(
+    alloc: Global,
+    indexed: &Indexed,
+    must: &Must,
+    acquires: &Acquires,
+    first: u32,
+    second: u32,
+) -> bool
+    requires must { must.now ≡ indexed.now }
+    requires acquires { acquires.now ≡ indexed.now }
+{
+    let size = in_order_size(alloc, indexed, must, acquires, first, second);
+    match in_order(alloc, indexed, first, second) {
+        Ok(list) => match size {
+            Ok((events, _)) => is_of_len(&list, events),
+            Err(_) => false,
+        },
+        Err(listed) => match size {
+            Ok(_) => false,
+            Err(sized) => listed == sized,
+        },
+    }
+}
+
+// How many pairs of the first 19 events are so.
+fn count_sized_as_listed(alloc: Global, indexed: &Indexed) -> u32 {
+    let Some(must) = must_again(alloc, indexed) else {
+        return 0;
+    };
+    let Some(acquires) = acquires_again(alloc, indexed) else {
+        return 0;
+    };
+    let mut count = 0u32;
+    for first in 0..19u32 {
+        for second in 0..19u32 {
+            if is_sized_as_listed(alloc, indexed, &must, &acquires, first, second) {
+                count = count.saturating_add(1);
+            }
+        }
+    }
+    count
 }
 
 // Whether the search beyond the order finds this list.
@@ -73,4 +165,25 @@ fn memory_lists_in_order_are_told_when_asked_again(rt: HostRuntime) {
         panic!(rt; "no index")
     };
     assert_eq!(rt; are_told_again(rt.alloc(), &indexed), Some(true));
+}
+
+#[test]
+fn sizes_have_the_ends_of_sections(rt: HostRuntime) {
+    let Some(indexed) = indexed_again(rt.alloc(), TWO_LOCKS) else {
+        panic!(rt; "no index")
+    };
+    // all of T1 but its last event, T2 up to its write of x, and the read
+    assert_eq!(rt; size_of(rt.alloc(), &indexed, 13, 15), Ok((13, 3)));
+    // the sections of l alone
+    assert_eq!(rt; size_of(rt.alloc(), &indexed, 10, 16), Ok((10, 3)));
+    assert_eq!(rt; size_of(rt.alloc(), &indexed, 7, 17), Ok((10, 2)));
+    assert_eq!(rt;
+        size_of(rt.alloc(), &indexed, 3, 18),
+        Err(InOrderRefusal::NotInOrder)
+    );
+    assert_eq!(rt;
+        size_of(rt.alloc(), &indexed, 3, 18),
+        Err(InOrderRefusal::NotInOrder)
+    );
+    assert_eq!(rt; count_sized_as_listed(rt.alloc(), &indexed), 361);
 }

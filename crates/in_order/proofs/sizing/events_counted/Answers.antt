@@ -1,31 +1,30 @@
-use Rattle.std.proofs.Common.{◌≡◌, ℕ, ◌+◌, sym, subst, ◌∙◌, length, get_or, arith}
-use Rattle.std.proofs.lemmas.Bool.{false≢true}
-use Rattle.in_order.proofs.SizeLemmas.{IsLengthUpTo, IsLengthUpTo-start, IsLengthUpTo-push, IsLengthUpTo-skip, IsLengthUpTo-end}
+use Rattle.std.proofs.Common.{◌≡◌, ℕ, ◌+◌, ◌≤◌, sym, subst, ◌∙◌, length, get_or, arith}
+use Rattle.in_order.specs.Layout.{IsListLength}
+use Rattle.in_order.proofs.SumLemmas.{sum_to, sum_to-start, sum_to-next, sum_to-bound, IsListLength-sum}
 use Rattle.in_order.proofs.sizing.events_counted.Goals as goal
-use Rattle.in_order.proofs.sizing.events_counted.Goals.{then-is_counted, else-is_counted}
 
-pub loop-event-init : goal.loop-event-init
-loop-event-init c = IsLengthUpTo-start c.args.indexed.now.events (λ t. get_or c.args.row.now t 0)
+pub loop-thread-init : goal.loop-thread-init
+loop-thread-init c = sym (sum_to-start (λ t. get_or c.args.row.now t 0))
 
-pub loop-event-preserved : goal.loop-event-preserved
-loop-event-preserved c =
-    let T = c.args.indexed.now.events in
-    let n = c.loop-event.event in
-    let k = c.loop-event.count in
+pub overflow_add-count : goal.overflow_add-count
+overflow_add-count c =
     let row : ℕ → ℕ = λ t. get_or c.args.row.now t 0 in
-    elim c.if-is_counted.branch [
-      | then-is_counted w ↦
-          subst (IsLengthUpTo T row (n + 1)) (sym w.count-is)
-          (IsLengthUpTo-push T row n k c.loop-event.invariant (c.is_counted.ensures.0 w.if-is_counted.true))
-      | else-is_counted w ↦
-          subst (IsLengthUpTo T row (n + 1)) (sym w.count-is)
-          (IsLengthUpTo-skip T row n k c.loop-event.invariant
-          (λ counted. false≢true (sym w.if-is_counted.false ∙ c.is_counted.ensures.1 counted)))
-    ]
+    let t = c.loop-thread.thread in
+    let low = c.loop-thread-test.true in
+    let bound = sum_to-bound c.args.indexed.now c.threads_in-thread-end.ensures.well_formed row c.requires.within (t + 1) (omega (arith, low, c.threads_in-thread-end.ensures.len)) in
+    omega (arith, c.loop-thread.invariant, sum_to-next row t, bound, c.threads_in-thread-end.ensures.well_formed.events)
+
+pub loop-thread-preserved : goal.loop-thread-preserved
+loop-thread-preserved c =
+    let row : ℕ → ℕ = λ t. get_or c.args.row.now t 0 in
+    let t = c.loop-thread.thread in
+    omega (arith, c.loop-thread.invariant, sum_to-next row t)
 
 pub returns : goal.returns
 returns c =
-    let T = c.args.indexed.now.events in
-    let end : c.loop-event.event ≡ length T =
-    omega (arith, c.loop-event-test.false, c.loop-event.auto.event-end, c.len-event-end.ensures.len) in
-    IsLengthUpTo-end T (λ t. get_or c.args.row.now t 0) c.loop-event.event c.loop-event.count c.loop-event.invariant end
+    let r = c.args.indexed.now in
+    let row : ℕ → ℕ = λ t. get_or c.args.row.now t 0 in
+    let end : c.loop-thread.thread ≡ length r.threads =
+    omega (arith, c.loop-thread-test.false, c.loop-thread.auto.thread-end, c.threads_in-thread-end.ensures.len) in
+    let is : sum_to row (length r.threads) ≡ c.loop-thread.count = sym (subst (λ (n : ℕ). c.loop-thread.count ≡ sum_to row n) end c.loop-thread.invariant) in
+    subst (IsListLength r.events row) is (IsListLength-sum r c.threads_in-thread-end.ensures.well_formed row c.requires.within)
