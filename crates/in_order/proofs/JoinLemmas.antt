@@ -144,11 +144,11 @@ pub IsNeededRow-joined :
 IsNeededRow-joined T start row is all e = (
   λ counted. is.sound e counted,
   λ need. needed_in T start (IsCounted T row)
-  (record {
-    links = λ d a one counted. is.down d a (link d d a (same d d refl) one) counted;
-    sections = λ p q a s has also. all s.lock p q a s refl has also;
-  })
-  is.starts e need,
+      (record {
+        links = λ d a one counted. is.down d a (link d d a (same d d refl) one) counted;
+        sections = λ p q a s has also. all s.lock p q a s refl has also;
+      })
+      is.starts e need,
 )
 
 -- a row that is joined with what is due

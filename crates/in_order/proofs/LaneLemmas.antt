@@ -4,14 +4,16 @@ use Rattle.std.proofs.lemmas.Bool.{cases_Bool, cases_lt, cases_eq, lt-ltb, ltb-t
 use Rattle.std.proofs.lemmas.List.{length-append, length-set, get_or-set_same, get_or-set_other, get_or_default, get_or_append_left}
 use Rattle.std.proofs.lemmas.List.Elements.{All-push, All-get_or, Contains-append_left, Contains-append_right, Contains-append_cases, Contains-get_or, Contains-push, Contains-push_cases}
 use Rattle.std.proofs.lemmas.List.Quantifiers.{all_pairs_push}
-use Rattle.std.proofs.lemmas.Option.{same_Some, none-some}
+use Rattle.std.proofs.lemmas.Option.{slice_get_within, get_or_from_slice_get, slice_get-get_or}
 use Rattle.rapid_text.specs.declared.event.Event.{Event}
 use Rattle.rapid_text.specs.declared.event.Op.TheVariants.{Acquire}
 use Rattle.rapid_text.specs.Recording.{Recording, IsWellFormed}
 use Rattle.trace_rules.specs.Rules.{IsDisciplined, hold_count}
 use Rattle.event_index.specs.Events.{op_at, thread_at}
 use Rattle.event_index.specs.Lookups.{place_of, section_end, events_of}
-use Rattle.event_index.proofs.CallerLemmas.{one_thread, thread_within}
+use Rattle.event_index.proofs.CallerLemmas.{one_thread, thread_event, thread_within, events_of-place}
+use Rattle.shb_clocks.proofs.ReadLemmas.{thread_named}
+use Rattle.must_order.proofs.TableLemmas.{is_outer-not}
 use Rattle.shb_clocks.proofs.PlaceLemmas.{place_of-le_from, place_of-later, le-from_place_of}
 use Rattle.must_order.specs.Sections.{is_outer}
 use Rattle.must_order.proofs.SectionLemmas.{section-open}
@@ -53,7 +55,7 @@ module _ (T : List Event) (t k : ℕ) where
         let one : is.thread ≡ t = one_thread T e is.thread t is.of of in
         elim is.passed [ inl low ↦ omega (arith, low, one) | inr here ↦ omega (arith, here.1, next) ]
 
-    module _ (l : ℕ) where
+    module _ (width l : ℕ) where
       -- a lane that does not take it
       lane_same : (lane : Lane) → ¬ IsTaken T l lane.thread e → IsLaneUpTo T l t k lane → IsLaneUpTo T l t (k + 1) lane
       lane_same lane not_it is = record {
@@ -74,32 +76,33 @@ module _ (T : List Event) (t k : ℕ) where
           let xs : List ℕ = lane.events.items in
           record {
             rising = subst (AllPairs (λ x y. x < y)) (sym pushed) (all_pairs_push (λ x y. x < y) xs e is.rising
-            (λ i d low.
-            let h = (is.members (get_or xs i d)).0 (Contains-get_or xs i d low) in
-            elim (cases_lt (get_or xs i d) e) [
-              | inl early ↦ early
-              | inr late ↦
-                  let of_a : thread_at T (get_or xs i d) ≡ Some t = h.0.1 ∙ ap Some own in
-                  let place : place_of T e ≤ place_of T (get_or xs i d) = place_of-le_from T e (get_or xs i d) t of of_a late in
-                  let same_thread : h.1.thread ≡ t = one_thread T (get_or xs i d) h.1.thread t h.1.of of_a in
-                  absurd (elim h.1.passed [ inl low_thread ↦ omega (arith, low_thread, same_thread) | inr here ↦ omega (arith, here.1, place, next) ])
-            ]));
+                (λ i d low.
+                let h = (is.members (get_or xs i d)).0 (Contains-get_or xs i d low) in
+                elim (cases_lt (get_or xs i d) e) [
+                  | inl early ↦ early
+                  | inr late ↦
+                      let of_a : thread_at T (get_or xs i d) ≡ Some t = h.0.1 ∙ ap Some own in
+                      let place : place_of T e ≤ place_of T (get_or xs i d) = place_of-le_from T e (get_or xs i d) t of of_a late in
+                      let same_thread : h.1.thread ≡ t = one_thread T (get_or xs i d) h.1.thread t h.1.of of_a in
+                      absurd (elim h.1.passed [ inl low_thread ↦ omega (arith, low_thread, same_thread) | inr here ↦ omega (arith, here.1, place, next) ])
+                ]));
             members = λ a. (
               λ m. elim (Contains-push_cases xs e a (subst (λ (ys : List ℕ). Contains ys a) pushed m)) [
                 | inl old ↦ let h = (is.members a).0 old in (h.0, passed_more a h.1)
                 | inr one ↦ subst (λ (b : ℕ). IsTaken T l lane.thread b × IsPassed T t (k + 1) b) one ((takes, of ∙ ap Some (sym own)), passed_here)
               ],
               λ h. subst (λ (ys : List ℕ). Contains ys a) (sym pushed)
-              (elim (passed_cases a h.1) [
-                | inl old ↦ Contains-append_left xs (e ∷ []) a ((is.members a).1 (h.0, old))
-                | inr one ↦ subst (Contains (xs ++ e ∷ [])) (sym one) (Contains-push xs e)
-              ]),
+                  (elim (passed_cases a h.1) [
+                    | inl old ↦ Contains-append_left xs (e ∷ []) a ((is.members a).1 (h.0, old))
+                    | inr one ↦ subst (Contains (xs ++ e ∷ [])) (sym one) (Contains-push xs e)
+                  ]),
             );
           }
 
       -- an event that takes no lock anew, or another lock
-      pub AreLanesUpTo-same : (lanes : List Lane) → is_outer T l e ≡ false → AreLanesUpTo T l t k lanes → AreLanesUpTo T l t (k + 1) lanes
+      pub AreLanesUpTo-same : (lanes : List Lane) → is_outer T l e ≡ false → AreLanesUpTo T width l t k lanes → AreLanesUpTo T width l t (k + 1) lanes
       AreLanesUpTo-same lanes not_it are = record {
+        named = are.named;
         sound = λ i d lt. lane_same (get_or lanes i d) (λ takes. true≢false (sym takes.0 ∙ not_it)) (are.sound i d lt);
         complete = λ a u taken passed. elim (passed_cases a passed) [
           | inl old ↦ are.complete a u taken old
@@ -112,8 +115,8 @@ module _ (T : List Event) (t k : ℕ) where
       -- the last lane is the thread's, and takes the event
       module _
           (lanes : List Lane) (n : ℕ) (lane : Lane) (new : Vec ℕ Global) (last : n + 1 ≡ length lanes) (own : IsOneOf lanes n t)
-          (at : lane ≡ get_or lanes n lane) (takes : is_outer T l e ≡ true) (pushed : new.items ≡ lane.events.items ++ e ∷ []) (are : AreLanesUpTo T l t k lanes) where
-        grown : Lane
+          (at : lane ≡ get_or lanes n lane) (takes : is_outer T l e ≡ true) (pushed : new.items ≡ lane.events.items ++ e ∷ []) (are : AreLanesUpTo T width l t k lanes) where
+        abbrev pub grown : Lane
         grown = record { thread = lane.thread; events = new }
 
         mine : lane.thread ≡ t
@@ -134,8 +137,9 @@ module _ (T : List Event) (t k : ℕ) where
                   ∙ sym (ap (λ j. (get_or lanes j d).thread) one)
             ]
 
-        pub AreLanesUpTo-more : AreLanesUpTo T l t (k + 1) (set lanes n grown)
+        pub AreLanesUpTo-more : AreLanesUpTo T width l t (k + 1) (set lanes n grown)
         AreLanesUpTo-more = record {
+          named = λ i d lt. let low : i < length lanes = omega (arith, lt, long) in omega (arith, threads_same i d low, are.named i d low);
           sound = λ i d lt. elim (cases_eq i n) [
             | inl one ↦
                 subst (λ j. IsLaneUpTo T l t (k + 1) (get_or (set lanes n grown) j d)) (sym one)
@@ -163,7 +167,7 @@ module _ (T : List Event) (t k : ℕ) where
               omega (arith, threads_same i d (omega (arith, ij, low)), threads_same j d low, are.rising i j d ij low);
         }
 
-module _ (T : List Event) (l t k : ℕ) (lanes : List Lane) (are : AreLanesUpTo T l t k lanes) where
+module _ (T : List Event) (width l t k : ℕ) (lanes : List Lane) (are : AreLanesUpTo T width l t k lanes) where
   -- where the last lane is not the thread's none is
   no_lane : (0 < length lanes → ¬ IsOneOf lanes (length lanes - 1) t) → (i : ℕ) (d : Lane) → i < length lanes → (get_or lanes i d).thread < t
   no_lane other i d lt =
@@ -177,11 +181,12 @@ module _ (T : List Event) (l t k : ℕ) (lanes : List Lane) (are : AreLanesUpTo 
       ]
 
   -- a lane of its own
-  pub AreLanesUpTo-begun : (0 < length lanes → ¬ IsOneOf lanes (length lanes - 1) t) → (lane : Lane) → lane.thread ≡ t → lane.events.items ≡ []
-      → AreLanesUpTo T l t k (lanes ++ lane ∷ [])
-  AreLanesUpTo-begun other lane own bare =
+  pub AreLanesUpTo-begun : t < width → (0 < length lanes → ¬ IsOneOf lanes (length lanes - 1) t) → (lane : Lane) → lane.thread ≡ t → lane.events.items ≡ []
+      → AreLanesUpTo T width l t k (lanes ++ lane ∷ [])
+  AreLanesUpTo-begun fits other lane own bare =
       let low = no_lane other in
       record {
+        named = All-push (λ x. x.thread < width) lanes lane are.named (omega (arith, own, fits));
         sound = All-push (IsLaneUpTo T l t k) lanes lane are.sound (record {
           rising = subst (AllPairs (λ x y. x < y)) (sym bare) (λ i j d ij jn. absurd (omega arith));
           members = λ a. (
@@ -283,12 +288,12 @@ module _ (r : Recording) (t k : ℕ) where
       → AreTakenUpTo r t k by_lock → AreTakenUpTo r t (k + 1) by_lock
   AreTakenUpTo-same by_lock e of next none are = record {
     len = are.len;
-    lanes = λ l v at. AreLanesUpTo-same r.events t k e of next l v.items (none l) (are.lanes l v at);
+    lanes = λ l v at. AreLanesUpTo-same r.events t k e of next (length r.threads) l v.items (none l) (are.lanes l v at);
   }
 
   -- an acquire of a lock
   pub AreTakenUpTo-set : (by_lock : List (Vec Lane Global)) (e l : ℕ) (new : Vec Lane Global) → thread_at r.events e ≡ Some t → place_of r.events e ≡ k → op_at r.events e ≡ Some (Acquire l)
-      → l < length by_lock → AreLanesUpTo r.events l t (k + 1) new.items → AreTakenUpTo r t k by_lock → AreTakenUpTo r t (k + 1) (set by_lock l new)
+      → l < length by_lock → AreLanesUpTo r.events (length r.threads) l t (k + 1) new.items → AreTakenUpTo r t k by_lock → AreTakenUpTo r t (k + 1) (set by_lock l new)
   AreTakenUpTo-set by_lock e l new of next op low here are = record {
     len = length-set by_lock l new ∙ are.len;
     lanes = λ m v at.
@@ -297,17 +302,20 @@ module _ (r : Recording) (t k : ℕ) where
         elim (cases_eq m l) [
           | inl one ↦
               let same_lanes : new ≡ v = sym (get_or-set_same by_lock l new v low) ∙ sym (ap (λ j. get_or (set by_lock l new) j v) one) ∙ value in
-              subst (λ (j : ℕ). AreLanesUpTo r.events j t (k + 1) v.items) (sym one) (subst (λ (w : Vec Lane Global). AreLanesUpTo r.events l t (k + 1) w.items) same_lanes here)
+              subst (λ (j : ℕ). AreLanesUpTo r.events (length r.threads) j t (k + 1) v.items) (sym one) (subst (λ (w : Vec Lane Global). AreLanesUpTo r.events (length r.threads) l t (k + 1) w.items) same_lanes here)
           | inr other ↦
               let long : m < length by_lock = omega (arith, inside, length-set by_lock l new) in
               let old : get_or by_lock m v ≡ v = sym (get_or-set_other by_lock l m new v other) ∙ value in
               let found : slice_get by_lock m ≡ Some v = slice_get-get_or by_lock m v long ∙ ap Some old in
-              AreLanesUpTo-same r.events t k e of next m v.items (is_outer-not r.events e m (λ also. other (one_lock_of m l (sym also ∙ op)))) (are.lanes m v found)
+              AreLanesUpTo-same r.events t k e of next (length r.threads) m v.items (is_outer-not r.events e m (λ also. other (one_lock_of m l (sym also ∙ op)))) (are.lanes m v found)
         ];
   }
     where
       one_lock_of : (m l : ℕ) → Some (Acquire m) ≡ Some (Acquire l) → m ≡ l
       one_lock_of m l h = cc
+
+place_low : (T : List Event) (e : ℕ) (v : Event) → slice_get T e ≡ Some v → place_of T e < length (events_of T v.thread)
+place_low T e v at = slice_get_within (events_of T v.thread) (place_of T e) e (events_of-place T e v at)
 
 -- all events of a thread are passed
 pub AreTakenUpTo-next : (r : Recording) (t : ℕ) (by_lock : List (Vec Lane Global)) → AreTakenUpTo r t (length (events_of r.events t)) by_lock → AreTakenUpTo r (t + 1) 0 by_lock
@@ -316,6 +324,7 @@ AreTakenUpTo-next r t by_lock are = record {
   lanes = λ l v at.
       let old = are.lanes l v at in
       record {
+        named = old.named;
         sound = λ i d lt. let lane = old.sound i d lt in record {
           rising = lane.rising;
           members = λ a. (λ m. let h = (lane.members a).0 m in (h.0, next_from a h.1), λ h. (lane.members a).1 (h.0, next_to a h.1));
@@ -342,7 +351,7 @@ AreTakenUpTo-next r t by_lock are = record {
           | inl before_it ↦ inl before_it
           | inr late ↦
               let one : is.thread ≡ t = omega (arith, low, late) in
-              inr (one, place-within r.events a t (is.of ∙ ap Some one))
+              inr (one, (let v = thread_event r.events a t (is.of ∙ ap Some one) in omega (arith, place_low r.events a v.0 v.1, ap (λ u. length (events_of r.events u)) v.2)))
         ]
         | inr here ↦ absurd (omega (arith, here.1))
       ];
@@ -357,12 +366,39 @@ AreTaken-end r well by_lock are = record {
       record {
         sound = λ i d lt. let lane = old.sound i d lt in record {
           rising = lane.rising;
-          members = λ a. (λ m. ((lane.members a).0 m).0, λ taken. (lane.members a).1 (taken, all_passed a (get_or v.items i d).thread taken));
-          named = ?;
+          members = λ a. (λ m. ((lane.members a).0 m).0, λ taken. (lane.members a).1 (taken, all_passed l a (get_or v.items i d).thread taken));
+          named = old.named i d lt;
         };
-        complete = λ a u taken. old.complete a u taken (all_passed a u taken);
+        complete = λ a u taken. old.complete a u taken (all_passed l a u taken);
       };
 }
   where
-    all_passed : (a u : ℕ) {l : ℕ} → IsTaken r.events l u a → IsPassed r.events (length r.threads) 0 a
-    all_passed a u taken = record { thread = u; of = taken.1; passed = inl (thread_named r well a u taken.1) }
+    all_passed : (l a u : ℕ) → IsTaken r.events l u a → IsPassed r.events (length r.threads) 0 a
+    all_passed l a u taken = record { thread = u; of = taken.1; passed = inl (thread_named r well a u taken.1) }
+
+pub empty_list : (xs : List ℕ) → length xs ≡ 0 → xs ≡ []
+empty_list [] none = refl
+empty_list (x ∷ xs) none = absurd (omega (arith, none))
+
+-- what is known of a lane that was read
+module _
+    (T : List Event) (width l t k : ℕ) (lanes : List Lane) (are : AreLanesUpTo T width l t k lanes) (n : ℕ) (low : n < length lanes) (own : IsOneOf lanes n t)
+    (lane : Lane) (at : lane ≡ get_or lanes n lane) (xs : List ℕ) (is : xs ≡ lane.events.items) where
+  lane_known : IsLaneUpTo T l t k lane
+  lane_known = subst (IsLaneUpTo T l t k) (sym at) (are.sound n lane low)
+
+  lane_own : lane.thread ≡ t
+  lane_own = ap (λ (x : Lane). x.thread) at ∙ own lane
+
+  pub rising_read : AllPairs (λ x y. x < y) xs
+  rising_read = subst (AllPairs (λ x y. x < y)) (sym is) lane_known.rising
+
+  pub members_read : (e : ℕ) → Contains xs e ↔ (IsTaken T l t e × IsPassed T t k e)
+  members_read e = (
+    λ m.
+        let h = (lane_known.members e).0 (subst (λ (ys : List ℕ). Contains ys e) is m) in
+        (subst (λ (u : ℕ). IsTaken T l u e) lane_own h.0, h.1),
+    λ h.
+        subst (λ (ys : List ℕ). Contains ys e) (sym is)
+        ((lane_known.members e).1 (subst (λ (u : ℕ). IsTaken T l u e) (sym lane_own) h.0, h.1)),
+  )

@@ -29,8 +29,9 @@ pub record IsLaneUpTo (T : List Event) (l t k : ℕ) (lane : Lane) : Type 0 wher
   pub rising : AllPairs (λ x y. x < y) lane.events.items
   pub members : (e : ℕ) → Contains lane.events.items e ↔ (IsTaken T l lane.thread e × IsPassed T t k e)
 
--- each thread has one lane at most, by rising thread
-pub record AreLanesUpTo (T : List Event) (l t k : ℕ) (lanes : List Lane) : Type 0 where
+-- each of the first threads has one lane at most, by rising thread
+pub record AreLanesUpTo (T : List Event) (width l t k : ℕ) (lanes : List Lane) : Type 0 where
+  pub named : All (λ lane. lane.thread < width) lanes
   pub sound : All (IsLaneUpTo T l t k) lanes
   pub complete : (e u : ℕ) → IsTaken T l u e → IsPassed T t k e → (i : ℕ) × (i < length lanes) × IsOneOf lanes i u
   pub threads : All (λ lane. lane.thread ≤ t) lanes
@@ -39,7 +40,7 @@ pub record AreLanesUpTo (T : List Event) (l t k : ℕ) (lanes : List Lane) : Typ
 -- the lanes of each lock
 pub record AreTakenUpTo (r : Recording) (t k : ℕ) (by_lock : List (Vec Lane Global)) : Type 0 where
   pub len : length by_lock ≡ length r.locks
-  pub lanes : (l : ℕ) (v : Vec Lane Global) → slice_get by_lock l ≡ Some v → AreLanesUpTo r.events l t k v.items
+  pub lanes : (l : ℕ) (v : Vec Lane Global) → slice_get by_lock l ≡ Some v → AreLanesUpTo r.events (length r.threads) l t k v.items
 
 -- the lane has those of its thread
 pub record IsLane (r : Recording) (l : ℕ) (lane : Lane) : Type 0 where

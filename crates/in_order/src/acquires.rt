@@ -107,6 +107,7 @@ fn add_event(
 ) -> Result<(), OutOfMemory>
     requires event { event < length indexed.now.events }
     requires of { thread_at indexed.now.events event ≡ Some thread }
+    requires thread { thread < length indexed.now.threads }
     requires known { AreTakenUpTo indexed.now thread (place_of indexed.now.events event) by_lock.old.items }
     ensures { OnOk result (AreTakenUpTo indexed.now thread (place_of indexed.now.events event + 1) by_lock.new.items) }
 {
@@ -135,8 +136,9 @@ fn add_acquire(
     requires event { event < length indexed.now.events }
     requires of { thread_at indexed.now.events event ≡ Some thread }
     requires acquires { op_at indexed.now.events event ≡ Some (Acquire lock) }
-    requires known { AreLanesUpTo indexed.now.events lock thread (place_of indexed.now.events event) lanes.old.items }
-    ensures { OnOk result (AreLanesUpTo indexed.now.events lock thread (place_of indexed.now.events event + 1) lanes.new.items) }
+    requires named { thread < length indexed.now.threads }
+    requires known { AreLanesUpTo indexed.now.events (length indexed.now.threads) lock thread (place_of indexed.now.events event) lanes.old.items }
+    ensures { OnOk result (AreLanesUpTo indexed.now.events (length indexed.now.threads) lock thread (place_of indexed.now.events event + 1) lanes.new.items) }
 {
     let at = lane_for(alloc, lanes, indexed, thread, event, lock)?;
     if is_free(lanes[at].events.as_slice(), indexed, thread, event, lock) {
@@ -154,8 +156,9 @@ fn lane_for(
     event: u32,
     lock: u32,
 ) -> Result<usize, OutOfMemory>
-    requires known { AreLanesUpTo indexed.now.events lock thread (place_of indexed.now.events event) lanes.old.items }
-    ensures known { OnOk result (AreLanesUpTo indexed.now.events lock thread (place_of indexed.now.events event) lanes.new.items) }
+    requires named { thread < length indexed.now.threads }
+    requires known { AreLanesUpTo indexed.now.events (length indexed.now.threads) lock thread (place_of indexed.now.events event) lanes.old.items }
+    ensures known { OnOk result (AreLanesUpTo indexed.now.events (length indexed.now.threads) lock thread (place_of indexed.now.events event) lanes.new.items) }
     ensures last { IfOk result (λ at. at + 1 ≡ length lanes.new.items) }
     ensures thread { IfOk result (λ at. IsOneOf lanes.new.items at thread) }
 {
@@ -189,10 +192,12 @@ fn is_free(events: &[u32], indexed: &Indexed, thread: u32, event: u32, lock: u32
     requires members { (e : ℕ) → Contains events.now e ↔ (IsTaken indexed.now.events lock thread e × IsPassed indexed.now.events thread (place_of indexed.now.events event) e) }
     ensures { result ≡ is_outer indexed.now.events lock event }
 {
-    let Some(last) = events.last().copied() else {
+    let _len = indexed.len();
+    let count = events.len();
+    if count == 0 {
         return true;
-    };
-    match indexed.section(last) {
+    }
+    match indexed.section(events[count - 1]) {
         None => false,
         Some(end) => end < event,
     }
