@@ -1,5 +1,5 @@
 -- Rows that are joined: what they count is needed, and at the end it is all that is needed.
-use Rattle.std.proofs.Common.{◌≡◌, ◌≢◌, ◌⊎◌, ℕ, ◌+◌, ◌-◌, ◌*◌, ◌<◌, ◌≤◌, max, List, length, get_or, Option, Some, None, IfSome, refl, sym, ap, ◌∙◌, subst, arith, inl, inr}
+use Rattle.std.proofs.Common.{◌≡◌, ◌⊎◌, ℕ, ◌-◌, ◌*◌, ◌<◌, ◌≤◌, max, List, length, get_or, Option, Some, None, IfSome, refl, sym, ◌∙◌, subst, arith, inl, inr}
 use Rattle.std.proofs.lemmas.Bool.{cases_lt}
 use Rattle.std.proofs.lemmas.List.{get_or_past}
 use Rattle.std.proofs.lemmas.Option.{same_Some, none-some}
@@ -8,16 +8,16 @@ use Rattle.rapid_text.specs.declared.event.Event.{Event}
 use Rattle.trace_rules.specs.Rules.{IsDisciplined}
 use Rattle.event_index.specs.Events.{thread_at}
 use Rattle.event_index.specs.Lookups.{events_of, place_of}
-use Rattle.event_index.proofs.CallerLemmas.{one_thread, events_of-length}
+use Rattle.event_index.proofs.CallerLemmas.{events_of-length}
 use Rattle.shb_clocks.proofs.ReadLemmas.{thread_named}
 use Rattle.must_order.specs.Layout.{IsCounted}
-use Rattle.must_order.specs.MustBefore.{Link, IsMustBefore, same, link}
+use Rattle.must_order.specs.MustBefore.{IsMustBefore, same, link}
 use Rattle.must_order.specs.Telling.{TellsMust}
 use Rattle.must_order.proofs.CallerLemmas.{IsMustBefore-trans, IsMustBefore-le}
 use Rattle.must_order.proofs.BegunLemmas.{thread_cases}
 use Rattle.must_order.proofs.RowLemmas.{total, sum-grows}
-use Rattle.in_order.specs.InOrder.{EndsBetween, IsNeeded, started, closed}
-use Rattle.in_order.specs.Joining.{IsDownClosed, Joins, IsJoined, IsDue, IsClosedOn}
+use Rattle.in_order.specs.InOrder.{IsNeeded, started, closed}
+use Rattle.in_order.specs.Joining.{Joins, IsJoined, IsDue, IsClosedOn}
 use Rattle.in_order.specs.Layout.{IsEither, IsNeededRow}
 use Rattle.in_order.specs.declared.joining.Due.{Due}
 use Rattle.in_order.proofs.ClosedLemmas.{closed_must}
@@ -27,7 +27,8 @@ use Rattle.in_order.proofs.NeededLemmas.{IsClosedIn-needed, needed_in}
 
 -- an event's row, joined into another
 module _
-    (r : Recording) (well : IsWellFormed r) (rules : IsDisciplined r.events) (e : ℕ) (count : ℕ → ℕ → ℕ) (tells : TellsMust r.events (length r.threads) count) (in_trace : e < length r.events)
+    (r : Recording) (well : IsWellFormed r) (rules : IsDisciplined r.events) (e : ℕ) (count : ℕ → ℕ → ℕ)
+    (tells : TellsMust r.events (length r.threads) count) (in_trace : e < length r.events)
     (row new : List ℕ) (wide : length row ≡ length r.threads) (same_len : length new ≡ length row)
     (raised : (t : ℕ) → t < length r.threads → get_or new t 0 ≡ max (get_or row t 0) (count e t)) where
   abbrev T : List Event
@@ -179,7 +180,8 @@ module _
       omega (arith, grown, limit)
 
 -- what is due, and that nothing is, where the row is read as a slice
-pub due_read : (T : List Event) (row xs : List ℕ) (o : Option Due) → xs ≡ row → IfSome o (λ d. IsDue T (λ t. get_or xs t 0) d.end) → IfSome o (λ d. IsDue T (λ t. get_or row t 0) d.end)
+pub due_read : (T : List Event) (row xs : List ℕ) (o : Option Due) → xs ≡ row → IfSome o (λ d. IsDue T (λ t. get_or xs t 0) d.end)
+    → IfSome o (λ d. IsDue T (λ t. get_or row t 0) d.end)
 due_read T row xs o is due = subst (λ (ys : List ℕ). IfSome o (λ d. IsDue T (λ t. get_or ys t 0) d.end)) is due
 
 pub closed_read :

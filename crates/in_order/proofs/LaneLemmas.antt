@@ -1,8 +1,8 @@
 -- The lanes of a lock, with one event more.
-use Rattle.std.proofs.Common.{◌≡◌, ◌≢◌, ◌⊎◌, ◌↔◌, ℕ, ◌+◌, ◌-◌, ◌<◌, ◌≤◌, Bool, true, false, ltb, List, [], ◌∷◌, ◌++◌, Vec, Global, length, take, get_or, set, Option, Some, None, All, AllPairs, Contains, slice_get, refl, sym, ap, ◌∙◌, subst, arith, inl, inr, true≢false}
-use Rattle.std.proofs.lemmas.Bool.{cases_Bool, cases_lt, cases_eq, lt-ltb, ltb-true, false_from_ne_true}
+use Rattle.std.proofs.Common.{◌≡◌, ◌≢◌, ◌⊎◌, ◌↔◌, ℕ, ◌+◌, ◌-◌, ◌<◌, ◌≤◌, true, false, List, [], ◌∷◌, ◌++◌, Vec, Global, length, take, get_or, set, Some, AllPairs, Contains, slice_get, refl, sym, ap, ◌∙◌, subst, arith, inl, inr, true≢false}
+use Rattle.std.proofs.lemmas.Bool.{cases_lt, cases_eq, false_from_ne_true}
 use Rattle.std.proofs.lemmas.List.{length-append, length-set, get_or-set_same, get_or-set_other, get_or_default, get_or_append_left}
-use Rattle.std.proofs.lemmas.List.Elements.{All-push, All-get_or, Contains-append_left, Contains-append_right, Contains-append_cases, Contains-get_or, Contains-push, Contains-push_cases}
+use Rattle.std.proofs.lemmas.List.Elements.{All-push, Contains-append_left, Contains-get_or, Contains-push, Contains-push_cases}
 use Rattle.std.proofs.lemmas.List.Quantifiers.{all_pairs_push}
 use Rattle.std.proofs.lemmas.Option.{slice_get_within, get_or_from_slice_get, slice_get-get_or}
 use Rattle.rapid_text.specs.declared.event.Event.{Event}
@@ -18,7 +18,7 @@ use Rattle.shb_clocks.proofs.PlaceLemmas.{place_of-le_from, place_of-later, le-f
 use Rattle.must_order.specs.Sections.{is_outer}
 use Rattle.must_order.proofs.SectionLemmas.{section-open}
 use Rattle.must_order.proofs.TimelineLemmas.{IsOuter, is_outer-from, IsOuter-test, held_since, section-since}
-use Rattle.in_order.specs.Acquires.{IsOneOf, IsTaken, IsPassed, IsLaneUpTo, AreLanesUpTo, AreTakenUpTo, IsLane, AreLanes, AreTaken}
+use Rattle.in_order.specs.Acquires.{IsOneOf, IsTaken, IsPassed, IsLaneUpTo, AreLanesUpTo, AreTakenUpTo, AreTaken}
 use Rattle.in_order.specs.declared.acquires.Lane.{Lane}
 use Rattle.witness_search.proofs.RisingLemmas.{no_member}
 
@@ -70,7 +70,8 @@ module _ (T : List Event) (t k : ℕ) where
       }
 
       -- the lane that takes it
-      lane_more : (lane : Lane) (new : Vec ℕ Global) → lane.thread ≡ t → is_outer T l e ≡ true → new.items ≡ lane.events.items ++ e ∷ [] → IsLaneUpTo T l t k lane
+      lane_more : (lane : Lane) (new : Vec ℕ Global) → lane.thread ≡ t → is_outer T l e ≡ true → new.items ≡ lane.events.items ++ e ∷ []
+          → IsLaneUpTo T l t k lane
           → IsLaneUpTo T l t (k + 1) (record { thread = lane.thread; events = new })
       lane_more lane new own takes pushed is =
           let xs : List ℕ = lane.events.items in
@@ -115,7 +116,8 @@ module _ (T : List Event) (t k : ℕ) where
       -- the last lane is the thread's, and takes the event
       module _
           (lanes : List Lane) (n : ℕ) (lane : Lane) (new : Vec ℕ Global) (last : n + 1 ≡ length lanes) (own : IsOneOf lanes n t)
-          (at : lane ≡ get_or lanes n lane) (takes : is_outer T l e ≡ true) (pushed : new.items ≡ lane.events.items ++ e ∷ []) (are : AreLanesUpTo T width l t k lanes) where
+          (at : lane ≡ get_or lanes n lane) (takes : is_outer T l e ≡ true) (pushed : new.items ≡ lane.events.items ++ e ∷ [])
+          (are : AreLanesUpTo T width l t k lanes) where
         abbrev pub grown : Lane
         grown = record { thread = lane.thread; events = new }
 
@@ -147,7 +149,8 @@ module _ (T : List Event) (t k : ℕ) where
                 (lane_more lane new mine takes pushed (subst (IsLaneUpTo T l t k) (sym at) (are.sound n lane (omega (arith, last))))))
             | inr other ↦
                 let low : i < length lanes = omega (arith, lt, long) in
-                let before_it : (get_or lanes i d).thread < (get_or lanes n d).thread = are.rising i n d (omega (arith, low, last, other)) (omega (arith, last)) in
+                let before_it : (get_or lanes i d).thread < (get_or lanes n d).thread = are.rising i n d (omega (arith, low, last, other))
+                (omega (arith, last)) in
                 subst (IsLaneUpTo T l t (k + 1)) (sym (get_or-set_other lanes n i grown d other))
                 (lane_same (get_or lanes i d)
                 (λ taken. let same_thread = one_thread T e (get_or lanes i d).thread t taken.1 of in omega (arith, same_thread, before_it, own d))
@@ -177,7 +180,8 @@ module _ (T : List Event) (width l t k : ℕ) (lanes : List Lane) (are : AreLane
       let le : (get_or lanes n d).thread ≤ t = are.threads n d top in
       elim (cases_eq i n) [
         | inl one ↦ let same : (get_or lanes i d).thread ≡ (get_or lanes n d).thread = ap (λ j. (get_or lanes j d).thread) one in omega (arith, same, le, apart)
-        | inr before_it ↦ let low : (get_or lanes i d).thread < (get_or lanes n d).thread = are.rising i n d (omega (arith, lt, before_it)) top in omega (arith, low, le)
+        | inr before_it ↦ let low : (get_or lanes i d).thread < (get_or lanes n d).thread = are.rising i n d (omega (arith, lt, before_it)) top in omega
+            (arith, low, le)
       ]
 
   -- a lane of its own
@@ -197,8 +201,12 @@ module _ (T : List Event) (width l t k : ℕ) (lanes : List Lane) (are : AreLane
           );
         });
         complete = λ a u taken passed.
-            let found = are.complete a u taken passed in
-            (found.0, omega (arith, found.1, length-append lanes (lane ∷ [])), λ d. ap (λ (x : Lane). x.thread) (get_or_append_left lanes (lane ∷ []) d found.0 found.1) ∙ found.2 d);
+            let found = are.complete a u taken passed in (
+              found.0,
+              omega (arith, found.1, length-append lanes (lane ∷ [])),
+              λ d. ap (λ (x : Lane). x.thread)
+                  (get_or_append_left lanes (lane ∷ []) d found.0 found.1) ∙ found.2 d,
+            );
         threads = All-push (λ x. x.thread ≤ t) lanes lane are.threads (omega (arith, own));
         rising = all_pairs_push (λ a b. a.thread < b.thread) lanes lane are.rising (λ i d lt. omega (arith, low i d lt, own));
       }
@@ -268,7 +276,8 @@ module _
         let one : here.0 ≡ t = one_thread T e here.0 t here.1.of of in
         let h = (members last).0 it in
         let outer = IsOuter-test T last l h.0.0 in
-        let held : 0 < hold_count (take e T) t l = section-open T rules last l t e outer.1.acquires h.0.1 late last_early (omega (arith, thread_within T e t of)) in
+        let held : 0 < hold_count (take e T) t l = section-open T rules last l t e outer.1.acquires h.0.1 late last_early
+        (omega (arith, thread_within T e t of)) in
         let free : hold_count (take e T) t l ≡ 0 = sym (ap (λ u. hold_count (take e T) u l) one) ∙ here.1.free in
         omega (arith, held, free))
 
@@ -278,13 +287,15 @@ last_top xs rising n d long a it =
     let here : get_or xs it.0 d ≡ a = get_or_default xs it.0 d a it.1 ∙ it.2 in
     elim (cases_eq it.0 n) [
       | inl one ↦ omega (arith, here, ap (λ k. get_or xs k d) one)
-      | inr other ↦ let below : get_or xs it.0 d < get_or xs n d = rising it.0 n d (omega (arith, it.1, long, other)) (omega (arith, long)) in omega (arith, below, here)
+      | inr other ↦ let below : get_or xs it.0 d < get_or xs n d = rising it.0 n d (omega (arith, it.1, long, other)) (omega (arith, long)) in omega
+          (arith, below, here)
     ]
 
 -- the lanes of all locks
 module _ (r : Recording) (t k : ℕ) where
   -- an event that takes no lock anew
-  pub AreTakenUpTo-same : (by_lock : List (Vec Lane Global)) (e : ℕ) → thread_at r.events e ≡ Some t → place_of r.events e ≡ k → ((l : ℕ) → is_outer r.events l e ≡ false)
+  pub AreTakenUpTo-same : (by_lock : List (Vec Lane Global)) (e : ℕ) → thread_at r.events e ≡ Some t → place_of r.events e ≡ k
+      → ((l : ℕ) → is_outer r.events l e ≡ false)
       → AreTakenUpTo r t k by_lock → AreTakenUpTo r t (k + 1) by_lock
   AreTakenUpTo-same by_lock e of next none are = record {
     len = are.len;
@@ -292,8 +303,10 @@ module _ (r : Recording) (t k : ℕ) where
   }
 
   -- an acquire of a lock
-  pub AreTakenUpTo-set : (by_lock : List (Vec Lane Global)) (e l : ℕ) (new : Vec Lane Global) → thread_at r.events e ≡ Some t → place_of r.events e ≡ k → op_at r.events e ≡ Some (Acquire l)
-      → l < length by_lock → AreLanesUpTo r.events (length r.threads) l t (k + 1) new.items → AreTakenUpTo r t k by_lock → AreTakenUpTo r t (k + 1) (set by_lock l new)
+  pub AreTakenUpTo-set : (by_lock : List (Vec Lane Global)) (e l : ℕ) (new : Vec Lane Global) → thread_at r.events e ≡ Some t → place_of r.events e ≡ k
+      → op_at r.events e ≡ Some (Acquire l)
+      → l < length by_lock → AreLanesUpTo r.events (length r.threads) l t (k + 1) new.items → AreTakenUpTo r t k by_lock → AreTakenUpTo r t (k + 1)
+      (set by_lock l new)
   AreTakenUpTo-set by_lock e l new of next op low here are = record {
     len = length-set by_lock l new ∙ are.len;
     lanes = λ m v at.
@@ -302,12 +315,14 @@ module _ (r : Recording) (t k : ℕ) where
         elim (cases_eq m l) [
           | inl one ↦
               let same_lanes : new ≡ v = sym (get_or-set_same by_lock l new v low) ∙ sym (ap (λ j. get_or (set by_lock l new) j v) one) ∙ value in
-              subst (λ (j : ℕ). AreLanesUpTo r.events (length r.threads) j t (k + 1) v.items) (sym one) (subst (λ (w : Vec Lane Global). AreLanesUpTo r.events (length r.threads) l t (k + 1) w.items) same_lanes here)
+              subst (λ (j : ℕ). AreLanesUpTo r.events (length r.threads) j t (k + 1) v.items) (sym one)
+              (subst (λ (w : Vec Lane Global). AreLanesUpTo r.events (length r.threads) l t (k + 1) w.items) same_lanes here)
           | inr other ↦
               let long : m < length by_lock = omega (arith, inside, length-set by_lock l new) in
               let old : get_or by_lock m v ≡ v = sym (get_or-set_other by_lock l m new v other) ∙ value in
               let found : slice_get by_lock m ≡ Some v = slice_get-get_or by_lock m v long ∙ ap Some old in
-              AreLanesUpTo-same r.events t k e of next (length r.threads) m v.items (is_outer-not r.events e m (λ also. other (one_lock_of m l (sym also ∙ op)))) (are.lanes m v found)
+              AreLanesUpTo-same r.events t k e of next (length r.threads) m v.items
+              (is_outer-not r.events e m (λ also. other (one_lock_of m l (sym also ∙ op)))) (are.lanes m v found)
         ];
   }
     where
@@ -318,7 +333,8 @@ place_low : (T : List Event) (e : ℕ) (v : Event) → slice_get T e ≡ Some v 
 place_low T e v at = slice_get_within (events_of T v.thread) (place_of T e) e (events_of-place T e v at)
 
 -- all events of a thread are passed
-pub AreTakenUpTo-next : (r : Recording) (t : ℕ) (by_lock : List (Vec Lane Global)) → AreTakenUpTo r t (length (events_of r.events t)) by_lock → AreTakenUpTo r (t + 1) 0 by_lock
+pub AreTakenUpTo-next : (r : Recording) (t : ℕ) (by_lock : List (Vec Lane Global)) → AreTakenUpTo r t (length (events_of r.events t)) by_lock
+    → AreTakenUpTo r (t + 1) 0 by_lock
 AreTakenUpTo-next r t by_lock are = record {
   len = are.len;
   lanes = λ l v at.
@@ -351,7 +367,11 @@ AreTakenUpTo-next r t by_lock are = record {
           | inl before_it ↦ inl before_it
           | inr late ↦
               let one : is.thread ≡ t = omega (arith, low, late) in
-              inr (one, (let v = thread_event r.events a t (is.of ∙ ap Some one) in omega (arith, place_low r.events a v.0 v.1, ap (λ u. length (events_of r.events u)) v.2)))
+              inr (
+                one,
+                (let v = thread_event r.events a t (is.of ∙ ap Some one) in omega
+                    (arith, place_low r.events a v.0 v.1, ap (λ u. length (events_of r.events u)) v.2)),
+              )
         ]
         | inr here ↦ absurd (omega (arith, here.1))
       ];

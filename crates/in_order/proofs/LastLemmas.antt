@@ -1,5 +1,5 @@
 -- The last acquires of a lock that a row counts, and the ends of the sections before them.
-use Rattle.std.proofs.Common.{◌≡◌, ◌≢◌, ℕ, ◌+◌, ◌-◌, ◌<◌, ◌≤◌, true, false, leb, Vec, Global, List, [], ◌∷◌, length, take, get_or, Option, Some, None, IfSome, AllPairs, All, Contains, refl, sym, ap, ◌∙◌, subst, arith, inl, inr, true≢false}
+use Rattle.std.proofs.Common.{◌≡◌, ◌≢◌, ℕ, ◌-◌, ◌<◌, ◌≤◌, true, false, leb, Vec, Global, List, [], ◌∷◌, length, take, get_or, Option, Some, None, IfSome, AllPairs, Contains, refl, sym, ap, ◌∙◌, subst, arith, inl, inr, true≢false}
 use Rattle.std.specs.List.{slice_get}
 use Rattle.std.specs.List.Sorted.{IsPartitionPoint, IsPartitionedBy, IsNonDecreasingBy}
 use Rattle.std.proofs.lemmas.Bool.{cases_eq, cases_lt, le-leb, leb-true}
@@ -12,7 +12,7 @@ use Rattle.rapid_text.specs.declared.event.Event.{Event}
 use Rattle.rapid_text.specs.declared.event.Op.TheVariants.{Acquire}
 use Rattle.trace_rules.specs.Rules.{IsDisciplined, hold_count}
 use Rattle.event_index.specs.Events.{op_at, thread_at}
-use Rattle.event_index.specs.Lookups.{events_of, place_of, section_end}
+use Rattle.event_index.specs.Lookups.{events_of, section_end}
 use Rattle.event_index.proofs.CallerLemmas.{one_thread, op_event, place_of-events_of, thread_here, thread_within}
 use Rattle.shb_clocks.proofs.PlaceLemmas.{le-from_place_of}
 use Rattle.must_order.specs.Layout.{IsCounted}
@@ -21,7 +21,6 @@ use Rattle.must_order.proofs.ReadLemmas.{event_named}
 use Rattle.must_order.proofs.SectionLemmas.{section-open, section_end-is}
 use Rattle.must_order.proofs.TimelineLemmas.{IsOuter, IsHeldSince, is_outer-from, IsOuter-test, held_since, section-since}
 use Rattle.in_order.specs.Acquires.{IsOneOf, IsTaken, IsLane, AreLanes, AreTaken, AreShared}
-use Rattle.in_order.specs.InOrder.{EndsBetween}
 use Rattle.in_order.specs.Joining.{IsEndOf, IsLastUpTo, IsLastCounted, IsCountedTaken, IsUpToLatest, AreEnded, IsDue, IsClosedOn}
 use Rattle.in_order.specs.declared.acquires.Lane.{Lane}
 use Rattle.in_order.specs.declared.lasting.Latest.{Latest}
@@ -122,7 +121,8 @@ module _ (r : Recording) (row : ℕ → ℕ) (l : ℕ) (lane : Lane) (is : IsLan
           | inl lt ↦ lt
           | inr late ↦
               let opened : 0 < hold_count (take q T) one.0 l =
-              section-open T rules p l one.0 q one.1.acquires one.1.of (λ j is_end. let same_end : k ≡ j = same_Some k j (sym ends ∙ is_end) in omega (arith, same_end, late)) early
+              section-open T rules p l one.0 q one.1.acquires one.1.of
+              (λ j is_end. let same_end : k ≡ j = same_Some k j (sym ends ∙ is_end) in omega (arith, same_end, late)) early
               (let within = member_within q also in omega (arith, within)) in
               let free : hold_count (take q T) one.0 l ≡ 0 = ap (λ u. hold_count (take q T) u l) same_thread ∙ two.1.free in
               absurd (omega (arith, opened, free))
@@ -217,7 +217,8 @@ module _ (T : List Event) (rules : IsDisciplined T) (l u t p r e : ℕ) (other :
   pub begun_at : (o : ℕ) × IsHeldSince T r u l o × (o ≤ p)
   begun_at =
       let end = section_end-is T p l u r first of_p ends in
-      let late : (j : ℕ) → j ≤ r → (k : ℕ) → section_end T p ≡ Some k → j ≤ k = λ j le k is_end. let one : k ≡ r = same_Some k r (sym is_end ∙ ends) in omega (arith, one, le) in
+      let late : (j : ℕ) → j ≤ r → (k : ℕ) → section_end T p ≡ Some k → j ≤ k = λ j le k is_end. let one : k ≡ r = same_Some k r
+      (sym is_end ∙ ends) in omega (arith, one, le) in
       let opened : 0 < hold_count (take r T) u l = section-open T rules p l u r first of_p (late r (omega arith)) end.0 (omega (arith, end.1)) in
       let since = held_since T rules r u l (omega (arith, end.1)) opened in (
         since.0,
@@ -232,13 +233,17 @@ module _ (T : List Event) (rules : IsDisciplined T) (l u t p r e : ℕ) (other :
       )
 
 -- a list with a place has an element
-an_element : {X : Type 0} (xs : List X) (i : ℕ) → i < length xs → X
+an_element : {X : Type 0} (elements : List X) (i : ℕ) → i < length elements → X
 an_element [] i lt = absurd (omega arith)
-an_element (x ∷ xs) i lt = x
+an_element (x ∷ rest) i lt = x
 
 -- a lane that was read
 pub lane_read : (lanes : List Lane) (at i : ℕ) (lane d : Lane) → at < length lanes → i ≡ at → lane ≡ get_or lanes at lane → lane ≡ get_or lanes i d
 lane_read lanes at i lane d low one read = read ∙ get_or_default lanes at lane d low ∙ ap (λ k. get_or lanes k d) (sym one)
+
+-- events of two threads are two
+two_events : (T : List Event) (o m u w : ℕ) → thread_at T o ≡ Some u → thread_at T m ≡ Some w → u ≢ w → o ≢ m
+two_events T o m u w of also apart one = apart (one_thread T o u w of (ap (thread_at T) one ∙ also))
 
 same_some : (o : Option ℕ) (w u : ℕ) → o ≡ Some w → u ≡ w → o ≡ Some u
 same_some o w u is one = is ∙ ap Some (sym one)
@@ -254,7 +259,8 @@ module _ (T : List Event) (row : ℕ → ℕ) (xs : List ℕ) where
   pub up_to_none : (o : Option Latest) → ((q : ℕ) → Contains xs q → ¬ IsCounted T row q) → IsUpToLatest T row o xs
   up_to_none o none q it counted = absurd (none q it counted)
 
-  pub up_to_grows : (o n : Option Latest) → IfSome o (λ x. IfSome n (λ y. x.event ≤ y.event)) → (n ≡ None → o ≡ None) → IsUpToLatest T row o xs → IsUpToLatest T row n xs
+  pub up_to_grows : (o n : Option Latest) → IfSome o (λ x. IfSome n (λ y. x.event ≤ y.event)) → (n ≡ None → o ≡ None) → IsUpToLatest T row o xs
+      → IsUpToLatest T row n xs
   up_to_grows None n grows stays up_to q it counted = let old = up_to q it counted in absurd (none-some old.0 old.1)
   up_to_grows (Some m) None grows stays up_to q it counted = absurd (none-some m (sym (stays refl)))
   up_to_grows (Some m) (Some n) grows stays up_to q it counted =
@@ -267,7 +273,8 @@ module _
     (last : (i : ℕ) (d : Lane) → i < length lanes → IsUpToLatest r.events row latest (get_or lanes i d).events.items) where
   -- a counted event that took the lock lies in a lane, and is not later than the latest
   in_lane : (f u : ℕ) → IsOuter r.events f l u → IsCounted r.events row f
-      → (d : Lane) × (i : ℕ) × (i < length lanes) × ((get_or lanes i d).thread ≡ u) × Contains (get_or lanes i d).events.items f × (m : Latest) × (latest ≡ Some m) × (f ≤ m.event)
+      → (d : Lane) × (i : ℕ) × (i < length lanes) × ((get_or lanes i d).thread ≡ u) × Contains
+      (get_or lanes i d).events.items f × (m : Latest) × (latest ≡ Some m) × (f ≤ m.event)
   in_lane f u outer counted =
       let taken : IsTaken r.events l u f = (is_outer-from r.events f l u outer, outer.of) in
       let found = are.complete f u taken in
@@ -279,7 +286,8 @@ module _
       (d, found.0, found.1, mine, it, up_to.0, up_to.1, up_to.2)
 
   -- the end of the section that began at o is counted, and is not before k
-  from_end : (x : Option ℕ) (o k u : ℕ) (m : Latest) → section_end r.events o ≡ x → IsHeldSince r.events k u l o → IsCountedTaken r.events row l m → o < m.event → u ≢ m.thread
+  from_end : (x : Option ℕ) (o k u : ℕ) (m : Latest) → section_end r.events o ≡ x → IsHeldSince r.events k u l o → IsCountedTaken r.events row l m
+      → o < m.event → u ≢ m.thread
       → thread_at r.events k ≡ Some u → ((j : ℕ) → section_end r.events o ≡ Some j → IsCounted r.events row j) → IsCounted r.events row k
   from_end None o k u m none since taken low apart of_k ended =
       absurd (section-closed r.events rules o m.event l u m.thread since.outer.acquires since.outer.of taken.taken.1 apart
@@ -290,7 +298,8 @@ module _
 
   pub closed_on :
       IfSome latest (IsCountedTaken r.events row l)
-      → ((m : Latest) → latest ≡ Some m → (i : ℕ) (d : Lane) → i < length lanes → (get_or lanes i d).thread ≢ m.thread → AreEnded r.events row (get_or lanes i d).events.items)
+      → ((m : Latest) → latest ≡ Some m → (i : ℕ) (d : Lane) → i < length lanes → (get_or lanes i d).thread ≢ m.thread → AreEnded r.events row
+      (get_or lanes i d).events.items)
       → IsClosedOn r.events row l
   closed_on counted ended p k e s same_lock has also =
       let T : List Event = r.events in
@@ -311,10 +320,11 @@ module _
       let end = section_end-is T p l u k first s.of_owner s.ends in
       elim (cases_eq u m.thread) [
         | inl one ↦
-            counted_thread T row k m.event u end.2 (same_some (thread_at T m.event) m.thread u taken.taken.1 one) (omega (arith, next.3, f_lane.7, same_latest)) taken.counted
+            counted_thread T row k m.event u end.2 (same_some (thread_at T m.event) m.thread u taken.taken.1 one)
+            (omega (arith, next.3, f_lane.7, same_latest)) taken.counted
         | inr apart ↦
-            let low : o < m.event =
-            (let differ : o ≢ m.event = λ one. apart (one_thread T o u m.thread from.1.outer.of (ap (thread_at T) one ∙ taken.taken.1)) in omega (arith, o_lane.7, differ)) in
+            let differ = two_events T o m.event u m.thread from.1.outer.of taken.taken.1 apart in
+            let low : o < m.event = omega (arith, o_lane.7, differ) in
             let all = ended m known o_lane.1 o_lane.0 o_lane.2 (λ one. apart (sym o_lane.3 ∙ one)) in
             let has_o = counted_thread T row o p u from.1.outer.of s.of_owner from.2 has in
             from_end (section_end T o) o k u m refl from.1 taken low apart end.2 (λ j is_end. all o j o_lane.4 has_o is_end)
@@ -323,7 +333,8 @@ module _
 -- where the sections of the shared locks are closed all are: between two threads a lock is shared
 module _
     (r : Recording) (rules : IsDisciplined r.events) (well : IsWellFormed r) (by_lock : List (Vec Lane Global)) (shared : List ℕ)
-    (taken : AreTaken r by_lock) (are : AreShared by_lock shared) (row : ℕ → ℕ) (all : (i : ℕ) → i < length shared → IsClosedOn r.events row (get_or shared i 0)) where
+    (taken : AreTaken r by_lock) (are : AreShared by_lock shared) (row : ℕ → ℕ)
+    (all : (i : ℕ) → i < length shared → IsClosedOn r.events row (get_or shared i 0)) where
   lock_named : (p l : ℕ) → op_at r.events p ≡ Some (Acquire l) → l < length by_lock
   lock_named p l op =
       let v = op_event r.events p (Acquire l) op in

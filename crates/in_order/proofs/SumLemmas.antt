@@ -1,5 +1,5 @@
 -- How many events a row counts, as the sum of its counts.
-use Rattle.std.proofs.Common.{◌≡◌, ◌≢◌, ◌⊎◌, ℕ, zero, suc, ◌+◌, ◌<◌, ◌≤◌, ◌==◌, min, List, [], length, take, get_or, count_by, Some, refl, sym, ap, ◌∙◌, subst, arith, add-one, inl, inr}
+use Rattle.std.proofs.Common.{◌≡◌, ◌≢◌, ℕ, zero, suc, ◌+◌, ◌<◌, ◌≤◌, ◌==◌, min, List, length, get_or, Some, refl, sym, ap, ◌∙◌, subst, arith, add-one, inl, inr}
 use Rattle.std.proofs.lemmas.Bool.{cases_lt, cases_eq, eq-eqb, ne_eqb}
 use Rattle.std.proofs.lemmas.List.Sums.{count_by_more_yes, count_by_more_no}
 use Rattle.std.proofs.lemmas.Option.{get_or_from_slice_get, slice_get-get_or}
@@ -7,13 +7,11 @@ use Rattle.std.specs.List.{slice_get}
 use Rattle.rapid_text.specs.Recording.{Recording, IsWellFormed}
 use Rattle.rapid_text.specs.declared.event.Event.{Event}
 use Rattle.rapid_text.specs.declared.event.Op.TheVariants.{Read}
-use Rattle.event_index.specs.Events.{thread_at}
 use Rattle.event_index.specs.Lookups.{count_before, events_of, place_of}
 use Rattle.event_index.proofs.CallerLemmas.{place_of-count, thread_here, one_thread}
 use Rattle.event_index.proofs.StepLemmas.{count_before-le}
 use Rattle.event_index.proofs.PlaceLemmas.{length-events_before}
 use Rattle.shb_clocks.proofs.ReadLemmas.{thread_named}
-use Rattle.must_order.specs.Layout.{IsCounted}
 use Rattle.in_order.specs.Layout.{IsListLength}
 use Rattle.in_order.proofs.SizeLemmas.{IsLengthUpTo, IsLengthUpTo-start, IsLengthUpTo-push, IsLengthUpTo-skip, IsLengthUpTo-end}
 
@@ -125,7 +123,9 @@ module _ (r : Recording) (well : IsWellFormed r) (row : ℕ → ℕ) where
         (λ t lt. omega (arith, within t, length-events_before T t (length T) (omega arith)))
 
     pub IsListLength-sum : IsListLength T row (sum_to row width)
-    IsListLength-sum = IsLengthUpTo-end T row (length T) (sum_to row width) (subst (IsLengthUpTo T row (length T)) sum_is (sum_up (length T) (omega arith))) refl
+    IsListLength-sum =
+        IsLengthUpTo-end T row (length T) (sum_to row width)
+        (subst (IsLengthUpTo T row (length T)) sum_is (sum_up (length T) (omega arith))) refl
 
     -- no sum of counts is greater
     pub sum_to-bound : (n : ℕ) → n ≤ width → sum_to row n ≤ length T

@@ -189,7 +189,8 @@ fn is_free(events: &[u32], indexed: &Indexed, thread: u32, event: u32, lock: u32
     requires of { thread_at indexed.now.events event ≡ Some thread }
     requires acquires { op_at indexed.now.events event ≡ Some (Acquire lock) }
     requires rising { AllPairs (λ x y. x < y) events.now }
-    requires members { (e : ℕ) → Contains events.now e ↔ (IsTaken indexed.now.events lock thread e × IsPassed indexed.now.events thread (place_of indexed.now.events event) e) }
+    requires members { (e : ℕ) → Contains events.now e
+        ↔ (IsTaken indexed.now.events lock thread e × IsPassed indexed.now.events thread (place_of indexed.now.events event) e) }
     ensures { result ≡ is_outer indexed.now.events lock event }
 {
     let _len = indexed.len();

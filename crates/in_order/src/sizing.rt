@@ -1,7 +1,6 @@
 //! How long the list in order is, and of how many threads, without making it.
 ghost use Rattle.std.specs.Prelude.{◌≡◌, ◌≢◌, ◌≤◌, ℕ, length, slice_index, IsOk, IfOk, IfErr};
 ghost use Rattle.event_index.specs.Lookups.{events_of};
-ghost use Rattle.in_order.specs.InOrder.{IsBaseOfPair};
 ghost use Rattle.in_order.specs.Layout.{IsListLength, IsThreadCount};
 ghost use Rattle.in_order.specs.Laws.{HasListInOrder};
 ghost use Rattle.in_order.specs.Refusals.{IsNeverShownInOrder, IsRefusalOf};

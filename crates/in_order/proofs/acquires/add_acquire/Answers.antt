@@ -1,4 +1,4 @@
-use Rattle.std.proofs.Common.{◌≡◌, ℕ, length, refl, sym, ◌∙◌, arith}
+use Rattle.std.proofs.Common.{length, refl, sym, ◌∙◌, arith}
 use Rattle.event_index.specs.Lookups.{place_of}
 use Rattle.in_order.proofs.LaneLemmas.{AreLanesUpTo-more, AreLanesUpTo-same, rising_read, members_read}
 use Rattle.in_order.proofs.acquires.add_acquire.Goals as goal
@@ -6,13 +6,15 @@ use Rattle.in_order.proofs.acquires.add_acquire.Goals as goal
 pub is_free-requires-clause-rising : goal.is_free-requires-clause-rising
 is_free-requires-clause-rising c =
     let r = c.args.indexed.now in
-    rising_read r.events (length r.threads) c.args.lock c.args.thread (place_of r.events c.args.event) c.lane_for.new.lanes.items c.in_ok-at.ensures.known c.in_ok-at.at
+    rising_read r.events (length r.threads) c.args.lock c.args.thread (place_of r.events c.args.event) c.lane_for.new.lanes.items c.in_ok-at.ensures.known
+    c.in_ok-at.at
     (omega (arith, c.in_ok-at.ensures.last)) c.in_ok-at.ensures.thread c.index.result.now c.index.ensures c.as_slice.result.now c.as_slice.ensures.value
 
 pub is_free-requires-clause-members : goal.is_free-requires-clause-members
 is_free-requires-clause-members c =
     let r = c.args.indexed.now in
-    members_read r.events (length r.threads) c.args.lock c.args.thread (place_of r.events c.args.event) c.lane_for.new.lanes.items c.in_ok-at.ensures.known c.in_ok-at.at
+    members_read r.events (length r.threads) c.args.lock c.args.thread (place_of r.events c.args.event) c.lane_for.new.lanes.items c.in_ok-at.ensures.known
+    c.in_ok-at.at
     (omega (arith, c.in_ok-at.ensures.last)) c.in_ok-at.ensures.thread c.index.result.now c.index.ensures c.as_slice.result.now c.as_slice.ensures.value
 
 pub returns-in_ok-push : goal.returns-in_ok-push

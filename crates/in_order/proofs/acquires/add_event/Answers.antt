@@ -1,6 +1,5 @@
-use Rattle.std.proofs.Common.{◌≡◌, ℕ, ◌<◌, Option, Some, IfSome, length, refl, sym, ap, ◌∙◌, subst, arith}
+use Rattle.std.proofs.Common.{◌<◌, Some, length, refl, sym, ap, ◌∙◌, arith}
 use Rattle.std.proofs.lemmas.Option.{slice_get-get_or}
-use Rattle.rapid_text.specs.declared.event.Op.TheVariants.{Acquire}
 use Rattle.event_index.specs.Lookups.{place_of}
 use Rattle.must_order.proofs.TableLemmas.{is_outer-not}
 use Rattle.in_order.proofs.LaneLemmas.{AreTakenUpTo-same, AreTakenUpTo-set}
@@ -19,7 +18,8 @@ returns-in_ok-add_acquire c =
     let by_lock = c.args.by_lock.now.items in
     let l = c.in-Some.lock in
     let low : l < length by_lock = omega (arith, c.in-Some.ensures.named, c.requires.known.len) in
-    AreTakenUpTo-set r c.args.thread (place_of r.events c.args.event) by_lock c.args.event l c.add_acquire.new.lanes c.requires.of refl c.in-Some.ensures.acquires low
+    AreTakenUpTo-set r c.args.thread (place_of r.events c.args.event) by_lock c.args.event l c.add_acquire.new.lanes c.requires.of refl
+    c.in-Some.ensures.acquires low
     c.in_ok-add_acquire.ensures c.requires.known
 
 pub returns-in_default : goal.returns-in_default

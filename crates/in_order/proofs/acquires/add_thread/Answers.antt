@@ -1,5 +1,5 @@
-use Rattle.std.proofs.Common.{◌≡◌, ℕ, ◌+◌, ◌<◌, length, get_or, sym, ap, subst, arith}
-use Rattle.event_index.specs.Lookups.{events_of, place_of}
+use Rattle.std.proofs.Common.{◌≡◌, ℕ, ◌+◌, ◌<◌, length, sym, ap, subst, arith}
+use Rattle.event_index.specs.Lookups.{events_of}
 use Rattle.in_order.specs.Acquires.{AreTakenUpTo}
 use Rattle.in_order.proofs.LaneLemmas.{AreTakenUpTo-next}
 use Rattle.in_order.proofs.TakeLemmas.{read_event}
@@ -12,7 +12,8 @@ add_event-requires-clause-known c =
     let k = c.loop-place.place in
     let xs = c.thread_events-events.result.now in
     let low : k < length (events_of r.events t) = omega (arith, c.loop-place-test.true, ap length c.thread_events-events.ensures.events) in
-    subst (λ (n : ℕ). AreTakenUpTo r t n c.loop-place.by_lock.items) (sym (read_event r.events t k xs c.thread_events-events.ensures.events low)) c.loop-place.invariant
+    subst (λ (n : ℕ). AreTakenUpTo r t n c.loop-place.by_lock.items) (sym (read_event r.events t k xs c.thread_events-events.ensures.events low))
+    c.loop-place.invariant
 
 pub loop-place-preserved : goal.loop-place-preserved
 loop-place-preserved c =
@@ -21,7 +22,8 @@ loop-place-preserved c =
     let k = c.loop-place.place in
     let xs = c.thread_events-events.result.now in
     let low : k < length (events_of r.events t) = omega (arith, c.loop-place-test.true, ap length c.thread_events-events.ensures.events) in
-    subst (λ (n : ℕ). AreTakenUpTo r t (n + 1) c.add_event.new.by_lock.items) (read_event r.events t k xs c.thread_events-events.ensures.events low) c.in_ok-add_event.ensures
+    subst (λ (n : ℕ). AreTakenUpTo r t (n + 1) c.add_event.new.by_lock.items) (read_event r.events t k xs c.thread_events-events.ensures.events low)
+    c.in_ok-add_event.ensures
 
 pub returns : goal.returns
 returns c =

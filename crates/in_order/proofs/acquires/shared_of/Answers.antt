@@ -1,4 +1,4 @@
-use Rattle.std.proofs.Common.{◌≡◌, ℕ, ◌+◌, ◌<◌, List, Vec, Global, All, Contains, ◌∷◌, [], ◌++◌, Some, length, sym, ap, ◌∙◌, subst, arith, inl, inr}
+use Rattle.std.proofs.Common.{◌≡◌, ℕ, ◌<◌, List, Vec, Global, All, Contains, ◌∷◌, [], ◌++◌, Some, length, sym, ap, ◌∙◌, subst, arith, inl, inr}
 use Rattle.std.specs.List.{slice_get}
 use Rattle.std.proofs.lemmas.Bool.{cases_eq}
 use Rattle.std.proofs.lemmas.List.{get_or_default}
@@ -15,7 +15,8 @@ loop-lock-preserved c =
     let shared = c.loop-lock.shared.items in
     let inv = c.loop-lock.invariant in
     let read : (v : Vec Lane Global) → slice_get by_lock n ≡ Some v → c.index-by_lock-lock.result ≡ v = λ v at.
-    c.index-by_lock-lock.is ∙ get_or_default by_lock n c.index-by_lock-lock.result v (slice_get_within by_lock n v at) ∙ get_or_from_slice_get by_lock n v v at in
+    c.index-by_lock-lock.is ∙ get_or_default by_lock n c.index-by_lock-lock.result v
+    (slice_get_within by_lock n v at) ∙ get_or_from_slice_get by_lock n v v at in
     let low : n < length by_lock = omega (arith, c.loop-lock-test.true, c.requires.len) in
     elim c.if-len-gt1.branch [
       | then-len-gt1+in_ok-push w ↦

@@ -22,7 +22,8 @@ loop-at-preserved c =
     let shared = c.args.shared.now in
     λ i ge lt. elim (cases_eq i c.loop-at.at) [
       | inl one ↦
-          subst (λ (k : ℕ). IsClosedOn c.args.indexed.now.events (λ t. get_or c.args.row.now t 0) (get_or shared k 0)) (sym one) (c.in_default.ensures.none refl)
+          subst (λ (k : ℕ). IsClosedOn c.args.indexed.now.events (λ t. get_or c.args.row.now t 0) (get_or shared k 0)) (sym one)
+          (c.in_default.ensures.none refl)
       | inr other ↦ c.loop-at.invariant i ge (omega (arith, lt, other))
     ]
 

@@ -1,6 +1,5 @@
-use Rattle.std.proofs.Common.{ℕ, Option, Some, None, IfSome, List, get_or, length, subst, ap, ◌≡◌, arith}
-use Rattle.event_index.specs.Lookups.{events_of}
-use Rattle.in_order.specs.Joining.{IsDue, IsClosedOn}
+use Rattle.std.proofs.Common.{Option, IfSome, get_or, length, subst}
+use Rattle.in_order.specs.Joining.{IsDue}
 use Rattle.shb_clocks.proofs.ReadLemmas.{thread_named}
 use Rattle.in_order.specs.Layout.{IsEither}
 use Rattle.in_order.specs.declared.joining.Due.{Due}
@@ -25,7 +24,8 @@ loop-next-smaller c =
     let row = c.loop-next.row.items in
     let new = c.raise.new.row.items in
     let inv = c.loop-next.invariant in
-    let due : IsDue T (λ t. get_or row t 0) c.in-Some.due.end = subst (λ (o : Option Due). IfSome o (λ d. IsDue T (λ t. get_or row t 0) d.end)) c.in-Some.is inv.due in
+    let due : IsDue T (λ t. get_or row t 0) c.in-Some.due.end = subst (λ (o : Option Due). IfSome o (λ d. IsDue T (λ t. get_or row t 0) d.end))
+    c.in-Some.is inv.due in
     smaller_due T c.begun.ensures.disciplined (IsEither c.args.first c.args.second) row new (length c.args.indexed.now.threads) inv.len c.raise.ensures.len
     (thread_named c.args.indexed.now c.begun.ensures.well_formed) inv.joined c.in-Some.due.end due c.raise.ensures.joins
 
@@ -35,11 +35,13 @@ loop-next-preserved c =
     let row = c.loop-next.row.items in
     let new = c.raise.new.row.items in
     let inv = c.loop-next.invariant in
-    let due : IsDue T (λ t. get_or row t 0) c.in-Some.due.end = subst (λ (o : Option Due). IfSome o (λ d. IsDue T (λ t. get_or row t 0) d.end)) c.in-Some.is inv.due in
+    let due : IsDue T (λ t. get_or row t 0) c.in-Some.due.end = subst (λ (o : Option Due). IfSome o (λ d. IsDue T (λ t. get_or row t 0) d.end))
+    c.in-Some.is inv.due in
     let again = c.due-next-in-Some in
     record {
       len = c.raise.ensures.len;
-      joined = IsJoined-due T c.begun.ensures.disciplined (IsEither c.args.first c.args.second) row new (length c.args.indexed.now.threads) inv.len c.raise.ensures.len
+      joined = IsJoined-due T c.begun.ensures.disciplined (IsEither c.args.first c.args.second) row new (length c.args.indexed.now.threads) inv.len
+          c.raise.ensures.len
           (thread_named c.args.indexed.now c.begun.ensures.well_formed) inv.joined c.in-Some.due.end due c.raise.ensures.joins;
       due = due_read T new c.as_slice-in-Some.result.now again.result c.as_slice-in-Some.ensures.value again.ensures.due;
       within = again.ensures.within;

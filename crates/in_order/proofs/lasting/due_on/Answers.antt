@@ -1,7 +1,6 @@
-use Rattle.std.proofs.Common.{◌≡◌, ◌≢◌, ℕ, ◌<◌, Option, Some, None, IfSome, length, get_or, refl, sym, ap, subst, ◌∙◌, arith, inl, inr}
+use Rattle.std.proofs.Common.{◌≡◌, ◌≢◌, ℕ, ◌<◌, Some, None, length, get_or, refl, sym, ap, subst, ◌∙◌, arith, inl, inr}
 use Rattle.std.proofs.lemmas.Bool.{cases_eq}
 use Rattle.std.proofs.lemmas.Option.{none-some, same_Some}
-use Rattle.must_order.proofs.OwedLemmas.{if_some}
 use Rattle.in_order.specs.Joining.{IsUpToLatest, AreEnded}
 use Rattle.in_order.specs.declared.acquires.Lane.{Lane}
 use Rattle.in_order.specs.declared.lasting.Latest.{Latest}
@@ -10,7 +9,8 @@ use Rattle.in_order.proofs.lasting.due_on.Goals as goal
 
 pub returns-in_err-latest-clause-none : goal.returns-in_err-latest-clause-none
 returns-in_err-latest-clause-none c =
-    λ _. closed_on c.args.indexed.now c.len-len.ensures.disciplined (λ t. get_or c.args.row.now t 0) c.args.lock c.args.lanes.now c.requires.lanes None c.in_err-latest.ensures.last tt
+    λ _. closed_on c.args.indexed.now c.len-len.ensures.disciplined (λ t. get_or c.args.row.now t 0) c.args.lock c.args.lanes.now c.requires.lanes None
+    c.in_err-latest.ensures.last tt
     (λ m known. absurd (none-some m known))
 
 pub due_by-requires-clause-last : goal.due_by-requires-clause-last
@@ -31,7 +31,8 @@ loop-at-preserved c =
     let low : c.loop-at.at < length lanes = omega (arith, c.loop-at-test.true, c.loop-at.auto.at-end) in
     λ i d lt. elim (cases_eq i c.loop-at.at) [
       | inl one ↦
-          subst (λ (lane : Lane). lane.thread ≢ m.thread → AreEnded T row lane.events.items) (lane_read lanes c.loop-at.at i c.index-lanes-at.result d low one c.index-lanes-at.is)
+          subst (λ (lane : Lane). lane.thread ≢ m.thread → AreEnded T row lane.events.items)
+          (lane_read lanes c.loop-at.at i c.index-lanes-at.result d low one c.index-lanes-at.is)
           (c.in_default.ensures.none refl)
       | inr other ↦ c.loop-at.invariant i d (omega (arith, lt, other))
     ]
@@ -42,7 +43,8 @@ returns-clause-none c =
     let row : ℕ → ℕ = λ t. get_or c.args.row.now t 0 in
     let lanes = c.args.lanes.now in
     let m = c.in_ok-latest.latest in
-    λ _. closed_on c.args.indexed.now c.len-len.ensures.disciplined row c.args.lock lanes c.requires.lanes (Some m) c.in_ok-latest.ensures.last c.in_ok-latest.ensures.counted
+    λ _. closed_on c.args.indexed.now c.len-len.ensures.disciplined row c.args.lock lanes c.requires.lanes (Some m) c.in_ok-latest.ensures.last
+    c.in_ok-latest.ensures.counted
     (λ n known i d lt other.
     let one : m ≡ n = same_Some m n known in
     c.loop-at.invariant i d (omega (arith, lt, c.loop-at-test.false)) (λ same_thread. other (same_thread ∙ ap (λ (x : Latest). x.thread) one)))

@@ -5,4 +5,5 @@ use Rattle.in_order.proofs.lasting.due_on.Given as goal
 
 abbrev pub invariant-loop-at : goal.invariant-loop-at
 invariant-loop-at l =
-    (i : ℕ) (d : Lane) → i < l.at → (get_or l.lanes i d).thread ≢ l.latest.thread → AreEnded l.indexed.events (λ t. get_or l.row t 0) (get_or l.lanes i d).events.items
+    (i : ℕ) (d : Lane) → i < l.at → (get_or l.lanes i d).thread ≢ l.latest.thread → AreEnded l.indexed.events (λ t. get_or l.row t 0)
+    (get_or l.lanes i d).events.items

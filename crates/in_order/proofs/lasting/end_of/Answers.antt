@@ -4,7 +4,8 @@ use Rattle.in_order.proofs.lasting.end_of.Goals as goal
 
 pub returns-then-count-eq0-clause-none : goal.returns-then-count-eq0-clause-none
 returns-then-count-eq0-clause-none c =
-    λ _ a of. none_of c.args.indexed.now.events (λ t. get_or c.args.row.now t 0) c.args.thread (get_or c.args.row.now c.args.thread 0) refl c.if-count-eq0.true a of
+    λ _ a of. none_of c.args.indexed.now.events (λ t. get_or c.args.row.now t 0) c.args.thread (get_or c.args.row.now c.args.thread 0) refl
+    c.if-count-eq0.true a of
 
 pub returns-clause-end : goal.returns-clause-end
 returns-clause-end c =

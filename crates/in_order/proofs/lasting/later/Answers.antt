@@ -16,5 +16,6 @@ returns-then-other-event-clause-last c =
 
 pub returns-else-other-event-clause-last : goal.returns-else-other-event-clause-last
 returns-else-other-event-clause-last c =
-    up_to_last c.args.indexed.now.events (λ t. get_or c.args.row.now t 0) c.args.lane.now.events.items c.in-Some-latest.other c.in-Some.event c.in-Some.ensures.last
+    up_to_last c.args.indexed.now.events (λ t. get_or c.args.row.now t 0) c.args.lane.now.events.items c.in-Some-latest.other c.in-Some.event
+    c.in-Some.ensures.last
     (omega (arith, c.if-other-event.false))

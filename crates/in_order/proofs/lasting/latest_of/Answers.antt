@@ -1,6 +1,5 @@
-use Rattle.std.proofs.Common.{◌≡◌, ℕ, ◌<◌, length, get_or, sym, ap, subst, ◌∙◌, arith, inl, inr}
+use Rattle.std.proofs.Common.{ℕ, ◌<◌, length, get_or, subst, arith, inl, inr}
 use Rattle.std.proofs.lemmas.Bool.{cases_eq}
-use Rattle.std.proofs.lemmas.List.{get_or_default}
 use Rattle.in_order.specs.Joining.{IsUpToLatest}
 use Rattle.in_order.specs.declared.acquires.Lane.{Lane}
 use Rattle.in_order.proofs.LastLemmas.{up_to_grows, lane_read}
@@ -16,7 +15,8 @@ loop-at-preserved c =
       counted = c.later-latest.ensures.counted;
       last = λ i d lt. elim (cases_eq i c.loop-at.at) [
         | inl one ↦
-            subst (λ (lane : Lane). IsUpToLatest T row c.later-latest.result lane.events.items) (lane_read lanes c.loop-at.at i c.index-lanes-at.result d low one c.index-lanes-at.is)
+            subst (λ (lane : Lane). IsUpToLatest T row c.later-latest.result lane.events.items)
+            (lane_read lanes c.loop-at.at i c.index-lanes-at.result d low one c.index-lanes-at.is)
             c.later-latest.ensures.last
         | inr other ↦
             up_to_grows T row (get_or lanes i d).events.items c.loop-at.latest c.later-latest.result c.later-latest.ensures.grows c.later-latest.ensures.stays

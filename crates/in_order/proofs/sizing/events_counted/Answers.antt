@@ -1,4 +1,4 @@
-use Rattle.std.proofs.Common.{◌≡◌, ℕ, ◌+◌, ◌≤◌, sym, subst, ◌∙◌, length, get_or, arith}
+use Rattle.std.proofs.Common.{◌≡◌, ℕ, ◌+◌, sym, subst, length, get_or, arith}
 use Rattle.in_order.specs.Layout.{IsListLength}
 use Rattle.in_order.proofs.SumLemmas.{sum_to, sum_to-start, sum_to-next, sum_to-bound, IsListLength-sum}
 use Rattle.in_order.proofs.sizing.events_counted.Goals as goal

@@ -1,4 +1,4 @@
-use Rattle.std.proofs.Common.{ℕ, ◌<◌, ◌≤◌, List, get_or, length, ◌∙◌, subst, arith}
+use Rattle.std.proofs.Common.{ℕ, ◌<◌, List, get_or, length, ◌∙◌, subst, arith}
 use Rattle.rapid_text.specs.Recording.{Recording}
 use Rattle.in_order.specs.Acquires.{AreTaken}
 use Rattle.in_order.specs.Joining.{IsClosedOn}
