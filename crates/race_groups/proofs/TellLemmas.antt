@@ -21,14 +21,15 @@ use Rattle.must_order.specs.declared.kind.Kind.{Kind}
 use Rattle.must_order.specs.declared.kind.Kind.TheVariants.{Candidate, Open, Guarded, Forced}
 use Rattle.must_order.proofs.CallerLemmas.{held_since}
 use Rattle.race_groups.specs.Classes.{AreClasses, AreLocks, is_kept_pair, keeps_by}
-use Rattle.race_groups.specs.Counts.{keeps_all, keeps_shared, AreCounted}
+use Rattle.indexmap.specs.IndexMap.{IndexMap, get}
+use Rattle.race_groups.specs.Counts.{AreCounted}
 use Rattle.race_groups.specs.Cuts.{IsCutOf, is_cut_off}
 use Rattle.race_groups.specs.Ends.{IsKnownBefore, known_before}
 use Rattle.race_groups.specs.Groups.{pairs_below, conflicts, group_of, is_between, kind_by, IsCountOf}
 use Rattle.race_groups.specs.Holding.{AreLocksOf}
 use Rattle.race_groups.specs.Kinds.{is_kind, kind_count, IsRowAt, IsDifference}
-use Rattle.race_groups.specs.Rows.{count_at}
-use Rattle.race_groups.specs.declared.counted.Counted.{Counted}
+use Rattle.race_groups.specs.Rows.{Part, of_all, of_known, of_known_shared, of_forced, of_forced_shared, part, count_at, same_places}
+use Rattle.race_groups.specs.declared.rows.Sums.{Sums}
 use Rattle.race_groups.specs.declared.kinds.Counts.{Counts}
 use Rattle.race_groups.specs.Shared.{is_sharing, is_sharing_by, is_meeting}
 use Rattle.race_groups.specs.declared.class.Class.{Class}
@@ -39,6 +40,14 @@ use Rattle.race_groups.proofs.KindLemmas.{kinds_are}
 use Rattle.race_groups.proofs.SumLemmas.{sum_by_same}
 use Rattle.race_groups.proofs.ThreadLemmas.{All-before}
 use Rattle.race_groups.proofs.PartLemmas.{forced_is_known}
+use Rattle.race_groups.proofs.RowLemmas.{count_at-there}
+
+-- all pairs of classes are kept, or those whose lists have a lock in common
+abbrev keeps_all : Class → Class → Bool
+keeps_all i j = true
+
+abbrev keeps_shared : List (Vec ℕ Global) → Class → Class → Bool
+keeps_shared lists i j = is_sharing lists i.held j.held
 
 -- from the three tests of a pair to its kind
 module _ (C F G L : Type 0) where
@@ -171,7 +180,7 @@ some_kept : (o k : Option Class) (i j : Class) → o ≡ Some i → k ≡ Some j
 some_kept o k i j is also = kept_by keeps_all o k i j is also
 
 -- The counts of a pair of places, by kind.
-module _ (r : Recording) (formed : IsWellFormed r) (rules : IsDisciplined r.events) (place : ℕ → ℕ) (classes : List ℕ) (infos : List Class) (lists : List (Vec ℕ Global)) (are : AreClasses r.events place classes infos) (locks : AreLocks r.events lists classes infos) (s : Counted) (counted : AreCounted r.events place classes infos lists s) where
+module _ {S : Type 0} (r : Recording) (formed : IsWellFormed r) (rules : IsDisciplined r.events) (place : ℕ → ℕ) (classes : List ℕ) (infos : List Class) (lists : List (Vec ℕ Global)) (are : AreClasses r.events place classes infos) (locks : AreLocks r.events lists classes infos) (rows : IndexMap (ℕ × ℕ) Sums S) (counted : AreCounted r.events place classes infos lists rows) where
   abbrev known : ℕ × ℕ → Bool
   known e = is_cut_off r.events (known_before r.events) e.0 e.1
 
@@ -251,9 +260,10 @@ module _ (r : Recording) (formed : IsWellFormed r) (rules : IsDisciplined r.even
       count = refl;
     }
 
-    all_is : count_at s.all p q ≡ length group
+    -- all of them are counted
+    pub all_is : count_at of_all rows p q ≡ length group
     all_is =
-        counted.all p q rising
+        counted.counts of_all p q rising
         ∙ sum_by_same (λ e. cond (is_cut_off r.events (count_before r.events) e.0 e.1 && any e) 1 0) (λ e. 1) group
         (All-weaker (λ e. IsPair r.events e.0 e.1) (λ e. ◌≡◌ {A = ℕ} (cond (is_cut_off r.events (count_before r.events) e.0 e.1 && any e) 1 0) 1)
         (λ e pair. one_if (is_cut_off r.events (count_before r.events) e.0 e.1) (any e) (earlier_is e.0 e.1 pair) (any_is e.0 e.1 pair)) group pairs)
@@ -264,14 +274,15 @@ module _ (r : Recording) (formed : IsWellFormed r) (rules : IsDisciplined r.even
         sum_by_same (λ e. cond (test e && any e) 1 0) (λ e. cond (test e) 1 0) group
         (All-weaker (λ e. IsPair r.events e.0 e.1) (λ e. ◌≡◌ {A = ℕ} (cond (test e && any e) 1 0) (cond (test e) 1 0)) (λ e pair. same_if (test e) (any e) (any_is e.0 e.1 pair)) group pairs)
 
-    pub kinds_counted : (counts : Counts) → IsDifference s p q counts → IsRowAt r place (p, q) counts
-    kinds_counted counts of =
+    pub kinds_counted : (sums : Sums) → get same_places rows (p, q) ≡ Some sums → (counts : Counts) → IsDifference sums counts → IsRowAt r place (p, q) counts
+    kinds_counted sums there counts of =
         let parts = kinds_are known forced shared group (All-weaker (λ e. IsPair r.events e.0 e.1) (λ e. forced e ≡ true → known e ≡ true) (λ e pair. forced_known e.0 e.1 pair) group pairs) in
-        let all = all_is in
-        let known_at = counted.known p q rising ∙ without_any known in
-        let forced_at = counted.forced p q rising ∙ without_any forced in
-        let known_shared = counted.known_shared p q rising in
-        let forced_shared = counted.forced_shared p q rising in
+        let at : (k : Part) → count_at k rows p q ≡ part k sums = λ k. count_at-there rows k p q sums there in
+        let all = sym (at of_all) ∙ all_is in
+        let known_at = sym (at of_known) ∙ counted.counts of_known p q rising ∙ without_any known in
+        let forced_at = sym (at of_forced) ∙ counted.counts of_forced p q rising ∙ without_any forced in
+        let known_shared = sym (at of_known_shared) ∙ counted.counts of_known_shared p q rising in
+        let forced_shared = sym (at of_forced_shared) ∙ counted.counts of_forced_shared p q rising in
         let candidates : kind_count known forced shared Candidate group ≡ counts.candidates = omega (arith, parts.candidate, all, known_at, of.candidates) in
         let forces : kind_count known forced shared Forced group ≡ counts.forced = omega (arith, parts.force, forced_at, of.forced) in
         let guards : kind_count known forced shared Guarded group ≡ counts.guarded = omega (arith, parts.guard, known_shared, forced_shared, of.guarded) in

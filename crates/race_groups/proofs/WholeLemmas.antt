@@ -77,7 +77,7 @@ module _ (keeps : Class → Class → Bool) (p q : ℕ) (j : Class) where
   none_shared true n h = absurd (h refl)
   none_shared false n h = refl
 
-  none_added : (o : Option Class) → ((x : ℕ) → is_access x j.op ≡ false) → adds_to keeps p q j o ≡ true → ⊥
+  pub none_added : (o : Option Class) → ((x : ℕ) → is_access x j.op ≡ false) → adds_to keeps p q j o ≡ true → ⊥
   none_added None h e = false_no e
   none_added (Some i) h e =
       let found = clash_accesses i.op j.op (and_parts (is_clash_of_ops i.op j.op) (keeps i j) (and_parts (is_clash_of_ops i.op j.op && keeps i j) (is_between p q i.place j.place) e).0).0 in

@@ -10,32 +10,33 @@ use Rattle.race_groups.specs.Classes.{is_kept_pair}
 use Rattle.race_groups.specs.Cuts.{IsCutOf, is_cut_off}
 use Rattle.race_groups.specs.Ends.{IsKnownBefore, known_before}
 use Rattle.race_groups.specs.Groups.{count_of}
-use Rattle.race_groups.specs.Rows.{count_at, AreRows}
+use Rattle.race_groups.specs.Rows.{Part, of_all, of_known, of_known_shared, of_forced, of_forced_shared, by_cut, count_at, AreRows}
 use Rattle.race_groups.specs.Shared.{is_sharing}
 use Rattle.race_groups.specs.declared.class.Class.{Class}
-use Rattle.race_groups.specs.declared.counted.Counted.{Counted}
+use Rattle.race_groups.specs.declared.rows.Sums.{Sums}
 
--- all pairs of classes are kept, or those whose lists have a lock in common
-abbrev pub keeps_all : Class → Class → Bool
-keeps_all i j = true
+-- whether a part counts pairs whose classes have a lock in common, or have not
+abbrev pub is_counted : Part → Bool → Bool
+is_counted of_all shared = true
+is_counted of_known shared = true
+is_counted of_known_shared shared = shared
+is_counted of_forced shared = true
+is_counted of_forced_shared shared = shared
 
-abbrev pub keeps_shared : List (Vec ℕ Global) → Class → Class → Bool
-keeps_shared lists i j = is_sharing lists i.held j.held
+-- whether it counts pairs of these classes
+abbrev pub keeps : List (Vec ℕ Global) → Part → Class → Class → Bool
+keeps lists k i j = is_counted k (is_sharing lists i.held j.held)
 
--- The counts are those of the conflicting pairs below the ends, of those that are kept.
-abbrev pub IsCountBelow : {S : Type 0} → List Event → (ℕ → ℕ) → (Class → Class → Bool) → List ℕ → List Class → (ℕ → ℕ → ℕ) → IndexMap (ℕ × ℕ) ℕ S → Type 0
-IsCountBelow T place keeps classes infos end rows =
-    (p q : ℕ) → p ≤ q
-    → count_at rows p q ≡ count_of T place (λ e. is_cut_off T end e.0 e.1 && is_kept_pair keeps classes infos e.0 e.1) p q
+-- the pair comes before the ends, and is of classes that the part counts
+abbrev pub is_below : List Event → List ℕ → List Class → List (Vec ℕ Global) → Part → (ℕ → ℕ → ℕ) → ℕ × ℕ → Bool
+is_below T classes infos lists k end e = is_cut_off T end e.0 e.1 && is_kept_pair (keeps lists k) classes infos e.0 e.1
 
--- The counts of all conflicting pairs, of those that SHB orders, and of those that are forced; and of these under a common lock.
-pub record AreCounted (T : List Event) (place : ℕ → ℕ) (classes : List ℕ) (infos : List Class) (lists : List (Vec ℕ Global)) (s : Counted) : Type 0 where
-  pub rows : AreRows s.all
-  pub all : IsCountBelow T place keeps_all classes infos (count_before T) s.all
-  pub known : IsCountBelow T place keeps_all classes infos (known_before T) s.known
-  pub known_shared : IsCountBelow T place (keeps_shared lists) classes infos (known_before T) s.known_shared
-  pub tells_known : IsCutOf T (IsKnownBefore T) (known_before T)
+-- Each part counts the conflicting pairs below its cut.
+pub record AreCounted {S : Type 0} (T : List Event) (place : ℕ → ℕ) (classes : List ℕ) (infos : List Class) (lists : List (Vec ℕ Global)) (rows : IndexMap (ℕ × ℕ) Sums S) : Type 0 where
+  pub are : AreRows rows
+  -- where the cut of what is forced ends
   pub ends : ℕ → ℕ → ℕ
-  pub forced : IsCountBelow T place keeps_all classes infos ends s.forced
-  pub forced_shared : IsCountBelow T place (keeps_shared lists) classes infos ends s.forced_shared
+  pub counts : (k : Part) (p q : ℕ) → p ≤ q
+      → count_at k rows p q ≡ count_of T place (is_below T classes infos lists k (by_cut (count_before T) (known_before T) ends k)) p q
+  pub tells_known : IsCutOf T (IsKnownBefore T) (known_before T)
   pub tells_forced : IsCutOf T (IsForced T) ends

@@ -1,10 +1,11 @@
 -- Where the cuts of SHB and of must-before end. `T` is the events of a trace.
 use Rattle.std.specs.Prelude.{◌≡◌, ℕ, cond, nat_lt, List, Option, Some, None}
 use Rattle.rapid_text.specs.declared.event.Event.{Event}
-use Rattle.event_index.specs.Lookups.{base_of}
+use Rattle.event_index.specs.Lookups.{base_of, count_before}
 use Rattle.shb_clocks.specs.HappensBefore.{IsShbBefore}
 use Rattle.shb_clocks.specs.Known.{known_of}
 use Rattle.shb_clocks.specs.SharedRows.{Counted, count_of}
+use Rattle.race_groups.specs.Rows.{Part, by_cut}
 
 abbrev pub known_by : List Event → Option ℕ → ℕ → ℕ
 known_by T None t = 0
@@ -21,6 +22,10 @@ counted_by rows (Some c) t = cond (nat_lt t rows.width) (count_of rows c t) 0
 -- how many events of thread t the row of b's base counts
 abbrev pub counted_before : Counted → List Event → ℕ → ℕ → ℕ
 counted_before rows T b t = counted_by rows (base_of T b) t
+
+-- where the cut of a part ends; the rows count what is forced
+abbrev pub ends_of : List Event → Counted → Part → ℕ → ℕ → ℕ
+ends_of T rows = by_cut (count_before T) (known_before T) (counted_before rows T)
 
 -- a is b's base, or SHB-before it
 abbrev pub IsKnownBefore : List Event → ℕ → ℕ → Type 0

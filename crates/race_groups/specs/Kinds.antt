@@ -9,10 +9,9 @@ use Rattle.must_order.specs.Kinds.{IsKind}
 use Rattle.must_order.specs.declared.kind.Kind.{Kind}
 use Rattle.must_order.specs.declared.kind.Kind.TheVariants.{Candidate, Open, Guarded, Forced}
 use Rattle.race_groups.specs.Groups.{kind_by, group_of, is_between, IsCountOf}
-use Rattle.race_groups.specs.Rows.{count_at}
-use Rattle.race_groups.specs.declared.counted.Counted.{Counted}
 use Rattle.race_groups.specs.declared.kinds.Counts.{Counts}
 use Rattle.race_groups.specs.declared.kinds.Row.{Row}
+use Rattle.race_groups.specs.declared.rows.Sums.{Sums}
 
 abbrev pub is_kind : Kind → Kind → Bool
 is_kind Candidate Candidate = true
@@ -41,9 +40,9 @@ abbrev pub IsNeverShownBetween : List Event → (ℕ → ℕ) → ℕ → ℕ �
 IsNeverShownBetween T place p q =
     (a b : ℕ) (P : List ℕ) → is_between p q (place a) (place b) ≡ true → IsCorrectReordering T P → ¬ Shows T P a b
 
--- The counts are differences of counts below the cuts.
-pub record IsDifference (s : Counted) (p q : ℕ) (counts : Counts) : Type 0 where
-  pub candidates : counts.candidates ≡ count_at s.all p q - count_at s.known p q
-  pub guarded : counts.guarded ≡ count_at s.known_shared p q - count_at s.forced_shared p q
-  pub open_pairs : counts.open_pairs ≡ count_at s.known p q - count_at s.forced p q - counts.guarded
-  pub forced : counts.forced ≡ count_at s.forced p q
+-- The counts are differences of what was counted below the cuts.
+pub record IsDifference (sums : Sums) (counts : Counts) : Type 0 where
+  pub candidates : counts.candidates ≡ sums.all - sums.known
+  pub guarded : counts.guarded ≡ sums.known_shared - sums.forced_shared
+  pub open_pairs : counts.open_pairs ≡ sums.known - sums.forced - counts.guarded
+  pub forced : counts.forced ≡ sums.forced

@@ -1,39 +1,197 @@
 //! The counts of a trace's conflicting pairs below three cuts: what is earlier in the trace, what SHB keeps before, what is forced.
-ghost use Rattle.std.specs.Prelude.{◌≡◌, ◌<◌, ◌≤◌, ℕ, length, IfOk, slice_index};
-ghost use Rattle.shb_clocks.specs.SharedRows.{len_of, count_of as count_of_row};
-ghost use Rattle.must_order.specs.Telling.{TellsMust};
-ghost use Rattle.event_index.specs.Lookups.{count_before};
+//! For each later thread the events of the others are counted by class as they come below the cuts.
+ghost use Rattle.std.specs.Prelude.{◌≡◌, ℕ, ◌+◌, ◌^◌, ◌<◌, ◌≤◌, length, All, IfOk, OnOk, Some, slice_get, slice_index, sum_by};
+ghost use Rattle.rapid_text.specs.Recording.{IsWellFormed};
+ghost use Rattle.event_index.specs.Lookups.{events_of};
+ghost use Rattle.shb_clocks.specs.SharedRows.{Counted, len_of};
 ghost use Rattle.race_groups.specs.Classes.{AreClasses, AreMembers};
-ghost use Rattle.race_groups.specs.Counts.{AreCounted, IsCountBelow, keeps_all, keeps_shared};
+ghost use Rattle.race_groups.specs.Counting.{AreFrontsAt, AreMoved, later_count};
+ghost use Rattle.race_groups.specs.Counts.{AreCounted, keeps};
 ghost use Rattle.race_groups.specs.Cuts.{IsCut};
-ghost use Rattle.race_groups.specs.Ends.{known_before, counted_before};
-ghost use Rattle.race_groups.specs.Rows.{AreRows};
+ghost use Rattle.race_groups.specs.Ends.{ends_of};
+ghost use Rattle.race_groups.specs.Rows.{Part, count_at, AreRows};
 
-use crate::classes::Classes;
-use crate::counting::Cut;
+use crate::class::Class;
+use crate::classes::{Classes, variable_of};
+use crate::counting::Front;
 use crate::cuts::{Earlier, Forced, Known};
-use crate::groups::count_pairs;
-use crate::pairing::{Every, Sharing};
+use crate::events::threads_in;
 use crate::rows::{Rows, RowsRefusal};
-use crate::walk::Pairing;
+use crate::walk::add_members;
 use event_index::Indexed;
+use indexmap::IndexMap;
 use must_order::Must;
+use rapid_text::OutOfMemory;
 use shb_clocks::{Clocks, SharedRows, known_tells_shb};
 use std::alloc::Global;
 
-/// For each pair of places, how many of its conflicting pairs there are.
+/// The fronts of the three cuts.
 #[derive(Drop)]
-pub(crate) struct Counted {
-    /// All.
-    pub(crate) all: Rows,
-    /// Those that SHB orders: the earlier is the later's base or SHB-before it.
-    pub(crate) known: Rows,
-    /// Those of them whose threads both hold a lock.
-    pub(crate) known_shared: Rows,
-    /// Those that are forced.
-    pub(crate) forced: Rows,
-    /// Those of them whose threads both hold a lock.
-    pub(crate) forced_shared: Rows,
+pub(crate) struct Fronts {
+    pub(crate) earlier: Front,
+    pub(crate) known: Front,
+    pub(crate) forced: Front,
+}
+
+impl Fronts {
+    // Nothing comes before the cuts yet.
+    fn new(alloc: Global, indexed: &Indexed, classes: &Classes) -> Result<Fronts, OutOfMemory>
+        ensures { IfOk result (λ fronts. (u : ℕ) (rows : Counted) → AreFrontsAt indexed.now.events (length indexed.now.threads)
+            (length classes.now.infos.items) classes.now.numbers.items u rows 0 fronts) }
+    {
+        let threads = threads_in(indexed) as usize;
+        let size = classes.infos.as_slice().len();
+        Ok(Fronts {
+            earlier: Front::new(alloc, threads, size)?,
+            known: Front::new(alloc, threads, size)?,
+            forced: Front::new(alloc, threads, size)?,
+        })
+    }
+
+    // Moves on to the ends of the event at this place of the thread.
+    fn advance(
+        &mut self,
+        indexed: &Indexed,
+        clocks: &Clocks,
+        rows: &SharedRows,
+        classes: &Classes,
+        thread: u32,
+        at: usize,
+    )
+        requires clocks { clocks.now ≡ indexed.now }
+        requires width { rows.now.width ≡ length indexed.now.threads }
+        requires len { len_of rows.now ≡ length indexed.now.events }
+        requires cuts { (k : Part) → IsCut indexed.now.events (ends_of indexed.now.events rows.now k) }
+        requires numbers { length classes.now.numbers.items ≡ length indexed.now.events }
+        requires classes { All (λ c. c < length classes.now.infos.items) classes.now.numbers.items }
+        requires thread { thread < length indexed.now.threads }
+        requires at { at < length (events_of indexed.now.events thread) }
+        requires fronts { AreFrontsAt indexed.now.events (length indexed.now.threads) (length classes.now.infos.items)
+            classes.now.numbers.items thread rows.now at self.old }
+        ensures fronts { AreFrontsAt indexed.now.events (length indexed.now.threads) (length classes.now.infos.items)
+            classes.now.numbers.items thread rows.now (at + 1) self.new }
+        ensures moved { AreMoved indexed.now.events (length indexed.now.threads) thread rows.now
+            (slice_index (events_of indexed.now.events thread) at) self.new }
+    {
+        let numbers = classes.numbers.as_slice();
+        let later = indexed.thread_events(thread)[at];
+        let earlier = Earlier { indexed };
+        let known = Known { indexed, clocks };
+        let forced = Forced { indexed, rows };
+        self.earlier
+            .advance(numbers, indexed, &earlier, later, thread);
+        self.known.advance(numbers, indexed, &known, later, thread);
+        self.forced
+            .advance(numbers, indexed, &forced, later, thread);
+    }
+}
+
+// The class of an event.
+fn class_of(classes: &Classes, event: u32) -> Class
+    requires event { event < length classes.now.numbers.items }
+    requires within { All (λ c. c < length classes.now.infos.items) classes.now.numbers.items }
+    ensures { slice_get classes.now.infos.items (slice_index classes.now.numbers.items event) ≡ Some result }
+{
+    classes.infos[classes.numbers[event as usize] as usize]
+}
+
+// Adds the pairs whose later event is that at this place of the thread.
+fn add_later(
+    rows: &mut Rows,
+    fronts: &mut Fronts,
+    indexed: &Indexed,
+    clocks: &Clocks,
+    forced: &SharedRows,
+    classes: &Classes,
+    thread: u32,
+    at: usize,
+) -> Result<(), OutOfMemory>
+    requires clocks { clocks.now ≡ indexed.now }
+    requires width { forced.now.width ≡ length indexed.now.threads }
+    requires len { len_of forced.now ≡ length indexed.now.events }
+    requires formed { IsWellFormed indexed.now }
+    requires cuts { (k : Part) → IsCut indexed.now.events (ends_of indexed.now.events forced.now k) }
+    requires numbers { length classes.now.numbers.items ≡ length indexed.now.events }
+    requires classes { All (λ c. c < length classes.now.infos.items) classes.now.numbers.items }
+    requires few { length classes.now.infos.items ≤ 1048576 }
+    requires members { AreMembers classes.now.infos.items classes.now.members.items }
+    requires thread { thread < length indexed.now.threads }
+    requires at { at < length (events_of indexed.now.events thread) }
+    requires fronts { AreFrontsAt indexed.now.events (length indexed.now.threads) (length classes.now.infos.items)
+        classes.now.numbers.items thread forced.now at fronts.old }
+    requires rows { AreRows rows.old }
+    requires room { (k : Part) (p q : ℕ) → p ≤ q → count_at k rows.old p q ≤ 2 ^ 40 }
+    ensures fronts { OnOk result (AreFrontsAt indexed.now.events (length indexed.now.threads) (length classes.now.infos.items)
+        classes.now.numbers.items thread forced.now (at + 1) fronts.new) }
+    ensures ok { OnOk result ((k : Part) (p q : ℕ) → p ≤ q → count_at k rows.new p q ≡ count_at k rows.old p q
+        + later_count indexed.now.events (keeps classes.now.lists.keys k) classes.now.numbers.items classes.now.infos.items thread
+        (ends_of indexed.now.events forced.now k) p q (slice_index (events_of indexed.now.events thread) at)) }
+    ensures rows { OnOk result (AreRows rows.new) }
+{
+    let class = class_of(classes, indexed.thread_events(thread)[at]);
+    let Some(variable) = variable_of(class.op) else {
+        return Ok(());
+    };
+    fronts.advance(indexed, clocks, forced, classes, thread, at);
+    add_members(
+        rows,
+        fronts.earlier.counts.as_slice(),
+        fronts.known.counts.as_slice(),
+        fronts.forced.counts.as_slice(),
+        classes.infos.as_slice(),
+        &classes.lists,
+        classes.members[variable as usize].as_slice(),
+        class,
+    )?;
+    Ok(())
+}
+
+// Adds the pairs whose later event is of the thread.
+fn add_thread(
+    alloc: Global,
+    rows: &mut Rows,
+    indexed: &Indexed,
+    clocks: &Clocks,
+    forced: &SharedRows,
+    classes: &Classes,
+    limit: u32,
+    thread: u32,
+) -> Result<(), RowsRefusal>
+    requires clocks { clocks.now ≡ indexed.now }
+    requires width { forced.now.width ≡ length indexed.now.threads }
+    requires len { len_of forced.now ≡ length indexed.now.events }
+    requires formed { IsWellFormed indexed.now }
+    requires cuts { (k : Part) → IsCut indexed.now.events (ends_of indexed.now.events forced.now k) }
+    requires numbers { length classes.now.numbers.items ≡ length indexed.now.events }
+    requires classes { All (λ c. c < length classes.now.infos.items) classes.now.numbers.items }
+    requires few { length classes.now.infos.items ≤ 1048576 }
+    requires members { AreMembers classes.now.infos.items classes.now.members.items }
+    requires thread { thread < length indexed.now.threads }
+    requires rows { AreRows rows.old }
+    requires room { (k : Part) (p q : ℕ) → p ≤ q
+        → count_at k rows.old p q + sum_by (λ e. length indexed.now.events) (events_of indexed.now.events thread) ≤ 2 ^ 40 }
+    ensures ok { OnOk result ((k : Part) (p q : ℕ) → p ≤ q → count_at k rows.new p q ≡ count_at k rows.old p q
+        + sum_by (later_count indexed.now.events (keeps classes.now.lists.keys k) classes.now.numbers.items classes.now.infos.items thread
+        (ends_of indexed.now.events forced.now k) p q) (events_of indexed.now.events thread)) }
+    ensures rows { OnOk result (AreRows rows.new) }
+{
+    let mut fronts = Fronts::new(alloc, indexed, classes)?;
+    for at in 0..indexed.thread_events(thread).len() {
+        add_later(
+            rows,
+            &mut fronts,
+            indexed,
+            clocks,
+            forced,
+            classes,
+            thread,
+            at,
+        )?;
+        if rows.len() > limit as usize {
+            return Err(RowsRefusal::TooMany);
+        }
+    }
+    Ok(())
 }
 
 /// The counts of a trace's conflicting pairs; refused where there are more than `limit` pairs of places. `places` has for each
@@ -46,7 +204,7 @@ pub(crate) fn count_cuts(
     must: &Must,
     classes: &Classes,
     limit: u32,
-) -> Result<Counted, RowsRefusal>
+) -> Result<Rows, RowsRefusal>
     requires clocks { clocks.now ≡ indexed.now }
     requires must { must.now ≡ indexed.now }
     requires classes { AreClasses indexed.now.events (slice_index places.now) classes.now.numbers.items classes.now.infos.items }
@@ -57,136 +215,12 @@ pub(crate) fn count_cuts(
 {
     known_tells_shb();
     let _len = indexed.len();
-    let rows = must.rows();
-    let all = count_earlier(alloc, indexed, places, classes, limit)?;
-    let (known, known_shared) = count_known(alloc, indexed, places, clocks, classes, limit)?;
-    let (forced, forced_shared) = count_forced(alloc, indexed, places, rows, classes, limit)?;
-    Ok(Counted {
-        all,
-        known,
-        known_shared,
-        forced,
-        forced_shared,
-    })
-}
-
-// All conflicting pairs.
-fn count_earlier(
-    alloc: Global,
-    indexed: &Indexed,
-    places: &[u32],
-    classes: &Classes,
-    limit: u32,
-) -> Result<Rows, RowsRefusal>
-    requires classes { AreClasses indexed.now.events (slice_index places.now) classes.now.numbers.items classes.now.infos.items }
-    requires few { length classes.now.infos.items ≤ 1048576 }
-    requires members { AreMembers classes.now.infos.items classes.now.members.items }
-    ensures all { IfOk result (IsCountBelow indexed.now.events (slice_index places.now) keeps_all
-        classes.now.numbers.items classes.now.infos.items (count_before indexed.now.events)) }
-    ensures rows { IfOk result (λ rows. AreRows rows) }
-{
-    let earlier = Earlier { indexed };
-    count_below(alloc, indexed, places, classes, &earlier, &Every, limit)
-}
-
-// The pairs that SHB orders, and those of them under a common lock.
-fn count_known(
-    alloc: Global,
-    indexed: &Indexed,
-    places: &[u32],
-    clocks: &Clocks,
-    classes: &Classes,
-    limit: u32,
-) -> Result<(Rows, Rows), RowsRefusal>
-    requires clocks { clocks.now ≡ indexed.now }
-    requires classes { AreClasses indexed.now.events (slice_index places.now) classes.now.numbers.items classes.now.infos.items }
-    requires few { length classes.now.infos.items ≤ 1048576 }
-    requires members { AreMembers classes.now.infos.items classes.now.members.items }
-    ensures known { IfOk result (λ rows. IsCountBelow indexed.now.events (slice_index places.now) keeps_all
-        classes.now.numbers.items classes.now.infos.items (known_before indexed.now.events) rows.0) }
-    ensures shared { IfOk result (λ rows. IsCountBelow indexed.now.events (slice_index places.now) (keeps_shared classes.now.lists.keys)
-        classes.now.numbers.items classes.now.infos.items (known_before indexed.now.events) rows.1) }
-{
-    known_tells_shb();
-    let _len = indexed.len();
-    let known = Known { indexed, clocks };
-    let sharing = Sharing {
-        lists: &classes.lists,
-    };
-    let all = match count_below(alloc, indexed, places, classes, &known, &Every, limit) {
-        Ok(rows) => rows,
-        Err(refusal) => return Err(refusal),
-    };
-    match count_below(alloc, indexed, places, classes, &known, &sharing, limit) {
-        Ok(shared) => Ok((all, shared)),
-        Err(refusal) => Err(refusal),
+    let forced = must.rows();
+    let mut rows = IndexMap::new(alloc);
+    for thread in 0..threads_in(indexed) {
+        add_thread(
+            alloc, &mut rows, indexed, clocks, forced, classes, limit, thread,
+        )?;
     }
-}
-
-// The pairs that are forced, and those of them under a common lock.
-fn count_forced(
-    alloc: Global,
-    indexed: &Indexed,
-    places: &[u32],
-    rows: &SharedRows,
-    classes: &Classes,
-    limit: u32,
-) -> Result<(Rows, Rows), RowsRefusal>
-    requires width { rows.now.width ≡ length indexed.now.threads }
-    requires len { len_of rows.now ≡ length indexed.now.events }
-    requires tells { TellsMust indexed.now.events (length indexed.now.threads) (count_of_row rows.now) }
-    requires classes { AreClasses indexed.now.events (slice_index places.now) classes.now.numbers.items classes.now.infos.items }
-    requires few { length classes.now.infos.items ≤ 1048576 }
-    requires members { AreMembers classes.now.infos.items classes.now.members.items }
-    ensures forced { IfOk result (λ found. IsCountBelow indexed.now.events (slice_index places.now) keeps_all
-        classes.now.numbers.items classes.now.infos.items (counted_before rows.now indexed.now.events) found.0) }
-    ensures shared { IfOk result (λ found. IsCountBelow indexed.now.events (slice_index places.now) (keeps_shared classes.now.lists.keys)
-        classes.now.numbers.items classes.now.infos.items (counted_before rows.now indexed.now.events) found.1) }
-{
-    let _len = indexed.len();
-    let forced = Forced { indexed, rows };
-    let sharing = Sharing {
-        lists: &classes.lists,
-    };
-    let all = match count_below(alloc, indexed, places, classes, &forced, &Every, limit) {
-        Ok(rows) => rows,
-        Err(refusal) => return Err(refusal),
-    };
-    match count_below(alloc, indexed, places, classes, &forced, &sharing, limit) {
-        Ok(shared) => Ok((all, shared)),
-        Err(refusal) => Err(refusal),
-    }
-}
-
-// The pairs below a cut, of those that are kept.
-fn count_below<C: Cut, P: Pairing>(
-    alloc: Global,
-    indexed: &Indexed,
-    places: &[u32],
-    classes: &Classes,
-    cut: &C,
-    pairing: &P,
-    limit: u32,
-) -> Result<Rows, RowsRefusal>
-    requires classes { AreClasses indexed.now.events (slice_index places.now) classes.now.numbers.items classes.now.infos.items }
-    requires few { length classes.now.infos.items ≤ 1048576 }
-    requires members { AreMembers classes.now.infos.items classes.now.members.items }
-    requires can { (b t : ℕ) → b < length indexed.now.events → t < length indexed.now.threads → C.can_end cut.now b t }
-    requires cut { IsCut indexed.now.events (C.end_of cut.now) }
-    ensures counts { IfOk result (IsCountBelow indexed.now.events (slice_index places.now) (P.is_kept pairing.now)
-        classes.now.numbers.items classes.now.infos.items (C.end_of cut.now)) }
-    ensures rows { IfOk result (λ rows. AreRows rows) }
-{
-    let _len = indexed.len();
-    count_pairs(
-        alloc,
-        indexed,
-        places,
-        classes.numbers.as_slice(),
-        classes.infos.as_slice(),
-        classes.members.as_slice(),
-        cut,
-        pairing,
-        limit,
-    )
+    Ok(rows)
 }

@@ -1,6 +1,6 @@
 //! Counts by class of the events that come before a cut, as the events of one thread are gone through. No event is
 //! counted twice: each front only moves on.
-ghost use Rattle.std.specs.Prelude.{◌≡◌, ◌≢◌, ℕ, ◌+◌, ◌^◌, ◌<◌, ◌≤◌, length, All, Some, slice_index, slice_set};
+ghost use Rattle.std.specs.Prelude.{◌≡◌, ◌≢◌, ℕ, ◌+◌, ◌^◌, ◌<◌, ◌≤◌, length, All, Some, IfOk, replicate, slice_index, slice_set};
 ghost use Rattle.rapid_text.specs.Recording.{IsWellFormed};
 ghost use Rattle.event_index.specs.Events.{thread_at};
 ghost use Rattle.event_index.specs.Lookups.{events_of};
@@ -9,9 +9,11 @@ ghost use Rattle.race_groups.specs.Counting.{AreCounts, AreFronts, class_count};
 
 use crate::events::threads_in;
 use event_index::Indexed;
+use rapid_text::OutOfMemory;
+use std::alloc::Global;
 
 /// For each later event and each other thread, how many of that thread's events come before it.
-pub trait Cut {
+pub(crate) trait Cut {
     /// Which ends it tells.
     ghost can_end: { Self → ℕ → ℕ → Type 0 };
 
@@ -22,6 +24,57 @@ pub trait Cut {
         requires can { can_end self.now later thread }
         requires from { from ≤ end_of self.now later thread }
         ensures end { result ≡ end_of self.now later thread };
+}
+
+/// How many of each thread's events come before a cut, and how many of these are of each class.
+#[derive(Drop)]
+pub(crate) struct Front {
+    pub(crate) fronts: Vec<u32>,
+    pub(crate) counts: Vec<u32>,
+}
+
+impl Front {
+    /// Nothing comes before the cut yet.
+    pub(crate) fn new(alloc: Global, threads: usize, classes: usize) -> Result<Front, OutOfMemory>
+        ensures fronts { IfOk result (λ front. front.fronts.items ≡ replicate threads 0) }
+        ensures counts { IfOk result (λ front. front.counts.items ≡ replicate classes 0) }
+    {
+        Ok(Front {
+            fronts: vec![in alloc; 0u32; threads]?,
+            counts: vec![in alloc; 0u32; classes]?,
+        })
+    }
+
+    /// Moves on to the ends of a later event.
+    pub(crate) fn advance<C: Cut>(
+        &mut self,
+        classes: &[u32],
+        indexed: &Indexed,
+        cut: &C,
+        later: u32,
+        own: u32,
+    )
+        requires len { length classes.now ≡ length indexed.now.events }
+        requires classes { All (λ c. c < length self.old.counts.items) classes.now }
+        requires counts { AreCounts indexed.now.events (length indexed.now.threads) classes.now self.old.fronts.items self.old.counts.items }
+        requires can { (t : ℕ) → t < length indexed.now.threads → C.can_end cut.now later t }
+        requires own { slice_index self.old.fronts.items own ≡ 0 }
+        requires behind { (t : ℕ) → t < length indexed.now.threads → t ≢ own → slice_index self.old.fronts.items t ≤ C.end_of cut.now later t }
+        requires within { (t : ℕ) → t < length indexed.now.threads → C.end_of cut.now later t ≤ length (events_of indexed.now.events t) }
+        ensures counts { AreCounts indexed.now.events (length indexed.now.threads) classes.now self.new.fronts.items self.new.counts.items }
+        ensures fronts { AreFronts (length indexed.now.threads) own (C.end_of cut.now later) self.new.fronts.items }
+        ensures len { length self.new.counts.items ≡ length self.old.counts.items }
+    {
+        advance(
+            self.counts.as_mut_slice(),
+            self.fronts.as_mut_slice(),
+            classes,
+            indexed,
+            cut,
+            later,
+            own,
+        );
+    }
 }
 
 // Counts these events, each by its class.
@@ -66,7 +119,7 @@ fn move_on(
 }
 
 // Moves the fronts of all other threads on to the ends of a later event.
-pub(crate) fn advance<C: Cut>(
+fn advance<C: Cut>(
     counts: &mut [u32],
     fronts: &mut [u32],
     classes: &[u32],

@@ -1,13 +1,13 @@
 //! The conflicting pairs of a trace by pair of places and by kind.
-ghost use Rattle.std.specs.Prelude.{◌≡◌, ◌≤◌, All, IfOk, length, slice_index};
+ghost use Rattle.std.specs.Prelude.{◌≡◌, ◌≤◌, All, IfOk, length, map, slice_index};
+ghost use Rattle.indexmap.specs.IndexMap.{keys};
 ghost use Rattle.race_groups.specs.Classes.{AreClasses, AreLocks, AreMembers};
 ghost use Rattle.race_groups.specs.Counts.{AreCounted};
 ghost use Rattle.race_groups.specs.Kinds.{IsDifference, IsRow};
-ghost use Rattle.race_groups.specs.Rows.{count_at};
 
 use crate::classes::Classes;
-use crate::counted::{Counted, count_cuts};
-use crate::rows::{Rows, RowsRefusal, ordered};
+use crate::counted::count_cuts;
+use crate::rows::{Rows, RowsRefusal, Sums, ordered, row_at};
 use event_index::Indexed;
 use must_order::Must;
 use shb_clocks::Clocks;
@@ -47,7 +47,7 @@ pub struct Groups {
 impl Groups {
     /// Where the row of two places stands, given in either order.
     pub fn row_of(&self, first: u32, second: u32) -> Option<usize> {
-        self.index.get_index_of(&ordered(first, second))
+        row_at(&self.index, ordered(first, second))
     }
 }
 
@@ -72,16 +72,15 @@ pub fn groups_of(
     ensures rows { IfOk result (λ found. All (IsRow indexed.now (slice_index places.now)) found.rows.items) }
 {
     let _len = indexed.len();
-    let counted = match count_cuts(alloc, indexed, places, clocks, must, classes, limit) {
-        Ok(counted) => counted,
+    let index = match count_cuts(alloc, indexed, places, clocks, must, classes, limit) {
+        Ok(index) => index,
         Err(refusal) => return Err(refusal),
     };
-    let rows = match rows_of(alloc, indexed, places, classes, &counted) {
+    let rows = match rows_of(alloc, indexed, places, classes, &index) {
         Ok(rows) => rows,
         Err(refusal) => return Err(refusal),
     };
-    let Counted { all, .. } = counted;
-    Ok(Groups { rows, index: all })
+    Ok(Groups { rows, index })
 }
 
 // The rows of the pairs that were counted.
@@ -90,49 +89,42 @@ fn rows_of(
     indexed: &Indexed,
     places: &[u32],
     classes: &Classes,
-    counted: &Counted,
+    counted: &Rows,
 ) -> Result<Vec<Row>, RowsRefusal>
     requires classes { AreClasses indexed.now.events (slice_index places.now) classes.now.numbers.items classes.now.infos.items }
     requires locks { AreLocks indexed.now.events classes.now.lists.keys classes.now.numbers.items classes.now.infos.items }
     requires counted { AreCounted indexed.now.events (slice_index places.now)
         classes.now.numbers.items classes.now.infos.items classes.now.lists.keys counted.now }
     ensures rows { IfOk result (λ rows. All (IsRow indexed.now (slice_index places.now)) rows.items) }
+    ensures places { IfOk result (λ rows. map (λ row. row.places) rows.items ≡ keys counted.now) }
 {
     let _len = indexed.len();
-    let mut rows = Vec::with_capacity(alloc, counted.all.len())?;
-    for (places, _) in counted.all.iter() {
-        rows.push(counted.row(ordered(places.0, places.1)))?;
+    let mut rows = Vec::with_capacity(alloc, counted.len())?;
+    for at in 0..counted.len() {
+        if let Some((places, sums)) = counted.get_index(at) {
+            rows.push(Row {
+                places: *places,
+                counts: sums.counts(),
+            })?;
+        }
     }
     Ok(rows)
 }
 
-impl Counted {
+impl Sums {
     // The counts of the four kinds, which are differences of these.
-    fn row(&self, places: (u32, u32)) -> Row
-        ensures places { result.places ≡ places }
-        ensures counts { IsDifference self.now places.0 places.1 result.counts }
+    fn counts(self) -> Counts
+        ensures { IsDifference self result }
     {
-        let known = at(&self.known, places);
-        let forced = at(&self.forced, places);
-        let guarded = at(&self.known_shared, places).saturating_sub(at(
-            &self.forced_shared,
-            places,
-        ));
-        Row {
-            places,
-            counts: Counts {
-                candidates: at(&self.all, places).saturating_sub(known),
-                open_pairs: known.saturating_sub(forced).saturating_sub(guarded),
-                guarded,
-                forced,
-            },
+        let guarded = self.known_shared.saturating_sub(self.forced_shared);
+        Counts {
+            candidates: self.all.saturating_sub(self.known),
+            open_pairs: self
+                .known
+                .saturating_sub(self.forced)
+                .saturating_sub(guarded),
+            guarded,
+            forced: self.forced,
         }
     }
-}
-
-// The count of a pair of places.
-fn at(rows: &Rows, places: (u32, u32)) -> u64
-    ensures { result ≡ count_at rows.now places.0 places.1 }
-{
-    rows.get(&places).copied().unwrap_or(0)
 }

@@ -1,14 +1,30 @@
-//! Rows by pair of places, each with a count.
-ghost use Rattle.std.specs.Prelude.{◌≡◌, ℕ, ◌+◌, ◌^◌, ◌<◌, ◌≤◌, OnOk, true, if◌then◌else◌};
+//! Rows by pair of places, each with what was counted of it.
+ghost use Rattle.std.specs.Prelude.{◌≡◌, ℕ, ◌+◌, ◌^◌, ◌<◌, ◌≤◌, OnOk, IfSome, true, Some, None, slice_get, if◌then◌else◌};
+ghost use Rattle.indexmap.specs.IndexMap.{get, keys, index_map_len, Updates};
 ghost use Rattle.race_groups.specs.Groups.{is_between};
-ghost use Rattle.race_groups.specs.Rows.{count_at, AreRows};
+ghost use Rattle.race_groups.specs.Rows.{Part, part, same_places, count_at, AreRows};
 
 use indexmap::IndexMap;
 use rapid_text::OutOfMemory;
 use std::alloc::{AllocError, AllocFailed};
 
-/// For each pair of places, the lesser first, a count.
-pub type Rows = IndexMap<(u32, u32), u64>;
+/// How many conflicting pairs of a pair of places there are.
+#[derive(Clone, Copy)]
+pub(crate) struct Sums {
+    /// All.
+    pub(crate) all: u64,
+    /// Those that SHB orders: the earlier is the later's base or SHB-before it.
+    pub(crate) known: u64,
+    /// Those of them whose threads both hold a lock.
+    pub(crate) known_shared: u64,
+    /// Those that are forced.
+    pub(crate) forced: u64,
+    /// Those of them whose threads both hold a lock.
+    pub(crate) forced_shared: u64,
+}
+
+/// For each pair of places, the lesser first, what was counted of it.
+pub(crate) type Rows = IndexMap<(u32, u32), Sums>;
 
 /// Why pairs are not counted.
 #[derive(Clone, Copy, PartialEq, Eq, Debug)]
@@ -37,28 +53,60 @@ impl<T: Drop> From<AllocFailed<T>> for RowsRefusal {
     }
 }
 
-/// Adds to the count of a pair of places.
-pub fn add(
-    rows: &mut Rows,
-    first: u32,
-    second: u32,
-    count: u64,
-    limit: u32,
-) -> Result<(), RowsRefusal>
-    requires count { 0 < count }
+impl Sums {
+    // Both together.
+    fn plus(self, more: Sums) -> Sums
+        requires room { (k : Part) → part k self + part k more < 2 ^ 64 }
+        ensures { (k : Part) → part k result ≡ part k self + part k more }
+    {
+        Sums {
+            all: self.all + more.all,
+            known: self.known + more.known,
+            known_shared: self.known_shared + more.known_shared,
+            forced: self.forced + more.forced,
+            forced_shared: self.forced_shared + more.forced_shared,
+        }
+    }
+}
+
+/// Adds to what was counted of a pair of places.
+pub(crate) fn add(rows: &mut Rows, first: u32, second: u32, more: Sums) -> Result<(), OutOfMemory>
+    requires more { (k : Part) × (0 < part k more) }
     requires rows { AreRows rows.old }
-    requires room { (p q : ℕ) → p ≤ q → count_at rows.old p q + count < 2 ^ 64 }
-    ensures ok { OnOk result ((p q : ℕ) → p ≤ q
-        → count_at rows.new p q ≡ count_at rows.old p q + (if is_between p q first second then count else 0)) }
+    requires room { (k : Part) (p q : ℕ) → p ≤ q → count_at k rows.old p q + part k more < 2 ^ 64 }
+    ensures ok { OnOk result ((k : Part) (p q : ℕ) → p ≤ q
+        → count_at k rows.new p q ≡ count_at k rows.old p q + (if is_between p q first second then part k more else 0)) }
     ensures rows { OnOk result (AreRows rows.new) }
 {
     let key = ordered(first, second);
-    let had = rows.get(&key).copied().unwrap_or(0);
-    rows.insert(key, had + count)?;
-    if rows.len() > limit as usize {
-        return Err(RowsRefusal::TooMany);
+    match row_at(rows, key) {
+        Some(at) => grow(rows, at, more),
+        None => {
+            rows.insert(key, more)?;
+        }
     }
     Ok(())
+}
+
+/// Where the row of a pair of places stands, the lesser first.
+pub(crate) fn row_at(rows: &Rows, places: (u32, u32)) -> Option<usize>
+    ensures found { IfSome result (λ at. (v : Sums) × (slice_get rows.now.entries at ≡ Some (places, v)) × (get same_places rows.now places ≡ Some v)) }
+    ensures none { result ≡ None → get same_places rows.now places ≡ None }
+{
+    let (at, _, _) = rows.get_full(&places)?;
+    Some(at)
+}
+
+// Adds to the row at this place.
+fn grow(rows: &mut Rows, at: usize, more: Sums)
+    requires at { at < index_map_len rows.old }
+    requires room { (k : Part) (e : (ℕ × ℕ) × Sums) → slice_get rows.old.entries at ≡ Some e → part k e.1 + part k more < 2 ^ 64 }
+    ensures keys { keys rows.new ≡ keys rows.old }
+    ensures updates { (e : (ℕ × ℕ) × Sums) → slice_get rows.old.entries at ≡ Some e
+        → (w : Sums) × (Updates same_places rows.old rows.new e.0 (Some w)) × ((k : Part) → part k w ≡ part k e.1 + part k more) }
+{
+    let (_, sums) = rows.pair_mut(at);
+    *sums = sums.plus(more);
 }
 
 /// The two places, the lesser first.

@@ -1,63 +1,86 @@
 //! What one later event adds to the rows.
-ghost use Rattle.std.specs.Prelude.{◌≡◌, ℕ, ◌+◌, ◌^◌, ◌<◌, ◌≤◌, ◌&&◌, length, All, Bool, true, false, None, IfSome, OnOk, if◌then◌else◌, slice_index, slice_get, sum_by};
-ghost use Rattle.event_index.specs.Lookups.{before};
-ghost use Rattle.event_index.specs.Relations.{is_access, is_clash_of_ops};
-ghost use Rattle.race_groups.specs.Classes.{adds_to, AreMembers};
-ghost use Rattle.race_groups.specs.Rows.{count_at, AreRows};
+ghost use Rattle.std.specs.Prelude.{◌≡◌, ℕ, ◌+◌, ◌^◌, ◌<◌, ◌≤◌, length, All, Bool, Some, true, false, OnOk, if◌then◌else◌, slice_index, slice_get, sum_by};
+ghost use Rattle.event_index.specs.Relations.{is_clash_of_ops};
+ghost use Rattle.race_groups.specs.Classes.{adds_to};
+ghost use Rattle.race_groups.specs.Counts.{is_counted, keeps};
+ghost use Rattle.race_groups.specs.Rows.{Part, part, amount, by_cut, count_at, AreRows};
 
 use crate::class::Class;
-use crate::rows::{Rows, RowsRefusal, add};
-use rapid_text::Op;
+use crate::rows::{Rows, Sums, add};
+use crate::sharing::are_sharing;
+use indexmap::IndexSet;
+use rapid_text::{Op, OutOfMemory};
 
-/// Which pairs of clashing classes are kept.
-pub trait Pairing {
-    ghost use Rattle.race_groups.specs.declared.class.Class.{Class};
-
-    ghost is_kept: { Self → Class → Class → Bool };
-
-    fn keeps(&self, earlier: Class, later: Class) -> bool
-        ensures keeps { result ≡ is_kept self.now earlier later };
+/// How many events of a class come below each of the three cuts.
+#[derive(Clone, Copy)]
+pub(crate) struct Below {
+    /// Those that are earlier in the trace.
+    pub(crate) earlier: u32,
+    /// Those that SHB keeps before.
+    pub(crate) known: u32,
+    /// Those that are must-before.
+    pub(crate) forced: u32,
 }
 
-// Adds what an event of a class has with the events that were counted, by the classes of its variable.
-pub(crate) fn add_all<P: Pairing>(
-    rows: &mut Rows,
-    counts: &[u32],
-    infos: &[Class],
-    members: &[u32],
-    pairing: &P,
-    later: Class,
-    limit: u32,
-) -> Result<(), RowsRefusal>
-    requires members { All (λ c. c < length infos.now) members.now }
-    requires len { length counts.now ≡ length infos.now }
-    requires rows { AreRows rows.old }
-    requires room { (p q : ℕ) → p ≤ q
-        → count_at rows.old p q + sum_by (slice_index counts.now) members.now < 2 ^ 64 }
-    ensures ok { OnOk result ((p q : ℕ) → p ≤ q
-        → count_at rows.new p q ≡ count_at rows.old p q
-        + sum_by (λ c. if adds_to (P.is_kept pairing.now) p q later (slice_get infos.now c) then slice_index counts.now c else 0) members.now) }
-    ensures rows { OnOk result (AreRows rows.new) }
-{
-    for member in members {
-        let info = infos[*member as usize];
-        let count = shared(counts[*member as usize], info, pairing, later);
-        if count != 0 {
-            add(rows, info.place, later.place, u64::from(count), limit)?;
+impl Below {
+    // Whether there are none.
+    fn is_nothing(self) -> bool
+        ensures none { result ≡ true → (k : Part) → amount k self ≡ 0 }
+        ensures some { result ≡ false → (k : Part) × (0 < amount k self) × ((b : Bool) → is_counted k b ≡ true) }
+    {
+        self.earlier == 0 && self.known == 0 && self.forced == 0
+    }
+
+    // So many pairs, whose threads both hold a lock or do not.
+    fn sums(self, is_shared: bool) -> Sums
+        ensures { (k : Part) → part k result ≡ (if is_counted k is_shared then amount k self else 0) }
+    {
+        Sums {
+            all: u64::from(self.earlier),
+            known: u64::from(self.known),
+            known_shared: where_shared(self.known, is_shared),
+            forced: u64::from(self.forced),
+            forced_shared: where_shared(self.forced, is_shared),
         }
     }
-    Ok(())
 }
 
-// How many events of a class are in pairs with the later event.
-fn shared<P: Pairing>(count: u32, earlier: Class, pairing: &P, later: Class) -> u32
-    ensures { result ≡ (if is_clash_of_ops earlier.op later.op && P.is_kept pairing.now earlier later then count else 0) }
+fn where_shared(count: u32, is_shared: bool) -> u64
+    ensures { result ≡ (if is_shared then count else 0) }
 {
-    if count != 0 && clash(earlier.op, later.op) && pairing.keeps(earlier, later) {
-        count
-    } else {
-        0
+    if is_shared { u64::from(count) } else { 0 }
+}
+
+// The sums of pairs of two classes. Whether these hold a lock in common matters only where SHB orders some of the pairs.
+fn sums_of(lists: &IndexSet<Vec<u32>>, earlier: Class, later: Class, below: Below) -> Sums
+    ensures { (k : Part) → part k result ≡ (if keeps lists.now.keys k earlier later then amount k below else 0) }
+{
+    if below.known == 0 && below.forced == 0 {
+        return below.sums(false);
     }
+    below.sums(are_sharing(lists, earlier.held, later.held))
+}
+
+// Adds the pairs of so many events of one class with one event of another.
+fn add_pairs(
+    rows: &mut Rows,
+    lists: &IndexSet<Vec<u32>>,
+    earlier: Class,
+    later: Class,
+    below: Below,
+) -> Result<(), OutOfMemory>
+    requires rows { AreRows rows.old }
+    requires room { (k : Part) (p q : ℕ) → p ≤ q → count_at k rows.old p q + amount k below < 2 ^ 64 }
+    ensures ok { OnOk result ((k : Part) (p q : ℕ) → p ≤ q → count_at k rows.new p q ≡ count_at k rows.old p q
+        + (if adds_to (keeps lists.now.keys k) p q later (Some earlier) then amount k below else 0)) }
+    ensures rows { OnOk result (AreRows rows.new) }
+{
+    if below.is_nothing() || !clash(earlier.op, later.op) {
+        return Ok(());
+    }
+    let sums = sums_of(lists, earlier, later, below);
+    add(rows, earlier.place, later.place, sums)?;
+    Ok(())
 }
 
 // Whether the two access one variable, at least one writing it.
@@ -71,50 +94,36 @@ fn clash(first: Op, second: Op) -> bool
     }
 }
 
-// Adds what an event of a class has with the events that were counted.
-pub(crate) fn add_later<P: Pairing>(
+/// Adds what an event of a class has with the events that come below its cuts, which are counted by class.
+pub(crate) fn add_members(
     rows: &mut Rows,
-    counts: &[u32],
+    earlier: &[u32],
+    known: &[u32],
+    forced: &[u32],
     infos: &[Class],
-    members: &[Vec<u32>],
-    pairing: &P,
+    lists: &IndexSet<Vec<u32>>,
+    members: &[u32],
     later: Class,
-    limit: u32,
-) -> Result<(), RowsRefusal>
-    requires members { AreMembers infos.now members.now }
-    requires later { (x : ℕ) → is_access x later.op ≡ true → x < length members.now }
-    requires len { length counts.now ≡ length infos.now }
-    requires few { length infos.now ≤ 1048576 }
-    requires small { All (λ n. n ≤ 1048576) counts.now }
+) -> Result<(), OutOfMemory>
+    requires members { All (λ c. c < length infos.now) members.now }
+    requires earlier { length earlier.now ≡ length infos.now }
+    requires known { length known.now ≡ length infos.now }
+    requires forced { length forced.now ≡ length infos.now }
     requires rows { AreRows rows.old }
-    requires room { (p q : ℕ) → p ≤ q → count_at rows.old p q ≤ 2 ^ 40 }
-    ensures ok { OnOk result ((p q : ℕ) → p ≤ q
-        → count_at rows.new p q ≡ count_at rows.old p q
-        + sum_by (λ c. if adds_to (P.is_kept pairing.now) p q later (slice_get infos.now c) then slice_index counts.now c else 0) (before (length infos.now))) }
+    requires room { (k : Part) (p q : ℕ) → p ≤ q
+        → count_at k rows.old p q + sum_by (slice_index (by_cut earlier.now known.now forced.now k)) members.now < 2 ^ 64 }
+    ensures ok { OnOk result ((k : Part) (p q : ℕ) → p ≤ q → count_at k rows.new p q ≡ count_at k rows.old p q
+        + sum_by (λ c. if adds_to (keeps lists.now.keys k) p q later (slice_get infos.now c)
+        then slice_index (by_cut earlier.now known.now forced.now k) c else 0) members.now) }
     ensures rows { OnOk result (AreRows rows.new) }
 {
-    let Some(x) = variable(later.op) else {
-        return Ok(());
-    };
-    add_all(
-        rows,
-        counts,
-        infos,
-        &members[x as usize],
-        pairing,
-        later,
-        limit,
-    )?;
-    Ok(())
-}
-
-// The variable that the operation accesses, where it does.
-fn variable(op: Op) -> Option<u32>
-    ensures some { IfSome result (λ x. is_access x op ≡ true) }
-    ensures none { result ≡ None → (x : ℕ) → is_access x op ≡ false }
-{
-    match op {
-        Op::Read(x) | Op::Write(x) => Some(x),
-        Op::Acquire(_) | Op::Release(_) | Op::Fork(_) | Op::Join(_) => None,
+    for member in members {
+        let below = Below {
+            earlier: earlier[*member as usize],
+            known: known[*member as usize],
+            forced: forced[*member as usize],
+        };
+        add_pairs(rows, lists, infos[*member as usize], later, below)?;
     }
+    Ok(())
 }

@@ -1,0 +1,106 @@
+use Rattle.std.proofs.Common.{◌≡◌, ℕ, ◌+◌, ◌<◌, ◌^◌, ◌≤◌, List, length, get_or, sum_by, slice_index, All, Some, true, refl, sym, ap, subst, ◌∙◌, arith}
+use Rattle.std.specs.List.{slice_get}
+use Rattle.std.proofs.lemmas.Option.{slice_get-get_or, slice_get_within, get_or_from_slice_get}
+use Rattle.std.proofs.lemmas.List.Elements.{All-get_or}
+use Rattle.event_index.specs.Lookups.{events_of}
+use Rattle.event_index.specs.Relations.{is_access}
+use Rattle.race_groups.specs.Classes.{members_of}
+use Rattle.race_groups.specs.Counts.{keeps}
+use Rattle.race_groups.specs.Ends.{ends_of}
+use Rattle.race_groups.specs.Rows.{count_at}
+use Rattle.race_groups.specs.declared.class.Class.{Class}
+use Rattle.race_groups.proofs.WholeLemmas.{members_within}
+use Rattle.race_groups.proofs.LaterLemmas.{later_none, members_room, members_added}
+use Rattle.race_groups.proofs.counted.add_later.Goals as goal
+
+pub returns-in_default-clause-ok : goal.returns-in_default-clause-ok
+returns-in_default-clause-ok c = λ k p q le.
+    let T = c.args.indexed.now.events in
+    let infos = c.args.classes.now.infos.items in
+    let classes = c.args.classes.now.numbers.items in
+    let given = c.thread_events.result.now in
+    let at = c.args.at in
+    let j = c.class_of-class.result in
+    let m = slice_index classes (slice_index given at) in
+    let class = slice_get_within infos m j c.class_of-class.ensures in
+    let here : slice_index given at ≡ slice_index (events_of T c.args.thread) at = ap (λ xs. slice_index xs at) c.thread_events.ensures.events in
+    let found : slice_get infos (slice_index classes (slice_index (events_of T c.args.thread) at)) ≡ Some j =
+    ap (λ n. slice_get infos (slice_index classes n)) (sym here) ∙ c.class_of-class.ensures
+    in
+    let none = later_none T (keeps c.args.classes.now.lists.keys k) classes infos c.args.thread (ends_of T c.args.forced.now k) p q (slice_index (events_of T c.args.thread) at) j found (c.in_default.ensures.none refl) in
+    omega (arith, none)
+
+pub add_members-requires-clause-members : goal.add_members-requires-clause-members
+add_members-requires-clause-members c =
+    let T = c.args.indexed.now.events in
+    let infos = c.args.classes.now.infos.items in
+    let classes = c.args.classes.now.numbers.items in
+    let given = c.thread_events.result.now in
+    let at = c.args.at in
+    let j = c.class_of-class.result in
+    let m = slice_index classes (slice_index given at) in
+    let class = slice_get_within infos m j c.class_of-class.ensures in
+    let members = c.args.classes.now.members.items in
+    let x = c.in-Some.variable in
+    let accessed : is_access x j.op ≡ true = c.in-Some.ensures.some in
+    let has : x < length members =
+    All-get_or (λ (i : Class). is_access x i.op ≡ true → x < length members) infos m j class (c.requires.members.within x) (subst (λ (i : Class). is_access x i.op ≡ true) (sym (get_or_from_slice_get infos m j j c.class_of-class.ensures)) accessed)
+    in
+    let is : c.as_slice-5.result.now ≡ members_of infos x =
+    c.as_slice-5.ensures.value ∙ c.requires.members.lists x c.index.result.now (slice_get-get_or members x c.index.result.now has ∙ ap Some (sym c.index.ensures))
+    in
+    subst (λ (xs : List ℕ). All (λ k. k < length c.as_slice-4.result.now) xs) (sym is) (subst (λ (ys : List Class). All (λ k. k < length ys) (members_of infos x)) (sym c.as_slice-4.ensures.value) (members_within infos x))
+
+pub add_members-requires-clause-room : goal.add_members-requires-clause-room
+add_members-requires-clause-room c = λ k p q le.
+    let T = c.args.indexed.now.events in
+    let infos = c.args.classes.now.infos.items in
+    let classes = c.args.classes.now.numbers.items in
+    let given = c.thread_events.result.now in
+    let at = c.args.at in
+    let j = c.class_of-class.result in
+    let m = slice_index classes (slice_index given at) in
+    let class = slice_get_within infos m j c.class_of-class.ensures in
+    let members = c.args.classes.now.members.items in
+    let x = c.in-Some.variable in
+    let accessed : is_access x j.op ≡ true = c.in-Some.ensures.some in
+    let has : x < length members =
+    All-get_or (λ (i : Class). is_access x i.op ≡ true → x < length members) infos m j class (c.requires.members.within x) (subst (λ (i : Class). is_access x i.op ≡ true) (sym (get_or_from_slice_get infos m j j c.class_of-class.ensures)) accessed)
+    in
+    let is : c.as_slice-5.result.now ≡ members_of infos x =
+    c.as_slice-5.ensures.value ∙ c.requires.members.lists x c.index.result.now (slice_get-get_or members x c.index.result.now has ∙ ap Some (sym c.index.ensures))
+    in
+    let few =
+    members_room c.args.indexed.now c.requires.formed (length infos) classes c.args.thread c.args.forced.now (at + 1) c.advance.new.self c.advance.ensures.fronts infos x refl c.requires.few
+    c.as_slice.result.now c.as_slice-2.result.now c.as_slice-3.result.now c.as_slice-5.result.now c.as_slice.ensures.value c.as_slice-2.ensures.value c.as_slice-3.ensures.value is k
+    in omega (arith, few, c.requires.room k p q le)
+
+pub returns-clause-ok : goal.returns-clause-ok
+returns-clause-ok c = λ k p q le.
+    let T = c.args.indexed.now.events in
+    let infos = c.args.classes.now.infos.items in
+    let classes = c.args.classes.now.numbers.items in
+    let given = c.thread_events.result.now in
+    let at = c.args.at in
+    let j = c.class_of-class.result in
+    let m = slice_index classes (slice_index given at) in
+    let class = slice_get_within infos m j c.class_of-class.ensures in
+    let here : slice_index given at ≡ slice_index (events_of T c.args.thread) at = ap (λ xs. slice_index xs at) c.thread_events.ensures.events in
+    let found : slice_get infos (slice_index classes (slice_index (events_of T c.args.thread) at)) ≡ Some j =
+    ap (λ n. slice_get infos (slice_index classes n)) (sym here) ∙ c.class_of-class.ensures
+    in
+    let members = c.args.classes.now.members.items in
+    let x = c.in-Some.variable in
+    let accessed : is_access x j.op ≡ true = c.in-Some.ensures.some in
+    let has : x < length members =
+    All-get_or (λ (i : Class). is_access x i.op ≡ true → x < length members) infos m j class (c.requires.members.within x) (subst (λ (i : Class). is_access x i.op ≡ true) (sym (get_or_from_slice_get infos m j j c.class_of-class.ensures)) accessed)
+    in
+    let is : c.as_slice-5.result.now ≡ members_of infos x =
+    c.as_slice-5.ensures.value ∙ c.requires.members.lists x c.index.result.now (slice_get-get_or members x c.index.result.now has ∙ ap Some (sym c.index.ensures))
+    in
+    let added =
+    members_added c.args.indexed.now c.requires.formed (length infos) classes c.args.thread c.args.forced.now (at + 1) c.advance.new.self c.advance.ensures.fronts (slice_index (events_of T c.args.thread) at) c.advance.ensures.moved
+    infos c.args.classes.now.lists.keys j x c.requires.numbers c.requires.classes refl accessed found
+    c.as_slice.result.now c.as_slice-2.result.now c.as_slice-3.result.now c.as_slice-5.result.now c.as_slice-4.result.now
+    c.as_slice.ensures.value c.as_slice-2.ensures.value c.as_slice-3.ensures.value c.as_slice-4.ensures.value is k p q
+    in c.in_ok-add_members.ensures.ok k p q le ∙ ap (λ n. count_at k c.args.rows.now p q + n) added

@@ -1,0 +1,39 @@
+use Rattle.std.proofs.Common.{◌≡◌, ◌+◌, ◌<◌, ◌≤◌, length, take, sum_by, slice_index, ap, ◌∙◌, arith}
+use Rattle.std.proofs.lemmas.List.{take_all}
+use Rattle.std.proofs.lemmas.List.Sums.{sum_by_more, sum_by-take-le}
+use Rattle.event_index.specs.Lookups.{events_of}
+use Rattle.race_groups.specs.Counting.{later_count}
+use Rattle.race_groups.specs.Counts.{keeps}
+use Rattle.race_groups.specs.Ends.{ends_of}
+use Rattle.race_groups.specs.Rows.{count_at}
+use Rattle.race_groups.proofs.LoopLemmas.{later_sum-le}
+use Rattle.race_groups.proofs.counted.add_thread.Goals as goal
+
+pub add_later-requires-clause-room : goal.add_later-requires-clause-room
+add_later-requires-clause-room c = λ k p q le.
+    let T = c.args.indexed.now.events in
+    let lane = events_of T c.args.thread in
+    let f = later_count T (keeps c.args.classes.now.lists.keys k) c.args.classes.now.numbers.items c.args.classes.now.infos.items c.args.thread (ends_of T c.args.forced.now k) p q in
+    let part = sum_by-take-le f lane c.loop-at.at in
+    let few = later_sum-le T (keeps c.args.classes.now.lists.keys k) c.args.classes.now.numbers.items c.args.classes.now.infos.items c.args.thread (ends_of T c.args.forced.now k) p q lane in
+    omega (arith, part, few, c.loop-at.invariant.rows k p q le, c.requires.room k p q le)
+
+pub loop-at-preserved : goal.loop-at-preserved
+loop-at-preserved c = record {
+  kept = c.in_ok-add_later.ensures.rows;
+  fronts = c.in_ok-add_later.ensures.fronts;
+  rows = λ k p q le.
+      let T = c.args.indexed.now.events in
+      let lane = events_of T c.args.thread in
+      let f = later_count T (keeps c.args.classes.now.lists.keys k) c.args.classes.now.numbers.items c.args.classes.now.infos.items c.args.thread (ends_of T c.args.forced.now k) p q in
+      let more = sum_by_more f lane c.loop-at.at 0 (omega (arith, c.loop-at-test.true, ap length c.thread_events-at-end.ensures.events)) in
+      omega (arith, more, c.in_ok-add_later.ensures.ok k p q le, c.loop-at.invariant.rows k p q le);
+}
+
+pub returns-clause-ok : goal.returns-clause-ok
+returns-clause-ok c = λ k p q le.
+    let T = c.args.indexed.now.events in
+    let lane = events_of T c.args.thread in
+    let f = later_count T (keeps c.args.classes.now.lists.keys k) c.args.classes.now.numbers.items c.args.classes.now.infos.items c.args.thread (ends_of T c.args.forced.now k) p q in
+    let whole : take c.loop-at.at lane ≡ lane = take_all c.loop-at.at lane (omega (arith, c.loop-at-test.false, ap length c.thread_events-at-end.ensures.events)) in
+    c.loop-at.invariant.rows k p q le ∙ ap (λ xs. count_at k c.args.rows.now p q + sum_by f xs) whole

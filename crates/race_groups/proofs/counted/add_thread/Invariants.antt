@@ -1,0 +1,17 @@
+use Rattle.std.proofs.Common.{◌≡◌, ℕ, ◌+◌, ◌≤◌, length, take, sum_by}
+use Rattle.event_index.specs.Lookups.{events_of}
+use Rattle.race_groups.specs.Counting.{AreFrontsAt, later_count}
+use Rattle.race_groups.specs.Counts.{keeps}
+use Rattle.race_groups.specs.Ends.{ends_of}
+use Rattle.race_groups.specs.Rows.{Part, count_at, AreRows}
+use Rattle.race_groups.proofs.counted.add_thread.Given as goal
+
+abbrev pub invariant-loop-at : goal.invariant-loop-at
+invariant-loop-at l =
+    record {
+      kept : AreRows l.rows;
+      fronts : AreFrontsAt l.indexed.events (length l.indexed.threads) (length l.classes.infos.items) l.classes.numbers.items l.thread l.forced l.at l.fronts;
+      rows :
+          (k : Part) (p q : ℕ) → p ≤ q → count_at k l.rows p q ≡ count_at k l.fn.rows p q
+          + sum_by (later_count l.indexed.events (keeps l.classes.lists.keys k) l.classes.numbers.items l.classes.infos.items l.thread (ends_of l.indexed.events l.forced k) p q) (take l.at (events_of l.indexed.events l.thread));
+    }
