@@ -1,7 +1,7 @@
 -- Where no pair of two places is a candidate or open, no correct reordering shows one.
-use Rattle.std.proofs.Common.{◌≡◌, ◌≢◌, ℕ, zero, suc, ◌+◌, ◌<◌, ◌==◌, ◌||◌, ◌&&◌, ◌⊎◌, ◌↔◌, Bool, true, false, cond, IsTrue, List, [], ◌∷◌, ◌++◌, length, map, filter, count_by, All, Contains, Option, Some, refl, sym, ap, ◌∙◌, subst, arith, inl, inr, add-one}
+use Rattle.std.proofs.Common.{◌≡◌, ℕ, zero, suc, ◌<◌, ◌==◌, ◌&&◌, ◌↔◌, Bool, true, cond, IsTrue, List, [], ◌∷◌, length, map, filter, count_by, Contains, sym, ap, ◌∙◌, subst, arith, inl, inr}
 use Rattle.std.specs.List.{flat_map, slice_get}
-use Rattle.std.proofs.lemmas.Bool.{cases_Bool, cases_order, cond-true, cond-false, or_cases, or_left, or_right, and_parts, and_from, true≢false}
+use Rattle.std.proofs.lemmas.Bool.{cases_Bool, cases_order, cond-true, cond-false, or_cases, or_left, or_right, and_parts, and_from}
 use Rattle.std.proofs.lemmas.List.Elements.{All-contains, Contains-append_left, Contains-append_right}
 use Rattle.std.proofs.lemmas.List.FromFn.{length-range_with_len, get_or-range_with_len}
 use Rattle.std.proofs.lemmas.List.Sums.{sum_by-cons}
@@ -57,7 +57,7 @@ in_before n k lt =
     (k, omega (arith, size), get_or-range_with_len 0 n k k lt ∙ omega arith)
 
 -- each conflicting pair stands in its group
-in_group : (T : List Event) (place : ℕ → ℕ) (p q a b : ℕ) → a < b → IsConflicting T a b → is_between p q (place a) (place b) ≡ true → Contains (group_of T place p q) (a, b)
+pub in_group : (T : List Event) (place : ℕ → ℕ) (p q a b : ℕ) → a < b → IsConflicting T a b → is_between p q (place a) (place b) ≡ true → Contains (group_of T place p q) (a, b)
 in_group T place p q a b lt conflict between =
     let low : b < length T = slice_get_within T b conflict.w conflict.second in
     let pair = in_flat_map (λ d. map (λ c. (c, d)) (before d)) (before (length T)) b (a, b) (in_before (length T) b low) (in_map (λ c. (c, b)) (before b) a (in_before b a lt)) in

@@ -1,5 +1,5 @@
 -- Classes and their members in the making.
-use Rattle.std.proofs.Common.{◌≡◌, ◌≢◌, ℕ, zero, suc, ◌+◌, ◌<◌, ◌≤◌, ◌⊎◌, true, false, cond, Bool, List, [], ◌∷◌, ◌++◌, Vec, filter, length, slice_index, set, Option, Some, None, refl, sym, ap, ◌∙◌, subst, arith, inl, inr, add-one, append-nil, All, ◌==◌, eqb-true}
+use Rattle.std.proofs.Common.{◌≡◌, ℕ, zero, suc, ◌+◌, ◌<◌, ◌≤◌, ◌⊎◌, true, false, cond, List, [], ◌∷◌, ◌++◌, Vec, filter, length, slice_index, set, Option, Some, refl, sym, ap, ◌∙◌, subst, arith, inl, inr, add-one, append-nil, All, ◌==◌, eqb-true}
 use Rattle.std.specs.List.{slice_get}
 use Rattle.std.specs.Option.{option_map}
 use Rattle.std.proofs.lemmas.List.Elements.{All-nil, All-cons, All-get_or}
@@ -16,7 +16,7 @@ use Rattle.event_index.specs.Lookups.{before}
 use Rattle.event_index.specs.Relations.{is_access}
 use Rattle.event_index.proofs.CallerLemmas.{filter_more_before, op_event}
 use Rattle.trace_rules.proofs.Counts.{slice_get-set}
-use Rattle.race_groups.specs.Building.{AreNumbered, IsClassOf, AreMembersBelow, IsGrown}
+use Rattle.race_groups.specs.Building.{AreNumbered, AreMembersBelow, IsGrown}
 use Rattle.race_groups.specs.Holding.{AreLocksOf}
 use Rattle.race_groups.specs.Classes.{accesses, AreClasses, AreLocks}
 use Rattle.race_groups.specs.declared.class.Class.{Class}
@@ -115,7 +115,7 @@ locks_of T lists e x i j same locks accessed =
     let is : i ≡ j = same_Some i j same in
     subst (λ (k : Class). is_access x k.op ≡ true → AreLocksOf T lists e k.held) is (locks x) accessed
 
-All-from_slice_get : {X : Type 0} (P : X → Type 0) (xs : List X) → ((k : ℕ) (x : X) → slice_get xs k ≡ Some x → P x) → All P xs
+pub All-from_slice_get : {X : Type 0} (P : X → Type 0) (xs : List X) → ((k : ℕ) (x : X) → slice_get xs k ≡ Some x → P x) → All P xs
 All-from_slice_get P [] holds = All-nil P
 All-from_slice_get P (x ∷ xs) holds = All-cons P x xs (holds 0 x refl) (All-from_slice_get P xs (λ k y at. holds (suc k) y at))
 

@@ -1,15 +1,13 @@
 -- What is said of each of the five parts that are counted.
-use Rattle.std.proofs.Common.{◌≡◌, ℕ, ◌+◌, ◌<◌, ◌==◌, ◌&&◌, Bool, true, false, Some, Vec, List, slice_index, refl, sym, ap, ◌∙◌}
+use Rattle.std.proofs.Common.{◌≡◌, ℕ, ◌&&◌, Bool, true, false, Some, Vec, List, slice_index, refl, ap, ◌∙◌}
 use Rattle.std.specs.Bool.{if◌then◌else◌}
 use Rattle.std.specs.declared.alloc.Global.{Global}
 use Rattle.event_index.specs.Relations.{is_clash_of_ops}
-use Rattle.race_groups.specs.Counts.{is_counted, keeps}
+use Rattle.race_groups.specs.Counts.{keeps}
 use Rattle.race_groups.specs.Groups.{is_between}
 use Rattle.race_groups.specs.Classes.{adds_to}
-use Rattle.race_groups.specs.Rows.{Part, of_all, of_known, of_known_shared, of_forced, of_forced_shared, part, amount, by_cut}
+use Rattle.race_groups.specs.Rows.{Part, of_all, of_known, of_known_shared, of_forced, of_forced_shared, amount, by_cut}
 use Rattle.race_groups.specs.declared.class.Class.{Class}
-use Rattle.race_groups.specs.declared.rows.Sums.{Sums}
-use Rattle.race_groups.specs.declared.walk.Below.{Below}
 
 -- what holds of what belongs to each of the three cuts
 pub each_cut : {X : Type 0} (P : X → Type 0) (earlier known forced : X) → P earlier → P known → P forced → (k : Part) → P (by_cut earlier known forced k)

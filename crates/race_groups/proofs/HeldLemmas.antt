@@ -1,9 +1,9 @@
 -- The locks that threads hold, as lists: event by event, and what two lists have in common.
-use Rattle.std.proofs.Common.{◌≡◌, ◌≢◌, ℕ, ◌+◌, ◌<◌, ◌≤◌, ◌⊎◌, ◌↔◌, ◌==◌, Bool, true, false, cond, ◌&&◌, ◌||◌, List, [], ◌∷◌, ◌++◌, Vec, length, take, set, count_by, Option, Some, None, refl, sym, ap, ◌∙◌, subst, arith, inl, inr, eq-eqb, eqb-true}
+use Rattle.std.proofs.Common.{◌≡◌, ◌≢◌, ℕ, ◌+◌, ◌<◌, ◌⊎◌, ◌==◌, Bool, true, false, cond, List, [], ◌∷◌, ◌++◌, Vec, take, set, count_by, Option, Some, None, refl, sym, ap, ◌∙◌, subst, arith, inl, inr, eq-eqb, eqb-true}
 use Rattle.std.specs.List.{list_any, slice_get}
 use Rattle.std.specs.Option.{option_map}
 use Rattle.std.specs.declared.alloc.Global.{Global}
-use Rattle.std.proofs.lemmas.Bool.{true≢false, or_cases, or_left, or_right, and_right, cases_Bool, cases_eq, ne_eqb}
+use Rattle.std.proofs.lemmas.Bool.{true≢false, or_cases, or_left, or_right, and_right, cases_eq, ne_eqb}
 use Rattle.std.proofs.lemmas.List.Sums.{sum_by-cons, sum_by_push}
 use Rattle.std.proofs.lemmas.Option.{same_Some, slice_get_within}
 use Rattle.rapid_text.specs.Operations.{is_acquire, is_release}
@@ -11,10 +11,8 @@ use Rattle.rapid_text.specs.declared.event.Event.{Event}
 use Rattle.rapid_text.specs.declared.event.Op.TheVariants.{Acquire, Release}
 use Rattle.trace_rules.specs.Rules.{IsDisciplined, hold_count}
 use Rattle.trace_rules.proofs.Counts.{slice_get-set, list_any-from_count}
-use Rattle.event_index.specs.Events.{thread_at}
-use Rattle.event_index.proofs.CallerLemmas.{hold_same, hold_taken, hold_freed, takes, frees, takes_is, frees_is, takes_not_thread, frees_not_thread, thread_here}
+use Rattle.event_index.proofs.CallerLemmas.{hold_same, hold_taken, hold_freed, takes_not_thread, frees_not_thread, thread_here}
 use Rattle.event_index.proofs.HoldLemmas.{takes_from, frees_from, acquire_frees_not, release_takes_not, takes_not_lock, frees_not_lock}
-use Rattle.must_order.specs.MustBefore.{IsHeldBefore}
 use Rattle.race_groups.proofs.BuildLemmas.{get_either}
 use Rattle.race_groups.specs.Building.{text_at}
 use Rattle.race_groups.specs.Holding.{times, AreHeld, AreLocksOf}

@@ -1,5 +1,5 @@
 -- What a later event adds to each part, from the fronts of its cuts.
-use Rattle.std.proofs.Common.{◌≡◌, ℕ, ◌+◌, ◌^◌, ◌<◌, ◌≤◌, ◌&&◌, Bool, true, false, List, length, sum_by, slice_index, All, Option, Some, None, Vec, refl, sym, ap, ◌∙◌, arith, cond, inl, inr}
+use Rattle.std.proofs.Common.{◌≡◌, ℕ, ◌^◌, ◌<◌, ◌≤◌, ◌&&◌, Bool, true, false, List, length, sum_by, slice_index, All, Option, Some, Vec, refl, sym, ap, ◌∙◌, arith, cond, inl, inr}
 use Rattle.std.specs.List.{slice_get}
 use Rattle.std.specs.declared.alloc.Global.{Global}
 use Rattle.std.proofs.lemmas.Bool.{cases_Bool}
@@ -10,7 +10,7 @@ use Rattle.event_index.specs.Lookups.{before}
 use Rattle.event_index.specs.Relations.{is_access}
 use Rattle.shb_clocks.specs.SharedRows.{Counted}
 use Rattle.race_groups.specs.Classes.{adds_to, members_of}
-use Rattle.race_groups.specs.Counting.{AreFronts, AreFrontsAt, AreMoved, IsFront, later_by, later_count, pair_count}
+use Rattle.race_groups.specs.Counting.{AreFronts, AreFrontsAt, AreMoved, IsFront, later_by, later_count}
 use Rattle.race_groups.specs.Counts.{keeps}
 use Rattle.race_groups.specs.Cuts.{is_under}
 use Rattle.race_groups.specs.Ends.{ends_of}

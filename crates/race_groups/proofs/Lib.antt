@@ -20,4 +20,5 @@ pub mod HeldLemmas
 pub mod PartLemmas
 pub mod TellLemmas
 pub mod ApartLemmas
+pub mod CompleteLemmas
 pub mod Examples

@@ -1,20 +1,19 @@
 -- What the tests of a conflicting pair tell: its kind.
-use Rattle.std.proofs.Common.{◌≡◌, ℕ, ◌+◌, ◌<◌, ◌≤◌, ◌⊎◌, ◌↔◌, ◌==◌, Bool, true, false, ◌&&◌, ◌||◌, IsTrue, List, [], ◌∷◌, Vec, length, take, All, count_by, sum_by, cond, add-one, ◌++◌, map, filter, Option, Some, None, refl, sym, ap, ◌∙◌, subst, arith, inl, inr, slice_index, get_or}
-use Rattle.std.specs.List.{list_any, slice_get, flat_map}
+use Rattle.std.proofs.Common.{◌≡◌, ℕ, ◌<◌, ◌≤◌, ◌↔◌, Bool, true, false, ◌&&◌, IsTrue, List, [], ◌∷◌, Vec, length, All, count_by, sum_by, cond, add-one, map, Option, Some, refl, sym, ap, ◌∙◌, subst, arith, inl, inr, slice_index, get_or}
+use Rattle.std.specs.List.{slice_get, flat_map}
 use Rattle.std.proofs.lemmas.List.Sums.{sum_by-cons}
 use Rattle.std.specs.declared.alloc.Global.{Global}
 use Rattle.std.proofs.lemmas.Bool.{true≢false, cases_Bool}
-use Rattle.std.proofs.lemmas.Option.{same_Some, slice_get_within, slice_get-get_or, get_or_from_slice_get}
+use Rattle.std.proofs.lemmas.Option.{slice_get_within, slice_get-get_or, get_or_from_slice_get}
 use Rattle.std.proofs.lemmas.List.Elements.{All-filter, All-weaker, All-get_or, filter_passes, All-nil, All-cons, All-head, All-tail, All-append, All-map}
 use Rattle.rapid_text.specs.Recording.{Recording, IsWellFormed, IsNamed, IsNamedOp}
 use Rattle.rapid_text.specs.declared.event.Event.{Event}
 use Rattle.rapid_text.specs.declared.event.Op.TheVariants.{Acquire}
-use Rattle.trace_rules.specs.Rules.{IsDisciplined, hold_count}
-use Rattle.event_index.specs.Events.{thread_at}
-use Rattle.event_index.specs.Lookups.{before, base_of, count_before, place_of}
+use Rattle.trace_rules.specs.Rules.{IsDisciplined}
+use Rattle.event_index.specs.Lookups.{before, count_before}
 use Rattle.event_index.specs.Relations.{IsConflicting, is_access, is_conflict}
 use Rattle.event_index.proofs.CallerLemmas.{thread_here, thread_within, op_event, Decides-is_conflict}
-use Rattle.shb_clocks.specs.Candidates.{IsCandidate, IsCandidatePair, IsApart}
+use Rattle.shb_clocks.specs.Candidates.{IsCandidatePair}
 use Rattle.must_order.specs.Kinds.{IsKind}
 use Rattle.must_order.specs.MustBefore.{IsForced, IsGuarded, IsHeldBefore, IsSharedBefore}
 use Rattle.must_order.specs.declared.kind.Kind.{Kind}
@@ -23,7 +22,7 @@ use Rattle.must_order.proofs.CallerLemmas.{held_since}
 use Rattle.race_groups.specs.Classes.{AreClasses, AreLocks, is_kept_pair, keeps_by}
 use Rattle.indexmap.specs.IndexMap.{IndexMap, get}
 use Rattle.race_groups.specs.Counts.{AreCounted}
-use Rattle.race_groups.specs.Cuts.{IsCutOf, is_cut_off}
+use Rattle.race_groups.specs.Cuts.{is_cut_off}
 use Rattle.race_groups.specs.Ends.{IsKnownBefore, known_before}
 use Rattle.race_groups.specs.Groups.{pairs_below, conflicts, group_of, is_between, kind_by, IsCountOf}
 use Rattle.race_groups.specs.Holding.{AreLocksOf}
@@ -136,7 +135,7 @@ All-flat_map P g (x ∷ xs) all =
     All-append P (g x) (flat_map g xs) (All-head (λ y. All P (g y)) x xs all) (All-flat_map P g xs (All-tail (λ y. All P (g y)) x xs all))
 
 -- both of what holds of all
-All-both : {X : Type 0} (P Q : X → Type 0) (xs : List X) → All P xs → All Q xs → All (λ x. P x × Q x) xs
+pub All-both : {X : Type 0} (P Q : X → Type 0) (xs : List X) → All P xs → All Q xs → All (λ x. P x × Q x) xs
 All-both P Q [] all also = All-nil (λ x. P x × Q x)
 All-both P Q (x ∷ xs) all also =
     All-cons (λ y. P y × Q y) x xs (All-head P x xs all, All-head Q x xs also) (All-both P Q xs (All-tail P x xs all) (All-tail Q x xs also))

@@ -1,11 +1,9 @@
 -- What one later event adds to a row, class by class.
-use Rattle.std.proofs.Common.{◌≡◌, ℕ, ◌+◌, ◌<◌, ◌≤◌, ◌&&◌, Bool, true, false, List, length, take, sum_by, slice_index, Some, refl, sym, ap, ◌∙◌, arith}
+use Rattle.std.proofs.Common.{◌≡◌, ℕ, ◌+◌, ◌<◌, ◌≤◌, Bool, true, false, List, length, take, sum_by, slice_index, Some, ap, ◌∙◌, arith}
 use Rattle.std.specs.Bool.{if◌then◌else◌}
 use Rattle.std.specs.List.{slice_get}
 use Rattle.std.proofs.lemmas.List.Sums.{sum_by_more, sum_by_more_le_part}
 use Rattle.rapid_text.specs.declared.event.Op.TheVariants.{Read}
-use Rattle.event_index.specs.Relations.{is_clash_of_ops}
-use Rattle.race_groups.specs.Groups.{is_between}
 use Rattle.race_groups.specs.Classes.{adds_to}
 use Rattle.race_groups.specs.declared.class.Class.{Class}
 

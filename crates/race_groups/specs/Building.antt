@@ -1,5 +1,5 @@
 -- Classes and places in the making. No public clause cites this module. `T` is the events of a trace.
-use Rattle.std.specs.Prelude.{true, ◌≡◌, ℕ, ◌+◌, ◌<◌, ◌≤◌, List, filter, length, All, slice_get, slice_index, option_map, Option, Some, Vec}
+use Rattle.std.specs.Prelude.{true, ◌≡◌, ℕ, ◌+◌, ◌<◌, ◌≤◌, List, filter, length, slice_get, slice_index, option_map, Option, Some, Vec}
 use Rattle.std.specs.declared.alloc.Global.{Global}
 use Rattle.rapid_text.specs.declared.event.Event.{Event}
 use Rattle.event_index.specs.Events.{op_at}

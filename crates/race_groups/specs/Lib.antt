@@ -9,3 +9,4 @@ pub mod Shared
 pub mod Holding
 pub mod Building
 pub mod Counts
+pub mod Found

@@ -1,5 +1,5 @@
 -- Lists of locks that have one in common.
-use Rattle.std.specs.Prelude.{ℕ, ◌==◌, Bool, false, List, Option, Some, None, Vec, slice_get}
+use Rattle.std.specs.Prelude.{ℕ, ◌==◌, Bool, false, List, Option, Some, Vec, slice_get}
 use Rattle.std.specs.List.{list_any}
 use Rattle.std.specs.declared.alloc.Global.{Global}
 

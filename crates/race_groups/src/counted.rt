@@ -1,6 +1,7 @@
 //! The counts of a trace's conflicting pairs below three cuts: what is earlier in the trace, what SHB keeps before, what is forced.
 //! For each later thread the events of the others are counted by class as they come below the cuts.
-ghost use Rattle.std.specs.Prelude.{◌≡◌, ℕ, ◌+◌, ◌^◌, ◌<◌, ◌≤◌, length, All, IfOk, OnOk, Some, slice_get, slice_index, sum_by};
+ghost use Rattle.std.specs.Prelude.{◌≡◌, ℕ, ◌+◌, ◌^◌, ◌<◌, ◌≤◌, length, All, IfOk, OnOk, Err, Some, slice_get, slice_index, sum_by};
+ghost use Rattle.indexmap.specs.IndexMap.{index_map_len};
 ghost use Rattle.rapid_text.specs.Recording.{IsWellFormed};
 ghost use Rattle.event_index.specs.Lookups.{events_of};
 ghost use Rattle.shb_clocks.specs.SharedRows.{Counted, len_of};
@@ -9,7 +10,8 @@ ghost use Rattle.race_groups.specs.Counting.{AreFrontsAt, AreMoved, later_count}
 ghost use Rattle.race_groups.specs.Counts.{AreCounted, keeps};
 ghost use Rattle.race_groups.specs.Cuts.{IsCut};
 ghost use Rattle.race_groups.specs.Ends.{ends_of};
-ghost use Rattle.race_groups.specs.Rows.{Part, count_at, AreRows};
+ghost use Rattle.race_groups.specs.Found.{AreTooMany};
+ghost use Rattle.race_groups.specs.Rows.{Part, count_at, AreRows, AreMore};
 
 use crate::class::Class;
 use crate::classes::{Classes, variable_of};
@@ -168,12 +170,18 @@ fn add_thread(
     requires members { AreMembers classes.now.infos.items classes.now.members.items }
     requires thread { thread < length indexed.now.threads }
     requires rows { AreRows rows.old }
+    requires kept { index_map_len rows.old ≤ limit }
     requires room { (k : Part) (p q : ℕ) → p ≤ q
         → count_at k rows.old p q + sum_by (λ e. length indexed.now.events) (events_of indexed.now.events thread) ≤ 2 ^ 40 }
     ensures ok { OnOk result ((k : Part) (p q : ℕ) → p ≤ q → count_at k rows.new p q ≡ count_at k rows.old p q
         + sum_by (later_count indexed.now.events (keeps classes.now.lists.keys k) classes.now.numbers.items classes.now.infos.items thread
         (ends_of indexed.now.events forced.now k) p q) (events_of indexed.now.events thread)) }
     ensures rows { OnOk result (AreRows rows.new) }
+    ensures kept { OnOk result (index_map_len rows.new ≤ limit) }
+    // Where there are too many, none of them counts more than there is.
+    ensures too_many { result ≡ Err RowsRefusal.TooMany → AreMore limit rows.new × ((k : Part) (p q : ℕ) → p ≤ q → count_at k rows.new p q
+        ≤ count_at k rows.old p q + sum_by (later_count indexed.now.events (keeps classes.now.lists.keys k) classes.now.numbers.items
+        classes.now.infos.items thread (ends_of indexed.now.events forced.now k) p q) (events_of indexed.now.events thread)) }
 {
     let mut fronts = Fronts::new(alloc, indexed, classes)?;
     for at in 0..indexed.thread_events(thread).len() {
@@ -212,15 +220,20 @@ pub(crate) fn count_cuts(
     requires members { AreMembers classes.now.infos.items classes.now.members.items }
     ensures counted { IfOk result (AreCounted indexed.now.events (slice_index places.now)
         classes.now.numbers.items classes.now.infos.items classes.now.lists.keys) }
+    ensures kept { IfOk result (λ rows. index_map_len rows ≤ limit) }
+    ensures too_many { result ≡ Err RowsRefusal.TooMany → AreTooMany indexed.now.events (slice_index places.now) limit }
 {
     known_tells_shb();
     let _len = indexed.len();
     let forced = must.rows();
     let mut rows = IndexMap::new(alloc);
     for thread in 0..threads_in(indexed) {
-        add_thread(
+        match add_thread(
             alloc, &mut rows, indexed, clocks, forced, classes, limit, thread,
-        )?;
+        ) {
+            Ok(()) => {}
+            Err(refusal) => return Err(refusal),
+        }
     }
     Ok(rows)
 }

@@ -1,6 +1,9 @@
 //! The conflicting pairs of a trace by pair of places and by kind.
-ghost use Rattle.std.specs.Prelude.{◌≡◌, ◌≤◌, All, IfOk, length, map, slice_index};
-ghost use Rattle.indexmap.specs.IndexMap.{keys};
+ghost use Rattle.std.specs.Prelude.{◌≡◌, ◌≤◌, ℕ, All, IfOk, IfSome, Err, Some, None, true, false, length, map, slice_get, slice_index};
+ghost use Rattle.indexmap.specs.IndexMap.{IsUnique, keys};
+ghost use Rattle.race_groups.specs.Found.{AreComplete, AreOnce, AreTooMany, are_places};
+ghost use Rattle.race_groups.specs.Groups.{is_between};
+ghost use Rattle.race_groups.specs.Rows.{same_places};
 ghost use Rattle.race_groups.specs.Classes.{AreClasses, AreLocks, AreMembers};
 ghost use Rattle.race_groups.specs.Counts.{AreCounted};
 ghost use Rattle.race_groups.specs.Kinds.{IsDifference, IsRow};
@@ -10,6 +13,7 @@ use crate::counted::count_cuts;
 use crate::rows::{Rows, RowsRefusal, Sums, ordered, row_at};
 use event_index::Indexed;
 use must_order::Must;
+use rapid_text::OutOfMemory;
 use shb_clocks::Clocks;
 use std::alloc::Global;
 
@@ -42,11 +46,18 @@ pub struct Groups {
     pub rows: Vec<Row>,
     // The rows' places, in the same order.
     index: Rows,
+    ghost places: { are_places rows.items (keys index) ≡ true },
 }
 
 impl Groups {
     /// Where the row of two places stands, given in either order.
-    pub fn row_of(&self, first: u32, second: u32) -> Option<usize> {
+    pub fn row_of(&self, first: u32, second: u32) -> Option<usize>
+        // It answers a row of these places, and None where there is none.
+        ensures found { IfSome result (λ at. (row : Row) × (slice_get self.now.rows.items at ≡ Some row)
+            × (is_between row.places.0 row.places.1 first second ≡ true)) }
+        ensures none { result ≡ None → (at : ℕ) (row : Row) → slice_get self.now.rows.items at ≡ Some row
+            → is_between row.places.0 row.places.1 first second ≡ false }
+    {
         row_at(&self.index, ordered(first, second))
     }
 }
@@ -70,16 +81,19 @@ pub fn groups_of(
     requires locks { AreLocks indexed.now.events classes.now.lists.keys classes.now.numbers.items classes.now.infos.items }
     // The four counts of each row are those of the conflicting pairs of its places that are of each kind.
     ensures rows { IfOk result (λ found. All (IsRow indexed.now (slice_index places.now)) found.rows.items) }
+    // Each two events that conflict have a row, no two rows have the same places, and there are no more than `limit`.
+    ensures complete { IfOk result (λ found. AreComplete indexed.now.events (slice_index places.now) found.rows.items) }
+    ensures once { IfOk result (λ found. AreOnce found.rows.items) }
+    ensures few_rows { IfOk result (λ found. length found.rows.items ≤ limit) }
+    // It is refused only where more pairs of places have a conflicting pair, or for want of memory.
+    ensures too_many { result ≡ Err RowsRefusal.TooMany → AreTooMany indexed.now.events (slice_index places.now) limit }
 {
     let _len = indexed.len();
     let index = match count_cuts(alloc, indexed, places, clocks, must, classes, limit) {
         Ok(index) => index,
         Err(refusal) => return Err(refusal),
     };
-    let rows = match rows_of(alloc, indexed, places, classes, &index) {
-        Ok(rows) => rows,
-        Err(refusal) => return Err(refusal),
-    };
+    let rows = rows_of(alloc, indexed, places, classes, &index)?;
     Ok(Groups { rows, index })
 }
 
@@ -90,13 +104,14 @@ fn rows_of(
     places: &[u32],
     classes: &Classes,
     counted: &Rows,
-) -> Result<Vec<Row>, RowsRefusal>
+) -> Result<Vec<Row>, OutOfMemory>
     requires classes { AreClasses indexed.now.events (slice_index places.now) classes.now.numbers.items classes.now.infos.items }
     requires locks { AreLocks indexed.now.events classes.now.lists.keys classes.now.numbers.items classes.now.infos.items }
     requires counted { AreCounted indexed.now.events (slice_index places.now)
         classes.now.numbers.items classes.now.infos.items classes.now.lists.keys counted.now }
     ensures rows { IfOk result (λ rows. All (IsRow indexed.now (slice_index places.now)) rows.items) }
     ensures places { IfOk result (λ rows. map (λ row. row.places) rows.items ≡ keys counted.now) }
+    ensures once { IsUnique same_places counted.now }
 {
     let _len = indexed.len();
     let mut rows = Vec::with_capacity(alloc, counted.len())?;

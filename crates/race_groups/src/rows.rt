@@ -36,18 +36,33 @@ pub enum RowsRefusal {
 }
 
 impl From<AllocError> for RowsRefusal {
+    ghost use Rattle.std.specs.Prelude.{◌≡◌};
+    ghost use Rattle.race_groups.specs.declared.rows.RowsRefusal.TheVariants.{OutOfMemory};
+
+    ghost from_gives = { λ refused refusal. refusal ≡ OutOfMemory };
+
     fn from(_error: AllocError) -> RowsRefusal {
         RowsRefusal::OutOfMemory
     }
 }
 
 impl From<OutOfMemory> for RowsRefusal {
+    ghost use Rattle.std.specs.Prelude.{◌≡◌};
+    ghost use Rattle.race_groups.specs.declared.rows.RowsRefusal.TheVariants.{OutOfMemory};
+
+    ghost from_gives = { λ refused refusal. refusal ≡ OutOfMemory };
+
     fn from(_refused: OutOfMemory) -> RowsRefusal {
         RowsRefusal::OutOfMemory
     }
 }
 
 impl<T: Drop> From<AllocFailed<T>> for RowsRefusal {
+    ghost use Rattle.std.specs.Prelude.{◌≡◌};
+    ghost use Rattle.race_groups.specs.declared.rows.RowsRefusal.TheVariants.{OutOfMemory};
+
+    ghost from_gives = { λ refused refusal. refusal ≡ OutOfMemory };
+
     fn from(_failed: AllocFailed<T>) -> RowsRefusal {
         RowsRefusal::OutOfMemory
     }

@@ -1,4 +1,4 @@
-use Rattle.std.proofs.Common.{slice_index, sym, arith, eqb-true}
+use Rattle.std.proofs.Common.{slice_index, arith, eqb-true}
 use Rattle.race_groups.proofs.ApartLemmas.{never_between}
 use Rattle.race_groups.proofs.apart.is_apart.Goals as goal
 

@@ -1,4 +1,4 @@
-use Rattle.std.proofs.Common.{◌≡◌, ◌+◌, ◌<◌, ◌≤◌, length, take, sum_by, slice_index, ap, ◌∙◌, arith}
+use Rattle.std.proofs.Common.{◌≡◌, ◌+◌, length, take, sum_by, ap, ◌∙◌, arith}
 use Rattle.std.proofs.lemmas.List.{take_all}
 use Rattle.std.proofs.lemmas.List.Sums.{sum_by_more, sum_by-take-le}
 use Rattle.event_index.specs.Lookups.{events_of}
@@ -21,6 +21,7 @@ add_later-requires-clause-room c = λ k p q le.
 pub loop-at-preserved : goal.loop-at-preserved
 loop-at-preserved c = record {
   kept = c.in_ok-add_later.ensures.rows;
+  few = omega (arith, c.if-len-limit.false, c.len.ensures.len);
   fronts = c.in_ok-add_later.ensures.fronts;
   rows = λ k p q le.
       let T = c.args.indexed.now.events in
@@ -37,3 +38,18 @@ returns-clause-ok c = λ k p q le.
     let f = later_count T (keeps c.args.classes.now.lists.keys k) c.args.classes.now.numbers.items c.args.classes.now.infos.items c.args.thread (ends_of T c.args.forced.now k) p q in
     let whole : take c.loop-at.at lane ≡ lane = take_all c.loop-at.at lane (omega (arith, c.loop-at-test.false, ap length c.thread_events-at-end.ensures.events)) in
     c.loop-at.invariant.rows k p q le ∙ ap (λ xs. count_at k c.args.rows.now p q + sum_by f xs) whole
+
+pub returns-then-len-limit-clause-too_many : goal.returns-then-len-limit-clause-too_many
+returns-then-len-limit-clause-too_many c = λ refused. (
+  record { are = c.in_ok-add_later.ensures.rows; more = omega (arith, c.if-len-limit.true, c.len.ensures.len); once = c.len.ensures.unique },
+  λ k p q le.
+      let T = c.args.indexed.now.events in
+      let lane = events_of T c.args.thread in
+      let f = later_count T (keeps c.args.classes.now.lists.keys k) c.args.classes.now.numbers.items c.args.classes.now.infos.items c.args.thread (ends_of T c.args.forced.now k) p q in
+      let more = sum_by_more f lane c.loop-at.at 0 (omega (arith, c.loop-at-test.true, ap length c.thread_events-at-end.ensures.events)) in
+      let part = sum_by-take-le f lane (c.loop-at.at + 1) in
+      omega (arith, more, part, c.in_ok-add_later.ensures.ok k p q le, c.loop-at.invariant.rows k p q le),
+)
+
+pub returns-clause-kept : goal.returns-clause-kept
+returns-clause-kept c = c.loop-at.invariant.few

@@ -1,5 +1,6 @@
 use Rattle.std.proofs.Common.{◌≡◌, ℕ, ◌+◌, ◌≤◌, length, take, sum_by}
 use Rattle.event_index.specs.Lookups.{events_of}
+use Rattle.indexmap.specs.IndexMap.{index_map_len}
 use Rattle.race_groups.specs.Counting.{AreFrontsAt, later_count}
 use Rattle.race_groups.specs.Counts.{keeps}
 use Rattle.race_groups.specs.Ends.{ends_of}
@@ -10,6 +11,7 @@ abbrev pub invariant-loop-at : goal.invariant-loop-at
 invariant-loop-at l =
     record {
       kept : AreRows l.rows;
+      few : index_map_len l.rows ≤ l.limit;
       fronts : AreFrontsAt l.indexed.events (length l.indexed.threads) (length l.classes.infos.items) l.classes.numbers.items l.thread l.forced l.at l.fronts;
       rows :
           (k : Part) (p q : ℕ) → p ≤ q → count_at k l.rows p q ≡ count_at k l.fn.rows p q

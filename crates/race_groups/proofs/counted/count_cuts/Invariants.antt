@@ -1,5 +1,6 @@
 use Rattle.std.proofs.Common.{◌≡◌, ℕ, ◌≤◌, sum_by}
 use Rattle.event_index.specs.Lookups.{before, events_of}
+use Rattle.indexmap.specs.IndexMap.{index_map_len}
 use Rattle.race_groups.specs.Counting.{later_count}
 use Rattle.race_groups.specs.Counts.{keeps}
 use Rattle.race_groups.specs.Ends.{ends_of}
@@ -10,6 +11,7 @@ abbrev pub invariant-loop-thread : goal.invariant-loop-thread
 invariant-loop-thread l =
     record {
       rows : AreRows l.rows;
+      kept : index_map_len l.rows ≤ l.limit;
       counts :
           (k : Part) (p q : ℕ) → p ≤ q
           → count_at k l.rows p q

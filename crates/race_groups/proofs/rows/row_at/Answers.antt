@@ -1,4 +1,4 @@
-use Rattle.std.proofs.Common.{◌≡◌, ℕ, Some, sym, ap, ◌∙◌}
+use Rattle.std.proofs.Common.{◌≡◌, Some, sym, ap, ◌∙◌}
 use Rattle.race_groups.proofs.RowLemmas.{key_found}
 use Rattle.race_groups.proofs.rows.row_at.Goals as goal
 

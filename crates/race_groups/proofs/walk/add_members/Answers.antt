@@ -1,10 +1,10 @@
-use Rattle.std.proofs.Common.{◌≡◌, ℕ, ◌+◌, ◌<◌, List, length, Some, get_or, slice_index, ap, ◌∙◌, sym, arith}
+use Rattle.std.proofs.Common.{ℕ, ◌<◌, List, length, Some, get_or, slice_index, ap, arith}
 use Rattle.std.proofs.lemmas.Option.{slice_get-get_or}
 use Rattle.std.proofs.lemmas.List.Elements.{All-get_or}
 use Rattle.std.specs.Bool.{if◌then◌else◌}
 use Rattle.race_groups.specs.Classes.{adds_to}
 use Rattle.race_groups.specs.Counts.{keeps}
-use Rattle.race_groups.specs.Rows.{Part, by_cut, count_at, amount}
+use Rattle.race_groups.specs.Rows.{by_cut}
 use Rattle.race_groups.proofs.EachPartLemmas.{amount_at}
 use Rattle.race_groups.proofs.WalkLemmas.{some_class, share_more, share_fits}
 use Rattle.race_groups.proofs.walk.add_members.Goals as goal

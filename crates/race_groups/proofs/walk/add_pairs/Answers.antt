@@ -1,4 +1,4 @@
-use Rattle.std.proofs.Common.{◌≡◌, ℕ, sym, ap, ◌∙◌, arith, add-zero, ◌+◌}
+use Rattle.std.proofs.Common.{sym, ap, ◌∙◌, arith, ◌+◌}
 use Rattle.race_groups.specs.Counts.{keeps}
 use Rattle.race_groups.specs.Rows.{part, amount, count_at}
 use Rattle.race_groups.proofs.EachPartLemmas.{adds_kept}

@@ -1,4 +1,4 @@
-use Rattle.std.proofs.Common.{◌≡◌, ◌<◌, true, All, List, length, slice_index, ap, sym, subst, arith}
+use Rattle.std.proofs.Common.{◌≡◌, ◌<◌, true, All, length, slice_index, ap, sym, subst, arith}
 use Rattle.event_index.specs.Relations.{is_access}
 use Rattle.race_groups.specs.declared.class.Class.{Class}
 use Rattle.race_groups.proofs.BuildLemmas.{AreClasses-from, AreLocks-from, classes_named}

@@ -1,4 +1,4 @@
-use Rattle.std.proofs.Common.{◌≡◌, true, ◌+◌, length, slice_index, ap, ◌∙◌, refl, sym, subst, Some, ◌++◌, ◌∷◌, [], List, ℕ, arith}
+use Rattle.std.proofs.Common.{◌≡◌, true, ◌+◌, length, slice_index, ap, ◌∙◌, refl, sym, subst, Some, List, ℕ, arith}
 use Rattle.std.proofs.lemmas.Option.{slice_get_read}
 use Rattle.event_index.proofs.CallerLemmas.{op_here}
 use Rattle.event_index.specs.Relations.{is_access}

@@ -1,6 +1,6 @@
-use Rattle.std.proofs.Common.{◌≡◌, ◌<◌, length, slice_index, ap, subst, ◌∙◌, arith}
+use Rattle.std.proofs.Common.{◌<◌, length, slice_index, ap, subst, ◌∙◌, arith}
 use Rattle.std.proofs.lemmas.List.Elements.{All-get_or}
-use Rattle.event_index.specs.Lookups.{events_of, count_before}
+use Rattle.event_index.specs.Lookups.{count_before}
 use Rattle.race_groups.specs.Counting.{AreCounts, AreFronts}
 use Rattle.race_groups.specs.Ends.{known_before, counted_before}
 use Rattle.race_groups.specs.Rows.{of_all, of_known, of_forced}

@@ -1,4 +1,4 @@
-use Rattle.std.proofs.Common.{◌≡◌, length, ap, ◌∙◌}
+use Rattle.std.proofs.Common.{◌≡◌, length, ap}
 use Rattle.event_index.specs.Lookups.{count_before}
 use Rattle.race_groups.specs.Ends.{known_before, counted_before}
 use Rattle.race_groups.proofs.StateLemmas.{IsFront-begin}

@@ -1,4 +1,4 @@
-use Rattle.std.proofs.Common.{◌≡◌, ◌<◌, ◌≤◌, length, slice_index, ap, arith}
+use Rattle.std.proofs.Common.{◌<◌, length, slice_index, ap, arith}
 use Rattle.event_index.specs.Lookups.{events_of}
 use Rattle.race_groups.proofs.EarlierLemmas.{lane_below, lane_above, lane_all}
 use Rattle.race_groups.proofs.cuts.EarlierCut.end.Goals as goal

@@ -1,5 +1,5 @@
 use Rattle.std.proofs.Common.{◌≤◌, ◌-◌, length}
-use Rattle.event_index.specs.Lookups.{events_of, count_before}
+use Rattle.event_index.specs.Lookups.{count_before}
 use Rattle.race_groups.proofs.cuts.EarlierCut.end.Given as goal
 
 abbrev pub invariant-loop-end : goal.invariant-loop-end
