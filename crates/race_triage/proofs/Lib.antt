@@ -1,2 +1,7 @@
 mod ChosenLemmas
+mod MarkLemmas
+mod OutcomeLemmas
+mod PlaceLemmas
+mod RowLemmas
 pub mod VerdictLemmas
+mod WorkerLemmas

@@ -1,31 +1,69 @@
 -- What a finding and an order tell of a verdict.
-use Rattle.std.proofs.Common.{◌≡◌, ℕ, ◌+◌, ◌*◌, ◌^◌, ◌<◌, ◌≤◌, List, length, All, Option, Some, None, Result, Ok, Err, IfOk, IfSome, slice_index_or, refl, sym, subst, arith, inl, inr}
+use Rattle.std.proofs.Common.{◌≡◌, ◌≢◌, ℕ, ◌+◌, ◌*◌, ◌^◌, ◌<◌, ◌≤◌, Bool, List, length, All, slice_index_or, sym, subst, ◌∙◌, arith, inl, inr}
 use Rattle.std.specs.List.Sorted.{IsNonDecreasingBy}
 use Rattle.std.proofs.lemmas.Bool.{cases_order}
 use Rattle.std.proofs.lemmas.List.Elements.{All-get_or, All-weaker}
 use Rattle.rapid_text.specs.Recording.{Recording}
-use Rattle.schedule.specs.Reordering.{IsCorrectReordering}
-use Rattle.schedule.specs.Shows.{Shows}
 use Rattle.explain_report.specs.declared.verdict.How.{How}
-use Rattle.pair_findings.specs.Findings.{IsShownAs}
-use Rattle.race_triage.specs.Verdicts.{IsOutcome, IsVerdict, IsNoLater, AreRising}
+use Rattle.explain_report.specs.declared.verdict.How.TheVariants.{Candidate, Beyond, Turned}
+use Rattle.race_groups.specs.Kinds.{IsRow, IsNeverShownBetween}
+use Rattle.race_groups.specs.declared.kinds.Counts.{Counts}
+use Rattle.race_groups.specs.declared.kinds.Row.{Row}
+use Rattle.race_triage.specs.Pairs.{IsPair, AreAt}
+use Rattle.race_triage.specs.Verdicts.{IsOutcome, IsOutcomeFor, IsRaceOf, IsOpenRace, HasOpen, IsTold, IsVerdict, IsVerdictOn, IsNoLater, AreRising}
 use Rattle.race_triage.specs.declared.verdicts.Outcome.{Outcome}
-use Rattle.race_triage.specs.declared.verdicts.Outcome.TheVariants.{Race}
+use Rattle.race_triage.specs.declared.verdicts.Outcome.TheVariants.{Race, Apart}
 use Rattle.race_triage.specs.declared.verdicts.Verdict.{Verdict}
 
--- a race of this schedule
-abbrev pub IsRaceOf : How → ℕ → Outcome → Type 0
-IsRaceOf how n o = (threads : ℕ) × (o ≡ Race how n threads)
+-- a verdict of these parts
+module _
+    (r : Recording) (place : ℕ → ℕ) (apart : Bool) (row : Row) (a b : ℕ) (o : Outcome) (v : Verdict) (at_first : v.first ≡ a) (at_second : v.second ≡ b)
+    (at_row : v.row ≡ row) (at_outcome : v.outcome ≡ o) where
+  pub IsVerdict-made :
+      a < length r.events → b < length r.events → IsRow r place row → (IsTold apart o → IsPair r.events a b × AreAt place row.places a b)
+      → IsOutcome r a b o → IsOutcomeFor row.counts o → (o ≡ Apart → IsNeverShownBetween r.events place row.places.0 row.places.1)
+      → IsVerdictOn r place apart row v
+  IsVerdict-made first second counted pair shown counts never = (
+    record {
+      first = subst (λ (k : ℕ). k < length r.events) (sym at_first) first;
+      second = subst (λ (k : ℕ). k < length r.events) (sym at_second) second;
+      row = subst (λ (w : Row). IsRow r place w) (sym at_row) counted;
+      pair = λ told.
+          let here = pair (subst (IsTold apart) at_outcome told) in (
+            subst (λ (k : ℕ). IsPair r.events k v.second) (sym at_first) (subst (λ (k : ℕ). IsPair r.events a k) (sym at_second) here.0),
+            subst (λ (w : Row). AreAt place w.places v.first v.second) (sym at_row)
+                (subst (λ (k : ℕ). AreAt place row.places k v.second) (sym at_first) (subst (λ (k : ℕ). AreAt place row.places a k) (sym at_second) here.1)),
+          );
+      outcome = subst (IsOutcome r v.first v.second) (sym at_outcome)
+          (subst (λ (k : ℕ). IsOutcome r k v.second o) (sym at_first) (subst (λ (k : ℕ). IsOutcome r a k o) (sym at_second) shown));
+      counts = subst (IsOutcomeFor v.row.counts) (sym at_outcome) (subst (λ (w : Row). IsOutcomeFor w.counts o) (sym at_row) counts);
+      never = λ is. subst (λ (w : Row). IsNeverShownBetween r.events place w.places.0 w.places.1) (sym at_row) (never (sym at_outcome ∙ is));
+    },
+    at_row,
+  )
 
-module _ (r : Recording) (a b : ℕ) (how : How) (schedule : List ℕ) (reordering : IsCorrectReordering r.events schedule) (shows : Shows r.events schedule a b) (shape : IsShownAs r a b how) where
-  race_outcome : (o : Outcome) → IsRaceOf how (length schedule) o → IsOutcome r a b o
-  race_outcome o is =
-      subst (IsOutcome r a b) (sym is.1) (record { schedule = schedule; reordering = reordering; shows = shows; len = refl }, shape)
+race_apart : (how : How) (n k : ℕ) → Race how n k ≢ Apart
+race_apart how n k same = cc
 
-  pub race_found : {E : Type 0} (result : Result (Option Outcome) E) → IfOk result (λ found. IfSome found (IsRaceOf how (length schedule))) → IfOk result (λ found. IfSome found (IsOutcome r a b))
-  race_found (Ok (Some o)) is = race_outcome o is
-  race_found (Ok None) is = is
-  race_found (Err e) is = is
+-- what a race of a kind is told as
+module _ (r : Recording) (a b : ℕ) (c : Counts) where
+  pub race_outcome : (how : How) (o : Outcome) → IsRaceOf r a b how o → IsOutcome r a b o
+  race_outcome how o is = subst (IsOutcome r a b) (sym is.2) (is.3, is.4)
+
+  pub candidate_counts : (o : Outcome) → IsRaceOf r a b Candidate o → 0 < c.candidates → IsOutcomeFor c o
+  candidate_counts o is some = subst (IsOutcomeFor c) (sym is.2) some
+
+  pub open_outcome : (o : Outcome) → IsOpenRace r a b o → IsOutcome r a b o
+  open_outcome o is = elim is [ inl beyond ↦ race_outcome Beyond o beyond | inr turned ↦ race_outcome Turned o turned ]
+
+  pub open_counts : (o : Outcome) → IsOpenRace r a b o → HasOpen c → IsOutcomeFor c o
+  open_counts o is has = elim is [ inl beyond ↦ subst (IsOutcomeFor c) (sym beyond.2) has | inr turned ↦ subst (IsOutcomeFor c) (sym turned.2) has ]
+
+  pub race_is_not_apart : (how : How) (o : Outcome) → IsRaceOf r a b how o → o ≢ Apart
+  race_is_not_apart how o is same = race_apart how is.0 is.1 (sym is.2 ∙ same)
+
+  pub open_is_not_apart : (o : Outcome) → IsOpenRace r a b o → o ≢ Apart
+  open_is_not_apart o is = elim is [ inl beyond ↦ race_is_not_apart Beyond o beyond | inr turned ↦ race_is_not_apart Turned o turned ]
 
 -- by the later event, and then by the earlier
 abbrev pub verdict_key : Verdict → ℕ

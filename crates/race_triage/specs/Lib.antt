@@ -1,2 +1,4 @@
 pub mod Chosen
+pub mod Pairs
+pub mod Places
 pub mod Verdicts

@@ -1,10 +1,10 @@
 //! The least conflicting pair of each pair of places.
-use crate::groups::Groups;
 use crate::lanes::{access_of, accesses_of};
-use crate::places::{Places, small};
+use crate::places::small;
 use crate::tries::{Pair, is_less, least};
 use event_index::Indexed;
 use indexmap::IndexMap;
+use race_groups::Groups;
 use rapid_text::OutOfMemory;
 use std::alloc::Global;
 
@@ -39,7 +39,7 @@ impl Use {
 pub(crate) fn firsts_of(
     alloc: Global,
     indexed: &Indexed,
-    places: &Places,
+    places: &[u32],
     groups: &Groups,
 ) -> Result<Vec<Option<Pair>>, OutOfMemory> {
     let mut firsts = vec![in alloc; None; groups.rows.len()]?;
@@ -59,7 +59,7 @@ pub(crate) fn firsts_of(
 fn uses_of(
     alloc: Global,
     indexed: &Indexed,
-    places: &Places,
+    places: &[u32],
     accesses: &[u32],
 ) -> Result<Vec<Use>, OutOfMemory> {
     let mut index = IndexMap::new(alloc);
@@ -67,7 +67,7 @@ fn uses_of(
     for event in accesses {
         if *event < indexed.len() {
             let found = indexed.event(*event);
-            let place = places.numbers.get(*event as usize).copied().unwrap_or(0);
+            let place = places.get(*event as usize).copied().unwrap_or(0);
             let of = Of {
                 event: *event,
                 thread: found.thread,

@@ -1,8 +1,8 @@
 //! The accesses of one variable, by thread and by what they do.
-use crate::classes::Classes;
 use crate::places::small;
 use event_index::Indexed;
 use indexmap::IndexMap;
+use race_groups::Classes;
 use rapid_text::{Op, OutOfMemory};
 use std::alloc::Global;
 

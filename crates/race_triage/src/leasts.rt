@@ -1,15 +1,13 @@
 //! For each pair of places its least candidate, its least open pairs, and how many variables have one of either.
 ghost use Rattle.std.specs.Prelude.{◌≡◌};
 
-use crate::class::Class;
-use crate::classes::Classes;
-use crate::groups::Groups;
 use crate::lanes::{Lane, accesses_of, lanes_of};
 use crate::places::small;
 use crate::tries::{Between, Pair, Try, least, note_try};
 use crate::windows::Window;
 use event_index::Indexed;
 use must_order::Must;
+use race_groups::{Class, Classes, Groups};
 use rapid_text::OutOfMemory;
 use shb_clocks::Clocks;
 use std::alloc::Global;
@@ -250,7 +248,7 @@ impl Search<'_> {
 
     // What is known of a class.
     fn info(&self, class: usize) -> Option<Class> {
-        self.classes.info(class)
+        self.classes.infos.get(class).copied()
     }
 
     // The row of two classes.
@@ -332,7 +330,19 @@ impl Search<'_> {
         let Some(second) = self.info(second) else {
             return false;
         };
-        self.classes.share(first, second)
+        self.share(first, second)
+    }
+
+    // Whether the lists of locks of the two have one in common.
+    fn share(&self, first: Class, second: Class) -> bool {
+        let lists = &self.classes.lists;
+        let Some(first) = lists.get_index(first.held as usize) else {
+            return false;
+        };
+        let Some(second) = lists.get_index(second.held as usize) else {
+            return false;
+        };
+        first.iter().any(|lock| second.contains(lock))
     }
 }
 

@@ -4,32 +4,30 @@
 
 mod blocks;
 mod chosen;
-mod class;
-mod classes;
-mod counts;
 mod filters;
 mod firsts;
-mod groups;
-mod holding;
+mod found;
+mod judging;
 mod known;
 mod lanes;
 mod leasts;
+mod outcomes;
+mod pairs;
 mod pieces;
 mod places;
-mod sides;
 mod text;
 mod totals;
 mod tries;
 mod verdicts;
 mod windows;
+mod workers;
 
 pub use chosen::{Chosen, chosen_of, is_kept, is_known};
-pub use counts::Counts;
 pub use filters::Filters;
-pub use groups::Row;
 pub use known::{Known, known_of};
 pub use pieces::append_event;
 pub use places::Places;
+pub use race_groups::{Counts, Row};
 pub use text::triage_text;
 pub use totals::Totals;
 pub use verdicts::{MAX_PLACES, MAX_TRIES, Outcome, TriageRefusal, Verdict, Verdicts, triage};

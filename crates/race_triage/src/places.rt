@@ -1,5 +1,6 @@
 //! Places: the locations of events, numbered by their first uses.
-ghost use Rattle.std.specs.Prelude.{◌≡◌, IfOk};
+ghost use Rattle.std.specs.Prelude.{◌≡◌, IfOk, OnOk};
+ghost use Rattle.race_triage.specs.Places.{AreNumbers, AreKept, IsSpot};
 
 use event_index::Indexed;
 use indexmap::IndexSet;
@@ -20,7 +21,10 @@ pub struct Places {
 
 impl Places {
     /// The places of all events.
-    pub fn of(alloc: Global, indexed: &Indexed) -> Result<Places, OutOfMemory> {
+    pub fn of(alloc: Global, indexed: &Indexed) -> Result<Places, OutOfMemory>
+        ensures { IfOk result (λ places. AreNumbers indexed.now places.numbers.items) }
+    {
+        let _len = indexed.len();
         let raw = indexed.trace().raw();
         let mut locations = IndexSet::with_hasher(alloc, raw.keyed());
         let mut numbers = Vec::with_capacity(alloc, raw.len() as usize)?;
@@ -40,11 +44,10 @@ impl Places {
 }
 
 // The number of the location, which is noted as the last one if it is new.
-fn number_of(
-    locations: &mut Locations,
-    alloc: Global,
-    location: &[u8],
-) -> Result<u32, OutOfMemory> {
+fn number_of(locations: &mut Locations, alloc: Global, location: &[u8]) -> Result<u32, OutOfMemory>
+    ensures at { IfOk result (λ n. IsSpot locations.new.keys location.now n) }
+    ensures kept { OnOk result (AreKept locations.old.keys locations.new.keys) }
+{
     if let Some(at) = locations.get_index_of(location) {
         return small(at);
     }

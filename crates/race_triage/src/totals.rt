@@ -2,6 +2,7 @@
 
 use crate::verdicts::{Outcome, Verdict, Verdicts};
 use event_index::Indexed;
+use race_groups::Counts;
 
 /// What is counted of a trace and of its pairs of places.
 #[derive(Clone, Copy, PartialEq, Eq, Debug)]
@@ -61,7 +62,7 @@ impl Totals {
         self.open_pairs = self.open_pairs.saturating_add(counts.open_pairs);
         self.guarded = self.guarded.saturating_add(counts.guarded);
         self.forced = self.forced.saturating_add(counts.forced);
-        self.pairs = self.pairs.saturating_add(counts.all());
+        self.pairs = self.pairs.saturating_add(all_of(counts));
         self.places = self.places.saturating_add(1);
         match verdict.outcome {
             Outcome::Race { .. } => self.races = self.races.saturating_add(1),
@@ -76,9 +77,18 @@ impl Verdict {
     pub fn pairs(&self) -> u64 {
         let counts = self.row.counts;
         match self.outcome {
-            Outcome::Apart => counts.all(),
+            Outcome::Apart => all_of(counts),
             _ if counts.candidates > 0 => counts.candidates,
             _ => counts.open_pairs,
         }
     }
+}
+
+// How many pairs there are of all kinds.
+fn all_of(counts: Counts) -> u64 {
+    counts
+        .candidates
+        .saturating_add(counts.open_pairs)
+        .saturating_add(counts.guarded)
+        .saturating_add(counts.forced)
 }

@@ -1,19 +1,30 @@
-use Rattle.std.proofs.Common.{◌<◌, All, length, rules}
+use Rattle.std.proofs.Common.{◌<◌, All, length, rules, slice_index}
 use Rattle.std.proofs.lemmas.List.Elements.{All-weaker}
-use Rattle.std.proofs.lemmas.List.Sorted.{IsNonDecreasingBy-from_sort_by_key, All-permutation}
+use Rattle.std.proofs.lemmas.List.Sorted.{IsNonDecreasingBy-from_sort_by_key, All-permutation, Contains-permutation}
 use Rattle.race_triage.specs.Verdicts.{IsVerdict}
 use Rattle.race_triage.proofs.VerdictLemmas.{AreRising-from, verdict_key, verdicts_small}
 use Rattle.race_triage.proofs.verdicts.sort.Goals as goal
 
 pub returns-clause-verdicts : goal.returns-clause-verdicts
 returns-clause-verdicts c =
-    All-permutation (IsVerdict c.args.indexed.now c.args._apart) c.args.verdicts.now.items c.sort_unstable_by_key.new.self.items c.sort_unstable_by_key.ensures.permutation c.requires
+    All-permutation (IsVerdict c.args.tables.indexed.now (slice_index c.args.tables.places.now) c.args._apart)
+    c.args.verdicts.now.items c.sort_unstable_by_key.new.self.items c.sort_unstable_by_key.ensures.permutation c.requires.verdicts
+
+pub returns-clause-complete : goal.returns-clause-complete
+returns-clause-complete c =
+    λ a b pair.
+    let told = c.requires.complete a b pair in (
+      told.0,
+      Contains-permutation c.args.verdicts.now.items c.sort_unstable_by_key.new.self.items told.0 c.sort_unstable_by_key.ensures.permutation told.1,
+      told.2,
+    )
 
 pub returns-clause-rising : goal.returns-clause-rising
 returns-clause-rising c =
-    let r = c.args.indexed.now in
+    let r = c.args.tables.indexed.now in
+    let P = IsVerdict r (slice_index c.args.tables.places.now) c.args._apart in
     let vs = c.sort_unstable_by_key.new.self.items in
-    let all = All-permutation (IsVerdict r c.args._apart) c.args.verdicts.now.items vs c.sort_unstable_by_key.ensures.permutation c.requires in
+    let all = All-permutation P c.args.verdicts.now.items vs c.sort_unstable_by_key.ensures.permutation c.requires.verdicts in
     AreRising-from vs
-    (verdicts_small r vs c.len-len.ensures.well_formed.events (All-weaker (IsVerdict r c.args._apart) (λ v. v.first < length r.events) (λ v is. is.first) vs all))
+    (verdicts_small r vs c.len-len.ensures.well_formed.events (All-weaker P (λ v. v.first < length r.events) (λ v is. is.first) vs all))
     (IsNonDecreasingBy-from_sort_by_key verdict_key _ c.sort_unstable_by_key.ensures.sorted (λ a r q k. search rules))

@@ -1,0 +1,25 @@
+use Rattle.std.proofs.Common.{◌≡◌, ℕ, ◌+◌, sym, subst, get_or, slice_index, arith}
+use Rattle.in_order.specs.Layout.{IsThreadCount}
+use Rattle.in_order.proofs.SizeLemmas.{IsThreadCountUpTo, IsThreadCount-start, IsThreadCount-push, IsThreadCount-skip}
+use Rattle.race_triage.proofs.outcomes.count.Goals as goal
+use Rattle.race_triage.proofs.outcomes.count.Goals.{then-marks-thread-gt0, else-marks-thread-gt0}
+
+pub loop-thread-init : goal.loop-thread-init
+loop-thread-init c = IsThreadCount-start (λ t. get_or c.args.marks.now t 0)
+
+pub loop-thread-preserved : goal.loop-thread-preserved
+loop-thread-preserved c =
+    let n = c.loop-thread.thread in
+    let k = c.loop-thread.count in
+    let row : ℕ → ℕ = λ t. get_or c.args.marks.now t 0 in
+    elim c.if-marks-thread-gt0.branch [
+      | then-marks-thread-gt0 w ↦
+          subst (IsThreadCountUpTo row (n + 1)) (sym w.count-is) (IsThreadCount-push row n k c.loop-thread.invariant (omega (arith, w.if-marks-thread-gt0.true)))
+      | else-marks-thread-gt0 w ↦
+          subst (IsThreadCountUpTo row (n + 1)) (sym w.count-is) (IsThreadCount-skip row n k c.loop-thread.invariant (λ some. omega (arith, some, w.if-marks-thread-gt0.false)))
+    ]
+
+pub returns : goal.returns
+returns c =
+    let end : c.loop-thread.thread ≡ c.args.threads = omega (arith, c.loop-thread-test.false, c.loop-thread.auto.thread-end) in
+    subst (λ (n : ℕ). IsThreadCount (λ t. get_or c.args.marks.now t 0) n c.loop-thread.count) end c.loop-thread.invariant.0

@@ -1,0 +1,10 @@
+use Rattle.std.proofs.Common.{◌≡◌, ℕ, ◌%◌, arith}
+use Rattle.race_triage.proofs.workers.all_verdicts.Goals as goal
+
+pub returns-then-workers-eq0 : goal.returns-then-workers-eq0
+returns-then-workers-eq0 g c =
+    let part = c.in_ok-part.ensures in
+    record {
+      verdicts = part.verdicts;
+      answered = λ k d lt. part.answered k d lt (omega arith);
+    }

@@ -1,0 +1,192 @@
+//! Schedules that show a pair: how many events they have, and of how many threads.
+ghost use Rattle.std.specs.Prelude.{◌≡◌, ◌≢◌, ◌<◌, ◌⊎◌, ◌↔◌, ℕ, IfOk, IfSome, None, Some, false, length, replicate, slice_index};
+ghost use Rattle.event_index.specs.Events.{thread_at};
+ghost use Rattle.must_order.specs.Kinds.{IsKind};
+ghost use Rattle.must_order.specs.declared.kind.Kind.TheVariants.{Candidate as CandidateKind, Open as OpenKind};
+ghost use Rattle.in_order.specs.Laws.{HasListInOrder};
+ghost use Rattle.in_order.specs.Refusals.{IsNeverShownInOrder};
+ghost use Rattle.in_order.specs.Layout.{IsThreadCount};
+ghost use Rattle.in_order.specs.Sizes.{IsSizeInOrder, HasSize, HasThread};
+ghost use Rattle.in_order.specs.declared.refusal.InOrderRefusal.TheVariants.{OutOfMemory as NoMemory};
+ghost use Rattle.explain_report.specs.declared.verdict.How.TheVariants.{Candidate, Turned};
+ghost use Rattle.race_triage.specs.Verdicts.{IsRaceOf, IsOpenRace};
+ghost use Rattle.race_triage.specs.declared.verdicts.Outcome.TheVariants.{Race};
+
+use crate::pairs::Tables;
+use crate::places::small;
+use crate::verdicts::Outcome;
+use event_index::Indexed;
+use explain_report::How;
+use in_order::{InOrderRefusal, candidates_are_in_order, in_order_is_sound, in_order_size, turned};
+use pair_findings::BUDGET;
+use rapid_text::OutOfMemory;
+use std::alloc::Global;
+
+impl Tables<'_> {
+    /// The race of a candidate, which the least list in the order of the trace always shows.
+    pub(crate) fn race_of_candidate(
+        &self,
+        alloc: Global,
+        first: u32,
+        second: u32,
+    ) -> Result<Outcome, OutOfMemory>
+        requires must { self.now.must.now ≡ self.now.indexed.now }
+        requires acquires { self.now.acquires.now ≡ self.now.indexed.now }
+        requires first { first < length self.now.indexed.now.events }
+        requires second { second < length self.now.indexed.now.events }
+        requires kind { IsKind self.now.indexed.now first second CandidateKind }
+        ensures { IfOk result (IsRaceOf self.now.indexed.now first second Candidate) }
+    {
+        candidates_are_in_order();
+        in_order_is_sound();
+        let _len = self.indexed.len();
+        match self.size_in_order(alloc, first, second)? {
+            Some(size) => Ok(race(How::Candidate, size)),
+            None => unreachable!(),
+        }
+    }
+
+    /// The race of an open pair, where a schedule is found: the least list in the order of the trace that shows it, or a list that the
+    /// search from there finds.
+    pub(crate) fn race_of_open(
+        &self,
+        alloc: Global,
+        first: u32,
+        second: u32,
+    ) -> Result<Option<Outcome>, OutOfMemory>
+        requires must { self.now.must.now ≡ self.now.indexed.now }
+        requires acquires { self.now.acquires.now ≡ self.now.indexed.now }
+        requires first { first < length self.now.indexed.now.events }
+        requires second { second < length self.now.indexed.now.events }
+        requires kind { IsKind self.now.indexed.now first second OpenKind }
+        ensures { IfOk result (λ found. IfSome found (IsOpenRace self.now.indexed.now first second)) }
+    {
+        in_order_is_sound();
+        let _len = self.indexed.len();
+        match self.size_in_order(alloc, first, second)? {
+            Some(size) => Ok(Some(race(How::Beyond, size))),
+            None => self.race_turned(alloc, first, second),
+        }
+    }
+
+    // The race of an open pair that no list in the order of the trace shows, where the search finds a schedule.
+    fn race_turned(
+        &self,
+        alloc: Global,
+        first: u32,
+        second: u32,
+    ) -> Result<Option<Outcome>, OutOfMemory>
+        requires kind { IsKind self.now.indexed.now first second OpenKind }
+        requires never { IsNeverShownInOrder self.now.indexed.now.events first second }
+        ensures { IfOk result (λ found. IfSome found (IsRaceOf self.now.indexed.now first second Turned)) }
+    {
+        match turned(alloc, self.indexed, first, second, BUDGET)? {
+            Some(list) => {
+                let size = size_of(alloc, self.indexed, list.items())?;
+                Ok(Some(race(How::Turned, size)))
+            }
+            None => Ok(None),
+        }
+    }
+
+    // How many events the least list in the order of the trace has that shows the pair, and of how many threads. None where there is no such list.
+    fn size_in_order(
+        &self,
+        alloc: Global,
+        first: u32,
+        second: u32,
+    ) -> Result<Option<(u32, u32)>, OutOfMemory>
+        requires must { self.now.must.now ≡ self.now.indexed.now }
+        requires acquires { self.now.acquires.now ≡ self.now.indexed.now }
+        ensures size { IfOk result (λ found. IfSome found (IsSizeInOrder self.now.indexed.now.events first second)) }
+        ensures there { IfOk result (λ found. IfSome found (λ size. HasListInOrder self.now.indexed.now.events first second)) }
+        ensures never { IfOk result (λ found. found ≡ None → IsNeverShownInOrder self.now.indexed.now.events first second) }
+        ensures none { IfOk result (λ found. found ≡ None → ¬ HasListInOrder self.now.indexed.now.events first second) }
+    {
+        match in_order_size(alloc, self.indexed, self.must, self.acquires, first, second) {
+            Ok(size) => Ok(Some(size)),
+            Err(refusal) => {
+                if wants_memory(refusal) {
+                    return Err(OutOfMemory);
+                }
+                Ok(None)
+            }
+        }
+    }
+}
+
+// Whether there may be a list, and memory was wanting.
+fn wants_memory(refusal: InOrderRefusal) -> bool
+    ensures { result ≡ false → refusal ≢ NoMemory }
+{
+    match refusal {
+        InOrderRefusal::NoSuchEvent => false,
+        InOrderRefusal::NotConflicting => false,
+        InOrderRefusal::NotInOrder => false,
+        InOrderRefusal::OutOfMemory => true,
+    }
+}
+
+// The race that a schedule of this size shows.
+fn race(how: How, size: (u32, u32)) -> Outcome
+    ensures { result ≡ Race how size.0 size.1 }
+{
+    Outcome::Race {
+        how,
+        events: size.0,
+        threads: size.1,
+    }
+}
+
+// How many events the list has, and of how many threads.
+fn size_of(alloc: Global, indexed: &Indexed, list: &[u32]) -> Result<(u32, u32), OutOfMemory>
+    ensures { IfOk result (λ size. HasSize indexed.now.events list.now size.0 size.1) }
+{
+    let mut marks = zeros(alloc, indexed.threads() as usize)?;
+    mark(&mut marks, indexed, list);
+    let threads = count(marks.as_slice(), indexed.threads());
+    let events = small(list.len())?;
+    Ok((events, threads))
+}
+
+fn zeros(alloc: Global, len: usize) -> Result<Vec<u32>, OutOfMemory>
+    ensures { IfOk result (λ made. made.items ≡ replicate len 0) }
+{
+    Ok(vec![in alloc; 0u32; len]?)
+}
+
+// Marks the threads that have an event in the list.
+fn mark(marks: &mut Vec<u32>, indexed: &Indexed, list: &[u32])
+    requires marks { marks.old.items ≡ replicate (length indexed.now.threads) 0 }
+    ensures len { length marks.new.items ≡ length indexed.now.threads }
+    ensures marked { (t : ℕ) → (0 < slice_index marks.new.items t) ↔ HasThread indexed.now.events list.now t }
+{
+    for event in list {
+        mark_one(marks, indexed, *event);
+    }
+}
+
+// Marks the thread of the event.
+fn mark_one(marks: &mut Vec<u32>, indexed: &Indexed, event: u32)
+    requires len { length marks.old.items ≡ length indexed.now.threads }
+    ensures len { length marks.new.items ≡ length marks.old.items }
+    ensures marked { (t : ℕ) → (0 < slice_index marks.new.items t) ↔ ((0 < slice_index marks.old.items t) ⊎ (thread_at indexed.now.events event ≡ Some t)) }
+{
+    if let Some(found) = indexed.get(event) {
+        marks[found.thread as usize] = 1;
+    }
+}
+
+// How many of the threads are marked.
+fn count(marks: &[u32], threads: u32) -> u32
+    requires { length marks.now ≡ threads }
+    ensures { IsThreadCount (slice_index marks.now) threads result }
+{
+    let mut count = 0;
+    for thread in 0..threads {
+        if marks[thread as usize] > 0 {
+            count += 1;
+        }
+    }
+    count
+}

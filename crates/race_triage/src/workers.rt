@@ -1,0 +1,205 @@
+//! The verdicts on all rows, by one thread or by several.
+ghost use Rattle.std.specs.Prelude.{◌≡◌, ℕ, ◌<◌, ◌%◌, All, Contains, IfOk, OnOk, Result, Vec, length, slice_index, slice_index_or};
+ghost use Rattle.std.specs.declared.alloc.Global.{Global};
+ghost use Rattle.race_groups.specs.Kinds.{IsRow};
+ghost use Rattle.race_groups.specs.declared.kinds.Row.{Row as Counted};
+ghost use Rattle.race_triage.specs.Verdicts.{IsVerdict, IsAnswered, ArePart, AreWhole};
+ghost use Rattle.race_triage.specs.declared.verdicts.Verdict.{Verdict as Told};
+
+use crate::found::Found;
+use crate::judging::Proposed;
+use crate::pairs::Tables;
+use crate::verdicts::Verdict;
+use race_groups::Row;
+use rapid_text::OutOfMemory;
+use std::alloc::Global;
+use std::thread;
+use std::thread::Threads;
+
+/// The verdicts on all rows, found by so many threads, or by this one.
+pub(crate) fn all_verdicts<R: Threads + Sync>(
+    rt: &R,
+    alloc: Global,
+    tables: Tables<'_>,
+    found: &Found,
+    apart: bool,
+    workers: u32,
+) -> Result<Vec<Verdict>, OutOfMemory>
+    requires clocks { tables.clocks.now ≡ tables.indexed.now }
+    requires must { tables.must.now ≡ tables.indexed.now }
+    requires acquires { tables.acquires.now ≡ tables.indexed.now }
+    requires places { length tables.places.now ≡ length tables.indexed.now.events }
+    requires rows { All (IsRow tables.indexed.now (slice_index tables.places.now)) found.now.groups.rows.items }
+    ensures { IfOk result (λ vs. AreWhole tables.entry.indexed.now (slice_index tables.entry.places.now) apart found.now.groups.rows.items vs.items) }
+{
+    if workers == 0 {
+        let part = part_of(alloc, tables, found, apart, 0, 1)?;
+        return Ok(part);
+    }
+    by_workers(rt, alloc, tables, found, apart, workers)
+}
+
+// The verdicts, found by several threads: each takes as many of the rows as the others.
+fn by_workers<R: Threads + Sync>(
+    rt: &R,
+    alloc: Global,
+    tables: Tables<'_>,
+    found: &Found,
+    apart: bool,
+    workers: u32,
+) -> Result<Vec<Verdict>, OutOfMemory>
+    requires clocks { tables.clocks.now ≡ tables.indexed.now }
+    requires must { tables.must.now ≡ tables.indexed.now }
+    requires acquires { tables.acquires.now ≡ tables.indexed.now }
+    requires places { length tables.places.now ≡ length tables.indexed.now.events }
+    requires rows { All (IsRow tables.indexed.now (slice_index tables.places.now)) found.now.groups.rows.items }
+    requires workers { 0 < workers }
+    ensures { IfOk result (λ vs. AreWhole tables.entry.indexed.now (slice_index tables.entry.places.now) apart found.now.groups.rows.items vs.items) }
+{
+    let every = workers as usize;
+    let find_some = |worker: usize| -> Result<Vec<Verdict>, OutOfMemory>
+        requires clocks { tables.clocks.now ≡ tables.indexed.now }
+        requires must { tables.must.now ≡ tables.indexed.now }
+        requires acquires { tables.acquires.now ≡ tables.indexed.now }
+        requires places { length tables.places.now ≡ length tables.indexed.now.events }
+        requires rows { All (IsRow tables.indexed.now (slice_index tables.places.now)) found.now.groups.rows.items }
+        requires every { 0 < every }
+        ensures { IfOk result (λ vs. ArePart tables.entry.indexed.now (slice_index tables.entry.places.now) apart found.entry.now.groups.rows.items worker every vs.items) }
+    { part_of(alloc, tables, found, apart, worker, every) };
+    let parts = thread::map_indices(rt, alloc, every, &find_some)?;
+    joined(alloc, tables, found, parts.as_slice(), apart, every)
+}
+
+// The verdicts on every so many rows, from one of them on.
+fn part_of(
+    alloc: Global,
+    tables: Tables<'_>,
+    found: &Found,
+    apart: bool,
+    from: usize,
+    every: usize,
+) -> Result<Vec<Verdict>, OutOfMemory>
+    requires clocks { tables.clocks.now ≡ tables.indexed.now }
+    requires must { tables.must.now ≡ tables.indexed.now }
+    requires acquires { tables.acquires.now ≡ tables.indexed.now }
+    requires places { length tables.places.now ≡ length tables.indexed.now.events }
+    requires rows { All (IsRow tables.indexed.now (slice_index tables.places.now)) found.now.groups.rows.items }
+    requires every { 0 < every }
+    ensures { IfOk result (λ vs. ArePart tables.entry.indexed.now (slice_index tables.entry.places.now) apart found.now.groups.rows.items from every vs.items) }
+{
+    let mut verdicts = Vec::new(alloc);
+    if tables.indexed.len() == 0 {
+        return Ok(verdicts);
+    }
+    for at in 0..found.groups.rows.len() {
+        add_own(alloc, tables, found, &mut verdicts, apart, at, from, every)?;
+    }
+    Ok(verdicts)
+}
+
+// Adds the verdict on the row at a place, where it is one of every so many.
+fn add_own(
+    alloc: Global,
+    tables: Tables<'_>,
+    found: &Found,
+    verdicts: &mut Vec<Verdict>,
+    apart: bool,
+    at: usize,
+    from: usize,
+    every: usize,
+) -> Result<(), OutOfMemory>
+    requires clocks { tables.clocks.now ≡ tables.indexed.now }
+    requires must { tables.must.now ≡ tables.indexed.now }
+    requires acquires { tables.acquires.now ≡ tables.indexed.now }
+    requires places { length tables.places.now ≡ length tables.indexed.now.events }
+    requires some { 0 < length tables.indexed.now.events }
+    requires rows { All (IsRow tables.indexed.now (slice_index tables.places.now)) found.now.groups.rows.items }
+    requires at { at < length found.now.groups.rows.items }
+    requires every { 0 < every }
+    requires verdicts { All (IsVerdict tables.indexed.now (slice_index tables.places.now) apart) verdicts.old.items }
+    ensures verdicts { OnOk result (All (IsVerdict tables.entry.indexed.now (slice_index tables.entry.places.now) apart) verdicts.new.items) }
+    ensures answered { OnOk result (at % every ≡ from → (d : Counted)
+        → IsAnswered tables.entry.indexed.now (slice_index tables.entry.places.now) verdicts.new.items (slice_index_or found.now.groups.rows.items at d)) }
+    ensures kept { OnOk result ((v : Told) → Contains verdicts.old.items v → Contains verdicts.new.items v) }
+{
+    if at % every != from {
+        return Ok(());
+    }
+    let row = found.groups.rows[at];
+    add(alloc, tables, verdicts, row, found.proposed(at), apart)?;
+    Ok(())
+}
+
+// Adds the verdict on a row, where there is one.
+fn add(
+    alloc: Global,
+    tables: Tables<'_>,
+    verdicts: &mut Vec<Verdict>,
+    row: Row,
+    proposed: Proposed<'_>,
+    apart: bool,
+) -> Result<(), OutOfMemory>
+    requires clocks { tables.clocks.now ≡ tables.indexed.now }
+    requires must { tables.must.now ≡ tables.indexed.now }
+    requires acquires { tables.acquires.now ≡ tables.indexed.now }
+    requires places { length tables.places.now ≡ length tables.indexed.now.events }
+    requires some { 0 < length tables.indexed.now.events }
+    requires row { IsRow tables.indexed.now (slice_index tables.places.now) row }
+    requires verdicts { All (IsVerdict tables.indexed.now (slice_index tables.places.now) apart) verdicts.old.items }
+    ensures verdicts { OnOk result (All (IsVerdict tables.entry.indexed.now (slice_index tables.entry.places.now) apart) verdicts.new.items) }
+    ensures answered { OnOk result (IsAnswered tables.entry.indexed.now (slice_index tables.entry.places.now) verdicts.new.items row) }
+    ensures kept { OnOk result ((v : Told) → Contains verdicts.old.items v → Contains verdicts.new.items v) }
+{
+    if let Some(verdict) = tables.verdict(alloc, row, proposed, apart)? {
+        verdicts.push(verdict)?;
+    }
+    Ok(())
+}
+
+// All parts, one behind another.
+fn joined(
+    alloc: Global,
+    tables: Tables<'_>,
+    found: &Found,
+    parts: &[Result<Vec<Verdict>, OutOfMemory>],
+    apart: bool,
+    every: usize,
+) -> Result<Vec<Verdict>, OutOfMemory>
+    requires every { 0 < every }
+    requires len { length parts.now ≡ every }
+    requires parts { (i : ℕ) (d : Result (Vec Told Global) OutOfMemory) → i < length parts.now → IfOk (slice_index_or parts.now i d)
+        (λ vs. ArePart tables.indexed.now (slice_index tables.places.now) apart found.now.groups.rows.items i every vs.items) }
+    ensures { IfOk result (λ vs. AreWhole tables.entry.indexed.now (slice_index tables.entry.places.now) apart found.now.groups.rows.items vs.items) }
+{
+    let mut all = Vec::new(alloc);
+    for at in 0..parts.len() {
+        add_part(tables, found, &mut all, &parts[at], apart, at, every)?;
+    }
+    Ok(all)
+}
+
+// Adds the verdicts of a part.
+fn add_part(
+    _tables: Tables<'_>,
+    _found: &Found,
+    all: &mut Vec<Verdict>,
+    part: &Result<Vec<Verdict>, OutOfMemory>,
+    _apart: bool,
+    _from: usize,
+    _every: usize,
+) -> Result<(), OutOfMemory>
+    requires all { All (IsVerdict _tables.indexed.now (slice_index _tables.places.now) _apart) all.old.items }
+    requires part { IfOk part.now (λ vs. ArePart _tables.indexed.now (slice_index _tables.places.now) _apart _found.now.groups.rows.items _from _every vs.items) }
+    ensures all { OnOk result (All (IsVerdict _tables.entry.indexed.now (slice_index _tables.entry.places.now) _apart) all.new.items) }
+    ensures answered { OnOk result ((k : ℕ) (d : Counted) → k < length _found.now.groups.rows.items → k % _every ≡ _from
+        → IsAnswered _tables.entry.indexed.now (slice_index _tables.entry.places.now) all.new.items (slice_index_or _found.now.groups.rows.items k d)) }
+    ensures kept { OnOk result ((v : Told) → Contains all.old.items v → Contains all.new.items v) }
+{
+    match part {
+        Ok(some) => {
+            all.extend_from_slice(some.as_slice())?;
+            Ok(())
+        }
+        Err(refused) => Err(*refused),
+    }
+}
