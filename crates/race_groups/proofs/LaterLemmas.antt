@@ -6,10 +6,12 @@ use Rattle.std.proofs.lemmas.Bool.{cases_Bool}
 use Rattle.std.proofs.lemmas.List.{get_or_default}
 use Rattle.rapid_text.specs.declared.event.Event.{Event}
 use Rattle.rapid_text.specs.Recording.{Recording, IsWellFormed}
+use Rattle.rapid_text.specs.declared.event.Op.{Op}
+use Rattle.race_groups.proofs.ConflictLemmas.{conflicting_all, conflicting_few}
 use Rattle.event_index.specs.Lookups.{before}
 use Rattle.event_index.specs.Relations.{is_access}
 use Rattle.shb_clocks.specs.SharedRows.{Counted}
-use Rattle.race_groups.specs.Classes.{adds_to, members_of}
+use Rattle.race_groups.specs.Classes.{AreConflicting, adds_to, members_of}
 use Rattle.race_groups.specs.Counting.{AreFronts, AreFrontsAt, AreMoved, IsFront, later_by, later_count}
 use Rattle.race_groups.specs.Counts.{keeps}
 use Rattle.race_groups.specs.Cuts.{is_under}
@@ -82,16 +84,16 @@ module _ (r : Recording) (formed : IsWellFormed r) (n : ℕ) (classes : List ℕ
       let few = front_count-le r formed classes (front_of fronts k).fronts.items c front.counts.within in
       omega (arith, here, few, front.counts.counted c lt, formed.events)
 
-  pub members_room : (infos : List Class) (x : ℕ) → n ≡ length infos → length infos ≤ 1048576 → (earlier known forced members : List ℕ)
-      → earlier ≡ fronts.earlier.counts.items → known ≡ fronts.known.counts.items → forced ≡ fronts.forced.counts.items → members ≡ members_of infos x → (k : Part)
+  pub members_room : (infos : List Class) (x : ℕ) (op : Op) → n ≡ length infos → length infos ≤ 1048576 → (earlier known forced members : List ℕ)
+      → earlier ≡ fronts.earlier.counts.items → known ≡ fronts.known.counts.items → forced ≡ fronts.forced.counts.items → AreConflicting infos x op members → (k : Part)
       → sum_by (slice_index (by_cut earlier known forced k)) members ≤ 2 ^ 40
-  members_room infos x size few earlier known forced members e1 e2 e3 e4 k =
+  members_room infos x op size few earlier known forced members e1 e2 e3 are_some k =
       let front = each_front k in
       let part = members_few infos x (front_of fronts k).counts.items (front.len ∙ size) few (few_each k) in
+      let less = conflicting_few infos (by_cut earlier known forced k) x op members are_some in
       let same =
-      ap (λ xs. sum_by (slice_index (by_cut earlier known forced k)) xs) e4
-      ∙ ap (λ counts. sum_by (slice_index counts) (members_of infos x)) (by_cut-same earlier known forced fronts.earlier.counts.items fronts.known.counts.items fronts.forced.counts.items e1 e2 e3 k ∙ counts_are fronts k)
-      in omega (arith, part, same)
+      ap (λ counts. sum_by (slice_index counts) (members_of infos x)) (by_cut-same earlier known forced fronts.earlier.counts.items fronts.known.counts.items fronts.forced.counts.items e1 e2 e3 k ∙ counts_are fronts k)
+      in omega (arith, part, less, same)
 
   module _ (b : ℕ) (moved : AreMoved r.events (length r.threads) u rows b fronts) where
     each_moved : (k : Part) → AreFronts (length r.threads) u (ends_of r.events rows k b) (front_of fronts k).fronts.items
@@ -116,10 +118,10 @@ module _ (r : Recording) (formed : IsWellFormed r) (n : ℕ) (classes : List ℕ
     pub members_added : (infos : List Class) (lists : List (Vec ℕ Global)) (j : Class) (x : ℕ) → length classes ≡ length r.events → All (λ c. c < length infos) classes → n ≡ length infos
         → is_access x j.op ≡ true → slice_get infos (slice_index classes b) ≡ Some j
         → (earlier known forced members : List ℕ) (given : List Class)
-        → earlier ≡ fronts.earlier.counts.items → known ≡ fronts.known.counts.items → forced ≡ fronts.forced.counts.items → given ≡ infos → members ≡ members_of infos x → (k : Part) (p q : ℕ)
+        → earlier ≡ fronts.earlier.counts.items → known ≡ fronts.known.counts.items → forced ≡ fronts.forced.counts.items → given ≡ infos → AreConflicting infos x j.op members → (k : Part) (p q : ℕ)
         → sum_by (share_of (keeps lists k) p q j given (by_cut earlier known forced k)) members ≡ later_count r.events (keeps lists k) classes infos u (ends_of r.events rows k) p q b
-    members_added infos lists j x len within size accessed at earlier known forced members given e1 e2 e3 e4 e5 k p q =
-        ap (λ xs. sum_by (share_of (keeps lists k) p q j given (by_cut earlier known forced k)) xs) e5
-        ∙ ap (λ is. sum_by (share_of (keeps lists k) p q j is (by_cut earlier known forced k)) (members_of infos x)) e4
+    members_added infos lists j x len within size accessed at earlier known forced members given e1 e2 e3 e4 are_some k p q =
+        ap (λ is. sum_by (share_of (keeps lists k) p q j is (by_cut earlier known forced k)) members) e4
+        ∙ conflicting_all (keeps lists k) p q j infos (by_cut earlier known forced k) x members are_some
         ∙ ap (λ is. sum_by (share_of (keeps lists k) p q j infos is) (members_of infos x)) (by_cut-same earlier known forced fronts.earlier.counts.items fronts.known.counts.items fronts.forced.counts.items e1 e2 e3 k)
         ∙ members_whole infos lists j x len within size accessed at k p q

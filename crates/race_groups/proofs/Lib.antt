@@ -7,6 +7,7 @@ pub mod WalkLemmas
 pub mod WholeLemmas
 pub mod LoopLemmas
 pub mod StateLemmas
+pub mod ConflictLemmas
 pub mod LaterLemmas
 pub mod PairLemmas
 pub mod KindLemmas

@@ -1,7 +1,9 @@
 -- Classes of events: events of one class are alike in place and operation. `T` is the events of a trace.
-use Rattle.std.specs.Prelude.{◌≡◌, ℕ, ◌<◌, ◌&&◌, Bool, true, false, List, filter, length, All, slice_get, slice_index, Option, Some, None, Vec}
+use Rattle.std.specs.Prelude.{◌≡◌, ◌⊎◌, ℕ, ◌<◌, ◌&&◌, Bool, true, false, List, filter, length, All, slice_get, slice_index, Option, Some, None, Vec}
 use Rattle.std.specs.declared.alloc.Global.{Global}
 use Rattle.rapid_text.specs.declared.event.Event.{Event}
+use Rattle.rapid_text.specs.declared.event.Op.{Op}
+use Rattle.rapid_text.specs.declared.event.Op.TheVariants.{Write}
 use Rattle.event_index.specs.Lookups.{before}
 use Rattle.event_index.specs.Relations.{is_access, is_clash_of_ops}
 use Rattle.race_groups.specs.Groups.{is_between}
@@ -24,6 +26,23 @@ accesses x (Some i) = is_access x i.op
 abbrev pub members_of : List Class → ℕ → List ℕ
 members_of infos x = filter (λ c. accesses x (slice_get infos c)) (before (length infos))
 
+-- there is such a class, and it writes
+abbrev pub is_writing_op : Op → Bool
+is_writing_op (Write x) = true
+is_writing_op op = false
+
+abbrev pub is_writing : Option Class → Bool
+is_writing None = false
+is_writing (Some i) = is_writing_op i.op
+
+-- the classes that write the variable
+abbrev pub writers_of : List Class → ℕ → List ℕ
+writers_of infos x = filter (λ c. is_writing (slice_get infos c)) (members_of infos x)
+
+-- These are the classes of the variable, or those of them that write it where the operation only reads.
+abbrev pub AreConflicting : List Class → ℕ → Op → List ℕ → Type 0
+AreConflicting infos x op cs = (cs ≡ members_of infos x) ⊎ ((is_writing_op op ≡ false) × (cs ≡ writers_of infos x))
+
 -- there is such a class, an event of it clashes with one of class j that is later and of another thread, their places
 -- are p and q, and the pair is one of those that are kept
 abbrev pub adds_to : (Class → Class → Bool) → ℕ → ℕ → Class → Option Class → Bool
@@ -34,6 +53,11 @@ adds_to keeps p q j (Some i) = is_clash_of_ops i.op j.op && keeps i j && is_betw
 pub record AreMembers (infos : List Class) (members : List (Vec ℕ Global)) : Type 0 where
   pub within : (x : ℕ) → All (λ i. is_access x i.op ≡ true → x < length members) infos
   pub lists : (x : ℕ) (v : Vec ℕ Global) → slice_get members x ≡ Some v → v.items ≡ members_of infos x
+
+-- For each variable those of its classes that write it.
+pub record AreWriters (infos : List Class) (members writers : List (Vec ℕ Global)) : Type 0 where
+  pub len : length writers ≡ length members
+  pub lists : (x : ℕ) (v : Vec ℕ Global) → slice_get writers x ≡ Some v → v.items ≡ writers_of infos x
 
 -- The class of an access names the locks that the event's thread holds before it.
 abbrev pub AreLocks : List Event → List (Vec ℕ Global) → List ℕ → List Class → Type 0

@@ -5,7 +5,7 @@ ghost use Rattle.indexmap.specs.IndexMap.{index_map_len};
 ghost use Rattle.rapid_text.specs.Recording.{IsWellFormed};
 ghost use Rattle.event_index.specs.Lookups.{events_of};
 ghost use Rattle.shb_clocks.specs.SharedRows.{Counted, len_of};
-ghost use Rattle.race_groups.specs.Classes.{AreClasses, AreMembers};
+ghost use Rattle.race_groups.specs.Classes.{AreClasses, AreMembers, AreWriters};
 ghost use Rattle.race_groups.specs.Counting.{AreFrontsAt, AreMoved, later_count};
 ghost use Rattle.race_groups.specs.Counts.{AreCounted, keeps};
 ghost use Rattle.race_groups.specs.Cuts.{IsCut};
@@ -20,6 +20,7 @@ use crate::cuts::{Earlier, Forced, Known};
 use crate::events::threads_in;
 use crate::rows::{Rows, RowsRefusal};
 use crate::walk::add_members;
+use crate::writers::{conflicting, writers_of};
 use event_index::Indexed;
 use indexmap::IndexMap;
 use must_order::Must;
@@ -105,6 +106,7 @@ fn add_later(
     clocks: &Clocks,
     forced: &SharedRows,
     classes: &Classes,
+    writers: &[Vec<u32>],
     thread: u32,
     at: usize,
 ) -> Result<(), OutOfMemory>
@@ -117,6 +119,7 @@ fn add_later(
     requires classes { All (λ c. c < length classes.now.infos.items) classes.now.numbers.items }
     requires few { length classes.now.infos.items ≤ 1048576 }
     requires members { AreMembers classes.now.infos.items classes.now.members.items }
+    requires writers { AreWriters classes.now.infos.items classes.now.members.items writers.now }
     requires thread { thread < length indexed.now.threads }
     requires at { at < length (events_of indexed.now.events thread) }
     requires fronts { AreFrontsAt indexed.now.events (length indexed.now.threads) (length classes.now.infos.items)
@@ -142,7 +145,7 @@ fn add_later(
         fronts.forced.counts.as_slice(),
         classes.infos.as_slice(),
         &classes.lists,
-        classes.members[variable as usize].as_slice(),
+        conflicting(classes, writers, variable, class.op),
         class,
     )?;
     Ok(())
@@ -157,6 +160,7 @@ fn add_thread(
     forced: &SharedRows,
     classes: &Classes,
     limit: u32,
+    writers: &[Vec<u32>],
     thread: u32,
 ) -> Result<(), RowsRefusal>
     requires clocks { clocks.now ≡ indexed.now }
@@ -168,6 +172,7 @@ fn add_thread(
     requires classes { All (λ c. c < length classes.now.infos.items) classes.now.numbers.items }
     requires few { length classes.now.infos.items ≤ 1048576 }
     requires members { AreMembers classes.now.infos.items classes.now.members.items }
+    requires writers { AreWriters classes.now.infos.items classes.now.members.items writers.now }
     requires thread { thread < length indexed.now.threads }
     requires rows { AreRows rows.old }
     requires kept { index_map_len rows.old ≤ limit }
@@ -192,6 +197,7 @@ fn add_thread(
             clocks,
             forced,
             classes,
+            writers,
             thread,
             at,
         )?;
@@ -226,10 +232,19 @@ pub(crate) fn count_cuts(
     known_tells_shb();
     let _len = indexed.len();
     let forced = must.rows();
+    let writers = writers_of(alloc, classes.infos.as_slice(), classes.members.as_slice())?;
     let mut rows = IndexMap::new(alloc);
     for thread in 0..threads_in(indexed) {
         match add_thread(
-            alloc, &mut rows, indexed, clocks, forced, classes, limit, thread,
+            alloc,
+            &mut rows,
+            indexed,
+            clocks,
+            forced,
+            classes,
+            limit,
+            writers.as_slice(),
+            thread,
         ) {
             Ok(()) => {}
             Err(refusal) => return Err(refusal),

@@ -13,6 +13,7 @@ mod kinds;
 mod rows;
 mod sharing;
 mod walk;
+mod writers;
 
 pub use apart::is_apart;
 pub use class::Class;

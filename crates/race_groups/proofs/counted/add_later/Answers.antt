@@ -9,7 +9,7 @@ use Rattle.race_groups.specs.Counts.{keeps}
 use Rattle.race_groups.specs.Ends.{ends_of}
 use Rattle.race_groups.specs.Rows.{count_at}
 use Rattle.race_groups.specs.declared.class.Class.{Class}
-use Rattle.race_groups.proofs.WholeLemmas.{members_within}
+use Rattle.race_groups.proofs.ConflictLemmas.{conflicting_within}
 use Rattle.race_groups.proofs.LaterLemmas.{later_none, members_room, members_added}
 use Rattle.race_groups.proofs.counted.add_later.Goals as goal
 
@@ -40,16 +40,9 @@ add_members-requires-clause-members c =
     let j = c.class_of-class.result in
     let m = slice_index classes (slice_index given at) in
     let class = slice_get_within infos m j c.class_of-class.ensures in
-    let members = c.args.classes.now.members.items in
     let x = c.in-Some.variable in
     let accessed : is_access x j.op ≡ true = c.in-Some.ensures.some in
-    let has : x < length members =
-    All-get_or (λ (i : Class). is_access x i.op ≡ true → x < length members) infos m j class (c.requires.members.within x) (subst (λ (i : Class). is_access x i.op ≡ true) (sym (get_or_from_slice_get infos m j j c.class_of-class.ensures)) accessed)
-    in
-    let is : c.as_slice-5.result.now ≡ members_of infos x =
-    c.as_slice-5.ensures.value ∙ c.requires.members.lists x c.index.result.now (slice_get-get_or members x c.index.result.now has ∙ ap Some (sym c.index.ensures))
-    in
-    subst (λ (xs : List ℕ). All (λ k. k < length c.as_slice-4.result.now) xs) (sym is) (subst (λ (ys : List Class). All (λ k. k < length ys) (members_of infos x)) (sym c.as_slice-4.ensures.value) (members_within infos x))
+    subst (λ (ys : List Class). All (λ k. k < length ys) c.conflicting.result.now) (sym c.as_slice-4.ensures.value) (conflicting_within infos x j.op c.conflicting.result.now c.conflicting.ensures)
 
 pub add_members-requires-clause-room : goal.add_members-requires-clause-room
 add_members-requires-clause-room c = λ k p q le.
@@ -61,18 +54,11 @@ add_members-requires-clause-room c = λ k p q le.
     let j = c.class_of-class.result in
     let m = slice_index classes (slice_index given at) in
     let class = slice_get_within infos m j c.class_of-class.ensures in
-    let members = c.args.classes.now.members.items in
     let x = c.in-Some.variable in
     let accessed : is_access x j.op ≡ true = c.in-Some.ensures.some in
-    let has : x < length members =
-    All-get_or (λ (i : Class). is_access x i.op ≡ true → x < length members) infos m j class (c.requires.members.within x) (subst (λ (i : Class). is_access x i.op ≡ true) (sym (get_or_from_slice_get infos m j j c.class_of-class.ensures)) accessed)
-    in
-    let is : c.as_slice-5.result.now ≡ members_of infos x =
-    c.as_slice-5.ensures.value ∙ c.requires.members.lists x c.index.result.now (slice_get-get_or members x c.index.result.now has ∙ ap Some (sym c.index.ensures))
-    in
     let few =
-    members_room c.args.indexed.now c.requires.formed (length infos) classes c.args.thread c.args.forced.now (at + 1) c.advance.new.self c.advance.ensures.fronts infos x refl c.requires.few
-    c.as_slice.result.now c.as_slice-2.result.now c.as_slice-3.result.now c.as_slice-5.result.now c.as_slice.ensures.value c.as_slice-2.ensures.value c.as_slice-3.ensures.value is k
+    members_room c.args.indexed.now c.requires.formed (length infos) classes c.args.thread c.args.forced.now (at + 1) c.advance.new.self c.advance.ensures.fronts infos x j.op refl c.requires.few
+    c.as_slice.result.now c.as_slice-2.result.now c.as_slice-3.result.now c.conflicting.result.now c.as_slice.ensures.value c.as_slice-2.ensures.value c.as_slice-3.ensures.value c.conflicting.ensures k
     in omega (arith, few, c.requires.room k p q le)
 
 pub returns-clause-ok : goal.returns-clause-ok
@@ -89,18 +75,11 @@ returns-clause-ok c = λ k p q le.
     let found : slice_get infos (slice_index classes (slice_index (events_of T c.args.thread) at)) ≡ Some j =
     ap (λ n. slice_get infos (slice_index classes n)) (sym here) ∙ c.class_of-class.ensures
     in
-    let members = c.args.classes.now.members.items in
     let x = c.in-Some.variable in
     let accessed : is_access x j.op ≡ true = c.in-Some.ensures.some in
-    let has : x < length members =
-    All-get_or (λ (i : Class). is_access x i.op ≡ true → x < length members) infos m j class (c.requires.members.within x) (subst (λ (i : Class). is_access x i.op ≡ true) (sym (get_or_from_slice_get infos m j j c.class_of-class.ensures)) accessed)
-    in
-    let is : c.as_slice-5.result.now ≡ members_of infos x =
-    c.as_slice-5.ensures.value ∙ c.requires.members.lists x c.index.result.now (slice_get-get_or members x c.index.result.now has ∙ ap Some (sym c.index.ensures))
-    in
     let added =
     members_added c.args.indexed.now c.requires.formed (length infos) classes c.args.thread c.args.forced.now (at + 1) c.advance.new.self c.advance.ensures.fronts (slice_index (events_of T c.args.thread) at) c.advance.ensures.moved
     infos c.args.classes.now.lists.keys j x c.requires.numbers c.requires.classes refl accessed found
-    c.as_slice.result.now c.as_slice-2.result.now c.as_slice-3.result.now c.as_slice-5.result.now c.as_slice-4.result.now
-    c.as_slice.ensures.value c.as_slice-2.ensures.value c.as_slice-3.ensures.value c.as_slice-4.ensures.value is k p q
+    c.as_slice.result.now c.as_slice-2.result.now c.as_slice-3.result.now c.conflicting.result.now c.as_slice-4.result.now
+    c.as_slice.ensures.value c.as_slice-2.ensures.value c.as_slice-3.ensures.value c.as_slice-4.ensures.value c.conflicting.ensures k p q
     in c.in_ok-add_members.ensures.ok k p q le ∙ ap (λ n. count_at k c.args.rows.now p q + n) added
