@@ -1,5 +1,5 @@
 -- The classes with which an operation conflicts, in place of all of its variable.
-use Rattle.std.proofs.Common.{◌≡◌, ℕ, ◌<◌, ◌≤◌, ◌&&◌, Bool, true, false, cond, zero, suc, List, [], ◌∷◌, ◌++◌, filter, length, sum_by, slice_index, All, Option, Some, None, refl, sym, ap, subst, ◌∙◌, inl, inr, arith}
+use Rattle.std.proofs.Common.{◌≡◌, ℕ, ◌<◌, ◌≤◌, ◌&&◌, Bool, true, false, cond, zero, suc, List, [], ◌∷◌, ◌++◌, length, sum_by, slice_index, All, Option, Some, None, refl, sym, ap, subst, ◌∙◌, inl, inr, arith}
 use Rattle.std.specs.Bool.{if◌then◌else◌}
 use Rattle.std.specs.List.{slice_get}
 use Rattle.std.proofs.lemmas.Bool.{and_parts, true≢false}
@@ -8,12 +8,12 @@ use Rattle.std.proofs.lemmas.Option.{same_Some}
 use Rattle.std.proofs.lemmas.List.Sums.{sum_by-le-sum_by}
 use Rattle.rapid_text.specs.declared.event.Op.{Op}
 use Rattle.rapid_text.specs.declared.event.Op.TheVariants.{Read, Write}
-use Rattle.event_index.specs.Relations.{is_access, is_clash_of_ops}
-use Rattle.race_groups.specs.Classes.{AreConflicting, adds_to, is_writing, is_writing_op, members_of, writers_of}
+use Rattle.event_index.specs.Relations.{is_clash_of_ops}
+use Rattle.race_groups.specs.Classes.{AreConflicting, adds_to, is_writing, is_writing_op, members_of}
 use Rattle.race_groups.specs.Groups.{is_between}
 use Rattle.race_groups.specs.declared.class.Class.{Class}
 use Rattle.race_groups.proofs.SumLemmas.{sum_by-filter, sum_by_each}
-use Rattle.race_groups.proofs.WalkLemmas.{share_of, if_le}
+use Rattle.race_groups.proofs.WalkLemmas.{share_of}
 use Rattle.race_groups.proofs.WholeLemmas.{members_within}
 
 -- one of two that clash writes

@@ -22,4 +22,5 @@ pub mod PartLemmas
 pub mod TellLemmas
 pub mod ApartLemmas
 pub mod CompleteLemmas
+pub mod PlanLemmas
 pub mod Examples

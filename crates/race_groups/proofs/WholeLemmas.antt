@@ -115,7 +115,7 @@ shuffled false false true n = refl
 shuffled false false false n = refl
 
 module _ (r : Recording) (formed : IsWellFormed r) where
-  under_is : (u : ℕ) (ends : ℕ → ℕ) (e : ℕ) → e < length r.events
+  pub under_is : (u : ℕ) (ends : ℕ → ℕ) (e : ℕ) → e < length r.events
       → is_under r.events u ends e ≡ (not (thread_number r.events e == u) && nat_lt (place_of r.events e) (ends (thread_number r.events e)))
   under_is u ends e lt =
       let v = get_or r.events e some_event in
@@ -124,7 +124,7 @@ module _ (r : Recording) (formed : IsWellFormed r) where
       ∙ ap (λ n. not (n == u) && nat_lt (place_of r.events e) (ends n)) (sym (ap (λ o. unwrap_or (option_map (λ (v : Event). v.thread) o) 0) at))
 
   -- the fronts are the ends but for the thread itself
-  front_is : (u threads : ℕ) (ends : ℕ → ℕ) (fronts : List ℕ) (place t : ℕ) → t < threads → AreFronts threads u ends fronts
+  pub front_is : (u threads : ℕ) (ends : ℕ → ℕ) (fronts : List ℕ) (place t : ℕ) → t < threads → AreFronts threads u ends fronts
       → nat_lt place (slice_index fronts t) ≡ (not (t == u) && nat_lt place (ends t))
   front_is u threads ends fronts place t lt are =
       elim (cases_eq t u) [

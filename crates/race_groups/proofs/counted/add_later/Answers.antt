@@ -1,10 +1,8 @@
-use Rattle.std.proofs.Common.{◌≡◌, ℕ, ◌+◌, ◌<◌, List, length, slice_index, All, Some, true, refl, sym, ap, subst, ◌∙◌, arith}
+use Rattle.std.proofs.Common.{◌≡◌, ◌+◌, ◌<◌, List, length, slice_index, All, Some, true, refl, sym, ap, subst, ◌∙◌, arith}
 use Rattle.std.specs.List.{slice_get}
-use Rattle.std.proofs.lemmas.Option.{slice_get-get_or, slice_get_within, get_or_from_slice_get}
-use Rattle.std.proofs.lemmas.List.Elements.{All-get_or}
+use Rattle.std.proofs.lemmas.Option.{slice_get_within}
 use Rattle.event_index.specs.Lookups.{events_of}
 use Rattle.event_index.specs.Relations.{is_access}
-use Rattle.race_groups.specs.Classes.{members_of}
 use Rattle.race_groups.specs.Counts.{keeps}
 use Rattle.race_groups.specs.Ends.{ends_of}
 use Rattle.race_groups.specs.Rows.{count_at}
