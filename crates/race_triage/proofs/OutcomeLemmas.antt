@@ -1,5 +1,5 @@
 -- What the size of a list in order tells of a race.
-use Rattle.std.proofs.Common.{◌≡◌, ℕ, List}
+use Rattle.std.proofs.Common.{ℕ, List}
 use Rattle.rapid_text.specs.declared.event.Event.{Event}
 use Rattle.trace_rules.specs.Rules.{IsDisciplined}
 use Rattle.in_order.specs.Laws.{HasListInOrder, InOrderIsSound}

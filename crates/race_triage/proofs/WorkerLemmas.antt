@@ -1,12 +1,12 @@
 -- Parts of the verdicts, put together.
-use Rattle.std.proofs.Common.{◌≡◌, ℕ, ◌<◌, ◌%◌, Bool, List, ◌++◌, ◌∷◌, [], All, Contains, length, slice_index_or, sym, subst, inl, inr, refl}
-use Rattle.std.proofs.lemmas.List.Elements.{All-append, All-push, Contains-append_left, Contains-append_right}
+use Rattle.std.proofs.Common.{◌≡◌, ℕ, ◌<◌, ◌%◌, Bool, List, ◌++◌, All, Contains, length, slice_index_or, sym, subst, inl, inr}
+use Rattle.std.proofs.lemmas.List.Elements.{All-append, Contains-append_left, Contains-append_right}
 use Rattle.std.proofs.lemmas.Option.{slice_get_within, get_or_from_slice_get}
 use Rattle.rapid_text.specs.Recording.{Recording}
 use Rattle.race_groups.specs.Found.{AreComplete}
 use Rattle.race_groups.specs.declared.kinds.Row.{Row}
 use Rattle.race_triage.specs.Pairs.{AreAt}
-use Rattle.race_triage.specs.Verdicts.{IsVerdict, IsVerdictOn, IsAnswered, AreAllTold, ArePart, AreWhole}
+use Rattle.race_triage.specs.Verdicts.{IsVerdict, IsAnswered, AreAllTold, ArePart, AreWhole}
 use Rattle.race_triage.specs.declared.verdicts.Verdict.{Verdict}
 
 module _ (r : Recording) (place : ℕ → ℕ) where

@@ -3,7 +3,6 @@
 use Rattle.std.specs.Prelude.{◌≡◌, ◌⊎◌, ℕ, ◌<◌, ◌≤◌, ◌%◌, Bool, true, List, All, Contains, length, slice_index_or, ⊤}
 use Rattle.rapid_text.specs.Recording.{Recording}
 use Rattle.rapid_text.specs.declared.event.Event.{Event}
-use Rattle.event_index.specs.Relations.{IsConflicting}
 use Rattle.schedule.specs.Reordering.{IsCorrectReordering}
 use Rattle.schedule.specs.Shows.{Shows}
 use Rattle.in_order.specs.Sizes.{HasSize}

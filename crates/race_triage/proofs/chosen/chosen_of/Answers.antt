@@ -1,4 +1,4 @@
-use Rattle.std.proofs.Common.{rules, ◌≡◌, ◌≢◌, ◌++◌, [], List, All, true, false, cond, filter, ap, ◌∙◌}
+use Rattle.std.proofs.Common.{rules, ◌≡◌, ◌++◌, [], All, true, cond, filter, ap, ◌∙◌}
 use Rattle.race_triage.specs.Chosen.{is_of}
 use Rattle.race_triage.specs.declared.chosen.Part.TheVariants.{Races, Open, Never}
 use Rattle.race_triage.proofs.ChosenLemmas.{three}

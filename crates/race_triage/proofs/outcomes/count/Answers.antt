@@ -1,4 +1,4 @@
-use Rattle.std.proofs.Common.{◌≡◌, ℕ, ◌+◌, sym, subst, get_or, slice_index, arith}
+use Rattle.std.proofs.Common.{◌≡◌, ℕ, ◌+◌, sym, subst, get_or, arith}
 use Rattle.in_order.specs.Layout.{IsThreadCount}
 use Rattle.in_order.proofs.SizeLemmas.{IsThreadCountUpTo, IsThreadCount-start, IsThreadCount-push, IsThreadCount-skip}
 use Rattle.race_triage.proofs.outcomes.count.Goals as goal

@@ -1,4 +1,4 @@
-use Rattle.std.proofs.Common.{◌≡◌, ℕ, List, length, slice_index, sym, subst, ap, ◌∙◌}
+use Rattle.std.proofs.Common.{ℕ, List, slice_index, sym, subst, ◌∙◌}
 use Rattle.in_order.specs.Layout.{IsThreadCount}
 use Rattle.race_triage.proofs.MarkLemmas.{HasSize-marked}
 use Rattle.race_triage.proofs.outcomes.size_of.Goals as goal

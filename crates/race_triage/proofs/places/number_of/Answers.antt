@@ -1,8 +1,8 @@
-use Rattle.std.proofs.Common.{◌≡◌, ℕ, Bool, false, IfOk, sym, subst}
+use Rattle.std.proofs.Common.{◌≡◌, ℕ, false, sym, subst}
 use Rattle.std.specs.List.{list_any}
 use Rattle.std.proofs.lemmas.Result.{IfOk-weaker}
 use Rattle.race_triage.specs.Places.{IsSpot}
-use Rattle.race_triage.proofs.PlaceLemmas.{is_text, IsSpot-insert, IsSpot-found, AreKept-insert}
+use Rattle.race_triage.proofs.PlaceLemmas.{is_text, IsSpot-insert}
 use Rattle.race_triage.proofs.places.number_of.Goals as goal
 
 pub returns-clause-at : goal.returns-clause-at

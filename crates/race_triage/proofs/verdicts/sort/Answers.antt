@@ -1,4 +1,4 @@
-use Rattle.std.proofs.Common.{◌<◌, All, length, rules, slice_index}
+use Rattle.std.proofs.Common.{◌<◌, length, rules, slice_index}
 use Rattle.std.proofs.lemmas.List.Elements.{All-weaker}
 use Rattle.std.proofs.lemmas.List.Sorted.{IsNonDecreasingBy-from_sort_by_key, All-permutation, Contains-permutation}
 use Rattle.race_triage.specs.Verdicts.{IsVerdict}

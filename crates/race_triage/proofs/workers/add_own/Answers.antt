@@ -10,5 +10,5 @@ returns-clause-answered c =
     let place = slice_index c.args.tables.places.now in
     let rows = c.args.found.now.groups.rows.items in
     λ own d.
-        let same : slice_index_or rows c.args.at d ≡ c.index-row.result.now = get_or_default rows c.args.at d c.index-row.result.now c.requires.at ∙ sym c.index-row.ensures in
-        subst (λ (row : Row). IsAnswered r place c.add.new.verdicts.items row) (sym same) c.in_ok-add.ensures.answered
+    let same : slice_index_or rows c.args.at d ≡ c.index-row.result.now = get_or_default rows c.args.at d c.index-row.result.now c.requires.at ∙ sym c.index-row.ensures in
+    subst (λ (row : Row). IsAnswered r place c.add.new.verdicts.items row) (sym same) c.in_ok-add.ensures.answered

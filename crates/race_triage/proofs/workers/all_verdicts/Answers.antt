@@ -1,4 +1,4 @@
-use Rattle.std.proofs.Common.{◌≡◌, ℕ, ◌%◌, arith}
+use Rattle.std.proofs.Common.{arith}
 use Rattle.race_triage.proofs.workers.all_verdicts.Goals as goal
 
 pub returns-then-workers-eq0 : goal.returns-then-workers-eq0

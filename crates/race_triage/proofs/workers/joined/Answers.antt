@@ -1,4 +1,4 @@
-use Rattle.std.proofs.Common.{◌≡◌, ℕ, ◌<◌, ◌+◌, ◌%◌, slice_index, slice_index_or, arith, inl, inr}
+use Rattle.std.proofs.Common.{◌%◌, slice_index, slice_index_or, arith, inl, inr}
 use Rattle.std.proofs.Math.Nat.{mod-lt}
 use Rattle.std.proofs.lemmas.Bool.{cases_lt}
 use Rattle.race_triage.proofs.WorkerLemmas.{IsAnswered-weaker}

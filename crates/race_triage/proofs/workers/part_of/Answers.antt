@@ -1,4 +1,4 @@
-use Rattle.std.proofs.Common.{◌≡◌, ℕ, ◌<◌, ◌+◌, ◌%◌, slice_index, slice_index_or, subst, sym, arith, inl, inr}
+use Rattle.std.proofs.Common.{◌≡◌, ℕ, ◌%◌, slice_index, slice_index_or, subst, sym, arith, inl, inr}
 use Rattle.std.proofs.lemmas.Bool.{cases_lt}
 use Rattle.race_triage.proofs.WorkerLemmas.{IsAnswered-weaker}
 use Rattle.race_triage.specs.Verdicts.{IsAnswered}

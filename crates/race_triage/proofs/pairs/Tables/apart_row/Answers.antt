@@ -1,4 +1,4 @@
-use Rattle.std.proofs.Common.{◌≡◌, Bool, true, false, ℕ, Option, IfSome, refl, sym, subst, ◌∙◌, slice_index, arith}
+use Rattle.std.proofs.Common.{sym, ◌∙◌, slice_index, arith}
 use Rattle.std.proofs.lemmas.Bool.{true≢false}
 use Rattle.race_groups.proofs.ApartLemmas.{never_between}
 use Rattle.race_triage.specs.Pairs.{IsFit}

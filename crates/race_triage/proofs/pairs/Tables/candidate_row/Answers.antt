@@ -1,4 +1,4 @@
-use Rattle.std.proofs.Common.{◌≡◌, refl, arith, slice_index}
+use Rattle.std.proofs.Common.{refl, arith, slice_index}
 use Rattle.race_triage.proofs.RowLemmas.{no_candidate}
 use Rattle.race_triage.proofs.pairs.Tables.candidate_row.Goals as goal
 

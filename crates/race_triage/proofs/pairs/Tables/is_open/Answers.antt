@@ -1,4 +1,4 @@
-use Rattle.std.proofs.Common.{◌≡◌, ℕ, ◌<◌, Option, Some, IfSome, length, refl, sym, subst}
+use Rattle.std.proofs.Common.{◌<◌, length, refl, subst}
 use Rattle.std.proofs.lemmas.Bool.{false≢true}
 use Rattle.rapid_text.specs.Recording.{Recording}
 use Rattle.shb_clocks.specs.Candidates.{IsCandidatePair}

@@ -1,5 +1,4 @@
-use Rattle.std.proofs.Common.{◌≡◌, ℕ, Option, Some, IfSome, refl, sym, subst, ap, arith, slice_index}
-use Rattle.race_triage.specs.Pairs.{IsFit}
+use Rattle.std.proofs.Common.{ℕ, Option, IfSome, refl, subst, arith, slice_index}
 use Rattle.race_triage.specs.Verdicts.{IsOpenRaceAt}
 use Rattle.race_triage.specs.declared.verdicts.Outcome.{Outcome}
 use Rattle.race_triage.proofs.RowLemmas.{no_open}

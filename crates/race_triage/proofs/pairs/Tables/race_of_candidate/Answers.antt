@@ -1,5 +1,4 @@
 use Rattle.std.proofs.Common.{ℕ, Option, IfSome, subst}
-use Rattle.explain_report.specs.declared.verdict.How.TheVariants.{Candidate}
 use Rattle.in_order.specs.Laws.{HasListInOrder}
 use Rattle.in_order.specs.Sizes.{IsSizeInOrder}
 use Rattle.race_triage.proofs.OutcomeLemmas.{shown_in_order}
