@@ -4,7 +4,8 @@ Each run has to write what is wanted, or to end with the fault's status and text
   an allocation    `out of memory`; in a thread or a session the call's line may say so, and the others go on; beside workers one slice may not be
                    proposed, whose worker wanted memory; or `no thread`, where the system wanted it to start one; or only notes are
                    missing, as below
-  a read, a file   `read failed` and nothing on standard output, or in a session the answers before it; or only notes are missing, for which a file is read once more
+  a read, a file   `read failed` and nothing on standard output, or in a session the answers before it (there also `write failed`, of a file that is to be
+                   made); or only notes are missing, for which a file is read once more
   a write          `write failed`; or only standard error is cut, where the fault's own text could not be written
   a thread         what is wanted, since another thread makes the calls of such a script; or, where workers are asked for, `no thread`
 A call that is interrupted and one that moves a single byte change nothing.
@@ -129,7 +130,8 @@ def is_right(run, wanted, kind, how):
         return is_told or (wanted.err and lacks_notes(run, wanted))
     if kind in ("read", "open"):
         is_begun = wanted.out.startswith(run.out) if wanted.in_session else not run.out
-        return (has_fault(run, b"read failed", b"note: ") and is_begun) or (wanted.err and lacks_notes(run, wanted))
+        is_told = has_fault(run, b"read failed", b"note: ") or (wanted.in_session and kind == "open" and has_fault(run, b"write failed"))
+        return (is_told and is_begun) or (wanted.err and lacks_notes(run, wanted))
     if run.out != wanted.out:
         return has_fault(run, b"write failed") and wanted.out.startswith(run.out)
     return run.status == wanted.status and wanted.err.startswith(run.err)
