@@ -18,6 +18,7 @@ use crate::classes::{Classes, variable_of};
 use crate::counting::Front;
 use crate::cuts::{Earlier, Forced, Known};
 use crate::events::threads_in;
+use crate::guesses::Guesses;
 use crate::rows::{Rows, RowsRefusal};
 use crate::walk::add_members;
 use crate::writers::{conflicting, writers_of};
@@ -101,6 +102,7 @@ fn class_of(classes: &Classes, event: u32) -> Class
 // Adds the pairs whose later event is that at this place of the thread.
 fn add_later(
     rows: &mut Rows,
+    guesses: &mut Guesses,
     fronts: &mut Fronts,
     indexed: &Indexed,
     clocks: &Clocks,
@@ -140,6 +142,7 @@ fn add_later(
     fronts.advance(indexed, clocks, forced, classes, thread, at);
     add_members(
         rows,
+        guesses,
         fronts.earlier.counts.as_slice(),
         fronts.known.counts.as_slice(),
         fronts.forced.counts.as_slice(),
@@ -155,6 +158,7 @@ fn add_later(
 fn add_thread(
     alloc: Global,
     rows: &mut Rows,
+    guesses: &mut Guesses,
     indexed: &Indexed,
     clocks: &Clocks,
     forced: &SharedRows,
@@ -192,6 +196,7 @@ fn add_thread(
     for at in 0..indexed.thread_events(thread).len() {
         add_later(
             rows,
+            guesses,
             &mut fronts,
             indexed,
             clocks,
@@ -234,10 +239,12 @@ pub(crate) fn count_cuts(
     let forced = must.rows();
     let writers = writers_of(alloc, classes.infos.as_slice(), classes.members.as_slice())?;
     let mut rows = IndexMap::new(alloc);
+    let mut guesses = Guesses::new(alloc, classes.infos.as_slice())?;
     for thread in 0..threads_in(indexed) {
         match add_thread(
             alloc,
             &mut rows,
+            &mut guesses,
             indexed,
             clocks,
             forced,

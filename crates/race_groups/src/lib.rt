@@ -8,6 +8,7 @@ mod counted;
 mod counting;
 mod cuts;
 mod events;
+mod guesses;
 mod holding;
 mod kinds;
 mod rows;

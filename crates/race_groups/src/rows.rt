@@ -4,6 +4,7 @@ ghost use Rattle.indexmap.specs.IndexMap.{get, keys, index_map_len, Updates};
 ghost use Rattle.race_groups.specs.Groups.{is_between};
 ghost use Rattle.race_groups.specs.Rows.{Part, part, same_places, count_at, AreRows};
 
+use crate::guesses::Guesses;
 use indexmap::IndexMap;
 use rapid_text::OutOfMemory;
 use std::alloc::{AllocError, AllocFailed};
@@ -85,7 +86,13 @@ impl Sums {
 }
 
 /// Adds to what was counted of a pair of places.
-pub(crate) fn add(rows: &mut Rows, first: u32, second: u32, more: Sums) -> Result<(), OutOfMemory>
+pub(crate) fn add(
+    rows: &mut Rows,
+    guesses: &mut Guesses,
+    first: u32,
+    second: u32,
+    more: Sums,
+) -> Result<(), OutOfMemory>
     requires more { (k : Part) × (0 < part k more) }
     requires rows { AreRows rows.old }
     requires room { (k : Part) (p q : ℕ) → p ≤ q → count_at k rows.old p q + part k more < 2 ^ 64 }
@@ -94,13 +101,38 @@ pub(crate) fn add(rows: &mut Rows, first: u32, second: u32, more: Sums) -> Resul
     ensures rows { OnOk result (AreRows rows.new) }
 {
     let key = ordered(first, second);
-    match row_at(rows, key) {
+    match guessed_at(rows, guesses, key) {
         Some(at) => grow(rows, at, more),
         None => {
             rows.insert(key, more)?;
         }
     }
     Ok(())
+}
+
+// Where the row of a pair of places stands, the lesser first. It is looked up only where it was not guessed.
+fn guessed_at(rows: &Rows, guesses: &mut Guesses, places: (u32, u32)) -> Option<usize>
+    ensures found { IfSome result (λ at. (v : Sums) × (slice_get rows.now.entries at ≡ Some (places, v)) × (get same_places rows.now places ≡ Some v)) }
+    ensures none { result ≡ None → get same_places rows.now places ≡ None }
+{
+    if let Some(at) = guesses.guess(places) {
+        if is_at(rows, at, places) {
+            return Some(at);
+        }
+    }
+    let at = row_at(rows, places)?;
+    guesses.note(places, at);
+    Some(at)
+}
+
+// Whether the row of these places stands there.
+fn is_at(rows: &Rows, at: usize, places: (u32, u32)) -> bool
+    ensures { result ≡ true → (v : Sums) × (slice_get rows.now.entries at ≡ Some (places, v)) × (get same_places rows.now places ≡ Some v) }
+{
+    match rows.get_index(at) {
+        Some((key, _)) => key.0 == places.0 && key.1 == places.1,
+        None => false,
+    }
 }
 
 /// Where the row of a pair of places stands, the lesser first.

@@ -6,6 +6,7 @@ ghost use Rattle.race_groups.specs.Counts.{is_counted, keeps};
 ghost use Rattle.race_groups.specs.Rows.{Part, part, amount, by_cut, count_at, AreRows};
 
 use crate::class::Class;
+use crate::guesses::Guesses;
 use crate::rows::{Rows, Sums, add};
 use crate::sharing::are_sharing;
 use indexmap::IndexSet;
@@ -64,6 +65,7 @@ fn sums_of(lists: &IndexSet<Vec<u32>>, earlier: Class, later: Class, below: Belo
 // Adds the pairs of so many events of one class with one event of another.
 fn add_pairs(
     rows: &mut Rows,
+    guesses: &mut Guesses,
     lists: &IndexSet<Vec<u32>>,
     earlier: Class,
     later: Class,
@@ -79,7 +81,7 @@ fn add_pairs(
         return Ok(());
     }
     let sums = sums_of(lists, earlier, later, below);
-    add(rows, earlier.place, later.place, sums)?;
+    add(rows, guesses, earlier.place, later.place, sums)?;
     Ok(())
 }
 
@@ -97,6 +99,7 @@ fn clash(first: Op, second: Op) -> bool
 /// Adds what an event of a class has with the events that come below its cuts, which are counted by class.
 pub(crate) fn add_members(
     rows: &mut Rows,
+    guesses: &mut Guesses,
     earlier: &[u32],
     known: &[u32],
     forced: &[u32],
@@ -123,7 +126,7 @@ pub(crate) fn add_members(
             known: known[*member as usize],
             forced: forced[*member as usize],
         };
-        add_pairs(rows, lists, infos[*member as usize], later, below)?;
+        add_pairs(rows, guesses, lists, infos[*member as usize], later, below)?;
     }
     Ok(())
 }
