@@ -22,7 +22,7 @@ import running
 
 TRACES = 40
 MOST_EVENTS = [8, 16, 28]
-REACHED = ["race", "undecided", "apart", "picture", "locks", "replaced", "known", "hidden", "left out", "undrawn"]
+REACHED = ["race", "undecided", "untried", "apart", "picture", "locks", "replaced", "known", "hidden", "left out", "undrawn"]
 POLICY = "default-src 'none'; style-src 'unsafe-inline'; base-uri 'none'; form-action 'none'"
 VOID = {"meta", "path", "rect"}
 ALLOWED = {
@@ -38,8 +38,8 @@ ATTRIBUTES = {
 FORBIDDEN = re.compile(r"url\((?!#tip\))|javascript:|data:|@import|https?:(?!//www\.w3\.org/2000/svg$)", re.IGNORECASE)
 
 
-# What is said of an open pair that was not tried; `explain` would try it.
-UNTRIED = "undecided: no schedule was found, and neither order nor lock forbids one"
+# What is said where no open pair was tried; `explain` would try the one that is told.
+UNTRIED = "undecided: no pair was tried, and neither order nor lock forbids a schedule"
 
 
 class Wrong(Exception):
@@ -211,7 +211,8 @@ class Judge:
             raise Wrong(f"a row {row.attributes}, and not {block}")
         facts = [span.text() for span in row.one("summary").all("span")]
         explained = self.explained(name, block)
-        reason = [UNTRIED] if facts_of(block).endswith(" 0 tried") else explained[:1]
+        is_untried = facts_of(block).endswith(" 0 tried")
+        reason = [UNTRIED] if is_untried else explained[:1]
         wanted = [facts_of(block)] + ([] if block.sort == "race" else reason)
         if facts != wanted:
             raise Wrong(f"{facts}, and not {wanted}")
@@ -232,6 +233,7 @@ class Judge:
         if f"racebench explain {shell_word(name)} {block.first} {block.second} --all\n" not in commands:
             raise Wrong(f"the commands are {commands}")
         self.tally[block.sort] += 1
+        self.tally["untried"] += is_untried
         self.tally["picture"] += len(pictures)
         self.tally["locks"] += sum(len(access[1]) for access in block.accesses)
         self.tally["replaced"] += any("\ufffd" in access[0] for access in block.accesses)

@@ -1,5 +1,5 @@
 -- Pieces that are appended one after another are appended as one.
-use Rattle.std.proofs.Common.{◌≡◌, ℕ, List, [], ◌++◌, append_assoc, sym, ap, ◌∙◌}
+use Rattle.std.proofs.Common.{◌≡◌, ℕ, List, [], ◌++◌, append_assoc, ap, ◌∙◌}
 
 module _ (old first second : List ℕ) (x y z : List ℕ) (e1 : first ≡ old ++ x) (e2 : second ≡ first ++ y) where
   pub three_pieces : (new : List ℕ) → new ≡ second ++ z → new ≡ old ++ (x ++ y ++ z)
@@ -7,13 +7,23 @@ module _ (old first second : List ℕ) (x y z : List ℕ) (e1 : first ≡ old ++
       let whole : new ≡ (old ++ x ++ y ++ z) = cc in
       whole ∙ simp append_assoc
 
+  pub four_pieces : (third new v : List ℕ) → third ≡ second ++ z → new ≡ third ++ v → new ≡ old ++ (x ++ y ++ z ++ v)
+  four_pieces third new v e3 e4 =
+      let whole : new ≡ (old ++ x ++ y ++ z ++ v) = cc in
+      whole ∙ simp append_assoc
+
   pub five_pieces : (third fourth new v w : List ℕ) → third ≡ second ++ z → fourth ≡ third ++ v → new ≡ fourth ++ w → new ≡ old ++ (x ++ y ++ z ++ v ++ w)
   five_pieces third fourth new v w e3 e4 e5 =
       let whole : new ≡ (old ++ x ++ y ++ z ++ v ++ w) = cc in
       whole ∙ simp append_assoc
 
--- a picture is its root, its words and what is drawn
-pub pictured :
-    (empty root words text seen before drawn more whole shown : List ℕ) → empty ≡ [] → text ≡ empty ++ words → seen ≡ text → before ≡ root ++ seen → more ≡ drawn
-    → whole ≡ before ++ more → shown ≡ whole → shown ≡ root ++ words ++ drawn
-pictured empty root words text seen before drawn more whole shown e0 e1 e2 e3 e4 e5 e6 = cc
+  pub six_pieces :
+      (third fourth fifth new u v w : List ℕ) → third ≡ second ++ z → fourth ≡ third ++ u → fifth ≡ fourth ++ v → new ≡ fifth ++ w
+      → new ≡ old ++ (x ++ y ++ z ++ u ++ v ++ w)
+  six_pieces third fourth fifth new u v w e3 e4 e5 e6 =
+      let whole : new ≡ (old ++ x ++ y ++ z ++ u ++ v ++ w) = cc in
+      whole ∙ simp append_assoc
+
+-- what is appended to nothing stands alone, and so does its copy
+pub alone : (empty text words copy : List ℕ) → empty ≡ [] → copy ≡ text → text ≡ empty ++ words → copy ≡ words
+alone empty text words copy none copied e = copied ∙ (e ∙ ap (λ (xs : List ℕ). xs ++ words) none)

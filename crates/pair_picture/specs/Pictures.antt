@@ -1,5 +1,13 @@
--- What the words of a picture say. All notions here are this project's own.
+-- What a picture is, and what its words say. All notions here are this project's own.
 use Rattle.std.specs.Prelude.{◌≡◌, ℕ, List, ◌++◌, flat_map, codes, decimal}
+use Rattle.pair_picture.specs.Shapes.{AreShapes, attribute_text, point_text}
+use Rattle.pair_picture.specs.declared.style.TheConstants.{STYLE}
+
+-- how a picture begins: how wide and high it is drawn, and how it is shown
+abbrev pub root_text : ℕ → ℕ → ℕ → ℕ → List ℕ
+root_text width height shown_width shown_height =
+    codes "<svg xmlns=\"http://www.w3.org/2000/svg\" viewBox=\"0 0 " ++ point_text width height ++ codes "\"" ++ attribute_text (codes "width") shown_width
+    ++ attribute_text (codes "height") shown_height ++ codes ">\n"
 
 -- the number of event e behind a blank
 abbrev pub spaced_event : ℕ → List ℕ
@@ -21,14 +29,27 @@ listed P = codes "<desc>Its events:" ++ spaced_events P ++ codes "</desc>\n"
 abbrev pub described : List ℕ → ℕ → ℕ → List ℕ
 described P a b = title a b ++ listed P
 
--- the text is a picture of the schedule P, which shows the pair: it has this title and this description; how the rest looks is presentation
-pub record IsPicture (P : List ℕ) (a b : ℕ) (text : List ℕ) : Type 0 where
-  pub root : List ℕ
-  pub drawn : List ℕ
-  pub printed : text ≡ root ++ described P a b ++ drawn
+-- what stands behind the words: the paper, the shapes on it, and the end
+abbrev pub drawn_text : List ℕ → List ℕ
+drawn_text shapes = codes "<rect class=\"paper\" width=\"100%\" height=\"100%\"/>\n" ++ shapes ++ codes "</svg>\n"
 
--- the text is a picture that shows the pair, for a page that tells the schedule in words: it has this title
+-- The text is a picture of the schedule P, which shows the pair: it has this title, this description, the style of pictures, and shapes. Which shapes, and
+-- where they stand, is presentation.
+pub record IsPicture (P : List ℕ) (a b : ℕ) (text : List ℕ) : Type 0 where
+  pub width : ℕ
+  pub height : ℕ
+  pub shown_width : ℕ
+  pub shown_height : ℕ
+  pub shapes : List ℕ
+  pub printed : text ≡ root_text width height shown_width shown_height ++ described P a b ++ STYLE.now ++ drawn_text shapes
+  pub drawn : AreShapes shapes
+
+-- The text is a picture that shows the pair, for a page that tells the schedule in words and has the style of pictures itself: it has this title, and shapes.
 pub record IsFigure (a b : ℕ) (text : List ℕ) : Type 0 where
-  pub root : List ℕ
-  pub drawn : List ℕ
-  pub printed : text ≡ root ++ title a b ++ drawn
+  pub width : ℕ
+  pub height : ℕ
+  pub shown_width : ℕ
+  pub shown_height : ℕ
+  pub shapes : List ℕ
+  pub printed : text ≡ root_text width height shown_width shown_height ++ title a b ++ drawn_text shapes
+  pub drawn : AreShapes shapes

@@ -1,9 +1,11 @@
 //! The two accesses, side by side under all.
+use crate::canvas::Canvas;
+use crate::class::Class;
 use crate::columns::Columns;
 use crate::labels::{append_label, append_lock, op_of, thread_of};
 use crate::layout::height_of;
 use crate::pieces::{append_count, append_words};
-use crate::rows::{append_box, append_box_line};
+use crate::rows::{draw_box, draw_box_line};
 use event_index::Indexed;
 use rapid_text::{Op, OutOfMemory};
 use std::alloc::Global;
@@ -62,9 +64,9 @@ pub(crate) fn accesses_height(first: &[u32], second: &[u32]) -> u64 {
     height_of(lines_of(first).max(lines_of(second)))
 }
 
-/// Appends the box of an access: the event, and the locks that its thread holds before it.
-pub(crate) fn append_access(
-    out: &mut Vec<u8>,
+/// Draws the box of an access: the event, and the locks that its thread holds before it.
+pub(crate) fn draw_access(
+    canvas: &mut Canvas,
     indexed: &Indexed,
     columns: &Columns,
     event: u32,
@@ -76,45 +78,51 @@ pub(crate) fn append_access(
         return Ok(());
     };
     let left = columns.left(thread);
-    append_box(out, b"race", left, top, height)?;
-    let mut text = Vec::new(*out.allocator());
+    draw_box(canvas, Class::Race, left, top, height)?;
+    let mut text = Vec::new(canvas.allocator());
     append_label(&mut text, indexed, event)?;
-    append_box_line(out, b"access", left, top, 0, &text)?;
+    draw_box_line(canvas, Class::Access, left, top, 0, &text)?;
     let mut line = 1u64;
     for lock in locks.iter().take(MOST_LOCKS) {
-        append_held(out, indexed, *lock, left, top, line)?;
+        draw_held(canvas, indexed, *lock, left, top, line)?;
         line = line.saturating_add(1);
     }
     if locks.len() > MOST_LOCKS {
-        append_more(out, locks.len().saturating_sub(MOST_LOCKS), left, top, line)?;
+        draw_more(
+            canvas,
+            locks.len().saturating_sub(MOST_LOCKS),
+            left,
+            top,
+            line,
+        )?;
     }
     Ok(())
 }
 
-fn append_held(
-    out: &mut Vec<u8>,
+fn draw_held(
+    canvas: &mut Canvas,
     indexed: &Indexed,
     lock: u32,
     left: u64,
     top: u64,
     line: u64,
 ) -> Result<(), OutOfMemory> {
-    let mut text = Vec::new(*out.allocator());
+    let mut text = Vec::new(canvas.allocator());
     append_words(&mut text, b"holds ")?;
     append_lock(&mut text, indexed, lock)?;
-    append_box_line(out, b"event", left, top, line, &text)
+    draw_box_line(canvas, Class::Event, left, top, line, &text)
 }
 
-fn append_more(
-    out: &mut Vec<u8>,
+fn draw_more(
+    canvas: &mut Canvas,
     count: usize,
     left: u64,
     top: u64,
     line: u64,
 ) -> Result<(), OutOfMemory> {
-    let mut text = Vec::new(*out.allocator());
+    let mut text = Vec::new(canvas.allocator());
     append_words(&mut text, b"and ")?;
     append_count(&mut text, count as u64, b"lock")?;
     append_words(&mut text, b" more")?;
-    append_box_line(out, b"note", left, top, line, &text)
+    draw_box_line(canvas, Class::Note, left, top, line, &text)
 }

@@ -1,17 +1,17 @@
 //! The arrow from a run to the event that waits for it.
+use crate::canvas::Canvas;
 use crate::columns::Columns;
 use crate::labels::thread_of;
 use crate::layout::{BOX, Placed};
-use crate::pieces::{append_number, append_words};
 use event_index::Indexed;
 use rapid_text::OutOfMemory;
 
 /// How far an arrow goes down before it turns, and after.
 const BEND: u64 = 18;
 
-/// Appends the arrows of all runs. They are drawn under the boxes.
-pub(crate) fn append_arrows(
-    out: &mut Vec<u8>,
+/// Draws the arrows of all runs. They are drawn under the boxes.
+pub(crate) fn draw_arrows(
+    canvas: &mut Canvas,
     indexed: &Indexed,
     columns: &Columns,
     list: &[u32],
@@ -19,15 +19,15 @@ pub(crate) fn append_arrows(
 ) -> Result<(), OutOfMemory> {
     for from in placed {
         if let Some(waiter) = from.waiter {
-            append_to_waiter(out, indexed, columns, list, placed, from, waiter)?;
+            draw_to_waiter(canvas, indexed, columns, list, placed, from, waiter)?;
         }
     }
     Ok(())
 }
 
-/// Appends the arrow to the box that has the event.
-fn append_to_waiter(
-    out: &mut Vec<u8>,
+/// Draws the arrow to the box that has the event.
+fn draw_to_waiter(
+    canvas: &mut Canvas,
     indexed: &Indexed,
     columns: &Columns,
     list: &[u32],
@@ -40,8 +40,8 @@ fn append_to_waiter(
             && thread_of(indexed, waiter) == Some(to.run.thread)
             && has_event(list, to, waiter)
         {
-            return append_arrow(
-                out,
+            return draw_arrow(
+                canvas,
                 columns.left(from.run.thread),
                 columns.left(to.run.thread),
                 from,
@@ -62,9 +62,9 @@ fn has_event(list: &[u32], placed: &Placed, event: u32) -> bool {
     false
 }
 
-/// Appends an arrow from the lower edge of one box to the upper edge of another.
-fn append_arrow(
-    out: &mut Vec<u8>,
+/// Draws an arrow from the lower edge of one box to the upper edge of another.
+fn draw_arrow(
+    canvas: &mut Canvas,
     from_left: u64,
     to_left: u64,
     from: &Placed,
@@ -77,19 +77,7 @@ fn append_arrow(
     } else {
         BOX - BOX / 4
     });
-    append_words(out, b"<path class=\"arrow\" marker-end=\"url(#tip)\" d=\"M")?;
-    append_point(out, x, start)?;
-    append_words(out, b"C")?;
-    append_point(out, x, start.saturating_add(BEND))?;
-    append_words(out, b" ")?;
-    append_point(out, to_x, to.top.saturating_sub(BEND))?;
-    append_words(out, b" ")?;
-    append_point(out, to_x, to.top)?;
-    append_words(out, b"\"/>\n")
-}
-
-fn append_point(out: &mut Vec<u8>, x: u64, y: u64) -> Result<(), OutOfMemory> {
-    append_number(out, x)?;
-    append_words(out, b" ")?;
-    append_number(out, y)
+    let below = start.saturating_add(BEND);
+    let above = to.top.saturating_sub(BEND);
+    canvas.arrow(x, start, below, to_x, to.top, above)
 }

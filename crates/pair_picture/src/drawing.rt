@@ -2,14 +2,16 @@
 ghost use Rattle.std.specs.Prelude.{◌≡◌, ◌++◌, List, ℕ, OnOk, OnErr};
 ghost use Rattle.pair_picture.specs.Pictures.{IsFigure, IsPicture};
 
-use crate::accesses::{accesses_height, append_access, locks_before};
-use crate::arrows::append_arrows;
+use crate::accesses::{accesses_height, draw_access, locks_before};
+use crate::arrows::draw_arrows;
+use crate::canvas::Canvas;
+use crate::class::Class;
 use crate::columns::{Columns, MARGIN};
-use crate::head::{append_description, append_root, append_title};
-use crate::labels::{append_line, append_line_begin, append_line_end, append_thread};
+use crate::head::{Size, append_description, append_drawn, append_root, append_title};
+use crate::labels::{append_thread, draw_line};
 use crate::layout::{GAP, Placed, TOP, end_of, folded_of, placed_from};
 use crate::pieces::{append_count, append_number, append_words};
-use crate::rows::{append_earlier, append_run, earlier_height};
+use crate::rows::{draw_earlier, draw_run, earlier_height};
 use crate::shades::held_at;
 use crate::style::STYLE;
 use event_index::Indexed;
@@ -44,22 +46,14 @@ pub fn picture_text(
 {
     let alloc = *out.allocator();
     let drawing = drawing_of(alloc, indexed, events, first, second)?;
-    let mut root = Vec::new(alloc);
-    let high = accesses_height(&drawing.first_locks, &drawing.second_locks);
-    let bottom = drawing.end.saturating_add(GAP).saturating_add(high);
-    append_root(
-        &mut root,
-        drawing.columns.width(),
-        bottom.saturating_add(MARGIN),
-    )?;
-    let mut described = Vec::new(alloc);
-    append_description(&mut described, events, first, second)?;
-    let mut drawn = Vec::new(alloc);
-    append_words(&mut drawn, STYLE)?;
-    append_drawing(&mut drawn, indexed, &drawing, events, first, second)?;
-    root.extend_from_slice(described.as_slice())?;
-    root.extend_from_slice(drawn.as_slice())?;
-    out.extend_from_slice(root.as_slice())?;
+    let canvas = canvas_of(alloc, indexed, &drawing, events, first, second)?;
+    let size = size_of(&drawing);
+    let mut text = Vec::new(alloc);
+    append_root(&mut text, size)?;
+    append_description(&mut text, events, first, second)?;
+    append_words(&mut text, STYLE)?;
+    append_drawn(&mut text, canvas.bytes())?;
+    out.extend_from_slice(text.as_slice())?;
     Ok(())
 }
 
@@ -78,21 +72,13 @@ pub fn figure_text(
 {
     let alloc = *out.allocator();
     let drawing = drawing_of(alloc, indexed, events, first, second)?;
-    let mut root = Vec::new(alloc);
-    let high = accesses_height(&drawing.first_locks, &drawing.second_locks);
-    let bottom = drawing.end.saturating_add(GAP).saturating_add(high);
-    append_root(
-        &mut root,
-        drawing.columns.width(),
-        bottom.saturating_add(MARGIN),
-    )?;
-    let mut titled = Vec::new(alloc);
-    append_title(&mut titled, first, second)?;
-    let mut drawn = Vec::new(alloc);
-    append_drawing(&mut drawn, indexed, &drawing, events, first, second)?;
-    root.extend_from_slice(titled.as_slice())?;
-    root.extend_from_slice(drawn.as_slice())?;
-    out.extend_from_slice(root.as_slice())?;
+    let canvas = canvas_of(alloc, indexed, &drawing, events, first, second)?;
+    let size = size_of(&drawing);
+    let mut text = Vec::new(alloc);
+    append_root(&mut text, size)?;
+    append_title(&mut text, first, second)?;
+    append_drawn(&mut text, canvas.bytes())?;
+    out.extend_from_slice(text.as_slice())?;
     Ok(())
 }
 
@@ -123,64 +109,74 @@ fn drawing_of(
     })
 }
 
-/// Appends what stands behind the description.
-fn append_drawing(
-    out: &mut Vec<u8>,
+/// How large that is.
+fn size_of(drawing: &Drawing) -> Size {
+    let high = accesses_height(&drawing.first_locks, &drawing.second_locks);
+    let bottom = drawing.end.saturating_add(GAP).saturating_add(high);
+    Size::new(drawing.columns.width(), bottom.saturating_add(MARGIN))
+}
+
+/// Draws all of it.
+fn canvas_of(
+    alloc: Global,
     indexed: &Indexed,
     drawing: &Drawing,
     events: &[u32],
     first: u32,
     second: u32,
-) -> Result<(), OutOfMemory> {
-    append_words(
-        out,
-        b"<rect class=\"paper\" width=\"100%\" height=\"100%\"/>\n",
+) -> Result<Canvas, OutOfMemory> {
+    let mut canvas = Canvas::new(alloc);
+    draw_top_line(&mut canvas, drawing, events.len() as u64, first, second)?;
+    draw_names(&mut canvas, indexed, &drawing.columns)?;
+    draw_arrows(
+        &mut canvas,
+        indexed,
+        &drawing.columns,
+        events,
+        &drawing.placed,
     )?;
-    append_top_line(out, drawing, events.len() as u64, first, second)?;
-    append_names(out, indexed, &drawing.columns)?;
-    append_arrows(out, indexed, &drawing.columns, events, &drawing.placed)?;
-    append_runs(out, indexed, drawing, events)?;
-    append_pair(out, indexed, drawing, first, second)?;
-    append_words(out, b"</svg>\n")
+    draw_runs(&mut canvas, indexed, drawing, events)?;
+    draw_pair(&mut canvas, indexed, drawing, first, second)?;
+    Ok(canvas)
 }
 
-/// Appends the line on top.
-fn append_top_line(
-    out: &mut Vec<u8>,
+/// Draws the line on top.
+fn draw_top_line(
+    canvas: &mut Canvas,
     drawing: &Drawing,
     events: u64,
     first: u32,
     second: u32,
 ) -> Result<(), OutOfMemory> {
-    append_line_begin(out, b"name", MARGIN, 20)?;
-    append_number(out, u64::from(first))?;
-    append_words(out, b" and ")?;
-    append_number(out, u64::from(second))?;
-    append_words(out, b": after ")?;
-    append_count(out, events, b"event")?;
-    append_words(out, b" in ")?;
-    append_count(out, drawing.runs.len() as u64, b"run")?;
-    append_words(out, b" both can come next")?;
-    append_line_end(out)
+    let mut text = Vec::new(canvas.allocator());
+    append_number(&mut text, u64::from(first))?;
+    append_words(&mut text, b" and ")?;
+    append_number(&mut text, u64::from(second))?;
+    append_words(&mut text, b": after ")?;
+    append_count(&mut text, events, b"event")?;
+    append_words(&mut text, b" in ")?;
+    append_count(&mut text, drawing.runs.len() as u64, b"run")?;
+    append_words(&mut text, b" both can come next")?;
+    canvas.line(Class::Name, MARGIN, 20, &text)
 }
 
-/// Appends the name of each thread over its column.
-fn append_names(
-    out: &mut Vec<u8>,
+/// Draws the name of each thread over its column.
+fn draw_names(
+    canvas: &mut Canvas,
     indexed: &Indexed,
     columns: &Columns,
 ) -> Result<(), OutOfMemory> {
     for thread in columns.threads() {
-        let mut text = Vec::new(*out.allocator());
+        let mut text = Vec::new(canvas.allocator());
         append_thread(&mut text, indexed, *thread)?;
-        append_line(out, b"name", columns.left(*thread), 48, &text)?;
+        draw_line(canvas, Class::Name, columns.left(*thread), 48, &text)?;
     }
     Ok(())
 }
 
-/// Appends the boxes of the runs.
-fn append_runs(
-    out: &mut Vec<u8>,
+/// Draws the boxes of the runs.
+fn draw_runs(
+    canvas: &mut Canvas,
     indexed: &Indexed,
     drawing: &Drawing,
     events: &[u32],
@@ -188,11 +184,11 @@ fn append_runs(
     let folded = folded_of(drawing.runs.len()).min(drawing.runs.len());
     let earlier = &drawing.runs[..folded];
     if folded > 0 {
-        append_earlier(out, indexed, &drawing.columns, events, earlier, TOP)?;
+        draw_earlier(canvas, indexed, &drawing.columns, events, earlier, TOP)?;
     }
     for placed in drawing.placed.iter() {
-        append_run(
-            out,
+        draw_run(
+            canvas,
             indexed,
             &drawing.columns,
             events,
@@ -203,9 +199,9 @@ fn append_runs(
     Ok(())
 }
 
-/// Appends the two accesses.
-fn append_pair(
-    out: &mut Vec<u8>,
+/// Draws the two accesses.
+fn draw_pair(
+    canvas: &mut Canvas,
     indexed: &Indexed,
     drawing: &Drawing,
     first: u32,
@@ -213,15 +209,15 @@ fn append_pair(
 ) -> Result<(), OutOfMemory> {
     let high = accesses_height(&drawing.first_locks, &drawing.second_locks);
     let top = drawing.end.saturating_add(GAP);
-    append_line(
-        out,
-        b"name",
+    draw_line(
+        canvas,
+        Class::Name,
         MARGIN,
         drawing.end.saturating_add(10),
         b"then both can come next:",
     )?;
     let locks = drawing.first_locks.as_slice();
-    append_access(out, indexed, &drawing.columns, first, locks, top, high)?;
+    draw_access(canvas, indexed, &drawing.columns, first, locks, top, high)?;
     let locks = drawing.second_locks.as_slice();
-    append_access(out, indexed, &drawing.columns, second, locks, top, high)
+    draw_access(canvas, indexed, &drawing.columns, second, locks, top, high)
 }

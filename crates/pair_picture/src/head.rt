@@ -1,28 +1,64 @@
-//! With what a picture begins: its size, and in words what it shows.
+//! What stands around the shapes of a picture: its size, in words what it shows, the paper, and the end.
 ghost use Rattle.std.specs.Prelude.{◌≡◌, ◌++◌, ◌∷◌, [], OnOk};
-ghost use Rattle.pair_picture.specs.Pictures.{described, listed, spaced_events, title};
+ghost use Rattle.pair_picture.specs.Pictures.{described, drawn_text, listed, root_text, spaced_events, title};
 
-use crate::pieces::{append_attribute, append_number, append_words};
+use crate::pieces::{append_number, append_words};
+use crate::shapes::{append_attribute, append_point};
 use rapid_text::OutOfMemory;
 
-/// Appends the beginning of the root, which is shown a fifth larger than it is drawn: a line of 10 pixels is one of 12.
-pub(crate) fn append_root(out: &mut Vec<u8>, width: u64, height: u64) -> Result<(), OutOfMemory> {
-    append_words(
-        out,
-        b"<svg xmlns=\"http://www.w3.org/2000/svg\" viewBox=\"0 0 ",
-    )?;
-    append_number(out, width)?;
-    append_words(out, b" ")?;
-    append_number(out, height)?;
-    append_words(out, b"\"")?;
-    append_attribute(out, b"width", larger(width))?;
-    append_attribute(out, b"height", larger(height))?;
-    append_words(out, b">\n")
+/// How large a picture is.
+#[derive(Clone, Copy)]
+pub(crate) struct Size {
+    width: u64,
+    height: u64,
+    shown_width: u64,
+    shown_height: u64,
+}
+
+impl Size {
+    /// That of a picture which is drawn so large.
+    pub(crate) fn new(width: u64, height: u64) -> Size {
+        Size {
+            width,
+            height,
+            shown_width: larger(width),
+            shown_height: larger(height),
+        }
+    }
 }
 
 /// The size with a fifth more.
 fn larger(size: u64) -> u64 {
     size.saturating_add(size / 5)
+}
+
+/// Appends the beginning of the root, which is shown a fifth larger than it is drawn: a line of 10 pixels is one of 12.
+pub(crate) fn append_root(out: &mut Vec<u8>, size: Size) -> Result<(), OutOfMemory>
+    ensures { OnOk result (out.new.items ≡ out.old.items ++ root_text size.width size.height size.shown_width size.shown_height) }
+{
+    append_words(
+        out,
+        b"<svg xmlns=\"http://www.w3.org/2000/svg\" viewBox=\"0 0 ",
+    )?;
+    append_point(out, size.width, size.height)?;
+    append_words(out, b"\"")?;
+    append_attribute(out, b"width", size.shown_width)?;
+    append_attribute(out, b"height", size.shown_height)?;
+    append_words(out, b">\n")?;
+    Ok(())
+}
+
+/// Appends the paper, the shapes on it, and the end.
+pub(crate) fn append_drawn(out: &mut Vec<u8>, shapes: &[u8]) -> Result<(), OutOfMemory>
+    ensures { OnOk result (out.new.items ≡ out.old.items ++ drawn_text shapes.now) }
+{
+    append_words(
+        out,
+        b"<rect class=\"paper\" width=\"100%\" height=\"100%\"/>\n",
+    )?;
+    append_words(out, shapes)?;
+    append_words(out, b"</svg>\n")?;
+    Ok(())
 }
 
 /// Appends which pair the picture is of, and the events of the schedule, in its order.

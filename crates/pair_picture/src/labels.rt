@@ -2,41 +2,23 @@
 ghost use Rattle.std.specs.Prelude.{◌<◌, length, IfSome};
 ghost use Rattle.rapid_text.specs.Recording.{IsNamedOp};
 
-use crate::pieces::{append_attribute, append_number, append_text, append_words};
+use crate::canvas::Canvas;
+use crate::class::Class;
+use crate::pieces::{append_cut, append_number, append_words};
 use event_index::Indexed;
 use rapid_text::{Op, OutOfMemory, RawTrace};
 
-/// Appends a line of text from outside at a place; `class` says how it looks.
-pub(crate) fn append_line(
-    out: &mut Vec<u8>,
-    class: &[u8],
+/// Draws a line of text, which is cut where it is longer than a box is wide.
+pub(crate) fn draw_line(
+    canvas: &mut Canvas,
+    class: Class,
     left: u64,
     base: u64,
     text: &[u8],
 ) -> Result<(), OutOfMemory> {
-    append_line_begin(out, class, left, base)?;
-    append_text(out, text)?;
-    append_line_end(out)
-}
-
-/// Appends what stands before a line of text.
-pub(crate) fn append_line_begin(
-    out: &mut Vec<u8>,
-    class: &[u8],
-    left: u64,
-    base: u64,
-) -> Result<(), OutOfMemory> {
-    append_words(out, b"<text class=\"")?;
-    append_words(out, class)?;
-    append_words(out, b"\"")?;
-    append_attribute(out, b"x", left)?;
-    append_attribute(out, b"y", base)?;
-    append_words(out, b">")
-}
-
-/// Appends what stands behind it.
-pub(crate) fn append_line_end(out: &mut Vec<u8>) -> Result<(), OutOfMemory> {
-    append_words(out, b"</text>\n")
+    let mut line = Vec::new(canvas.allocator());
+    append_cut(&mut line, text)?;
+    canvas.line(class, left, base, &line)
 }
 
 /// Appends what is told of the event: its number, what it does and where.

@@ -3,6 +3,8 @@
 
 mod accesses;
 mod arrows;
+mod canvas;
+mod class;
 mod columns;
 mod drawing;
 mod head;
@@ -11,6 +13,8 @@ mod layout;
 mod pieces;
 mod rows;
 mod shades;
+mod shapes;
 mod style;
 
+pub use class::Class;
 pub use drawing::{figure_text, picture_text};

@@ -1,8 +1,7 @@
-//! Words, numbers, and text from outside, which is cut and escaped.
+//! Words and numbers, and where a long text is cut.
 ghost use Rattle.std.specs.Prelude.{◌≡◌, ◌≤◌, ◌++◌, length, OnOk, decimal};
 
 use itoa::Buffer;
-use markup::escape;
 use rapid_text::OutOfMemory;
 
 /// The most bytes of a line of text: at 10 pixels a line, and 6 a character, it fits into a box.
@@ -43,28 +42,14 @@ pub(crate) fn append_count(
     Ok(())
 }
 
-/// Appends `name="number"` behind a blank.
-pub(crate) fn append_attribute(
-    out: &mut Vec<u8>,
-    name: &[u8],
-    number: u64,
-) -> Result<(), OutOfMemory> {
-    append_words(out, b" ")?;
-    append_words(out, name)?;
-    append_words(out, b"=\"")?;
-    append_number(out, number)?;
-    append_words(out, b"\"")
-}
-
-/// Appends text from outside, escaped; what is longer than a line is cut, and ends with an ellipsis.
-pub(crate) fn append_text(out: &mut Vec<u8>, text: &[u8]) -> Result<(), OutOfMemory> {
+/// Appends a text; what is longer than a line is cut, and ends with an ellipsis.
+pub(crate) fn append_cut(out: &mut Vec<u8>, text: &[u8]) -> Result<(), OutOfMemory> {
     if text.len() <= MOST_BYTES {
-        escape(text, out)?;
+        append_words(out, text)
     } else {
-        escape(&text[..cut_at(text)], out)?;
-        append_words(out, "…".as_bytes())?;
+        append_words(out, &text[..cut_at(text)])?;
+        append_words(out, "…".as_bytes())
     }
-    Ok(())
 }
 
 /// Where a long text is cut: not within a character, if it is UTF-8.

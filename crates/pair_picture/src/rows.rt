@@ -1,42 +1,37 @@
 //! The boxes of runs.
+use crate::canvas::Canvas;
+use crate::class::Class;
 use crate::columns::Columns;
-use crate::labels::{append_label, append_line};
+use crate::labels::{append_label, draw_line};
 use crate::layout::{BOX, GAP, INDENT, Placed, base_of, height_of};
-use crate::pieces::{append_attribute, append_count, append_number, append_words};
-use crate::shades::append_bar;
+use crate::pieces::{append_count, append_number, append_words};
+use crate::shades::draw_bar;
 use event_index::Indexed;
 use explain_report::{Run, words_between};
 use rapid_text::OutOfMemory;
 
-/// Appends an empty box.
-pub(crate) fn append_box(
-    out: &mut Vec<u8>,
-    class: &[u8],
+/// Draws an empty box.
+pub(crate) fn draw_box(
+    canvas: &mut Canvas,
+    class: Class,
     left: u64,
     top: u64,
     height: u64,
 ) -> Result<(), OutOfMemory> {
-    append_words(out, b"<rect class=\"")?;
-    append_words(out, class)?;
-    append_words(out, b"\"")?;
-    append_attribute(out, b"x", left)?;
-    append_attribute(out, b"y", top)?;
-    append_attribute(out, b"width", BOX)?;
-    append_attribute(out, b"height", height)?;
-    append_words(out, b"/>\n")
+    canvas.rect(class, left, top, BOX, height)
 }
 
-/// Appends a line of a box that begins at `left` and `top`.
-pub(crate) fn append_box_line(
-    out: &mut Vec<u8>,
-    class: &[u8],
+/// Draws a line of a box that begins at `left` and `top`.
+pub(crate) fn draw_box_line(
+    canvas: &mut Canvas,
+    class: Class,
     left: u64,
     top: u64,
     line: u64,
     text: &[u8],
 ) -> Result<(), OutOfMemory> {
-    append_line(
-        out,
+    draw_line(
+        canvas,
         class,
         left.saturating_add(INDENT),
         base_of(top, line),
@@ -44,9 +39,9 @@ pub(crate) fn append_box_line(
     )
 }
 
-/// Appends the box of a run: how many events it has, its first, its last, and for which event of another thread it was.
-pub(crate) fn append_run(
-    out: &mut Vec<u8>,
+/// Draws the box of a run: how many events it has, its first, its last, and for which event of another thread it was.
+pub(crate) fn draw_run(
+    canvas: &mut Canvas,
     indexed: &Indexed,
     columns: &Columns,
     list: &[u32],
@@ -55,28 +50,28 @@ pub(crate) fn append_run(
 ) -> Result<(), OutOfMemory> {
     let left = columns.left(placed.run.thread);
     let top = placed.top;
-    append_box(out, b"box", left, top, placed.height)?;
-    append_bar(out, left, placed, held)?;
-    let mut text = Vec::new(*out.allocator());
+    draw_box(canvas, Class::Run, left, top, placed.height)?;
+    draw_bar(canvas, left, placed, held)?;
+    let mut text = Vec::new(canvas.allocator());
     append_words(&mut text, b"run ")?;
     append_number(&mut text, placed.number)?;
     append_words(&mut text, b", ")?;
     let count = placed.run.end.saturating_sub(placed.run.start);
     append_count(&mut text, u64::from(count), b"event")?;
-    append_box_line(out, b"note", left, top, 0, &text)?;
+    draw_box_line(canvas, Class::Note, left, top, 0, &text)?;
     let last = placed.run.end.saturating_sub(1);
     let mut line = 1u64;
     if count > 1 {
-        append_event(out, indexed, list, placed.run.start, left, top, line)?;
+        draw_event(canvas, indexed, list, placed.run.start, left, top, line)?;
         line = 2;
     }
-    append_event(out, indexed, list, last, left, top, line)?;
-    append_waiter(out, indexed, list, placed, left, line.saturating_add(1))
+    draw_event(canvas, indexed, list, last, left, top, line)?;
+    draw_waiter(canvas, indexed, list, placed, left, line.saturating_add(1))
 }
 
-/// Appends a line with the event at this place of the list.
-fn append_event(
-    out: &mut Vec<u8>,
+/// Draws a line with the event at this place of the list.
+fn draw_event(
+    canvas: &mut Canvas,
     indexed: &Indexed,
     list: &[u32],
     place: u32,
@@ -87,14 +82,14 @@ fn append_event(
     let Some(event) = list.get(place as usize).copied() else {
         return Ok(());
     };
-    let mut text = Vec::new(*out.allocator());
+    let mut text = Vec::new(canvas.allocator());
     append_label(&mut text, indexed, event)?;
-    append_box_line(out, b"event", left, top, line, &text)
+    draw_box_line(canvas, Class::Event, left, top, line, &text)
 }
 
-/// Appends a line that tells why an event of another thread waits for the run, if one does.
-fn append_waiter(
-    out: &mut Vec<u8>,
+/// Draws a line that tells why an event of another thread waits for the run, if one does.
+fn draw_waiter(
+    canvas: &mut Canvas,
     indexed: &Indexed,
     list: &[u32],
     placed: &Placed,
@@ -108,17 +103,17 @@ fn append_waiter(
     let Some(waiter) = placed.waiter else {
         return Ok(());
     };
-    let mut text = Vec::new(*out.allocator());
+    let mut text = Vec::new(canvas.allocator());
     append_words(&mut text, words_between(indexed, event, waiter))?;
     append_words(&mut text, b" ")?;
     append_number(&mut text, u64::from(waiter))?;
-    append_box_line(out, b"note", left, placed.top, line, &text)
+    draw_box_line(canvas, Class::Note, left, placed.top, line, &text)
 }
 
-/// Appends a box for each thread that has events in these runs, the first of many, side by side. Below them the next begins at what is
+/// Draws a box for each thread that has events in these runs, the first of many, side by side. Below them the next begins at what is
 /// answered.
-pub(crate) fn append_earlier(
-    out: &mut Vec<u8>,
+pub(crate) fn draw_earlier(
+    canvas: &mut Canvas,
     indexed: &Indexed,
     columns: &Columns,
     list: &[u32],
@@ -126,7 +121,7 @@ pub(crate) fn append_earlier(
     top: u64,
 ) -> Result<(), OutOfMemory> {
     for thread in columns.threads() {
-        append_earlier_of(out, indexed, columns, list, runs, *thread, top)?;
+        draw_earlier_of(canvas, indexed, columns, list, runs, *thread, top)?;
     }
     Ok(())
 }
@@ -136,9 +131,9 @@ pub(crate) fn earlier_height() -> u64 {
     height_of(2).saturating_add(GAP)
 }
 
-/// Appends the box of a thread's earlier runs: how many events they have, and the last.
-fn append_earlier_of(
-    out: &mut Vec<u8>,
+/// Draws the box of a thread's earlier runs: how many events they have, and the last.
+fn draw_earlier_of(
+    canvas: &mut Canvas,
     indexed: &Indexed,
     columns: &Columns,
     list: &[u32],
@@ -158,10 +153,10 @@ fn append_earlier_of(
         return Ok(());
     }
     let left = columns.left(thread);
-    append_box(out, b"box", left, top, height_of(2))?;
-    let mut text = Vec::new(*out.allocator());
+    draw_box(canvas, Class::Run, left, top, height_of(2))?;
+    let mut text = Vec::new(canvas.allocator());
     append_count(&mut text, count, b"event")?;
     append_words(&mut text, b" in earlier runs, up to")?;
-    append_box_line(out, b"note", left, top, 0, &text)?;
-    append_event(out, indexed, list, last, left, top, 1)
+    draw_box_line(canvas, Class::Note, left, top, 0, &text)?;
+    draw_event(canvas, indexed, list, last, left, top, 1)
 }

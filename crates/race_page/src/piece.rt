@@ -1,5 +1,6 @@
 //! The one writer of a page's pieces. What it writes is own markup of a closed list, a number, a text that is escaped, or a picture.
-ghost use Rattle.std.specs.Prelude.{◌≡◌};
+ghost use Rattle.std.specs.Prelude.{◌≡◌, ◌++◌, OnOk, OnErr};
+ghost use Rattle.markup.specs.Escaped.{escaped};
 ghost use Rattle.race_page.specs.Pages.{IsPiece};
 
 use crate::own::{Part, Tag, begin_of, bytes_of, end_of};
@@ -77,7 +78,7 @@ impl Piece {
 
     /// Writes a text, whatever it is: it is escaped.
     pub(crate) fn text(&mut self, text: &[u8]) -> Result<(), OutOfMemory> {
-        escape(text, &mut self.text)?;
+        append_text(&mut self.text, text)?;
         Ok(())
     }
 
@@ -92,4 +93,13 @@ impl Piece {
         figure_text(indexed, events, first, second, &mut self.text)?;
         Ok(())
     }
+}
+
+/// Appends a text as markup that means just this text.
+fn append_text(out: &mut Vec<u8>, text: &[u8]) -> Result<(), OutOfMemory>
+    ensures ok { OnOk result (out.new.items ≡ out.old.items ++ escaped text.now) }
+    ensures err { OnErr result (out.new.items ≡ out.old.items) }
+{
+    escape(text, out)?;
+    Ok(())
 }

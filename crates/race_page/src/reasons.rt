@@ -3,35 +3,45 @@ ghost use Rattle.std.specs.Prelude.{◌≡◌};
 
 use crate::own::Tag;
 use crate::piece::Piece;
-use crate::shown::{Shown, Sort};
+use crate::selecting::shown_of;
 use crate::words::{cut_line, isolated};
 use event_index::Indexed;
-use explain_report::{Verdict, append_head};
+use explain_report::{Verdict as Reason, append_head};
 use must_order::Must;
+use race_triage::{Outcome, Verdict};
 use rapid_text::OutOfMemory;
 
-/// Writes the first line of what `explain` prints of a row that is no race.
+/// What is said where no open pair was tried, so that none could be shown.
+const UNTRIED: &[u8] =
+    b"undecided: no pair was tried, and neither order nor lock forbids a schedule";
+
+/// Writes the first line of what `explain` prints of a row that is no race; of one where no pair was tried, that this is so.
 pub(crate) fn write_reason(
     piece: &mut Piece,
     indexed: &Indexed,
     must: &Must,
-    shown: Shown,
+    verdict: Verdict,
 ) -> Result<(), OutOfMemory>
     requires { must.now ≡ indexed.now }
 {
+    let shown = shown_of(verdict);
     if shown.first >= indexed.len() || shown.second >= indexed.len() {
         return Ok(());
     }
     let mut text = Vec::new(piece.allocator());
-    let mut reason = Verdict::Undecided { events: &[] };
-    if shown.sort == Sort::Apart {
-        if must.is_forced(indexed, shown.first, shown.second) {
-            reason = Verdict::Forced { chains: &[] };
-        } else if let Some(lock) = must.guard(indexed, shown.first, shown.second) {
-            reason = Verdict::Guarded { lock };
+    if verdict.outcome == (Outcome::Undecided { tried: 0 }) {
+        text.extend_from_slice(UNTRIED)?;
+    } else {
+        let mut reason = Reason::Undecided { events: &[] };
+        if verdict.outcome == Outcome::Apart {
+            if must.is_forced(indexed, shown.first, shown.second) {
+                reason = Reason::Forced { chains: &[] };
+            } else if let Some(lock) = must.guard(indexed, shown.first, shown.second) {
+                reason = Reason::Guarded { lock };
+            }
         }
+        append_head(&mut text, indexed, &reason, shown.first, shown.second)?;
     }
-    append_head(&mut text, indexed, &reason, shown.first, shown.second)?;
     let (line, _) = cut_line(text.as_slice());
     piece.begin(Tag::Facts)?;
     isolated(piece, line)?;

@@ -99,7 +99,7 @@ fn write_summary(
     piece.end(Tag::RowHeading)?;
     write_facts(piece, verdict)?;
     if shown.sort != Sort::Race {
-        write_reason(piece, indexed, must, shown)?;
+        write_reason(piece, indexed, must, verdict)?;
     }
     piece.end(Tag::Summary)
 }

@@ -20,7 +20,7 @@ h1{font-size:1.5rem}
 h2{font-size:1.25rem;margin:2rem 0 .5rem}
 h3{display:inline;font-size:1rem}
 h4{font-size:1rem;margin:1rem 0 .25rem}
-h1,h3,p,th,td,summary,figcaption{overflow-wrap:anywhere}
+h1,h3,p,td,summary,figcaption{overflow-wrap:anywhere}
 table{border-collapse:collapse;margin:.5rem 0}
 th,td{border:1px solid var(--edge);padding:.25rem .5rem;text-align:left;vertical-align:top}
 th{background:var(--tint)}
@@ -28,6 +28,7 @@ th{background:var(--tint)}
 code,pre{font-family:monospace}
 pre,.wide{overflow-x:auto;margin:.25rem 0;padding:.5rem;border:1px solid var(--edge);background:var(--tint)}
 figure{margin:.5rem 0}
+svg{display:block}
 details{margin:.5rem 0;padding:.5rem;border:1px solid var(--edge)}
 summary{cursor:pointer}
 .facts{display:block;color:var(--soft)}

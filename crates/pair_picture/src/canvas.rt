@@ -1,0 +1,93 @@
+//! What is drawn on. It takes shapes and nothing else, so whoever draws can't write markup.
+ghost use Rattle.std.specs.Prelude.{◌≡◌};
+ghost use Rattle.pair_picture.specs.Shapes.{AreShapes};
+
+use crate::class::Class;
+use crate::shapes::{append_arrow, append_line, append_rect};
+use rapid_text::OutOfMemory;
+use std::alloc::Global;
+use std::marker::Model;
+
+/// A drawing that is being made. Contracts see its text so far.
+#[derive(Drop)]
+pub(crate) struct Canvas {
+    text: Vec<u8>,
+}
+
+impl Model for Canvas {
+    ghost use Rattle.std.specs.Prelude.{List, ℕ};
+    ghost use Rattle.pair_picture.specs.Shapes.{AreShapes};
+
+    ghost Value = { List ℕ };
+
+    ghost view = { λ c. c.text.items };
+
+    ghost invariant = { λ c. AreShapes c.text.items };
+}
+
+impl Canvas {
+    /// A canvas on which nothing is drawn.
+    pub(crate) fn new(alloc: Global) -> Canvas {
+        Canvas {
+            text: Vec::new(alloc),
+        }
+    }
+
+    /// The allocator.
+    pub(crate) fn allocator(&self) -> Global {
+        *self.text.allocator()
+    }
+
+    /// What was drawn.
+    pub(crate) fn bytes(&self) -> &[u8]
+        ensures text { result.now ≡ self.now }
+        ensures shapes { AreShapes self.now }
+    {
+        self.text.as_slice()
+    }
+
+    /// Draws a rectangle.
+    pub(crate) fn rect(
+        &mut self,
+        class: Class,
+        left: u64,
+        top: u64,
+        width: u64,
+        height: u64,
+    ) -> Result<(), OutOfMemory> {
+        let mut shape = Vec::new(self.allocator());
+        append_rect(&mut shape, class, left, top, width, height)?;
+        self.text.extend_from_slice(shape.as_slice())?;
+        Ok(())
+    }
+
+    /// Draws a line of text, whatever it is.
+    pub(crate) fn line(
+        &mut self,
+        class: Class,
+        left: u64,
+        base: u64,
+        text: &[u8],
+    ) -> Result<(), OutOfMemory> {
+        let mut shape = Vec::new(self.allocator());
+        append_line(&mut shape, class, left, base, text)?;
+        self.text.extend_from_slice(shape.as_slice())?;
+        Ok(())
+    }
+
+    /// Draws an arrow, which leaves a point downwards as if to `below`, and comes to another from above as if from `above`.
+    pub(crate) fn arrow(
+        &mut self,
+        from_x: u64,
+        from_y: u64,
+        below: u64,
+        to_x: u64,
+        to_y: u64,
+        above: u64,
+    ) -> Result<(), OutOfMemory> {
+        let mut shape = Vec::new(self.allocator());
+        append_arrow(&mut shape, from_x, from_y, below, to_x, to_y, above)?;
+        self.text.extend_from_slice(shape.as_slice())?;
+        Ok(())
+    }
+}

@@ -1,0 +1,127 @@
+//! The three shapes of which a drawing is made: rectangles, lines of text, arrows. A text is escaped here, and nowhere else.
+ghost use Rattle.std.specs.Prelude.{◌≡◌, ◌++◌, OnOk};
+ghost use Rattle.pair_picture.specs.Shapes.{arrow_text, attribute_text, curve_text, line_text, point_text, rect_text, shape_begin};
+
+use crate::class::{Class, name_of};
+use crate::pieces::{append_number, append_words};
+use markup::escape;
+use rapid_text::OutOfMemory;
+
+/// Appends a rectangle.
+pub(crate) fn append_rect(
+    out: &mut Vec<u8>,
+    class: Class,
+    left: u64,
+    top: u64,
+    width: u64,
+    height: u64,
+) -> Result<(), OutOfMemory>
+    ensures { OnOk result (out.new.items ≡ out.old.items ++ rect_text class left top width height) }
+{
+    append_begin(out, b"<rect", class, left, top)?;
+    append_attribute(out, b"width", width)?;
+    append_attribute(out, b"height", height)?;
+    append_words(out, b"/>\n")?;
+    Ok(())
+}
+
+/// Appends a line of text, whatever it is: it is escaped.
+pub(crate) fn append_line(
+    out: &mut Vec<u8>,
+    class: Class,
+    left: u64,
+    base: u64,
+    text: &[u8],
+) -> Result<(), OutOfMemory>
+    ensures { OnOk result (out.new.items ≡ out.old.items ++ line_text class left base text.now) }
+{
+    append_begin(out, b"<text", class, left, base)?;
+    append_words(out, b">")?;
+    escape(text, out)?;
+    append_words(out, b"</text>\n")?;
+    Ok(())
+}
+
+/// Appends an arrow, which leaves a point downwards and comes to another from above.
+pub(crate) fn append_arrow(
+    out: &mut Vec<u8>,
+    from_x: u64,
+    from_y: u64,
+    below: u64,
+    to_x: u64,
+    to_y: u64,
+    above: u64,
+) -> Result<(), OutOfMemory>
+    ensures { OnOk result (out.new.items ≡ out.old.items ++ arrow_text from_x from_y below to_x to_y above) }
+{
+    append_words(out, b"<path class=\"arrow\" marker-end=\"url(#tip)\" d=\"M")?;
+    append_point(out, from_x, from_y)?;
+    append_words(out, b"C")?;
+    append_curve(out, from_x, below, to_x, to_y, above)?;
+    append_words(out, b"\"/>\n")?;
+    Ok(())
+}
+
+/// Appends the points behind the first.
+fn append_curve(
+    out: &mut Vec<u8>,
+    from_x: u64,
+    below: u64,
+    to_x: u64,
+    to_y: u64,
+    above: u64,
+) -> Result<(), OutOfMemory>
+    ensures { OnOk result (out.new.items ≡ out.old.items ++ curve_text from_x below to_x to_y above) }
+{
+    append_point(out, from_x, below)?;
+    append_words(out, b" ")?;
+    append_point(out, to_x, above)?;
+    append_words(out, b" ")?;
+    append_point(out, to_x, to_y)?;
+    Ok(())
+}
+
+/// Appends with what a shape begins: its element, how it looks, and where it stands.
+fn append_begin(
+    out: &mut Vec<u8>,
+    element: &[u8],
+    class: Class,
+    x: u64,
+    y: u64,
+) -> Result<(), OutOfMemory>
+    ensures { OnOk result (out.new.items ≡ out.old.items ++ shape_begin element.now class x y) }
+{
+    append_words(out, element)?;
+    append_words(out, b" class=\"")?;
+    append_words(out, name_of(class))?;
+    append_words(out, b"\"")?;
+    append_attribute(out, b"x", x)?;
+    append_attribute(out, b"y", y)?;
+    Ok(())
+}
+
+/// Appends a point, or a size.
+pub(crate) fn append_point(out: &mut Vec<u8>, x: u64, y: u64) -> Result<(), OutOfMemory>
+    ensures { OnOk result (out.new.items ≡ out.old.items ++ point_text x y) }
+{
+    append_number(out, x)?;
+    append_words(out, b" ")?;
+    append_number(out, y)?;
+    Ok(())
+}
+
+/// Appends `name="number"` behind a blank.
+pub(crate) fn append_attribute(
+    out: &mut Vec<u8>,
+    name: &[u8],
+    number: u64,
+) -> Result<(), OutOfMemory>
+    ensures { OnOk result (out.new.items ≡ out.old.items ++ attribute_text name.now number) }
+{
+    append_words(out, b" ")?;
+    append_words(out, name)?;
+    append_words(out, b"=\"")?;
+    append_number(out, number)?;
+    append_words(out, b"\"")?;
+    Ok(())
+}
