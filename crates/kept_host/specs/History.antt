@@ -67,3 +67,13 @@ held_after call ok old = old
 abbrev pub held_of : List Event → Bool
 held_of [] = false
 held_of (e ∷ earlier) = held_after e.0 e.2 (held_of earlier)
+
+-- what stood in the file each time that its lock was taken, after a call that shows this
+abbrev pub found_after : ℕ → Bool → List ℕ → List (List ℕ) → List (List ℕ)
+found_after zero true seen old = seen ∷ old
+found_after call ok seen old = old
+
+-- the same after these calls, the last time first
+abbrev pub found_of : List Event → List (List ℕ)
+found_of [] = []
+found_of (e ∷ earlier) = found_after e.0 e.2 (seen_of (e ∷ earlier)) (found_of earlier)

@@ -1,6 +1,6 @@
 //! Each method makes its call of the system, and then notes it with its answer.
 ghost use Rattle.std.specs.Prelude.{◌≡◌, ◌+◌, ◌<◌, ◌^◌, [], ◌∷◌, length, IfOk};
-ghost use Rattle.kept_host.specs.History.{seen_of, left_of, left_since, held_of};
+ghost use Rattle.kept_host.specs.History.{seen_of, left_of, left_since, held_of, found_of};
 ghost use Rattle.kept_host.specs.HistoryLaws.{now_counts, now_only};
 
 use crate::record::Record;
@@ -98,6 +98,8 @@ impl Device for Host {
     ghost faults = { λ h. length h.log.events };
 
     ghost is_held = { λ h. held_of h.log.events };
+
+    ghost found = { λ h. found_of h.log.events };
 
     ghost counts_now = { λ h t c le now. now_counts h.log.events t c now };
 

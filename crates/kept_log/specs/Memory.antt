@@ -10,3 +10,7 @@ memory_bytes m = m.bytes.items
 -- what it held before, the oldest first
 abbrev pub memory_past : Memory → List (Vec ℕ Global)
 memory_past m = m.past.items
+
+-- what it held each time that its lock was taken, the oldest first
+abbrev pub memory_found : Memory → List (Vec ℕ Global)
+memory_found m = m.found.items

@@ -1,5 +1,5 @@
 //! A file as the log sees it: what a read returns, and what a crash may leave.
-ghost use Rattle.std.specs.Prelude.{◌≡◌, ◌≤◌, ◌<◌, ◌^◌, List, ℕ, Bool, true, false, length, take, drop, IfOk, OnOk, OnErr};
+ghost use Rattle.std.specs.Prelude.{◌≡◌, ◌≤◌, ◌<◌, ◌^◌, List, ℕ, ◌∷◌, Bool, true, false, length, take, drop, IfOk, OnOk, OnErr};
 ghost use Rattle.kept_log.specs.declared.device.DeviceError.TheVariants.{Memory};
 ghost use Rattle.kept_log.specs.Device.{Only, Follows, Torn, Cut, Holds, Elapses, HasCause, OthersMay, AfterOthers};
 
@@ -50,6 +50,9 @@ pub trait Device {
     /// Whether the file's lock is held.
     ghost is_held: { Self → Bool };
 
+    /// What stood in the file each time that its lock was taken, the last time first.
+    ghost found: { Self → List (List ℕ) };
+
     /// Waits for the file's lock, and reads the bytes from a place on. The premise on others: meanwhile they
     /// changed nothing before that place. A read under the lock is what is seen from then on.
     fn take_over(&mut self, alloc: Global, gate: usize) -> Result<Vec<u8>, DeviceError>
@@ -57,6 +60,8 @@ pub trait Device {
         ensures bytes { IfOk result (λ bytes. drop gate (seen self.new) ≡ bytes.items) }
         ensures fits { OnOk result (length (seen self.new) < 2 ^ 63) }
         ensures held { OnOk result (is_held self.new ≡ true) }
+        ensures found { OnOk result (found self.new ≡ seen self.new ∷ found self.old) }
+        ensures none_found { OnErr result (found self.new ≡ found self.old) }
         ensures others { OthersMay gate (seen self.old) (seen self.new) }
         ensures crash { (c : List ℕ) → may_leave self.new c → AfterOthers gate (may_leave self.old) c }
         ensures time { Elapses (moment self.old) (moment self.new) (left_since self.old) (left_since self.new) (AfterOthers gate (may_leave self.old)) }
@@ -66,6 +71,7 @@ pub trait Device {
     fn release(&mut self, gate: usize) -> Result<(), DeviceError>
         requires { gate ≤ length (seen self.old) }
         ensures free { OnOk result (is_held self.new ≡ false) }
+        ensures found { found self.new ≡ found self.old }
         ensures seen { seen self.new ≡ seen self.old }
         ensures crash { (c : List ℕ) → may_leave self.new c → AfterOthers gate (may_leave self.old) c }
         ensures time { Elapses (moment self.old) (moment self.new) (left_since self.old) (left_since self.new) (AfterOthers gate (may_leave self.old)) }
@@ -77,6 +83,7 @@ pub trait Device {
         requires within { at ≤ length (seen self.old) }
         requires held { is_held self.old ≡ true }
         ensures held { is_held self.new ≡ true }
+        ensures found { found self.new ≡ found self.old }
         ensures written { OnOk result (Holds (seen self.old) at bytes.now (seen self.new)) }
         ensures torn { OnErr result (Torn at (length bytes.now) (seen self.old) (seen self.new)) }
         ensures crash { Follows (Torn at (length bytes.now)) (may_leave self.old) (may_leave self.new) }
@@ -88,6 +95,7 @@ pub trait Device {
         requires within { len ≤ length (seen self.old) }
         requires held { is_held self.old ≡ true }
         ensures held { is_held self.new ≡ true }
+        ensures found { found self.new ≡ found self.old }
         ensures cut { OnOk result (seen self.new ≡ take len (seen self.old)) }
         ensures short { OnErr result (Cut len (seen self.old) (seen self.new)) }
         ensures crash { Follows (Cut len) (may_leave self.old) (may_leave self.new) }
@@ -98,6 +106,7 @@ pub trait Device {
     fn sync(&mut self) -> Result<(), DeviceError>
         ensures durable { OnOk result (Only (seen self.old) (may_leave self.new)) }
         ensures held { is_held self.new ≡ is_held self.old }
+        ensures found { found self.new ≡ found self.old }
         ensures seen { seen self.new ≡ seen self.old }
         ensures crash { (c : List ℕ) → may_leave self.new c → may_leave self.old c }
         ensures time { Elapses (moment self.old) (moment self.new) (left_since self.old) (left_since self.new) (may_leave self.new) }

@@ -53,6 +53,7 @@ fn repair<D: Device>(device: &mut D, at: usize) -> Result<(), DeviceError>
     ensures view { EndsBehind (take at (D.seen device.old)) (D.seen device.new) }
     ensures any_moment { LeavesOnly D.moment D.left_since device.old device.new (EndsBehind (take at (D.seen device.old))) }
     ensures held { D.is_held device.new ≡ true }
+    ensures found { D.found device.new ≡ D.found device.old }
     ensures cause { HasCause (D.faults device.old) (D.faults device.new) result }
 {
     // The cut has to be on the disk first: behind a gate that is torn open, what was there would count.
@@ -80,6 +81,7 @@ fn settle<D: Device>(device: &mut D, at: usize, text: &[u8]) -> Result<usize, De
     ensures view { StandsFor (take at (D.seen device.old)) (lines_behind at (D.seen device.old)) (D.seen device.new) }
     ensures any_moment { LeavesOnly D.moment D.left_since device.old device.new (StandsFor (take at (D.seen device.old)) (lines_behind at (D.seen device.old))) }
     ensures held { D.is_held device.new ≡ true }
+    ensures found { D.found device.new ≡ D.found device.old }
     ensures cause { HasCause (D.faults device.old) (D.faults device.new) result }
 {
     let end = lines_end(text);
@@ -102,6 +104,7 @@ pub fn create<D: Device>(alloc: Global, device: &mut D, head: &[u8]) -> Result<(
     ensures any_moment { LeavesOnly D.moment D.left_since device.old device.new
         (λ c. D.may_leave device.old c ⊎ (lines_behind (length head.now) c ≡ [])) }
     ensures held { D.is_held device.new ≡ true }
+    ensures found { D.found device.new ≡ D.found device.old }
     ensures cause { HasCause (D.faults device.old) (D.faults device.new) result }
 {
     let mut text = head.to_vec(alloc)?;
@@ -137,6 +140,7 @@ fn find<D: Device>(device: &mut D, head: &[u8], bytes: &[u8]) -> Result<usize, O
     requires fits { length (D.seen device.old) < 2 ^ 63 }
 
     ensures held { D.is_held device.new ≡ true }
+    ensures found { D.found device.new ≡ D.found device.old }
     ensures begins { OnOk result (take (length head.now) (D.seen device.old) ≡ head.now) }
     ensures within { IfOk result (λ len. length head.now + len ≤ length (D.seen device.old)) }
     ensures lines { IfOk result (λ len. take len (drop (length head.now) bytes.now) ≡ lines_text (lines_behind (length head.now) (D.seen device.old))) }
@@ -175,14 +179,21 @@ impl<D: Device> KeptLog<D> {
 
         ensures held { IfOk result (λ opened. D.is_held opened.0.device ≡ true) }
         ensures held_err { IfErr result (λ e. D.is_held e.1 ≡ true) }
+        ensures found { IfOk result (λ opened. D.found opened.0.device ≡ D.found device) }
+        ensures found_err { IfErr result (λ e. D.found e.1 ≡ D.found device) }
         ensures at_rest { IfOk result (λ opened. IsAtRest D.seen D.may_leave opened.0) }
         ensures head { IfOk result (λ opened. head_of D.seen opened.0 ≡ head.now) }
         ensures lines { IfOk result (λ opened. lines_of D.seen opened.0 ≡ lines_behind (length head.now) (D.seen device)) }
         ensures text { IfOk result (λ opened. take opened.1 (drop (length head.now) bytes.now) ≡ lines_text (lines_of D.seen opened.0)) }
+        ensures begins { OnOk result (take (length head.now) (D.seen device) ≡ head.now) }
 
         // A file that begins otherwise is refused, and is left as it was.
         ensures refused { IfErr result (λ e. e.0 ≡ OpenError.Stranger → take (length head.now) (D.seen device) ≢ head.now) }
         ensures stranger { take (length head.now) (D.seen device) ≢ head.now → IfErr result (λ e. e.1 ≡ device) × IsErr result }
+
+        // A file that begins with the head has the same lines, also where a call failed.
+        ensures view { IfErr result (λ e. take (length head.now) (D.seen device) ≡ head.now
+            → StandsFor head.now (lines_behind (length head.now) (D.seen device)) (D.seen e.1)) }
 
         // A crash at any moment leaves what it might have left before, or the lines that are seen.
         ensures any_moment { IfOk result (λ opened. LeavesOnly D.moment D.left_since device opened.0.device
@@ -205,6 +216,8 @@ impl<D: Device> KeptLog<D> {
         requires known { IsKnown D.seen self.old }
 
         ensures held { OnOk result (D.is_held self.new.device ≡ true) }
+        ensures found { OnOk result (D.found self.new.device ≡ D.seen self.new.device ∷ D.found self.old.device) }
+        ensures none_found { OnErr result (D.found self.new.device ≡ D.found self.old.device) }
         ensures known { IsKnown D.seen self.new }
         ensures front { take self.old.end (D.seen self.new.device) ≡ take self.old.end (D.seen self.old.device) }
         ensures places { (self.new.start ≡ self.old.start) × (self.new.end ≡ self.old.end) }
@@ -222,6 +235,7 @@ impl<D: Device> KeptLog<D> {
         requires at_rest { IsAtRest D.seen D.may_leave self.old }
 
         ensures free { OnOk result (D.is_held self.new.device ≡ false) }
+        ensures found { D.found self.new.device ≡ D.found self.old.device }
         ensures known { IsKnown D.seen self.new }
         ensures left { IsLeft D.seen D.may_leave self.new }
         ensures same { (D.seen self.new.device ≡ D.seen self.old.device) × (self.new.start ≡ self.old.start) × (self.new.end ≡ self.old.end) }
@@ -241,6 +255,8 @@ impl<D: Device> KeptLog<D> {
         requires fits { length (D.seen self.old.device) < 2 ^ 63 }
 
         ensures held { D.is_held self.new.device ≡ true }
+        ensures found { D.found self.new.device ≡ D.found self.old.device }
+        ensures start { self.new.start ≡ self.old.start }
         ensures text { IfOk result (λ len. take len text.now ≡ lines_text (lines_behind self.old.end (D.seen self.old.device))) }
         ensures at_rest { OnOk result (IsAtRest D.seen D.may_leave self.new) }
         ensures lines { OnOk result (lines_of D.seen self.new ≡ lines_of D.seen self.old) }
@@ -268,6 +284,8 @@ impl<D: Device> KeptLog<D> {
         requires some { block ≢ [] }
 
         ensures held { D.is_held self.new.device ≡ true }
+        ensures found { D.found self.new.device ≡ D.found self.old.device }
+        ensures start { self.new.start ≡ self.old.start }
         ensures at_rest { OnOk result (IsAtRest D.seen D.may_leave self.new) }
         ensures lines { OnOk result (lines_of D.seen self.new ≡ lines_of D.seen self.old ++ block) }
         ensures head { OnOk result (head_of D.seen self.new ≡ head_of D.seen self.old) }

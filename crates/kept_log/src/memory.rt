@@ -1,7 +1,7 @@
 //! A file in memory. Each call is done at once, so a crash leaves what is there. It keeps each past content.
 ghost use Rattle.std.specs.Prelude.{◌≡◌, ◌⊎◌, [], ◌∷◌, ◌++◌, length, drop, OnOk, OnErr};
 ghost use Rattle.std.proofs.Common.{inl};
-ghost use Rattle.kept_log.specs.Past.{HadBeen, only_bytes};
+ghost use Rattle.kept_log.specs.Past.{HadBeen, only_bytes, newest_first};
 
 use crate::{Device, DeviceError};
 use std::alloc::{AllocError, Global};
@@ -11,11 +11,12 @@ pub struct Memory {
     alloc: Global,
     bytes: Vec<u8>,
     past: Vec<Vec<u8>>,
+    found: Vec<Vec<u8>>,
     held: bool,
 }
 
 impl Memory {
-    ghost use Rattle.kept_log.specs.Memory.{memory_bytes, memory_past};
+    ghost use Rattle.kept_log.specs.Memory.{memory_bytes, memory_past, memory_found};
 
     /// A file with these bytes, all of them on the disk.
     pub fn new(alloc: Global, bytes: Vec<u8>) -> Self
@@ -25,6 +26,7 @@ impl Memory {
             alloc,
             bytes,
             past: Vec::new(alloc),
+            found: Vec::new(alloc),
             held: false,
         }
     }
@@ -40,6 +42,13 @@ impl Memory {
         ensures { result.now ≡ memory_past self.now }
     {
         &self.past
+    }
+
+    /// What it held each time that its lock was taken, the oldest first.
+    pub fn found(&self) -> &[Vec<u8>]
+        ensures { result.now ≡ memory_found self.now }
+    {
+        &self.found
     }
 }
 
@@ -73,12 +82,15 @@ impl Device for Memory {
 
     ghost is_held = { λ m. m.held };
 
+    ghost found = { λ m. newest_first m.found.items };
+
     ghost counts_now = { λ m t c le now. inl now };
 
     ghost only_now = { λ m c left. only_bytes m.past.items m.bytes.items c left };
 
     fn take_over(&mut self, alloc: Global, gate: usize) -> Result<Vec<u8>, DeviceError> {
         let bytes = self.bytes[gate..].to_vec(alloc)?;
+        self.found.push(self.bytes.to_vec(self.alloc)?)?;
         self.held = true;
         Ok(bytes)
     }

@@ -21,6 +21,7 @@ pub(crate) fn write_through<D: Device>(
     // A crash at any moment leaves what a torn write does.
     ensures any_moment { LeavesOnly D.moment D.left_since device.old device.new (Torn at (length bytes.now) (D.seen device.old)) }
     ensures held { D.is_held device.new ≡ true }
+    ensures found { D.found device.new ≡ D.found device.old }
     ensures cause { HasCause (D.faults device.old) (D.faults device.new) result }
 {
     device.write_at(at, bytes)?;
@@ -40,6 +41,7 @@ pub(crate) fn cut_through<D: Device>(device: &mut D, len: usize) -> Result<(), D
     // A crash at any moment leaves some length between.
     ensures any_moment { LeavesOnly D.moment D.left_since device.old device.new (Cut len (D.seen device.old)) }
     ensures held { D.is_held device.new ≡ true }
+    ensures found { D.found device.new ≡ D.found device.old }
     ensures cause { HasCause (D.faults device.old) (D.faults device.new) result }
 {
     device.cut(len)?;

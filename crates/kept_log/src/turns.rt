@@ -1,8 +1,8 @@
 //! Turns with a log that several processes share: each takes the lock, sees what others added, adds its own, and lets the lock go.
-ghost use Rattle.std.specs.Prelude.{◌≡◌, ◌<◌, ◌++◌, List, ℕ, true, IfOk, OnOk, IsErrOf};
+ghost use Rattle.std.specs.Prelude.{◌≡◌, ◌<◌, ◌++◌, [], List, ℕ, true, IfOk, OnOk, IsErrOf};
 ghost use Rattle.kept_log.specs.Device.{LeavesOnly};
 ghost use Rattle.kept_log.specs.Lines.{kept_lines};
-ghost use Rattle.kept_log.specs.Log.{IsOldOrNew, IsAtRest, IsLeft, BeginsWith, head_of, lines_of};
+ghost use Rattle.kept_log.specs.Log.{IsOldOrNew, IsAtRest, IsLeft, BeginsWith, HasTurn, LosesNone, head_of, lines_of};
 
 use crate::{AppendError, Block, Device, DeviceError, KeptLog};
 use std::alloc::Global;
@@ -27,6 +27,10 @@ impl<D: Device> KeptLog<D> {
         ensures head { OnOk result (head_of D.seen self.new ≡ head_of D.seen self.old) }
         ensures lines { IfOk result (λ text. lines_of D.seen self.new ≡ lines_of D.seen self.old ++ kept_lines text.items) }
 
+        // What others wrote is not lost: the lines are those that stood in the file when the lock was taken.
+        ensures turn { OnOk result (HasTurn D.seen D.found self.old self.new []) }
+        ensures none_lost { LosesNone D.seen D.found self.old self.new }
+
         // A crash at any moment leaves a file whose lines begin with those that were known.
         ensures any_moment { LeavesOnly D.moment D.left_since self.old.device self.new.device (BeginsWith (head_of D.seen self.old) (lines_of D.seen self.old)) }
     {
@@ -46,11 +50,14 @@ impl<D: Device> KeptLog<D> {
         requires at_rest { IsAtRest D.seen D.may_leave self.old }
 
         ensures held { D.is_held self.new.device ≡ true }
+        ensures found { D.found self.new.device ≡ D.found self.old.device }
+        ensures start { self.new.start ≡ self.old.start }
         ensures at_rest { OnOk result (IsAtRest D.seen D.may_leave self.new) }
         ensures head { OnOk result (head_of D.seen self.new ≡ head_of D.seen self.old) }
         ensures lines { OnOk result (lines_of D.seen self.new ≡ lines_of D.seen self.old ++ block) }
 
-        // A crash at any moment leaves the lines from before, with those of the block or without.
+        // A crash at any moment, and a failed call, leave the lines from before, with those of the block or without.
+        ensures view { IsOldOrNew (head_of D.seen self.old) (lines_of D.seen self.old) block (D.seen self.new.device) }
         ensures any_moment { LeavesOnly D.moment D.left_since self.old.device self.new.device
             (IsOldOrNew (head_of D.seen self.old) (lines_of D.seen self.old) block) }
         ensures failed { IsErrOf result (AppendError.Device DeviceError.Failed) → D.faults self.old.device < D.faults self.new.device }

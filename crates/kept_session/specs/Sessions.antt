@@ -1,6 +1,6 @@
 -- What the lines of a log's file stand for, what a session answers, and when its bench and its file are in step. All notions here are this
 -- project's own. `T` is the trace.
-use Rattle.std.specs.Prelude.{◌≡◌, ℕ, ◌+◌, ◌-◌, ◌^◌, min, List, [], ◌∷◌, ◌++◌, Option, Some, None, Result, Ok, Err, codes, decimal, length, unwrap_or, ⊤}
+use Rattle.std.specs.Prelude.{◌≡◌, ◌≢◌, ◌⊎◌, ℕ, ◌+◌, ◌-◌, ◌^◌, min, List, [], ◌∷◌, ◌++◌, Option, Some, None, Result, Ok, Err, codes, decimal, length, take, unwrap_or, ⊤}
 use Rattle.rapid_text.specs.Recording.{Recording}
 use Rattle.inverse_log.specs.declared.call.Call.{Call}
 use Rattle.inverse_log.specs.declared.entry.Entry.{Entry}
@@ -11,7 +11,7 @@ use Rattle.script_language.specs.Scripts.{script_line_reading}
 use Rattle.script_language.specs.declared.refusal.ScriptCause.{ScriptCause}
 use Rattle.client_scripts.specs.FaultTexts.{script_cause_words}
 use Rattle.client_scripts.specs.Replay.{answer_text}
-use Rattle.kept_log.specs.Log.{IsAtRest, IsLeft, lines_of}
+use Rattle.kept_log.specs.Log.{StandsFor, IsAtRest, IsLeft, lines_of, lines_behind}
 use Rattle.kept_log.specs.declared.log.KeptLog.{KeptLog}
 use Rattle.kept_session.specs.Lines.{line_for}
 
@@ -81,12 +81,29 @@ pub record IsAtWork {D : Type 0} (seen : D → List ℕ) (may_leave : D → List
   pub says : log_of T (lines_of seen log) ≡ L
   pub logged : AreLogged T [] (lines_of seen log)
 
--- Lines were answered under one lock. The file stood for `before` when it was known last, and others had added lines; each answer is given at the
--- log that all these stand for, and then come the lines of the calls that the log gained.
-pub record IsTurn (T : Recording) (client : Option ℕ) (first : ℕ) (raws before after : List (List ℕ)) (M : List Entry) (out_old out_new : List ℕ) : Type 0 where
+-- Lines were answered under one lock. The file stood for `before` when it was known last, and for `stood` when the lock was taken, since others had
+-- added lines; each answer is given at the log that all these stand for. They all stand still, and behind them the lines of the calls that the log gained.
+pub record IsTurn (T : Recording) (client : Option ℕ) (first : ℕ) (raws before stood after : List (List ℕ)) (M : List Entry) (out_old out_new : List ℕ) : Type 0 where
   pub others : List (List ℕ)
   pub gained : List (List ℕ)
   pub text : List ℕ
-  pub lines : after ≡ before ++ others ++ gained
-  pub answered : AreAnswered T client first raws (log_of T (before ++ others)) text M
+  pub known : stood ≡ before ++ others
+  pub lines : after ≡ stood ++ gained
+  pub answered : AreAnswered T client first raws (log_of T stood) text M
   pub told : out_new ≡ out_old ++ text
+
+-- The lock was taken once, when the file held this. That begins with the head, and its lines are those of the log.
+pub record IsOpened {D : Type 0} (seen : D → List ℕ) (found : D → List (List ℕ)) (head : List ℕ) (device : D) (log : KeptLog D) : Type 0 where
+  pub file : List ℕ
+  pub once : found log.device ≡ file ∷ found device
+  pub begins : take (length head) file ≡ head
+  pub lines : lines_of seen log ≡ lines_behind (length head) file
+
+-- A file is as it was when it held this; or, where that begins with the head, it has the same lines at least.
+pub record IsSpared (head file seen : List ℕ) : Type 0 where
+  pub stranger : take (length head) file ≢ head → seen ≡ file
+  pub lines : take (length head) file ≡ head → StandsFor head (lines_behind (length head) file) seen
+
+-- A device that is handed back: its lock was not taken, or once, and the file that was found is spared.
+abbrev pub IsHandedBack : {D : Type 0} → (D → List ℕ) → (D → List (List ℕ)) → List ℕ → D → D → Type 0
+IsHandedBack seen found head old new = (found new ≡ found old) ⊎ ((file : List ℕ) × (found new ≡ file ∷ found old) × IsSpared head file (seen new))

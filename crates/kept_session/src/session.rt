@@ -1,14 +1,14 @@
 //! A bench and the file of its log, in step.
-ghost use Rattle.std.specs.Prelude.{◌≡◌, ◌≢◌, ◌⊎◌, ◌≤◌, ◌++◌, List, [], ℕ, true, false, length, take, IfOk, IfErr, OnOk};
+ghost use Rattle.std.specs.Prelude.{◌≡◌, ◌≢◌, ◌⊎◌, ◌≤◌, ◌∷◌, ◌++◌, List, [], ℕ, true, false, length, take, IfOk, IfErr, IsErrOf, OnOk};
 ghost use Rattle.std.specs.List.{slice_split};
 ghost use Rattle.rapid_text.specs.Reading.{is_line_feed};
 ghost use Rattle.kept_log.specs.Device.{Only, LeavesOnly};
 ghost use Rattle.kept_log.specs.Lines.{kept_lines};
-ghost use Rattle.kept_log.specs.Log.{at_rest, head_of, lines_of, lines_behind, BeginsWith, IsAtRest, IsOldOrNew};
+ghost use Rattle.kept_log.specs.Log.{at_rest, head_of, lines_of, lines_behind, BeginsWith, IsAtRest, IsOldOrNew, HasTurn, LosesNone};
 ghost use Rattle.client_scripts.specs.declared.fault.ReplayFault.TheVariants.{Write, OutOfMemory as NoMemory};
 ghost use Rattle.kept_session.specs.declared.fault.SessionFault.TheVariants.{Replay, LogLine, OtherTrace};
 ghost use Rattle.kept_session.specs.Faults.{IsTurnFault, IsOpenFault};
-ghost use Rattle.kept_session.specs.Sessions.{IsInStep, IsAtWork, IsTurn, log_of, number_behind, AreLogged};
+ghost use Rattle.kept_session.specs.Sessions.{IsInStep, IsAtWork, IsTurn, IsOpened, IsHandedBack, log_of, number_behind, AreLogged};
 ghost use Rattle.kept_session.specs.Steps.{PieceAnswered};
 
 use crate::answering::answer_lines;
@@ -36,6 +36,10 @@ pub struct Session<D: Device> {
 pub fn make_log<D: Device>(alloc: Global, device: &mut D, head: &[u8]) -> Result<(), SessionFault>
     ensures made { OnOk result (D.seen device.new ≡ at_rest head.now []) }
     ensures durable { OnOk result (Only (D.seen device.new) (D.may_leave device.new)) }
+
+    // A file that has anything in it is left as it is.
+    ensures empty { OnOk result (D.found device.new ≡ [] ∷ D.found device.old) }
+    ensures refused { IsErrOf result OtherTrace → (D.seen device.new ≢ []) × (D.found device.new ≡ D.seen device.new ∷ D.found device.old) }
 {
     match device.take_over(alloc, 0) {
         Ok(bytes) => {
@@ -74,6 +78,10 @@ fn open_log<D: Device + Drop>(
     ensures head { IfOk result (λ opened. head_of D.seen opened.0 ≡ head.now) }
     ensures lines { IfOk result (λ opened. lines_of D.seen opened.0 ≡ lines_behind (length head.now) opened.1.items) }
     ensures within { IfOk result (λ opened. length head.now ≤ length opened.1.items) }
+    ensures found { IfOk result (λ opened. D.found opened.0.device ≡ opened.1.items ∷ D.found device) }
+    ensures begins { IfOk result (λ opened. take (length head.now) opened.1.items ≡ head.now) }
+    ensures back { IfErr result (λ e. IsHandedBack D.seen D.found head.now device e.1) }
+    ensures other_trace { IfErr result (λ e. e.0 ≡ OtherTrace → D.found e.1 ≡ D.seen e.1 ∷ D.found device) }
     ensures stranger { IfErr result (λ e. e.0 ≡ OtherTrace → take (length head.now) (D.seen e.1) ≢ head.now) }
     ensures line { IfErr result (λ e. (number : ℕ) → e.0 ≡ LogLine number → number ≡ 1) }
 {
@@ -105,7 +113,12 @@ fn begin<D: Device + Drop>(
     ensures trace { IfOk result (λ s. s.bench.trace ≡ bench.trace) }
     ensures head { IfOk result (λ s. head_of D.seen s.log ≡ head_of D.seen log) }
     ensures free { IfOk result (λ s. D.is_held s.log.device ≡ false) }
+    ensures found { IfOk result (λ s. D.found s.log.device ≡ D.found log.device) }
+    ensures same { IfOk result (λ s. lines_of D.seen s.log ≡ lines_of D.seen log) }
+    ensures found_err { IfErr result (λ e. D.found e.1 ≡ D.found log.device) }
+    ensures seen_err { IfErr result (λ e. D.seen e.1 ≡ D.seen log.device) }
     ensures fault { IfErr result (λ e. IsOpenFault bench.trace (head_of D.seen log) (D.seen e.1) e.0) }
+    ensures own_trace { IfErr result (λ e. e.0 ≢ OtherTrace) }
 {
     if let Err(fault) = make_all(alloc, &mut bench, text) {
         return Err((fault, log.device));
@@ -149,6 +162,13 @@ impl<D: Device + Drop> Session<D> {
         ensures head { IfOk result (λ s. head_of D.seen s.log ≡ head.now) }
         ensures free { IfOk result (λ s. D.is_held s.log.device ≡ false) }
 
+        // No line is lost: the file began with the head, and has the lines that it had when the lock was taken.
+        ensures opened { IfOk result (λ s. IsOpened D.seen D.found head.now device s.log) }
+        ensures back { IfErr result (λ e. IsHandedBack D.seen D.found head.now device e.1) }
+
+        // At 102 it is left as it was.
+        ensures other_trace { IfErr result (λ e. e.0 ≡ OtherTrace → D.found e.1 ≡ D.seen e.1 ∷ D.found device) }
+
         // 102 is told of a file that does not begin with the head; 101 with the first line that adds no entry.
         ensures fault { IfErr result (λ e. IsOpenFault indexed head.now (D.seen e.1) e.0) }
     {
@@ -171,6 +191,8 @@ impl<D: Device + Drop> Session<D> {
         ensures trace { self.new.bench.trace ≡ self.old.bench.trace }
         ensures head { OnOk result (head_of D.seen self.new.log ≡ head_of D.seen self.old.log) }
         ensures lines { OnOk result ((others : List (List ℕ)) × (lines_of D.seen self.new.log ≡ lines_of D.seen self.old.log ++ others)) }
+        ensures turn { OnOk result (HasTurn D.seen D.found self.old.log self.new.log []) }
+        ensures none_lost { LosesNone D.seen D.found self.old.log self.new.log }
 
         // A crash at any moment leaves a file whose lines begin with those that were known.
         ensures any_moment { LeavesOnly D.moment D.left_since self.old.log.device self.new.log.device
@@ -207,6 +229,9 @@ impl<D: Device + Drop> Session<D> {
         ensures next { IfOk result (λ next. next ≡ number_behind first (slice_split is_line_feed piece.now)) }
         ensures answered { OnOk result (PieceAnswered self.old.bench.trace client first (slice_split is_line_feed piece.now) self.old.bench.log self.new.bench.log
             out.old.items out.new.items (lines_of D.seen self.old.log) (lines_of D.seen self.new.log)) }
+        ensures found { D.found self.new.log.device ≡ D.found self.old.log.device }
+        ensures start { self.new.log.start ≡ self.old.log.start }
+        ensures view { (gained : List (List ℕ)) × IsOldOrNew (head_of D.seen self.old.log) (lines_of D.seen self.old.log) gained (D.seen self.new.log.device) }
 
         // A crash at any moment leaves the lines from before, and of the piece all or none.
         ensures any_moment { (gained : List (List ℕ)) × LeavesOnly D.moment D.left_since self.old.log.device self.new.log.device
@@ -246,9 +271,14 @@ impl<D: Device + Drop> Session<D> {
         ensures head { OnOk result (head_of D.seen self.new.log ≡ head_of D.seen self.old.log) }
         ensures next { IfOk result (λ next. next ≡ number_behind first (slice_split is_line_feed piece.now)) }
 
-        // Each answer is that of the log which the file stood for while the lock was held; the file has gained the lines of the calls.
-        ensures answers { OnOk result (IsTurn self.old.bench.trace client first (slice_split is_line_feed piece.now)
-            (lines_of D.seen self.old.log) (lines_of D.seen self.new.log) self.new.bench.log out.old.items out.new.items) }
+        // Each answer is that of the log which the file stood for when the lock was taken, which was once; the file has gained the
+        // lines of the calls.
+        ensures answers { OnOk result ((file : List ℕ) × (D.found self.new.log.device ≡ file ∷ D.found self.old.log.device)
+            × IsTurn self.old.bench.trace client first (slice_split is_line_feed piece.now) (lines_of D.seen self.old.log)
+            (lines_behind self.new.log.start file) (lines_of D.seen self.new.log) self.new.bench.log out.old.items out.new.items) }
+
+        // What others wrote is not lost either, also where it fails.
+        ensures none_lost { LosesNone D.seen D.found self.old.log self.new.log }
 
         // What was answered is kept: from then on each crash leaves a file whose lines begin with these, whatever others do.
         ensures kept { OnOk result ((c : List ℕ) → D.may_leave self.new.log.device c → BeginsWith (head_of D.seen self.new.log) (lines_of D.seen self.new.log) c) }
