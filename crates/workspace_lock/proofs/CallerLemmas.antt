@@ -1,5 +1,5 @@
 -- Lemmas for the crates above: what a call through a seat adds, and calls one after another.
-use Rattle.std.proofs.Common.{◌≡◌, ◌⊎◌, ◌==◌, ℕ, List, [], ◌∷◌, ◌++◌, refl, sym, ap, ◌∙◌, subst, inl, inr, Result, Ok, Err, eq-eqb}
+use Rattle.std.proofs.Common.{◌≡◌, ◌⊎◌, ◌==◌, ℕ, List, [], ◌∷◌, ◌++◌, refl, ap, ◌∙◌, subst, inl, inr, Result, Ok, Err, eq-eqb}
 use Rattle.std.proofs.lemmas.List.Elements.{filter-append}
 use Rattle.inverse_log.specs.declared.call.Call.{Call}
 use Rattle.inverse_log.specs.declared.entry.Entry.{Entry}
@@ -10,8 +10,8 @@ use Rattle.inverse_log.specs.Log.{own_entries, client_of}
 use Rattle.inverse_log.proofs.CallerLemmas.{called_grown}
 use Rattle.inverse_log.specs.declared.refusal.SeatRefusal.{SeatRefusal}
 use Rattle.inverse_log.specs.declared.refusal.SeatRefusal.TheVariants.{Bench as ByBench, SeatSpent}
-use Rattle.workspace_lock.specs.Runs.{RanAt, Ran, Runs}
 use Rattle.workspace_lock.specs.Seating.{SeatView}
+use Rattle.workspace_lock.specs.Runs.{RanAt, Ran, Runs}
 
 -- the client's entries are those of before, or those and one more
 abbrev pub OneMore : ℕ → List Entry → List Entry → Type 0

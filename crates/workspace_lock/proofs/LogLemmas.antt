@@ -1,13 +1,13 @@
 -- Beginnings of a log, and a client's entries in it.
-use Rattle.std.proofs.Common.{◌≡◌, ◌≢◌, ℕ, ◌<◌, ◌≤◌, List, [], ◌∷◌, ◌++◌, refl, sym, subst, ap, ◌∙◌, append_assoc, ne_eqb, length, arith, length-append, inl, inr}
+use Rattle.std.proofs.Common.{◌≡◌, ◌≢◌, ℕ, ◌<◌, ◌≤◌, List, [], ◌∷◌, ◌++◌, sym, subst, ap, ◌∙◌, append_assoc, ne_eqb, length, arith, length-append, inl, inr}
 use Rattle.std.proofs.lemmas.List.{append-nil}
-use Rattle.std.proofs.lemmas.List.Elements.{filter-append}
+use Rattle.std.proofs.lemmas.List.Elements.{filter-append, All-nil, All-push}
 use Rattle.std.specs.Prelude.{◌==◌}
 use mathlib.Core.List.{IsPrefix}
 use Rattle.inverse_log.specs.declared.entry.Entry.{Entry}
 use Rattle.inverse_log.specs.Log.{own_entries, client_of}
 use Rattle.inverse_log.specs.Answer.{Grown}
-use Rattle.workspace_lock.specs.Turns.{AllOf, Past}
+use Rattle.workspace_lock.specs.Turns.{HasSeat, Past}
 
 module _ {A : Type 0} where
   pub prefix_self : (xs : List A) → IsPrefix xs xs
@@ -27,12 +27,8 @@ pub grown_own : (log : List Entry) (c : ℕ) (after : List Entry) (k : ℕ) → 
 grown_own log c after k n (inl is) = ap (λ l. own_entries l k) is
 grown_own log c after k n (inr more) = ap (λ l. own_entries l k) more.1 ∙ own_more log k more.0 (λ h. n (sym more.2 ∙ h))
 
-all_both : (n : ℕ) (xs ys : List Entry) → AllOf n xs → AllOf n ys → AllOf n (xs ++ ys)
-all_both n [] ys h g = g
-all_both n (x ∷ xs) ys h g = (h.0, all_both n xs ys h.1 g)
-
 pub past_self : (log : List Entry) (n : ℕ) → Past log n log
-past_self log n = ([], append-nil log, tt)
+past_self log n = ([], append-nil log, All-nil (HasSeat n))
 
 pub past_grows : (first : List Entry) (n : ℕ) (log : List Entry) (c : ℕ) (after : List Entry) → Past first n log → 0 < c → c ≤ n → Grown log c after → Past first n after
 past_grows first n log c after p low high (inl is) = subst (Past first n) (sym is) p
@@ -40,7 +36,7 @@ past_grows first n log c after p low high (inr more) =
     let e = more.0 in (
       p.0 ++ e ∷ [],
       sym (append_assoc first p.0 (e ∷ [])) ∙ ap (λ w. w ++ e ∷ []) p.1 ∙ sym more.1,
-      all_both n p.0 (e ∷ []) p.2 ((subst (λ z. 0 < z) (sym more.2) low, subst (λ z. z ≤ n) (sym more.2) high), tt),
+      All-push (HasSeat n) p.0 e p.2 (subst (λ z. 0 < z) (sym more.2) low, subst (λ z. z ≤ n) (sym more.2) high),
     )
 
 pub grown_more : (log : List Entry) (c : ℕ) (after : List Entry) → Grown log c after → length log < length after → (e : Entry) × (after ≡ log ++ e ∷ []) × (client_of e ≡ c)

@@ -1,5 +1,5 @@
 -- The steps, where the place is known by an equation.
-use Rattle.std.proofs.Common.{◌≡◌, ◌≢◌, ℕ, ◌+◌, ◌%◌, ◌^◌, ◌<◌, ◌≤◌, List, [], ◌∷◌, length, arith, length-append, sym, refl, ap, ◌∙◌, subst, Some, None, Result}
+use Rattle.std.proofs.Common.{All, ◌≡◌, ◌≢◌, ℕ, ◌+◌, ◌%◌, ◌^◌, ◌<◌, ◌≤◌, List, [], ◌∷◌, length, arith, length-append, sym, refl, ap, ◌∙◌, subst, Some, None, Result}
 use mathlib.Core.Option.{none}
 use Rattle.atomic_table.specs.Table.{Step, step, rest, Allows}
 use Rattle.rapid_text.specs.Recording.{Recording}
@@ -11,10 +11,13 @@ use Rattle.inverse_log.specs.declared.reply.Reply.{Reply}
 use Rattle.inverse_log.specs.declared.refusal.Refusal.{Refusal}
 use Rattle.workspace_lock.proofs.LogLemmas.{grown_more, grown_same}
 use Rattle.inverse_log.proofs.CallerLemmas.{called_grown, called_legal}
-use Rattle.workspace_lock.specs.Sights.{Mark, idle, waits, holds}
-use Rattle.workspace_lock.specs.Turns.{bench_of, saw, solo, mark_of, Kept, Sees, drew, watched, ticket_in, on_turn, published, fronted, passed, ended, Each}
-use Rattle.workspace_lock.specs.Seating.{IsResting, IsWaiting, IsBusy, GotTurn, TookBench, Gathers, IsEnd, Looked}
-use Rattle.workspace_lock.proofs.StepLemmas.{W, PlaceState, draws_ok, watches, publishes, fronts, passes, ends}
+use Rattle.workspace_lock.specs.Turns.{Mark, Sees}
+use Rattle.workspace_lock.specs.Places.{idle, waits, holds, bench_of, saw, solo, mark_of, ticket_in, on_turn, IsResting, IsWaiting, GotTurn, TookBench, Looked, PlaceState}
+use Rattle.workspace_lock.specs.Rule.{Kept}
+use Rattle.workspace_lock.specs.Steps.{drew, watched, published, fronted, passed, ended}
+use Rattle.workspace_lock.specs.Rows.{Gathers, IsEnd}
+use Rattle.workspace_lock.proofs.RuleLemmas.{W}
+use Rattle.workspace_lock.proofs.StepLemmas.{draws_ok, watches, publishes, fronts, passes, ends}
 
 module _ (start : Benched) (clients slots id : ℕ) where
   pub draws_from : (m : PlaceState) → IsResting m → m.0.turns < 4294967295 → Allows (Kept start clients) slots id m 0 (λ n. (n + 1) % 2 ^ 64) (drew (step slots 0 1 0 none) m)
@@ -43,13 +46,6 @@ got_turn m0 m n st r t w same h e = let at = subst (λ (x : PlaceState). watched
 
 pub not_yet : (m0 m n : PlaceState) (st : Step W) (r t : ℕ) → IsWaiting t m0 → m ≡ m0 → watched st m r n → r ≢ t → n ≡ m0
 not_yet m0 m n st r t w same h ne = let at = subst (λ (x : PlaceState). watched st x r n) same h in at.1 (λ e. ne (e ∙ ap (λ (x : PlaceState). ticket_in x.0.stage) w))
-
-pub filled : (m n : PlaceState) (b : W) → IsBusy m → n ≡ (m.0, (0, b) ∷ rest m.1) → n ≡ (solo (mark_of m.0) m.0.turns (holds (ticket_in m.0.stage)), (0, b) ∷ [])
-filled m n b e h = h ∙ ap (λ (x : PlaceState). (x.0, (0, b) ∷ rest x.1)) e
-
-pub published_is : (m n : PlaceState) (k : Mark) (turns t : ℕ) (cs : List (ℕ × W)) (log : List Entry) → m ≡ (solo k turns (holds t), cs) → n ≡ (solo (saw (mark_of m.0) log) m.0.turns m.0.stage, m.1)
-    → n ≡ (solo (saw k log) turns (holds t), cs)
-published_is m n k turns t cs log e h = h ∙ ap (λ (x : PlaceState). (solo (saw (mark_of x.0) log) x.0.turns x.0.stage, x.1)) e
 
 pub has_bench : (m : PlaceState) (k : Mark) (turns t : ℕ) (log : List Entry) → m ≡ on_turn k turns t log → m.1 ≡ (0, Some (bench_of k.start.trace log)) ∷ rest m.1
 has_bench m k turns t log e = let is = ap (λ (x : PlaceState). x.1) e in is ∙ ap (λ l. (0, Some (bench_of k.start.trace log)) ∷ rest l) (sym is)
@@ -81,7 +77,7 @@ module _ (start : Benched) (clients slots id : ℕ) where
   last_draw m g h = let f = g.fair in draws_ok start clients slots id m g.idle_is (omega arith)
 
 pub last_slot : (m0 m n : PlaceState) (st : Step W) (r t : ℕ) → m ≡ (record m0.0 { turns = m0.0.turns + 1; stage = waits t }, m0.1) → ended st m r n
-    → (log : List Entry) × Each (λ k. Sees k log) m0.0.marks × (n.1 ≡ (0, Some (bench_of (mark_of m0.0).start.trace log)) ∷ [])
+    → (log : List Entry) × All (λ k. Sees k log) m0.0.marks × (n.1 ≡ (0, Some (bench_of (mark_of m0.0).start.trace log)) ∷ [])
 last_slot m0 m n st r t e h = subst (λ (x : PlaceState). ended st x r n) e h
 
 pub slot_first : (n : PlaceState) (b : W) → n.1 ≡ (0, b) ∷ [] → n.1 ≡ (0, b) ∷ rest n.1

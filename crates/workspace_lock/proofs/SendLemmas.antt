@@ -42,16 +42,8 @@ use Rattle.workspace_lock.specs.contracts.seat.Seat.TheInside as SeatInside
 schedule_inside : IsSend ScheduleInside.the_row
 schedule_inside =
     recorded_send (ScheduleInside.the_field).row _ _ (ScheduleInside.the_type).to_one
-    (struct_send (shape ScheduleInside.the_type) (
-      search (sendable, crosses) depth 20,
-      (
-        search (sendable, crosses) depth 20,
-        (
-          search (TablesSend.the_field_send, sendable, crosses) depth 20,
-          tt,
-        ),
-      ),
-    ))
+    (struct_send (shape ScheduleInside.the_type)
+    (search (sendable, crosses) depth 20, (search (sendable, crosses) depth 20, (search (TablesSend.the_field_send, sendable, crosses) depth 20, tt))))
 
 schedule_send : IsSend Schedule.the_row
 schedule_send = view_send ScheduleInside.the_row _ _ _ _ schedule_inside
@@ -71,10 +63,8 @@ proposal_row = recorded_send (Proposal.the_field).row _ _ (Proposal.the_type).to
 board_inside : IsSend BoardInside.the_row
 board_inside =
     recorded_send (BoardInside.the_field).row _ _ (BoardInside.the_type).to_one
-    (struct_send (shape BoardInside.the_type) (
-      search (proposal_row, sendable, crosses) depth 20,
-      tt,
-    ))
+    (struct_send (shape BoardInside.the_type)
+    (search (proposal_row, sendable, crosses) depth 20, tt))
 
 board_send : IsSend Board.the_row
 board_send = view_send BoardInside.the_row _ _ _ _ board_inside
@@ -91,10 +81,8 @@ inverse_row = recorded_send (Inverse.the_field).row _ _ (Inverse.the_type).to_on
 inverses_inside : IsSend InversesInside.the_row
 inverses_inside =
     recorded_send (InversesInside.the_field).row _ _ (InversesInside.the_type).to_one
-    (struct_send (shape InversesInside.the_type) (
-      search (inverse_row, sendable, crosses) depth 20,
-      tt,
-    ))
+    (struct_send (shape InversesInside.the_type)
+    (search (inverse_row, sendable, crosses) depth 20, tt))
 
 inverses_send : IsSend Inverses.the_row
 inverses_send = view_send InversesInside.the_row _ _ _ _ inverses_inside
@@ -111,10 +99,8 @@ form_send = search (held_row, sendable, crosses) depth 20
 kept_inside : IsSend KeptInside.the_row
 kept_inside =
     recorded_send (KeptInside.the_field).row _ _ (KeptInside.the_type).to_one
-    (struct_send (shape KeptInside.the_type) (
-      search (form_send, sendable, crosses) depth 20,
-      tt,
-    ))
+    (struct_send (shape KeptInside.the_type)
+    (search (form_send, sendable, crosses) depth 20, tt))
 
 kept_send : IsSend Kept.the_row
 kept_send = view_send KeptInside.the_row _ _ _ _ kept_inside
@@ -139,13 +125,8 @@ listing_send = view_send ListingInside.the_row _ _ _ _ listing_inside
 workspace_inside : IsSend WorkspaceInside.the_row
 workspace_inside =
     recorded_send (WorkspaceInside.the_field).row _ _ (WorkspaceInside.the_type).to_one
-    (struct_send (shape WorkspaceInside.the_type) (
-      search (sendable, crosses) depth 20,
-      (
-        search (listing_send, sendable, crosses) depth 20,
-        tt,
-      ),
-    ))
+    (struct_send (shape WorkspaceInside.the_type)
+    (search (sendable, crosses) depth 20, (search (listing_send, sendable, crosses) depth 20, tt)))
 
 workspace_send : IsSend Workspace.the_row
 workspace_send = view_send WorkspaceInside.the_row _ _ _ _ workspace_inside
@@ -153,13 +134,8 @@ workspace_send = view_send WorkspaceInside.the_row _ _ _ _ workspace_inside
 counted_inside : IsSend CountedInside.the_row
 counted_inside =
     recorded_send (CountedInside.the_field).row _ _ (CountedInside.the_type).to_one
-    (struct_send (shape CountedInside.the_type) (
-      search (workspace_send, sendable, crosses) depth 20,
-      (
-        search (sendable, crosses) depth 20,
-        tt,
-      ),
-    ))
+    (struct_send (shape CountedInside.the_type)
+    (search (workspace_send, sendable, crosses) depth 20, (search (sendable, crosses) depth 20, tt)))
 
 counted_send : IsSend Counted.the_row
 counted_send = view_send CountedInside.the_row _ _ _ _ counted_inside

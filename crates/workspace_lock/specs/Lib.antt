@@ -1,6 +1,9 @@
 pub mod Counts
 pub mod Limits
+pub mod Places
+pub mod Rows
+pub mod Rule
 pub mod Runs
 pub mod Seating
-pub mod Sights
+pub mod Steps
 pub mod Turns

@@ -19,9 +19,9 @@ pub struct View {
 }
 
 impl Model for View {
-    ghost use Rattle.workspace_lock.specs.Sights.{Sight, blank};
+    ghost use Rattle.workspace_lock.specs.Places.{PlaceView, blank};
 
-    ghost Value = { Sight };
+    ghost Value = { PlaceView };
 
     ghost view = { λ _. blank };
 }
@@ -37,7 +37,7 @@ pub struct Opening {
 pub struct Order;
 
 impl TableRule<Option<Bench>, View, Opening> for Order {
-    ghost use Rattle.workspace_lock.specs.Turns.{Kept, opened};
+    ghost use Rattle.workspace_lock.specs.Rule.{Kept, opened};
 
     ghost holds = { λ key. Kept key.bench.value key.clients };
 
@@ -62,7 +62,7 @@ pub type Place = Seat<Option<Bench>, View>;
 pub struct Draw;
 
 impl Play<Option<Bench>, View> for Draw {
-    ghost use Rattle.workspace_lock.specs.Turns.{drew};
+    ghost use Rattle.workspace_lock.specs.Steps.{drew};
 
     ghost then = { drew };
 }
@@ -71,7 +71,7 @@ impl Play<Option<Bench>, View> for Draw {
 pub struct Watch;
 
 impl Play<Option<Bench>, View> for Watch {
-    ghost use Rattle.workspace_lock.specs.Turns.{watched};
+    ghost use Rattle.workspace_lock.specs.Steps.{watched};
 
     ghost then = { watched };
 }
@@ -91,7 +91,7 @@ pub struct Publish<N: Named> {
 }
 
 impl<N: Named> Play<Option<Bench>, View> for Publish<N> {
-    ghost use Rattle.workspace_lock.specs.Turns.{published};
+    ghost use Rattle.workspace_lock.specs.Steps.{published};
 
     ghost then = { published N.log };
 }
@@ -100,7 +100,7 @@ impl<N: Named> Play<Option<Bench>, View> for Publish<N> {
 pub struct Look;
 
 impl Play<Option<Bench>, View> for Look {
-    ghost use Rattle.workspace_lock.specs.Turns.{fronted};
+    ghost use Rattle.workspace_lock.specs.Steps.{fronted};
 
     ghost then = { fronted };
 }
@@ -109,7 +109,7 @@ impl Play<Option<Bench>, View> for Look {
 pub struct PassOn;
 
 impl Play<Option<Bench>, View> for PassOn {
-    ghost use Rattle.workspace_lock.specs.Turns.{passed};
+    ghost use Rattle.workspace_lock.specs.Steps.{passed};
 
     ghost then = { passed };
 }
@@ -118,7 +118,7 @@ impl Play<Option<Bench>, View> for PassOn {
 pub struct Finish;
 
 impl Play<Option<Bench>, View> for Finish {
-    ghost use Rattle.workspace_lock.specs.Turns.{ended};
+    ghost use Rattle.workspace_lock.specs.Steps.{ended};
 
     ghost then = { ended };
 }
@@ -127,7 +127,7 @@ impl Play<Option<Bench>, View> for Finish {
 pub struct Deal;
 
 impl Split<View> for Deal {
-    ghost use Rattle.workspace_lock.specs.Turns.{stays, goes_off};
+    ghost use Rattle.workspace_lock.specs.Steps.{stays, goes_off};
 
     ghost left = { stays };
 
@@ -138,8 +138,8 @@ impl Split<View> for Deal {
 pub struct Gather;
 
 impl Join<View> for Gather {
-    ghost use Rattle.workspace_lock.specs.Sights.{blank};
-    ghost use Rattle.workspace_lock.specs.Turns.{joined};
+    ghost use Rattle.workspace_lock.specs.Places.{blank};
+    ghost use Rattle.workspace_lock.specs.Steps.{joined};
 
     ghost both = { joined };
 

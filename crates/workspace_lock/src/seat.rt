@@ -5,10 +5,10 @@ ghost use Rattle.std.specs.Arc.{arc_value};
 ghost use Rattle.inverse_log.specs.Answer.{IsLegal, Grown};
 ghost use Rattle.dependence.specs.Limits.{client_limit};
 ghost use Rattle.workspace_lock.specs.Limits.{turn_limit};
-ghost use Rattle.workspace_lock.specs.Sights.{idle, holds};
-ghost use Rattle.workspace_lock.specs.Turns.{mark_of, saw, solo, ticket_in};
-ghost use Rattle.workspace_lock.specs.Seating.{mark_in, IsSized, IsResting, IsWaiting, IsBusy, GotTurn, TookBench, Looked, seat_view};
+ghost use Rattle.workspace_lock.specs.Seating.{mark_in};
 ghost use Rattle.workspace_lock.specs.Runs.{Ran, Fronted, Passes};
+ghost use Rattle.workspace_lock.specs.Places.{idle, holds, mark_of, saw, solo, ticket_in, seat_view};
+ghost use Rattle.workspace_lock.specs.Places.{IsSized, IsResting, IsWaiting, IsBusy, GotTurn, TookBench, Looked};
 ghost use Rattle.inverse_log.specs.declared.refusal.SeatRefusal.TheVariants.{SeatSpent};
 
 use crate::lock::{Draw, Hall, Lock, Look, Named, PassOn, Place, Publish, Watch};
@@ -54,7 +54,8 @@ fn watch<R: Wait>(rt: &R, hall: &Hall, place: &mut Place, ticket: u64)
 
 // Passes the door, draws a ticket, waits for its turn and takes the bench.
 fn take_bench<R: Wait>(rt: &R, hall: &Hall, place: &mut Place) -> Bench
-    requires { (place.old.table_id ≡ hall.now.lock.shared.table_id) × IsSized place.old.table_id × IsResting place.old.me × (place.old.me.0.turns < turn_limit) }
+    requires { (place.old.table_id ≡ hall.now.lock.shared.table_id) × IsSized place.old.table_id
+        × IsResting place.old.me × (place.old.me.0.turns < turn_limit) }
     ensures { (place.new.table_id ≡ place.old.table_id) × (place.new.id ≡ place.old.id) × TookBench place.old.me result place.new.me }
 {
     hall.door.enter(rt);
@@ -67,8 +68,11 @@ fn take_bench<R: Wait>(rt: &R, hall: &Hall, place: &mut Place) -> Bench
 fn publish<N: Named>(lock: &Lock, place: &mut Place, bench: &Bench)
     requires place { (place.old.table_id ≡ lock.now.shared.table_id) × IsSized place.old.table_id × IsBusy place.old.me }
     requires log { bench.now.log ≡ N.log }
-    requires bench { IsLegal (mark_of place.old.me.0).start.trace bench.now.log × Grown (mark_of place.old.me.0).seen (mark_of place.old.me.0).number bench.now.log × (length (mark_of place.old.me.0).seen < length bench.now.log) }
-    ensures { (place.new.table_id ≡ place.old.table_id) × (place.new.id ≡ place.old.id) × (place.new.me ≡ (solo (saw (mark_of place.old.me.0) bench.now.log) place.old.me.0.turns (holds (ticket_in place.old.me.0.stage)), (0, None) ∷ [])) }
+    requires bench { IsLegal (mark_of place.old.me.0).start.trace bench.now.log
+        × Grown (mark_of place.old.me.0).seen (mark_of place.old.me.0).number bench.now.log
+        × (length (mark_of place.old.me.0).seen < length bench.now.log) }
+    ensures { (place.new.table_id ≡ place.old.table_id) × (place.new.id ≡ place.old.id)
+        × (place.new.me ≡ (solo (saw (mark_of place.old.me.0) bench.now.log) place.old.me.0.turns (holds (ticket_in place.old.me.0.stage)), (0, None) ∷ [])) }
 {
     let _ = bench.log_len();
     lock.shared.fetch_add::<Publish<N>>(place, 2, 1);
@@ -77,9 +81,12 @@ fn publish<N: Named>(lock: &Lock, place: &mut Place, bench: &Bench)
 // Publishes what was logged, puts the bench back, passes the turn on, wakes the one whose it is, and leaves the door.
 fn give_back(hall: &Hall, place: &mut Place, bench: Bench, before: u64)
     requires place { (place.old.table_id ≡ hall.now.lock.shared.table_id) × IsSized place.old.table_id × IsBusy place.old.me }
-    requires bench { IsLegal (mark_of place.old.me.0).start.trace bench.log × Grown (mark_of place.old.me.0).seen (mark_of place.old.me.0).number bench.log × (bench.trace ≡ (mark_of place.old.me.0).start.trace) }
+    requires bench { IsLegal (mark_of place.old.me.0).start.trace bench.log
+        × Grown (mark_of place.old.me.0).seen (mark_of place.old.me.0).number bench.log
+        × (bench.trace ≡ (mark_of place.old.me.0).start.trace) }
     requires before { before ≡ length (mark_of place.old.me.0).seen }
-    ensures { (place.new.table_id ≡ place.old.table_id) × (place.new.id ≡ place.old.id) × (place.new.me ≡ (solo (saw (mark_of place.old.me.0) bench.log) place.old.me.0.turns idle, [])) }
+    ensures { (place.new.table_id ≡ place.old.table_id) × (place.new.id ≡ place.old.id)
+        × (place.new.me ≡ (solo (saw (mark_of place.old.me.0) bench.log) place.old.me.0.turns idle, [])) }
 {
     if before < bench.log_len() {
         publish::<Brand>(&hall.lock, place, &bench);
@@ -110,7 +117,8 @@ pub struct Seat {
 impl Model for Seat {
     ghost use Rattle.std.specs.Prelude.{◌≡◌};
     ghost use Rattle.std.specs.Arc.{arc_value};
-    ghost use Rattle.workspace_lock.specs.Seating.{SeatView, IsSeatOf, seat_view};
+    ghost use Rattle.workspace_lock.specs.Seating.{SeatView};
+    ghost use Rattle.workspace_lock.specs.Places.{IsSeatOf, seat_view};
 
     ghost Value = { SeatView };
 
@@ -158,7 +166,8 @@ impl Seat {
 
     // The place, for good.
     pub(crate) fn into_place(self) -> Place
-        ensures { (result.table_id ≡ self.site.table) × IsSized result.table_id × (result.me ≡ (solo (mark_in self) self.turns idle, [])) × (self.turns ≤ turn_limit) }
+        ensures { (result.table_id ≡ self.site.table) × IsSized result.table_id
+            × (result.me ≡ (solo (mark_in self) self.turns idle, [])) × (self.turns ≤ turn_limit) }
     {
         let Seat {
             hall: _,

@@ -1,12 +1,12 @@
 //! All seats of a shared bench.
-ghost use Rattle.std.specs.Prelude.{◌≡◌, ℕ, ◌+◌, ◌*◌, ◌<◌, ◌≤◌, [], ◌∷◌, ◌++◌, Some, None, length, IfSome, IfNone, true, false, IfErr, IfOk, slice_get, slice_set, OnOk, MatchBool};
-ghost use Rattle.std.specs.Prelude.{vec_capacity, ◌-◌};
+ghost use Rattle.std.specs.Prelude.{◌≡◌, ℕ, ◌+◌, ◌*◌, ◌<◌, ◌≤◌, [], ◌∷◌, ◌++◌, ◌-◌, Some, None, length, true, false};
+ghost use Rattle.std.specs.Prelude.{IfSome, IfNone, IfErr, IfOk, slice_get, slice_set, OnOk, MatchBool, vec_capacity};
 ghost use Rattle.std.specs.Arc.{arc_value};
 ghost use Rattle.dependence.specs.Limits.{client_limit};
-ghost use Rattle.workspace_lock.specs.Sights.{idle};
-ghost use Rattle.workspace_lock.specs.Turns.{mark_of, saw, solo};
-ghost use Rattle.workspace_lock.specs.Seating.{IsSized, IsEnd, Gathers, mark_in, marks_in, AllSeated, HasAll, TakesFirst, Closes, SeatView, site_at, dealt, fresh_rows, Opened};
+ghost use Rattle.workspace_lock.specs.Seating.{mark_in, TakesFirst, Closes, SeatView, site_at, fresh_rows, Opened};
 ghost use Rattle.workspace_lock.specs.Counts.{IsBadCount};
+ghost use Rattle.workspace_lock.specs.Places.{idle, mark_of, saw, solo, IsSized};
+ghost use Rattle.workspace_lock.specs.Rows.{IsEnd, Gathers, marks_in, AllSeated, HasAll, dealt};
 
 use crate::bells::Bells;
 use crate::door::{BEST_ROOM, Door};
@@ -73,18 +73,26 @@ pub enum CloseRefusal {
 
 impl Model for Seats {
     ghost use Rattle.std.specs.Arc.{arc_value};
-    ghost use Rattle.workspace_lock.specs.Seating.{SeatsView, IsSeatsView, site_at};
+    ghost use Rattle.workspace_lock.specs.Seating.{SeatsView, site_at};
+    ghost use Rattle.workspace_lock.specs.Rows.{IsSeatsView};
 
     ghost Value = { SeatsView };
 
-    ghost view = { λ s. record { site = site_at (arc_value s.hall).lock.shared.table_id (arc_value s.hall).lock.shared.key.bench.value (arc_value s.hall).lock.shared.key.clients; rows = s.rows.items } };
+    ghost view = { λ s. record {
+      site = site_at (arc_value s.hall).lock.shared.table_id (arc_value s.hall).lock.shared.key.bench.value (arc_value s.hall).lock.shared.key.clients;
+      rows = s.rows.items;
+    } };
 
-    ghost invariant = { λ s. IsSeatsView (site_at (arc_value s.hall).lock.shared.table_id (arc_value s.hall).lock.shared.key.bench.value (arc_value s.hall).lock.shared.key.clients) s.rows.items };
+    ghost invariant = { λ s. IsSeatsView
+        (site_at (arc_value s.hall).lock.shared.table_id (arc_value s.hall).lock.shared.key.bench.value (arc_value s.hall).lock.shared.key.clients)
+        s.rows.items };
 }
 
 // The first row that has a seat.
 fn first_in(rows: &[Option<Seat>]) -> Option<usize>
-    ensures some { IfSome result (λ i. (i < length rows.now) × ((c : SeatView) × (slice_get rows.now i ≡ Some (Some c))) × ((j : ℕ) → j < i → slice_get rows.now j ≡ Some None)) }
+    ensures some { IfSome result (λ i. (i < length rows.now)
+        × ((c : SeatView) × (slice_get rows.now i ≡ Some (Some c)))
+        × ((j : ℕ) → j < i → slice_get rows.now j ≡ Some None)) }
     ensures none { IfNone result ((j : ℕ) → j < length rows.now → slice_get rows.now j ≡ Some None) }
 {
     for (i, row) in rows.iter().enumerate() {
@@ -97,7 +105,9 @@ fn first_in(rows: &[Option<Seat>]) -> Option<usize>
 
 // Whether a row has no seat.
 fn is_one_out(rows: &[Option<Seat>]) -> bool
-    ensures { MatchBool result ((i : ℕ) × (slice_get rows.now i ≡ Some None)) ((i : ℕ) → i < length rows.now → (c : SeatView) × (slice_get rows.now i ≡ Some (Some c))) }
+    ensures { MatchBool result
+        ((i : ℕ) × (slice_get rows.now i ≡ Some None))
+        ((i : ℕ) → i < length rows.now → (c : SeatView) × (slice_get rows.now i ≡ Some (Some c))) }
 {
     for row in rows {
         if row.is_none() {
@@ -121,8 +131,10 @@ impl Seats {
     /// Takes the seat back. It is handed back where one of its number is in.
     pub fn give(&mut self, seat: Seat) -> Result<(), Seat>
         requires { seat.site ≡ self.old.site }
-        ensures ok { OnOk result ((slice_get self.old.rows (seat.number - 1) ≡ Some None) × (self.new ≡ record self.old { rows = slice_set self.old.rows (seat.number - 1) (Some seat) })) }
-        ensures err { IfErr result (λ s. (s ≡ seat) × (self.new ≡ self.old) × ((c : SeatView) × (slice_get self.old.rows (seat.number - 1) ≡ Some (Some c)))) }
+        ensures ok { OnOk result ((slice_get self.old.rows (seat.number - 1) ≡ Some None)
+            × (self.new ≡ record self.old { rows = slice_set self.old.rows (seat.number - 1) (Some seat) })) }
+        ensures err { IfErr result (λ s. (s ≡ seat) × (self.new ≡ self.old)
+            × ((c : SeatView) × (slice_get self.old.rows (seat.number - 1) ≡ Some (Some c)))) }
     {
         let i = seat.row();
         let is_in = self.rows[i].is_some();
@@ -167,7 +179,8 @@ fn deal(
     mut rows: Vec<Option<Seat>>,
     clients: u32,
 ) -> Result<Seats, (Bench, OpenRefusal)>
-    requires place { (place.table_id ≡ (arc_value hall).lock.shared.table_id) × IsSized place.table_id × (place.me ≡ dealt (arc_value hall).lock.shared.key.bench.value clients 0) }
+    requires place { (place.table_id ≡ (arc_value hall).lock.shared.table_id) × IsSized place.table_id
+        × (place.me ≡ dealt (arc_value hall).lock.shared.key.bench.value clients 0) }
     requires clients { (clients ≡ (arc_value hall).lock.shared.key.clients) × (0 < clients) × (clients ≤ client_limit) }
     requires rows { (rows.items ≡ []) × (clients ≤ vec_capacity rows) }
     ensures ok { IfOk result (λ s. Opened (arc_value hall).lock.shared.key.bench.value clients s) }

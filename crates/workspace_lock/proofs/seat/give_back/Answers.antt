@@ -1,7 +1,6 @@
 use Rattle.std.proofs.Common.{rules, Some, None, arith, ap, ◌∙◌, ◌≡◌, [], ◌∷◌}
 use Rattle.atomic_table.specs.Table.{rest}
-use Rattle.workspace_lock.specs.Sights.{holds}
-use Rattle.workspace_lock.specs.Turns.{mark_of, ticket_in, saw, solo}
+use Rattle.workspace_lock.specs.Places.{holds, mark_of, ticket_in, saw, solo}
 use Rattle.workspace_lock.proofs.PlaceLemmas.{passes_from, same_seen, bench_is, passed_is}
 use Rattle.workspace_lock.proofs.seat.give_back.Goals as goal
 use Rattle.workspace_lock.proofs.seat.give_back.Goals.{then-before-log_len, else-before-log_len}

@@ -1,5 +1,5 @@
 use Rattle.std.proofs.Common.{rules, arith, ◌∷◌, [], None}
-use Rattle.workspace_lock.specs.Turns.{mark_of, ticket_in}
+use Rattle.workspace_lock.specs.Places.{mark_of, ticket_in}
 use Rattle.workspace_lock.proofs.PlaceLemmas.{publishes_from}
 use Rattle.workspace_lock.proofs.seat.publish.Goals as goal
 

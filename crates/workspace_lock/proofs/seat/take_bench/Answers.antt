@@ -1,5 +1,5 @@
 use Rattle.std.proofs.Common.{rules, Some}
-use Rattle.workspace_lock.specs.Turns.{bench_of, mark_of}
+use Rattle.workspace_lock.specs.Places.{bench_of, mark_of}
 use Rattle.workspace_lock.proofs.PlaceLemmas.{draws_from, has_bench}
 use Rattle.workspace_lock.proofs.seat.take_bench.Goals as goal
 

@@ -1,7 +1,7 @@
 use Rattle.std.proofs.Common.{rules, sym, subst}
 use mathlib.Core.Option.{none}
 use Rattle.atomic_table.specs.Table.{step}
-use Rattle.workspace_lock.specs.Seating.{IsWaiting}
+use Rattle.workspace_lock.specs.Places.{IsWaiting}
 use Rattle.workspace_lock.proofs.PlaceLemmas.{watches_from, got_turn, not_yet}
 use Rattle.workspace_lock.proofs.seat.watch.Goals as goal
 

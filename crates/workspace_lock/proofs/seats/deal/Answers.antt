@@ -1,6 +1,7 @@
 use Rattle.std.proofs.Common.{rules, ◌∙◌, sym, ap, subst, ◌≡◌, length, arith, vec_len}
 use Rattle.std.proofs.lemmas.Grind.{common_steps}
-use Rattle.workspace_lock.specs.Seating.{AllSeated, site_at, RowsFit}
+use Rattle.workspace_lock.specs.Seating.{site_at}
+use Rattle.workspace_lock.specs.Rows.{AllSeated, RowsFit}
 use Rattle.workspace_lock.proofs.DealLemmas.{splits_from, deal_next, deal_off, dealt_length, rows_length, rows_seated, rows_fit, nothing_done, rows_next, seat_dealt}
 use Rattle.workspace_lock.proofs.seats.deal.Goals as goal
 

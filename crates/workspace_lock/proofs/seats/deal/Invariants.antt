@@ -1,5 +1,6 @@
 use Rattle.std.proofs.Common.{◌≡◌, vec_capacity}
-use Rattle.workspace_lock.specs.Seating.{dealt, fresh_rows, site_at}
+use Rattle.workspace_lock.specs.Seating.{fresh_rows, site_at}
+use Rattle.workspace_lock.specs.Rows.{dealt}
 use Rattle.workspace_lock.proofs.seats.deal.Given as goal
 
 abbrev pub invariant-loop-i : goal.invariant-loop-i

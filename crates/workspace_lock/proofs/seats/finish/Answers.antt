@@ -1,7 +1,7 @@
 use Rattle.std.proofs.Common.{rules, Some}
 use mathlib.Core.Option.{none}
 use Rattle.atomic_table.specs.Table.{step}
-use Rattle.workspace_lock.specs.Turns.{bench_of, mark_of}
+use Rattle.workspace_lock.specs.Places.{bench_of, mark_of}
 use Rattle.workspace_lock.proofs.PlaceLemmas.{last_draw, ends_from, last_slot, slot_first, end_is}
 use Rattle.workspace_lock.proofs.seats.finish.Goals as goal
 

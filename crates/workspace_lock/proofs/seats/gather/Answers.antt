@@ -1,6 +1,7 @@
 use Rattle.std.proofs.Common.{rules, subst, arith, length-append, length, ◌∷◌, [], ap, ◌∙◌}
 use Rattle.std.proofs.lemmas.Grind.{common_steps}
-use Rattle.workspace_lock.specs.Seating.{AllSeated, IsSeated, mark_in}
+use Rattle.workspace_lock.specs.Seating.{mark_in}
+use Rattle.workspace_lock.specs.Rows.{AllSeated, IsSeated}
 use Rattle.workspace_lock.proofs.RowLemmas.{seated_rest, moved_on, all_in, longer_first}
 use Rattle.workspace_lock.proofs.seats.gather.Goals as goal
 

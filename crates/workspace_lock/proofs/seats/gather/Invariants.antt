@@ -1,6 +1,6 @@
 use Rattle.std.proofs.Common.{◌≡◌, ◌+◌, ◌<◌, ◌++◌, length, vec_len}
-use Rattle.workspace_lock.specs.Turns.{mark_of}
-use Rattle.workspace_lock.specs.Seating.{Gathers, marks_in, AllSeated, HasAll}
+use Rattle.workspace_lock.specs.Places.{mark_of}
+use Rattle.workspace_lock.specs.Rows.{Gathers, marks_in, AllSeated, HasAll}
 use Rattle.workspace_lock.proofs.seats.gather.Given as goal
 
 abbrev pub invariant-loop-row : goal.invariant-loop-row

@@ -1,10 +1,11 @@
 use Rattle.std.proofs.Common.{◌∙◌, sym, ap, subst, ◌≡◌, ℕ, ◌<◌, Some, slice_get, length, List, Option, ◌++◌, ◌∷◌, []}
-use Rattle.workspace_lock.specs.Seating.{AllSeated, IsSeated, SeatView, Site, site_at, mark_in, Closes}
+use Rattle.workspace_lock.specs.Seating.{SeatView, Site, site_at}
+use Rattle.workspace_lock.specs.Rows.{AllSeated, IsSeated, RowsFit}
 use Rattle.workspace_lock.proofs.RowLemmas.{all_seated, seated_rest, gathers_solo, closed_seats}
 use Rattle.workspace_lock.proofs.seats.Seats.close.Goals as goal
 
 -- the rest is seated, and so is the last one
-seats : (site : Site) (os new : List (Option SeatView)) (o : Option SeatView) (first : SeatView) → Rattle.workspace_lock.specs.Seating.RowsFit site 1 os → ((i : ℕ) → i < length os → (c : SeatView) × (slice_get os i ≡ Some (Some c))) → os ≡ new ++ o ∷ [] → o ≡ Some first
+seats : (site : Site) (os new : List (Option SeatView)) (o : Option SeatView) (first : SeatView) → RowsFit site 1 os → ((i : ℕ) → i < length os → (c : SeatView) × (slice_get os i ≡ Some (Some c))) → os ≡ new ++ o ∷ [] → o ≡ Some first
     → AllSeated site.table new × (first.site.table ≡ site.table)
 seats site os new o first fit ins items is = let r = seated_rest site.table new o (subst (AllSeated site.table) items (all_seated site 1 os fit ins)) in (r.0, subst (IsSeated site.table) is r.1)
 

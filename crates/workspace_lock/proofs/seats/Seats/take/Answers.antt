@@ -1,6 +1,7 @@
-use Rattle.std.proofs.Common.{◌≡◌, ℕ, Some, None, IfSome, IfNone, slice_get, get_or, List, Option, sym, ◌∙◌, subst, ap, length, slice_set, ◌-◌, ◌<◌, arith}
+use Rattle.std.proofs.Common.{◌≡◌, ℕ, Some, None, IfSome, IfNone, slice_get, get_or, List, Option, sym, ◌∙◌, subst, length, slice_set, ◌-◌, ◌<◌, arith}
 use Rattle.std.proofs.lemmas.Option.{slice_get_within}
-use Rattle.workspace_lock.specs.Seating.{SeatView, SeatsView, Site, IsSeatsView, TakesFirst, site_at}
+use Rattle.workspace_lock.specs.Seating.{SeatView, Site, TakesFirst, site_at}
+use Rattle.workspace_lock.specs.Rows.{IsSeatsView}
 use Rattle.workspace_lock.proofs.RowLemmas.{seats_set, row_is, row_at}
 use Rattle.workspace_lock.proofs.seats.Seats.take.Goals as goal
 
