@@ -1,7 +1,11 @@
 mod ChosenLemmas
+mod FilterLemmas
+mod HeldLemmas
 mod MarkLemmas
 mod OutcomeLemmas
+mod PieceLemmas
 mod PlaceLemmas
 mod RowLemmas
 pub mod VerdictLemmas
 mod WorkerLemmas
+mod TotalLemmas

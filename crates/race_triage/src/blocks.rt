@@ -1,15 +1,35 @@
 //! The block of one verdict.
-ghost use Rattle.std.specs.Prelude.{◌≡◌};
+ghost use Rattle.std.specs.Prelude.{◌≡◌, ◌<◌, ◌++◌, [], length, slice_index_or, OnOk, codes};
+ghost use Rattle.race_triage.specs.Pieces.{event_words_at};
+ghost use Rattle.race_triage.specs.Texts.{access_text, block_text, head_line, held_locks, how_words, lock_line, lock_lines, open_text, pairs_text, size_text, word_text};
 
-use crate::pieces::{append_event, append_number};
+use crate::pieces::{append_event, append_number, append_small, append_words};
 use crate::verdicts::{Outcome, Verdict};
 use event_index::Indexed;
 use explain_report::How;
 use must_order::Must;
 use rapid_text::OutOfMemory;
 
-/// Appends the first line of the block.
-pub(crate) fn append_head(out: &mut Vec<u8>, verdict: &Verdict) -> Result<(), OutOfMemory> {
+/// Appends the block of a verdict: what is said, and the two accesses.
+pub(crate) fn append_block(
+    out: &mut Vec<u8>,
+    indexed: &Indexed,
+    must: &Must,
+    verdict: &Verdict,
+) -> Result<(), OutOfMemory>
+    requires must { must.now ≡ indexed.now }
+    ensures { OnOk result (out.new.items ≡ out.old.items ++ block_text indexed.now verdict.now) }
+{
+    append_head(out, verdict)?;
+    append_access(out, indexed, must, verdict.first)?;
+    append_access(out, indexed, must, verdict.second)?;
+    Ok(())
+}
+
+// Appends the first line of the block.
+fn append_head(out: &mut Vec<u8>, verdict: &Verdict) -> Result<(), OutOfMemory>
+    ensures { OnOk result (out.new.items ≡ out.old.items ++ head_line verdict.now) }
+{
     match verdict.outcome {
         Outcome::Race {
             how,
@@ -17,49 +37,68 @@ pub(crate) fn append_head(out: &mut Vec<u8>, verdict: &Verdict) -> Result<(), Ou
             threads,
         } => {
             append_word(out, b"race", verdict)?;
-            out.extend_from_slice(how_words(how))?;
+            append_words(out, how_text(how))?;
             append_open(out, verdict)?;
-            out.extend_from_slice(b" events")?;
-            append_number(out, u64::from(events))?;
-            out.extend_from_slice(b" threads")?;
-            append_number(out, u64::from(threads))?;
+            append_size(out, events, threads)?;
         }
         Outcome::Undecided { tried } => {
             append_word(out, b"undecided", verdict)?;
             append_open(out, verdict)?;
-            out.extend_from_slice(b" tried")?;
-            append_number(out, u64::from(tried))?;
+            append_words(out, b" tried")?;
+            append_small(out, tried)?;
         }
         Outcome::Apart => {
             append_word(out, b"apart", verdict)?;
             append_pairs(out, verdict)?;
         }
     }
-    out.push(b'\n')?;
+    append_words(out, b"\n")?;
     Ok(())
 }
 
 // Appends the word, and the two events.
-fn append_word(out: &mut Vec<u8>, word: &[u8], verdict: &Verdict) -> Result<(), OutOfMemory> {
-    out.extend_from_slice(word)?;
-    append_number(out, u64::from(verdict.first))?;
-    append_number(out, u64::from(verdict.second))
+fn append_word(out: &mut Vec<u8>, word: &[u8], verdict: &Verdict) -> Result<(), OutOfMemory>
+    ensures { OnOk result (out.new.items ≡ out.old.items ++ word_text word.now verdict.now) }
+{
+    append_words(out, word)?;
+    append_small(out, verdict.first)?;
+    append_small(out, verdict.second)?;
+    Ok(())
+}
+
+// Appends how large the schedule is.
+fn append_size(out: &mut Vec<u8>, events: u32, threads: u32) -> Result<(), OutOfMemory>
+    ensures { OnOk result (out.new.items ≡ out.old.items ++ size_text events threads) }
+{
+    append_words(out, b" events")?;
+    append_small(out, events)?;
+    append_words(out, b" threads")?;
+    append_small(out, threads)?;
+    Ok(())
 }
 
 // Appends how many pairs the block is of.
-fn append_pairs(out: &mut Vec<u8>, verdict: &Verdict) -> Result<(), OutOfMemory> {
-    out.extend_from_slice(b" pairs")?;
-    append_number(out, verdict.pairs())
+fn append_pairs(out: &mut Vec<u8>, verdict: &Verdict) -> Result<(), OutOfMemory>
+    ensures { OnOk result (out.new.items ≡ out.old.items ++ pairs_text verdict.now) }
+{
+    append_words(out, b" pairs")?;
+    append_number(out, verdict.pairs())?;
+    Ok(())
 }
 
 // Appends that, and of how many variables.
-fn append_open(out: &mut Vec<u8>, verdict: &Verdict) -> Result<(), OutOfMemory> {
+fn append_open(out: &mut Vec<u8>, verdict: &Verdict) -> Result<(), OutOfMemory>
+    ensures { OnOk result (out.new.items ≡ out.old.items ++ open_text verdict.now) }
+{
     append_pairs(out, verdict)?;
-    out.extend_from_slice(b" variables")?;
-    append_number(out, u64::from(verdict.variables))
+    append_words(out, b" variables")?;
+    append_small(out, verdict.variables)?;
+    Ok(())
 }
 
-fn how_words(how: How) -> &'static [u8] {
+fn how_text(how: How) -> &'static [u8]
+    ensures { result.now ≡ how_words how }
+{
     match how {
         How::Candidate => b" candidate",
         How::Beyond => b" beyond",
@@ -67,35 +106,77 @@ fn how_words(how: How) -> &'static [u8] {
     }
 }
 
-/// Appends the canonical line of one of the two events, and the locks that its thread holds before it.
-pub(crate) fn append_access(
+// Appends the canonical line of one of the two events, and the locks that its thread holds before it.
+fn append_access(
     out: &mut Vec<u8>,
     indexed: &Indexed,
     must: &Must,
     event: u32,
 ) -> Result<(), OutOfMemory>
     requires must { must.now ≡ indexed.now }
+    ensures { OnOk result (out.new.items ≡ out.old.items ++ access_text indexed.now event) }
 {
     if event >= indexed.len() {
         return Ok(());
     }
-    out.extend_from_slice(b"  ")?;
+    append_line(out, indexed, event)?;
+    append_held(out, indexed, must, event)?;
+    Ok(())
+}
+
+// Appends the line of the event.
+fn append_line(out: &mut Vec<u8>, indexed: &Indexed, event: u32) -> Result<(), OutOfMemory>
+    ensures { OnOk result (out.new.items ≡ out.old.items ++ (codes "  " ++ event_words_at indexed.now event ++ codes "\n")) }
+{
+    append_words(out, b"  ")?;
     append_event(out, indexed, event)?;
-    out.push(b'\n')?;
+    append_words(out, b"\n")?;
+    Ok(())
+}
+
+// Appends a line for each lock that the event's thread holds before it.
+fn append_held(
+    out: &mut Vec<u8>,
+    indexed: &Indexed,
+    must: &Must,
+    event: u32,
+) -> Result<(), OutOfMemory>
+    requires must { must.now ≡ indexed.now }
+    requires event { event < length indexed.now.events }
+    ensures { OnOk result (out.new.items ≡ out.old.items ++ lock_lines indexed.now (held_locks indexed.now event)) }
+{
     let locks = must.locks_held(*out.allocator(), indexed, event)?;
-    for lock in locks.iter() {
-        out.extend_from_slice(b"    holds ")?;
+    append_locks(out, indexed, locks.as_slice())?;
+    Ok(())
+}
+
+// Appends a line for each of the locks.
+fn append_locks(out: &mut Vec<u8>, indexed: &Indexed, locks: &[u32]) -> Result<(), OutOfMemory>
+    ensures { OnOk result (out.new.items ≡ out.old.items ++ lock_lines indexed.now locks.now) }
+{
+    for lock in locks {
         append_lock(out, indexed, *lock)?;
-        out.push(b'\n')?;
     }
     Ok(())
 }
 
+// Appends the line of a lock.
+fn append_lock(out: &mut Vec<u8>, indexed: &Indexed, lock: u32) -> Result<(), OutOfMemory>
+    ensures { OnOk result (out.new.items ≡ out.old.items ++ lock_line indexed.now lock) }
+{
+    append_words(out, b"    holds ")?;
+    append_name(out, indexed, lock)?;
+    append_words(out, b"\n")?;
+    Ok(())
+}
+
 // Appends the name of the lock, where the trace has it.
-fn append_lock(out: &mut Vec<u8>, indexed: &Indexed, lock: u32) -> Result<(), OutOfMemory> {
+fn append_name(out: &mut Vec<u8>, indexed: &Indexed, lock: u32) -> Result<(), OutOfMemory>
+    ensures { OnOk result (out.new.items ≡ out.old.items ++ slice_index_or indexed.now.locks lock []) }
+{
     let raw = indexed.trace().raw();
     if lock < raw.locks() {
-        out.extend_from_slice(raw.lock_name(lock))?;
+        append_words(out, raw.lock_name(lock))?;
     }
     Ok(())
 }

@@ -1,8 +1,7 @@
 //! Which verdicts are told.
-ghost use Rattle.std.specs.Prelude.{◌≡◌, ◌≢◌, ◌++◌, ◌∷◌, [], List, All, IfOk, OnOk, true, false, None, cond, filter};
-ghost use Rattle.race_triage.specs.Chosen.{is_of};
+ghost use Rattle.std.specs.Prelude.{◌≡◌, ◌≢◌, ◌∷◌, [], IfOk, OnOk, Ok, Some, None, map, cond, filter, true, false};
+ghost use Rattle.race_triage.specs.Chosen.{is_known, is_kept, known_places, is_of, more_of, AreChosen, AreConsidered};
 ghost use Rattle.race_triage.specs.declared.chosen.Part.TheVariants.{Races, Open, Never};
-ghost use Rattle.race_triage.specs.declared.verdicts.Verdict.{Verdict as Found};
 
 use crate::filters::Filters;
 use crate::known::Known;
@@ -27,7 +26,7 @@ pub struct Chosen {
 
 /// The kinds of blocks, in the order in which they are told.
 #[derive(Clone, Copy, PartialEq, Eq)]
-enum Part {
+pub(crate) enum Part {
     Races,
     Open,
     Never,
@@ -43,9 +42,9 @@ pub fn chosen_of(
     filters: Filters<'_>,
     apart: bool,
 ) -> Result<Chosen, OutOfMemory>
-    // Without filters all is told but known races.
-    ensures told { filters.entry.only.now ≡ [] → filters.entry.hide.now ≡ [] → IfOk result (λ c. (races : List Found) × All (λ v. is_of Races v ≡ true) races
-        × (c.verdicts.items ≡ races ++ filter (is_of Open) verdicts.now.verdicts.items ++ cond apart (filter (is_of Never) verdicts.now.verdicts.items) [])) }
+    // Neither more nor fewer are told, and what is left out is counted.
+    ensures { IfOk result (AreChosen indexed.now (known_places known.now) (map (λ t. t.now) filters.entry.only.now) (map (λ t. t.now) filters.entry.hide.now)
+        apart verdicts.now.verdicts.items) }
 {
     let all = verdicts.verdicts.as_slice();
     let races = of_part(alloc, all, Part::Races)?;
@@ -60,7 +59,10 @@ pub fn chosen_of(
 
 // No verdict yet; whether races may be known, and whether there is a filter.
 fn nothing(alloc: Global, is_known: bool, is_any: bool) -> Chosen
-    ensures { result.verdicts.items ≡ [] }
+    ensures verdicts { result.verdicts.items ≡ [] }
+    ensures races { result.races ≡ 0 }
+    ensures known { result.known ≡ cond is_known (Some 0) None }
+    ensures hidden { result.hidden ≡ cond is_any (Some 0) None }
 {
     Chosen {
         verdicts: Vec::new(alloc),
@@ -79,11 +81,8 @@ impl Chosen {
         known: &Option<Known>,
         filters: Filters<'_>,
     ) -> Result<(), OutOfMemory>
-        // Without filters all that is no race is taken.
-        ensures told { filters.entry.only.now ≡ [] → filters.entry.hide.now ≡ [] → All (λ v. is_of Races v ≡ false) some.now
-            → OnOk result (self.new.verdicts.items ≡ self.old.verdicts.items ++ some.now) }
-        ensures races { All (λ v. is_of Races v ≡ true) self.old.verdicts.items → All (λ v. is_of Races v ≡ true) some.now
-            → OnOk result (All (λ v. is_of Races v ≡ true) self.new.verdicts.items) }
+        ensures { OnOk result (AreConsidered indexed.now (known_places known.now) (map (λ t. t.now) filters.entry.only.now) (map (λ t. t.now) filters.entry.hide.now)
+            some.now self.old self.new) }
     {
         for verdict in some {
             self.consider(indexed, verdict, known, filters)?;
@@ -99,18 +98,16 @@ impl Chosen {
         known: &Option<Known>,
         filters: Filters<'_>,
     ) -> Result<(), OutOfMemory>
-        ensures told { filters.entry.only.now ≡ [] → filters.entry.hide.now ≡ [] → is_of Races verdict.now ≡ false
-            → OnOk result (self.new.verdicts.items ≡ self.old.verdicts.items ++ verdict.now ∷ []) }
-        ensures races { All (λ v. is_of Races v ≡ true) self.old.verdicts.items → is_of Races verdict.now ≡ true
-            → OnOk result (All (λ v. is_of Races v ≡ true) self.new.verdicts.items) }
+        ensures { OnOk result (AreConsidered indexed.now (known_places known.now) (map (λ t. t.now) filters.entry.only.now) (map (λ t. t.now) filters.entry.hide.now)
+            (verdict.now ∷ []) self.old self.new) }
     {
         let is_race = belongs(verdict, Part::Races);
         if is_race && is_known(known, verdict) {
-            self.known = self.known.map(|count| count.saturating_add(1));
+            self.known = one_more(self.known);
             return Ok(());
         }
         if !is_kept(*self.verdicts.allocator(), indexed, filters, verdict)? {
-            self.hidden = self.hidden.map(|count| count.saturating_add(1));
+            self.hidden = one_more(self.hidden);
             return Ok(());
         }
         if is_race {
@@ -121,10 +118,19 @@ impl Chosen {
     }
 }
 
+// One more, where it is counted.
+fn one_more(count: Option<u64>) -> Option<u64>
+    ensures { result ≡ more_of count 1 }
+{
+    match count {
+        Some(count) => Some(count.saturating_add(1)),
+        None => None,
+    }
+}
+
 // The verdicts that are apart, where they are asked for.
 fn never_of(alloc: Global, all: &[Verdict], apart: bool) -> Result<Vec<Verdict>, OutOfMemory>
-    ensures some { IfOk result (λ some. some.items ≡ cond apart (filter (is_of Never) all.now) []) }
-    ensures no_race { IfOk result (λ some. All (λ v. is_of Races v ≡ false) some.items) }
+    ensures { IfOk result (λ some. some.items ≡ cond apart (filter (is_of Never) all.now) []) }
 {
     if apart {
         of_part(alloc, all, Part::Never)
@@ -135,9 +141,7 @@ fn never_of(alloc: Global, all: &[Verdict], apart: bool) -> Result<Vec<Verdict>,
 
 // The verdicts of one part.
 fn of_part(alloc: Global, all: &[Verdict], part: Part) -> Result<Vec<Verdict>, OutOfMemory>
-    ensures some { IfOk result (λ some. some.items ≡ filter (is_of part) all.now) }
-    ensures races { part ≡ Races → IfOk result (λ some. All (λ v. is_of Races v ≡ true) some.items) }
-    ensures no_race { part ≢ Races → IfOk result (λ some. All (λ v. is_of Races v ≡ false) some.items) }
+    ensures { IfOk result (λ some. some.items ≡ filter (is_of part) all.now) }
 {
     let mut some = Vec::new(alloc);
     for verdict in all {
@@ -148,11 +152,9 @@ fn of_part(alloc: Global, all: &[Verdict], part: Part) -> Result<Vec<Verdict>, O
     Ok(some)
 }
 
-// Whether the verdict belongs to the part.
-fn belongs(verdict: &Verdict, part: Part) -> bool
-    ensures belongs { result ≡ is_of part verdict.now }
-    ensures races { part ≡ Races → result ≡ true → is_of Races verdict.now ≡ true }
-    ensures no_race { part ≢ Races → result ≡ true → is_of Races verdict.now ≡ false }
+/// Whether the verdict belongs to the part.
+pub(crate) fn belongs(verdict: &Verdict, part: Part) -> bool
+    ensures { result ≡ is_of part verdict.now }
 {
     match verdict.outcome {
         Outcome::Race {
@@ -176,7 +178,8 @@ fn belongs(verdict: &Verdict, part: Part) -> bool
 
 /// Whether the verdict is on places whose races are known.
 pub fn is_known(known: &Option<Known>, verdict: &Verdict) -> bool
-    ensures { known.now ≡ None → result ≡ false }
+    ensures known { result ≡ is_known (known_places known.now) verdict.now }
+    ensures none { known.now ≡ None → result ≡ false }
 {
     match known {
         Some(known) => known.contains(&verdict.row.places),
@@ -191,11 +194,9 @@ pub fn is_kept(
     filters: Filters<'_>,
     verdict: &Verdict,
 ) -> Result<bool, OutOfMemory>
-    ensures { filters.entry.only.now ≡ [] → filters.entry.hide.now ≡ [] → IfOk result (λ kept. kept ≡ true) }
+    ensures all { filters.entry.only.now ≡ [] → filters.entry.hide.now ≡ [] → IfOk result (λ kept. kept ≡ true) }
+    ensures kept { IfOk result (λ kept. kept ≡ is_kept indexed.now (map (λ t. t.now) filters.entry.only.now) (map (λ t. t.now) filters.entry.hide.now) verdict.now) }
 {
-    if !filters.is_any() {
-        return Ok(true);
-    }
     let mut first = Vec::new(alloc);
     let mut second = Vec::new(alloc);
     append_event(&mut first, indexed, verdict.first)?;

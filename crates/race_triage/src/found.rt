@@ -1,8 +1,8 @@
 //! What is counted of each pair of places, and the pairs of events that are proposed for it.
-ghost use Rattle.std.specs.Prelude.{◌≡◌, ◌≤◌, All, IfOk, length, slice_index};
+ghost use Rattle.std.specs.Prelude.{◌≡◌, ◌≤◌, All, Err, IfOk, length, slice_index};
 ghost use Rattle.race_groups.specs.Classes.{AreClasses, AreLocks, AreMembers};
 ghost use Rattle.race_groups.specs.Kinds.{IsRow};
-ghost use Rattle.race_groups.specs.Found.{AreComplete};
+ghost use Rattle.race_groups.specs.Found.{AreComplete, AreTooMany};
 
 use crate::firsts::firsts_of;
 use crate::judging::Proposed;
@@ -63,6 +63,8 @@ pub(crate) fn found_of(
     requires places { length tables.places.now ≡ length tables.indexed.now.events }
     ensures rows { IfOk result (λ found. All (IsRow tables.entry.indexed.now (slice_index tables.entry.places.now)) found.groups.rows.items) }
     ensures complete { IfOk result (λ found. AreComplete tables.entry.indexed.now.events (slice_index tables.entry.places.now) found.groups.rows.items) }
+    ensures too_many { result ≡ Err TriageRefusal.TooMany
+        → AreTooMany tables.entry.indexed.now.events (slice_index tables.entry.places.now) MAX_PLACES }
 {
     let classes = Classes::of(alloc, tables.indexed, tables.places)?;
     let groups = counted(alloc, tables, &classes)?;
@@ -99,6 +101,8 @@ fn counted(alloc: Global, tables: Tables<'_>, classes: &Classes) -> Result<Group
     requires locks { AreLocks tables.indexed.now.events classes.now.lists.keys classes.now.numbers.items classes.now.infos.items }
     ensures rows { IfOk result (λ groups. All (IsRow tables.entry.indexed.now (slice_index tables.entry.places.now)) groups.rows.items) }
     ensures complete { IfOk result (λ groups. AreComplete tables.entry.indexed.now.events (slice_index tables.entry.places.now) groups.rows.items) }
+    ensures too_many { result ≡ Err TriageRefusal.TooMany
+        → AreTooMany tables.entry.indexed.now.events (slice_index tables.entry.places.now) MAX_PLACES }
 {
     match groups_of(
         alloc,

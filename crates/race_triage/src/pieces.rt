@@ -1,44 +1,82 @@
 //! Words, numbers and the lines of events.
-ghost use Rattle.rapid_text.specs.Recording.{IsNamedOp};
+ghost use Rattle.std.specs.Prelude.{◌≡◌, ◌++◌, OnOk, codes};
+ghost use Rattle.rapid_text.specs.Canonical.{op_text};
+ghost use Rattle.rapid_text.specs.Recording.{IsNamed, IsNamedOp};
+ghost use Rattle.race_triage.specs.Pieces.{count_line, event_words, event_words_at, number_text};
 
 use event_index::Indexed;
 use itoa::Buffer;
-use rapid_text::{Op, OutOfMemory, RawTrace};
+use rapid_text::{Event, Op, OutOfMemory, RawTrace};
+
+/// Appends the words.
+pub(crate) fn append_words(out: &mut Vec<u8>, words: &[u8]) -> Result<(), OutOfMemory>
+    ensures { OnOk result (out.new.items ≡ out.old.items ++ words.now) }
+{
+    out.extend_from_slice(words)?;
+    Ok(())
+}
 
 /// Appends a word, a blank, a number, and the end of the line.
-pub(crate) fn append_count(out: &mut Vec<u8>, word: &[u8], number: u64) -> Result<(), OutOfMemory> {
-    out.extend_from_slice(word)?;
+pub(crate) fn append_count(out: &mut Vec<u8>, word: &[u8], number: u64) -> Result<(), OutOfMemory>
+    ensures { OnOk result (out.new.items ≡ out.old.items ++ count_line word.now number) }
+{
+    append_words(out, word)?;
     append_number(out, number)?;
-    out.push(b'\n')?;
+    append_words(out, b"\n")?;
     Ok(())
 }
 
 /// Appends a number behind a blank.
-pub(crate) fn append_number(out: &mut Vec<u8>, number: u64) -> Result<(), OutOfMemory> {
+pub(crate) fn append_number(out: &mut Vec<u8>, number: u64) -> Result<(), OutOfMemory>
+    ensures { OnOk result (out.new.items ≡ out.old.items ++ number_text number) }
+{
     let mut digits = Buffer::new();
-    out.push(b' ')?;
-    out.extend_from_slice(digits.format(number).as_bytes())?;
+    append_words(out, b" ")?;
+    append_words(out, digits.format(number).as_bytes())?;
     Ok(())
 }
 
+/// Appends a number of 32 bits behind a blank.
+pub(crate) fn append_small(out: &mut Vec<u8>, number: u32) -> Result<(), OutOfMemory>
+    ensures { OnOk result (out.new.items ≡ out.old.items ++ number_text number) }
+{
+    append_number(out, u64::from(number))
+}
+
 /// Appends the canonical line of the event, where the trace has it, without its end.
-pub fn append_event(out: &mut Vec<u8>, indexed: &Indexed, event: u32) -> Result<(), OutOfMemory> {
+pub fn append_event(out: &mut Vec<u8>, indexed: &Indexed, event: u32) -> Result<(), OutOfMemory>
+    ensures { OnOk result (out.new.items ≡ out.old.items ++ event_words_at indexed.now event) }
+{
     if event >= indexed.len() {
         return Ok(());
     }
     let raw = indexed.trace().raw();
-    let found = raw.event(event);
-    out.extend_from_slice(raw.thread_name(found.thread))?;
-    out.push(b'|')?;
-    append_operation(out, raw, found.op)?;
-    out.push(b'|')?;
-    out.extend_from_slice(raw.location(event))?;
+    append_found(out, raw, raw.event(event), raw.location(event))?;
+    Ok(())
+}
+
+// Appends an event at its location.
+fn append_found(
+    out: &mut Vec<u8>,
+    trace: &RawTrace,
+    event: Event,
+    location: &[u8],
+) -> Result<(), OutOfMemory>
+    requires { IsNamed trace.now event }
+    ensures { OnOk result (out.new.items ≡ out.old.items ++ event_words trace.now event location.now) }
+{
+    append_words(out, trace.thread_name(event.thread))?;
+    append_words(out, b"|")?;
+    append_operation(out, trace, event.op)?;
+    append_words(out, b"|")?;
+    append_words(out, location)?;
     Ok(())
 }
 
 // Appends an operation as `word(name)`.
 fn append_operation(out: &mut Vec<u8>, trace: &RawTrace, op: Op) -> Result<(), OutOfMemory>
     requires { IsNamedOp trace.now op }
+    ensures { OnOk result (out.new.items ≡ out.old.items ++ op_text trace.now op) }
 {
     match op {
         Op::Read(variable) => append_call(out, b"r", trace.variable_name(variable)),
@@ -51,10 +89,12 @@ fn append_operation(out: &mut Vec<u8>, trace: &RawTrace, op: Op) -> Result<(), O
 }
 
 // Appends `word(name)`.
-fn append_call(out: &mut Vec<u8>, word: &[u8], name: &[u8]) -> Result<(), OutOfMemory> {
-    out.extend_from_slice(word)?;
-    out.push(b'(')?;
-    out.extend_from_slice(name)?;
-    out.push(b')')?;
+fn append_call(out: &mut Vec<u8>, word: &[u8], name: &[u8]) -> Result<(), OutOfMemory>
+    ensures { OnOk result (out.new.items ≡ out.old.items ++ (word.now ++ codes "(" ++ name.now ++ codes ")")) }
+{
+    append_words(out, word)?;
+    append_words(out, b"(")?;
+    append_words(out, name)?;
+    append_words(out, b")")?;
     Ok(())
 }

@@ -1,7 +1,8 @@
 //! The text that lists what was found.
-ghost use Rattle.std.specs.Prelude.{◌≡◌};
+ghost use Rattle.std.specs.Prelude.{◌≡◌, ◌++◌, List, ℕ, OnOk, OnErr};
+ghost use Rattle.race_triage.specs.Texts.{block_texts, kind_lines, left_out_text, place_lines, totals_text, trace_lines, triage_words, IsTriageText};
 
-use crate::blocks::{append_access, append_head};
+use crate::blocks::append_block;
 use crate::chosen::Chosen;
 use crate::pieces::append_count;
 use crate::totals::Totals;
@@ -11,7 +12,7 @@ use must_order::Must;
 use rapid_text::OutOfMemory;
 
 /// Appends the counts, and a block for each of the chosen verdicts; where some were left out as known, or by filters, the last lines tell how
-/// many.
+/// many. Where memory is refused `out` stays as it was.
 pub fn triage_text(
     indexed: &Indexed,
     must: &Must,
@@ -20,48 +21,100 @@ pub fn triage_text(
     out: &mut Vec<u8>,
 ) -> Result<(), OutOfMemory>
     requires must { must.now ≡ indexed.now }
+    // The text is the one that belongs to the trace, the counts of all verdicts, and the chosen ones.
+    ensures ok { OnOk result ((text : List ℕ) × IsTriageText indexed.now verdicts.now.verdicts.items chosen.now text
+        × (out.new.items ≡ out.old.items ++ text)) }
+    ensures err { OnErr result (out.new.items ≡ out.old.items) }
 {
-    append_totals(out, &verdicts.totals(indexed))?;
-    for verdict in chosen.verdicts.iter() {
-        append_block(out, indexed, must, verdict)?;
-    }
+    let totals = verdicts.totals(indexed);
+    let mut text = Vec::new(*out.allocator());
+    append_all(&mut text, indexed, must, &totals, chosen)?;
+    out.extend_from_slice(&text)?;
+    Ok(())
+}
+
+// Appends the counts, the blocks, and how many were left out.
+fn append_all(
+    out: &mut Vec<u8>,
+    indexed: &Indexed,
+    must: &Must,
+    totals: &Totals,
+    chosen: &Chosen,
+) -> Result<(), OutOfMemory>
+    requires must { must.now ≡ indexed.now }
+    ensures { OnOk result (out.new.items ≡ out.old.items ++ triage_words indexed.now totals.now chosen.now) }
+{
+    append_totals(out, totals)?;
+    append_blocks(out, indexed, must, chosen.verdicts.as_slice())?;
     append_left_out(out, b"known", chosen.known)?;
-    append_left_out(out, b"hidden", chosen.hidden)
+    append_left_out(out, b"hidden", chosen.hidden)?;
+    Ok(())
 }
 
 // Appends the eleven counts.
-fn append_totals(out: &mut Vec<u8>, totals: &Totals) -> Result<(), OutOfMemory> {
+fn append_totals(out: &mut Vec<u8>, totals: &Totals) -> Result<(), OutOfMemory>
+    ensures { OnOk result (out.new.items ≡ out.old.items ++ totals_text totals.now) }
+{
+    append_trace(out, totals)?;
+    append_kinds(out, totals)?;
+    append_places(out, totals)?;
+    Ok(())
+}
+
+// Appends what is counted of the trace.
+fn append_trace(out: &mut Vec<u8>, totals: &Totals) -> Result<(), OutOfMemory>
+    ensures { OnOk result (out.new.items ≡ out.old.items ++ trace_lines totals.now) }
+{
     append_count(out, b"events", totals.events)?;
     append_count(out, b"threads", totals.threads)?;
     append_count(out, b"pairs", totals.pairs)?;
+    Ok(())
+}
+
+// Appends how many pairs are of each kind.
+fn append_kinds(out: &mut Vec<u8>, totals: &Totals) -> Result<(), OutOfMemory>
+    ensures { OnOk result (out.new.items ≡ out.old.items ++ kind_lines totals.now) }
+{
     append_count(out, b"candidates", totals.candidates)?;
     append_count(out, b"open", totals.open_pairs)?;
     append_count(out, b"guarded", totals.guarded)?;
     append_count(out, b"forced", totals.forced)?;
+    Ok(())
+}
+
+// Appends how many pairs of places there are, and of how many each is said.
+fn append_places(out: &mut Vec<u8>, totals: &Totals) -> Result<(), OutOfMemory>
+    ensures { OnOk result (out.new.items ≡ out.old.items ++ place_lines totals.now) }
+{
     append_count(out, b"places", totals.places)?;
     append_count(out, b"races", totals.races)?;
     append_count(out, b"undecided", totals.undecided)?;
-    append_count(out, b"apart", totals.apart)
+    append_count(out, b"apart", totals.apart)?;
+    Ok(())
+}
+
+// Appends a block for each of the verdicts.
+fn append_blocks(
+    out: &mut Vec<u8>,
+    indexed: &Indexed,
+    must: &Must,
+    verdicts: &[Verdict],
+) -> Result<(), OutOfMemory>
+    requires must { must.now ≡ indexed.now }
+    ensures { OnOk result (out.new.items ≡ out.old.items ++ block_texts indexed.now verdicts.now) }
+{
+    for verdict in verdicts {
+        append_block(out, indexed, must, verdict)?;
+    }
+    Ok(())
 }
 
 // Appends how many blocks were left out, where that is told.
-fn append_left_out(out: &mut Vec<u8>, word: &[u8], count: Option<u64>) -> Result<(), OutOfMemory> {
+fn append_left_out(out: &mut Vec<u8>, word: &[u8], count: Option<u64>) -> Result<(), OutOfMemory>
+    ensures { OnOk result (out.new.items ≡ out.old.items ++ left_out_text word.now count) }
+{
     match count {
         Some(count) => append_count(out, word, count),
         None => Ok(()),
     }
-}
-
-// Appends the block of a verdict.
-fn append_block(
-    out: &mut Vec<u8>,
-    indexed: &Indexed,
-    must: &Must,
-    verdict: &Verdict,
-) -> Result<(), OutOfMemory>
-    requires must { must.now ≡ indexed.now }
-{
-    append_head(out, verdict)?;
-    append_access(out, indexed, must, verdict.first)?;
-    append_access(out, indexed, must, verdict.second)
 }

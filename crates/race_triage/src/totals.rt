@@ -1,5 +1,11 @@
 //! The counts of a whole trace.
+ghost use Rattle.std.specs.Prelude.{◌≡◌, ◌++◌, ◌∷◌, [], nat_lt, cond, List};
+ghost use Rattle.rapid_text.specs.Recording.{Recording};
+ghost use Rattle.race_triage.specs.Chosen.{is_of};
+ghost use Rattle.race_triage.specs.Texts.{all_in, pairs_by, AreTotals};
+ghost use Rattle.race_triage.specs.declared.verdicts.Verdict.{Verdict as Found};
 
+use crate::chosen::{Part, belongs};
 use crate::verdicts::{Outcome, Verdict, Verdicts};
 use event_index::Indexed;
 use race_groups::Counts;
@@ -33,7 +39,9 @@ pub struct Totals {
 
 impl Verdicts {
     /// The counts of the whole trace, of which these are the verdicts.
-    pub fn totals(&self, indexed: &Indexed) -> Totals {
+    pub fn totals(&self, indexed: &Indexed) -> Totals
+        ensures { AreTotals indexed.now self.now.verdicts.items result }
+    {
         let mut totals = Totals {
             events: u64::from(indexed.len()),
             threads: u64::from(indexed.threads()),
@@ -56,7 +64,9 @@ impl Verdicts {
 
 impl Totals {
     // Counts a verdict and its pairs.
-    fn add(&mut self, verdict: &Verdict) {
+    fn add(&mut self, verdict: &Verdict)
+        ensures { (r : Recording) (vs : List Found) → AreTotals r vs self.old → AreTotals r (vs ++ verdict.now ∷ []) self.new }
+    {
         let counts = verdict.row.counts;
         self.candidates = self.candidates.saturating_add(counts.candidates);
         self.open_pairs = self.open_pairs.saturating_add(counts.open_pairs);
@@ -64,28 +74,52 @@ impl Totals {
         self.forced = self.forced.saturating_add(counts.forced);
         self.pairs = self.pairs.saturating_add(all_of(counts));
         self.places = self.places.saturating_add(1);
-        match verdict.outcome {
-            Outcome::Race { .. } => self.races = self.races.saturating_add(1),
-            Outcome::Undecided { .. } => self.undecided = self.undecided.saturating_add(1),
-            Outcome::Apart => self.apart = self.apart.saturating_add(1),
-        }
+        self.races = self.races.saturating_add(one_if(verdict, Part::Races));
+        self.undecided = self.undecided.saturating_add(one_if(verdict, Part::Open));
+        self.apart = self.apart.saturating_add(one_if(verdict, Part::Never));
     }
+}
+
+// 1 where the verdict belongs to the part.
+fn one_if(verdict: &Verdict, part: Part) -> u64
+    ensures { result ≡ cond (is_of part verdict.now) 1 0 }
+{
+    if belongs(verdict, part) { 1 } else { 0 }
 }
 
 impl Verdict {
     /// How many pairs are candidates; where there is none, how many are open; where all are apart, how many there are.
-    pub fn pairs(&self) -> u64 {
+    pub fn pairs(&self) -> u64
+        ensures { result ≡ pairs_by self.now.outcome self.now.row.counts }
+    {
         let counts = self.row.counts;
         match self.outcome {
             Outcome::Apart => all_of(counts),
-            _ if counts.candidates > 0 => counts.candidates,
-            _ => counts.open_pairs,
+            Outcome::Race {
+                how: _,
+                events: _,
+                threads: _,
+            } => shown_of(counts),
+            Outcome::Undecided { tried: _ } => shown_of(counts),
         }
     }
 }
 
+// How many pairs are candidates, or else open.
+fn shown_of(counts: Counts) -> u64
+    ensures { result ≡ cond (nat_lt 0 counts.candidates) counts.candidates counts.open_pairs }
+{
+    if counts.candidates > 0 {
+        counts.candidates
+    } else {
+        counts.open_pairs
+    }
+}
+
 // How many pairs there are of all kinds.
-fn all_of(counts: Counts) -> u64 {
+fn all_of(counts: Counts) -> u64
+    ensures { result ≡ all_in counts }
+{
     counts
         .candidates
         .saturating_add(counts.open_pairs)

@@ -1,5 +1,6 @@
 //! The verdict on each pair of places.
-ghost use Rattle.std.specs.Prelude.{◌≡◌, ℕ, ◌<◌, All, IfOk, length, slice_index};
+ghost use Rattle.std.specs.Prelude.{◌≡◌, ℕ, ◌<◌, All, Err, IfOk, List, length, slice_index};
+ghost use Rattle.race_groups.specs.Found.{AreTooMany};
 ghost use Rattle.race_triage.specs.Places.{AreNumbers};
 ghost use Rattle.race_triage.specs.Verdicts.{IsVerdict, AreAllTold, AreRising};
 
@@ -33,18 +34,33 @@ pub enum TriageRefusal {
 }
 
 impl From<OutOfMemory> for TriageRefusal {
+    ghost use Rattle.std.specs.Prelude.{◌≡◌};
+    ghost use Rattle.race_triage.specs.declared.verdicts.TriageRefusal.TheVariants.{OutOfMemory};
+
+    ghost from_gives = { λ refused refusal. refusal ≡ OutOfMemory };
+
     fn from(_refused: OutOfMemory) -> TriageRefusal {
         TriageRefusal::OutOfMemory
     }
 }
 
 impl From<std::alloc::AllocError> for TriageRefusal {
+    ghost use Rattle.std.specs.Prelude.{◌≡◌};
+    ghost use Rattle.race_triage.specs.declared.verdicts.TriageRefusal.TheVariants.{OutOfMemory};
+
+    ghost from_gives = { λ refused refusal. refusal ≡ OutOfMemory };
+
     fn from(_refused: std::alloc::AllocError) -> TriageRefusal {
         TriageRefusal::OutOfMemory
     }
 }
 
 impl<T: Drop> From<std::alloc::AllocFailed<T>> for TriageRefusal {
+    ghost use Rattle.std.specs.Prelude.{◌≡◌};
+    ghost use Rattle.race_triage.specs.declared.verdicts.TriageRefusal.TheVariants.{OutOfMemory};
+
+    ghost from_gives = { λ refused refusal. refusal ≡ OutOfMemory };
+
     fn from(_refused: std::alloc::AllocFailed<T>) -> TriageRefusal {
         TriageRefusal::OutOfMemory
     }
@@ -118,6 +134,9 @@ pub fn triage<R: Threads + Sync>(
     // Each conflicting pair has its places' verdict.
     ensures complete { IfOk result (λ found. AreAllTold indexed.now.events (slice_index found.places.numbers.items) found.verdicts.items) }
     ensures rising { IfOk result (λ found. AreRising found.verdicts.items) }
+    // It is refused only where more pairs of places have a conflicting pair, or for want of memory.
+    ensures too_many { result ≡ Err TriageRefusal.TooMany
+        → (numbers : List ℕ) × AreNumbers indexed.now numbers × AreTooMany indexed.now.events (slice_index numbers) MAX_PLACES }
 {
     let places = Places::of(alloc, indexed)?;
     let acquires = Acquires::new(alloc, indexed)?;

@@ -1,16 +1,28 @@
-use Rattle.std.proofs.Common.{rules, ◌≡◌, ◌++◌, [], All, true, cond, filter, ap, ◌∙◌}
-use Rattle.race_triage.specs.Chosen.{is_of}
+use Rattle.std.proofs.Common.{◌≡◌, ◌++◌, [], List, ℕ, Some, None, is_some, length, map, filter, cond, subst, sym, ap, ◌∙◌}
+use Rattle.race_triage.specs.Chosen.{is_of, known_places, AreConsidered}
 use Rattle.race_triage.specs.declared.chosen.Part.TheVariants.{Races, Open, Never}
-use Rattle.race_triage.proofs.ChosenLemmas.{three}
+use Rattle.race_triage.specs.declared.verdicts.Verdict.{Verdict}
+use Rattle.race_triage.proofs.ChosenLemmas.{some_places, AreChosen-from, Considered-append}
 use Rattle.race_triage.proofs.chosen.chosen_of.Goals as goal
 
 pub returns : goal.returns
-returns c = record {
-  told = λ only hide.
-      let all : All (λ v. is_of Races v ≡ true) c.choose.new.self.verdicts.items = search rules in
-      let second : c.choose-2.new.self.verdicts.items ≡ c.choose.new.self.verdicts.items ++ c.in_ok-open.open.items = search rules in
-      let third : c.choose-3.new.self.verdicts.items ≡ c.choose-2.new.self.verdicts.items ++ c.in_ok-never.never.items = search rules in
-      three (λ v. is_of Races v ≡ true) _ _ _ _ _ _ _ all second third
-      (c.in_ok-open.ensures.some ∙ ap (λ xs. filter (is_of Open) xs) c.as_slice-all.ensures.value)
-      (c.in_ok-never.ensures.some ∙ ap (λ xs. cond c.args.apart (filter (is_of Never) xs) []) c.as_slice-all.ensures.value);
-}
+returns c =
+    let r = c.args.indexed.now in
+    let known = known_places c.args.known.now in
+    let only = map (λ t. t.now) c.args.filters.only.now in
+    let hide = map (λ t. t.now) c.args.filters.hide.now in
+    let vs = c.args.verdicts.now.verdicts.items in
+    let races : c.as_slice.result.now ≡ filter (is_of Races) vs =
+    c.as_slice.ensures.value ∙ c.in_ok-races.ensures ∙ ap (λ (l : List Verdict). filter (is_of Races) l) c.as_slice-all.ensures.value in
+    let open_ones : c.as_slice-2.result.now ≡ filter (is_of Open) vs =
+    c.as_slice-2.ensures.value ∙ c.in_ok-open.ensures ∙ ap (λ (l : List Verdict). filter (is_of Open) l) c.as_slice-all.ensures.value in
+    let apart_ones : c.as_slice-3.result.now ≡ cond c.args.apart (filter (is_of Never) vs) [] =
+    c.as_slice-3.ensures.value ∙ c.in_ok-never.ensures ∙ ap (λ (l : List Verdict). cond c.args.apart (filter (is_of Never) l) []) c.as_slice-all.ensures.value in
+    let first = subst (λ (l : List Verdict). AreConsidered r known only hide l c.nothing-chosen.result c.choose.new.self) races c.in_ok-choose.ensures in
+    let second = subst (λ (l : List Verdict). AreConsidered r known only hide l c.choose.new.self c.choose-2.new.self) open_ones c.in_ok-choose-2.ensures in
+    let third = subst (λ (l : List Verdict). AreConsidered r known only hide l c.choose-2.new.self c.choose-3.new.self) apart_ones c.in_ok-choose-3.ensures in
+    let both = Considered-append r known only hide (filter (is_of Races) vs) (filter (is_of Open) vs) _ _ _ first second in
+    let whole = Considered-append r known only hide (filter (is_of Races) vs ++ filter (is_of Open) vs) (cond c.args.apart (filter (is_of Never) vs) []) _ _ _ both third in
+    AreChosen-from r known only hide c.args.apart c.is_any.result vs c.nothing-chosen.result c.choose-3.new.self whole c.nothing-chosen.ensures.verdicts c.nothing-chosen.ensures.races
+    (c.nothing-chosen.ensures.known ∙ ap (λ b. cond b (Some 0) None) (c.is_some.ensures ∙ sym (some_places c.args.known.now)))
+    c.nothing-chosen.ensures.hidden c.is_any.ensures

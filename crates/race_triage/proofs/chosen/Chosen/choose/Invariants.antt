@@ -1,9 +1,9 @@
-use Rattle.std.proofs.Common.{◌≡◌, ◌++◌, [], All, true, false, take}
-use Rattle.race_triage.specs.Chosen.{is_of}
-use Rattle.race_triage.specs.declared.chosen.Part.TheVariants.{Races}
+-- So far the first of the verdicts were considered.
+use Rattle.std.proofs.Common.{map, take}
+use Rattle.race_triage.specs.Chosen.{known_places, AreConsidered}
 use Rattle.race_triage.proofs.chosen.Chosen.choose.Given as goal
 
 abbrev pub invariant-loop-verdict : goal.invariant-loop-verdict
 invariant-loop-verdict l =
-    (l.filters.only.now ≡ [] → l.filters.hide.now ≡ [] → All (λ v. is_of Races v ≡ false) l.some → l.self.verdicts.items ≡ l.fn.self.verdicts.items ++ take l.verdict-index l.some)
-    × (All (λ v. is_of Races v ≡ true) l.fn.self.verdicts.items → All (λ v. is_of Races v ≡ true) l.some → All (λ v. is_of Races v ≡ true) l.self.verdicts.items)
+    AreConsidered l.indexed (known_places l.known) (map (λ t. t.now) l.filters.only.now) (map (λ t. t.now) l.filters.hide.now)
+    (take l.verdict-index l.some) l.fn.self l.self
