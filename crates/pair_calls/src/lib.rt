@@ -13,4 +13,5 @@ pub use explaining::explain;
 pub use fault::{PairFault, pair_fault_text};
 pub use form::Form;
 pub use must_order::Kind;
+pub use reading::read_trace;
 pub use witnessing::witness;

@@ -1,4 +1,4 @@
-//! Reads a trace, whole, for a call on a pair of its events.
+//! Reads a trace, whole.
 ghost use Rattle.std.specs.Prelude.{◌≡◌, ◌≢◌, false, true, IfOk, IfErr, Err};
 ghost use Rattle.client_scripts.specs.declared.fault.ReadCause.{ReadCause};
 ghost use Rattle.client_scripts.specs.declared.fault.ReadCause.TheVariants.{Device};
@@ -9,8 +9,8 @@ use client_scripts::{ReplayFault, Source, load, read_input};
 use event_index::Indexed;
 use std::alloc::Global;
 
-/// The trace that the reader tells.
-pub(crate) fn read_trace<S: Source>(alloc: Global, reader: &mut S) -> Result<Indexed, ReplayFault>
+/// The trace that the reader tells; or 91, 92 or 94, or 96 for want of memory.
+pub fn read_trace<S: Source>(alloc: Global, reader: &mut S) -> Result<Indexed, ReplayFault>
     requires { S.has_failed reader.old ≡ false }
     ensures read { IfOk result (IsReadFrom (S.rest reader.old)) }
     ensures unread { IfErr result (IsUnread (S.rest reader.old)) }

@@ -1,5 +1,5 @@
 //! Objects, a line each.
-ghost use Rattle.std.specs.Prelude.{◌≡◌};
+ghost use Rattle.std.specs.Prelude.{◌≡◌, ◌++◌, List, ℕ, OnOk, OnErr};
 
 use crate::accesses::accesses_of;
 use crate::object::Object;
@@ -11,13 +11,32 @@ use rapid_text::OutOfMemory;
 use std::alloc::Global;
 
 /// Appends what `triage_text` tells, as JSON: an object a line, the counts first, then one for each of the chosen verdicts, in their order, and how
-/// many were left out last. Where memory is refused, whole lines may stand behind what `out` held.
+/// many were left out last. Where memory is refused `out` stays as it was.
 pub fn triage_json(
     indexed: &Indexed,
     must: &Must,
     found: &Verdicts,
     chosen: &Chosen,
     out: &mut Vec<u8>,
+) -> Result<(), OutOfMemory>
+    requires must { must.now ≡ indexed.now }
+    // A text is appended, whole or not at all; what it says is only tested.
+    ensures ok { OnOk result ((text : List ℕ) × (out.new.items ≡ out.old.items ++ text)) }
+    ensures err { OnErr result (out.new.items ≡ out.old.items) }
+{
+    let mut text = Vec::new(*out.allocator());
+    append_all(&mut text, indexed, must, found, chosen)?;
+    out.extend_from_slice(text.as_slice())?;
+    Ok(())
+}
+
+/// Appends the lines of the counts, of the chosen verdicts, and of how many were left out.
+fn append_all(
+    out: &mut Vec<u8>,
+    indexed: &Indexed,
+    must: &Must,
+    found: &Verdicts,
+    chosen: &Chosen,
 ) -> Result<(), OutOfMemory>
     requires must { must.now ≡ indexed.now }
 {

@@ -3,7 +3,6 @@ ghost use Rattle.std.specs.Prelude.{◌≡◌, ◌++◌, OnOk, OnErr};
 ghost use Rattle.triage_calls.specs.TriageFaults.{triage_fault_words};
 
 use client_scripts::{ReplayFault, fault_text};
-use race_triage::TriageRefusal;
 use rapid_text::OutOfMemory;
 use report::{Piece, append_pieces};
 
@@ -36,15 +35,6 @@ impl From<OutOfMemory> for TriageFault {
 
     fn from(_refused: OutOfMemory) -> TriageFault {
         TriageFault::Replay(ReplayFault::OutOfMemory)
-    }
-}
-
-impl From<TriageRefusal> for TriageFault {
-    fn from(refusal: TriageRefusal) -> TriageFault {
-        match refusal {
-            TriageRefusal::TooMany => TriageFault::TooMany,
-            TriageRefusal::OutOfMemory => TriageFault::Replay(ReplayFault::OutOfMemory),
-        }
     }
 }
 

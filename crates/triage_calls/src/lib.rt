@@ -3,7 +3,6 @@
 
 mod fault;
 mod listing;
-mod reading;
 mod writing;
 
 pub use fault::{TriageFault, triage_fault_text};

@@ -1,17 +1,22 @@
 //! Lists the races of a trace by pairs of places: reads the trace, finds the verdicts, makes the text, and writes it.
-ghost use Rattle.std.specs.Prelude.{◌≡◌, false, IfSome};
+ghost use Rattle.std.specs.Prelude.{◌≡◌, ◌≢◌, ◌++◌, ℕ, List, Option, None, Err, IfErr, IfOk, IfSome, map, true, false};
+ghost use Rattle.client_scripts.specs.declared.fault.ReadCause.TheVariants.{Device};
+ghost use Rattle.client_scripts.specs.declared.fault.ReplayFault.TheVariants.{Read, Write};
+ghost use Rattle.race_triage.specs.Chosen.{known_places, AreChosen};
+ghost use Rattle.triage_calls.specs.Answers.{hide_of, only_of, AreVerdicts, IsGiven, IsKnownRead, IsKnownUnread, IsListing, IsToldIn, IsTriaged, IsUntold, IsWritten};
+ghost use Rattle.triage_calls.specs.declared.fault.TriageFault.TheVariants.{Replay};
 
 use crate::fault::TriageFault;
-use crate::reading::read_trace;
 use crate::writing::write_text;
 use client_scripts::{ReplayFault, Sink, Source, read_input};
 use event_index::Indexed;
 use must_order::Must;
+use pair_calls::read_trace;
 use race_json::triage_json;
 use race_page::page_text;
 use race_triage::{
-    Chosen, Filters, Known, Places, Verdicts, chosen_of, known_of, triage as verdicts_of,
-    triage_text,
+    Chosen, Filters, Known, Places, TriageRefusal, Verdicts, chosen_of, known_of,
+    triage as verdicts_of, triage_text,
 };
 use rapid_text::OutOfMemory;
 use shb_clocks::Clocks;
@@ -61,6 +66,16 @@ pub fn triage<R: Threads + Sync, S: Source, L: Source + Drop, K: Sink>(
     requires reader { S.has_failed reader.old ≡ false }
     requires known { IfSome known (λ k. L.has_failed k ≡ false) }
     requires writer { K.has_failed writer.old ≡ false }
+    // There are texts of the trace and of known races, those that the readers tell where they tell them, of which this comes.
+    ensures triaged { (bytes listed : List ℕ)
+        × IfSome (S.rest reader.old) (λ told. bytes ≡ told)
+        × IfSome known (λ k. IfSome (L.rest k) (λ told. listed ≡ told))
+        × IsTriaged bytes listed known asked.entry (K.taken writer.old) (K.taken writer.new) result }
+    // The writer is at fault exactly where a write failed.
+    ensures write { result ≡ Err (Replay Write) → K.has_failed writer.new ≡ true }
+    ensures write_failed { K.has_failed writer.new ≡ true → result ≡ Err (Replay Write) }
+    ensures read_failed { S.has_failed reader.new ≡ true → result ≡ Err (Replay (Read 1 Device)) }
+    ensures device { result ≡ Err (Replay (Read 1 Device)) → S.has_failed reader.new ≡ true }
 {
     let indexed = match read_trace(alloc, reader) {
         Ok(indexed) => indexed,
@@ -70,7 +85,24 @@ pub fn triage<R: Threads + Sync, S: Source, L: Source + Drop, K: Sink>(
         Ok(listed) => listed,
         Err(fault) => return Err(fault),
     };
-    let (text, races) = match text_of(rt, alloc, &indexed, &listed, asked) {
+    write_listing(rt, alloc, &indexed, &listed, asked, writer)
+}
+
+/// Writes what is found of the trace. Answers how many races were written.
+fn write_listing<R: Threads + Sync, K: Sink>(
+    rt: &R,
+    alloc: Global,
+    indexed: &Indexed,
+    listed: &Option<Vec<u8>>,
+    asked: Asked<'_>,
+    writer: &mut K,
+) -> Result<u64, TriageFault>
+    requires { K.has_failed writer.old ≡ false }
+    ensures written { IsWritten indexed.now listed.now asked.entry (K.taken writer.old) (K.taken writer.new) result }
+    ensures failed { K.has_failed writer.new ≡ true → result ≡ Err (Replay Write) }
+    ensures write { result ≡ Err (Replay Write) → K.has_failed writer.new ≡ true }
+{
+    let (text, races) = match text_of(rt, alloc, indexed, listed, asked) {
         Ok(made) => made,
         Err(fault) => return Err(fault),
     };
@@ -86,6 +118,9 @@ fn read_known<L: Source + Drop>(
     known: Option<L>,
 ) -> Result<Option<Vec<u8>>, TriageFault>
     requires { IfSome known (λ k. L.has_failed k ≡ false) }
+    ensures read { IfOk result (λ listed. IsKnownRead known listed) }
+    ensures unread { IfErr result (λ fault. IfSome known (λ k. IsKnownUnread (L.rest k) fault)) }
+    ensures given { IfErr result (λ fault. known ≢ None) }
 {
     let Some(mut source) = known else {
         return Ok(None);
@@ -103,7 +138,11 @@ fn text_of<R: Threads + Sync>(
     indexed: &Indexed,
     listed: &Option<Vec<u8>>,
     asked: Asked<'_>,
-) -> Result<(Vec<u8>, u64), TriageFault> {
+) -> Result<(Vec<u8>, u64), TriageFault>
+    ensures listing { IfOk result (λ made. (known : Option (List (ℕ × ℕ))) × IsGiven listed.now known
+        × IsListing indexed.now known asked.entry made.1 made.0.items) }
+    ensures fault { IfErr result (IsUntold indexed.now) }
+{
     let must = match Must::new(alloc, indexed) {
         Ok(must) => must,
         Err(_) => return Err(TriageFault::Replay(ReplayFault::OutOfMemory)),
@@ -134,8 +173,11 @@ fn told(
 ) -> Result<(Vec<u8>, u64), OutOfMemory>
     requires clocks { clocks.now ≡ indexed.now }
     requires must { must.now ≡ indexed.now }
+    requires found { AreVerdicts indexed.now found.now.places.numbers.items asked.apart found.now.verdicts.items }
+    ensures { IfOk result (λ made. (known : Option (List (ℕ × ℕ))) × IsGiven listed.now known
+        × IsListing indexed.now known asked.entry made.1 made.0.items) }
 {
-    let known = known_places(alloc, &found.places, listed)?;
+    let known = known_in(alloc, &found.places, listed)?;
     let mut text = Vec::new(alloc);
     let races = append_told(indexed, clocks, must, found, &known, asked, &mut text)?;
     Ok((text, races))
@@ -153,6 +195,8 @@ fn append_told(
 ) -> Result<u64, OutOfMemory>
     requires clocks { clocks.now ≡ indexed.now }
     requires must { must.now ≡ indexed.now }
+    ensures { IfOk result (λ races. (text : List ℕ) × (out.new.items ≡ out.old.items ++ text)
+        × IsToldIn asked.entry.form indexed.now (known_places known.now) asked.entry found.now.verdicts.items races text) }
 {
     match asked.form {
         Form::Text => {
@@ -186,7 +230,10 @@ fn chosen(
     known: &Option<Known>,
     asked: Asked<'_>,
     out: &Vec<u8>,
-) -> Result<Chosen, OutOfMemory> {
+) -> Result<Chosen, OutOfMemory>
+    ensures { IfOk result (AreChosen indexed.now (known_places known.now) (only_of asked.entry) (hide_of asked.entry) asked.entry.apart
+        found.now.verdicts.items) }
+{
     chosen_of(
         *out.allocator(),
         indexed,
@@ -208,6 +255,8 @@ fn found_of<R: Threads + Sync>(
 ) -> Result<Verdicts, TriageFault>
     requires clocks { clocks.now ≡ indexed.now }
     requires must { must.now ≡ indexed.now }
+    ensures found { IfOk result (λ found. AreVerdicts indexed.now found.places.numbers.items asked.entry.apart found.verdicts.items) }
+    ensures fault { IfErr result (IsUntold indexed.now) }
 {
     match verdicts_of(
         rt,
@@ -220,16 +269,19 @@ fn found_of<R: Threads + Sync>(
         asked.workers,
     ) {
         Ok(found) => Ok(found),
-        Err(refusal) => Err(TriageFault::from(refusal)),
+        Err(TriageRefusal::TooMany) => Err(TriageFault::TooMany),
+        Err(TriageRefusal::OutOfMemory) => Err(TriageFault::Replay(ReplayFault::OutOfMemory)),
     }
 }
 
 /// The pairs of places that a text lists as races.
-fn known_places(
+fn known_in(
     alloc: Global,
     places: &Places,
     listed: &Option<Vec<u8>>,
-) -> Result<Option<Known>, OutOfMemory> {
+) -> Result<Option<Known>, OutOfMemory>
+    ensures { IfOk result (λ known. IsGiven listed.now (known_places known)) }
+{
     match listed {
         Some(text) => Ok(Some(known_of(alloc, places, text.as_slice())?)),
         None => Ok(None),

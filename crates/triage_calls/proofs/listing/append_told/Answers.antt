@@ -1,0 +1,25 @@
+use Rattle.std.proofs.Common.{List, ℕ, refl, subst, sym}
+use Rattle.race_triage.specs.Chosen.{known_places}
+use Rattle.triage_calls.specs.Answers.{IsToldIn}
+use Rattle.triage_calls.specs.declared.listing.Form.{Form}
+use Rattle.triage_calls.proofs.listing.append_told.Goals as goal
+
+pub returns-in_ok-triage_text-in-Text : goal.returns-in_ok-triage_text-in-Text
+returns-in_ok-triage_text-in-Text c =
+    let made = c.in_ok-triage_text-in-Text.ensures.ok in
+    let told = c.in_ok-chosen-in-Text.chosen in (
+      made.0,
+      made.2,
+      subst (λ (f : Form). IsToldIn f c.args.indexed.now (known_places c.args.known.now) c.args.asked c.args.found.now.verdicts.items told.races made.0) (sym c.in-Text.is)
+          (told, c.in_ok-chosen-in-Text.ensures, made.1, refl),
+    )
+
+pub returns-in_ok-triage_json-in-Json : goal.returns-in_ok-triage_json-in-Json
+returns-in_ok-triage_json-in-Json c =
+    let made = c.in_ok-triage_json-in-Json.ensures.ok in
+    let told = c.in_ok-chosen-in-Json.chosen in (
+      made.0,
+      made.1,
+      subst (λ (f : Form). IsToldIn f c.args.indexed.now (known_places c.args.known.now) c.args.asked c.args.found.now.verdicts.items told.races made.0) (sym c.in-Json.is)
+          (told, c.in_ok-chosen-in-Json.ensures, refl),
+    )

@@ -1,0 +1,110 @@
+-- What `triage` answers of the bytes that it reads, and what its writer has taken. All notions here are this project's own.
+use Rattle.std.specs.Prelude.{◌≡◌, ◌⊎◌, ℕ, Bool, List, [], length, map, All, None, Some, Option, Result, Ok, Err, IfSome, slice_index, ⊤}
+use Rattle.std.specs.Io.KnownBytes.{Appends}
+use Rattle.rapid_text.specs.Recording.{Recording}
+use Rattle.race_groups.specs.Found.{AreTooMany}
+use Rattle.race_page.specs.Pages.{IsPage}
+use Rattle.race_page.specs.Rows.{all_rows}
+use Rattle.race_page.specs.declared.shown.Shown.{Shown}
+use Rattle.race_triage.specs.Chosen.{AreChosen}
+use Rattle.race_triage.specs.Places.{AreNumbers}
+use Rattle.race_triage.specs.Texts.{IsTriageText}
+use Rattle.race_triage.specs.Verdicts.{IsVerdict, AreAllTold, AreRising}
+use Rattle.race_triage.specs.declared.chosen.Chosen.{Chosen}
+use Rattle.race_triage.specs.declared.verdicts.TheConstants.{MAX_PLACES}
+use Rattle.race_triage.specs.declared.verdicts.Verdict.{Verdict}
+use Rattle.client_scripts.specs.Replay.{AppendsPart, IsAccepted, IsFault, IsUnreadable, of_trace}
+use Rattle.client_scripts.specs.declared.fault.ReplayFault.{ReplayFault}
+use Rattle.client_scripts.specs.declared.fault.ReplayFault.TheVariants.{Read, Write, OutOfMemory}
+use Rattle.client_scripts.specs.Steps.{IsInput}
+use Rattle.pair_calls.specs.Answers.{IsRead}
+use Rattle.triage_calls.specs.declared.fault.TriageFault.{TriageFault}
+use Rattle.triage_calls.specs.declared.fault.TriageFault.TheVariants.{Replay, TooMany}
+use Rattle.triage_calls.specs.declared.listing.Asked.{Asked}
+use Rattle.triage_calls.specs.declared.listing.Form.{Form}
+use Rattle.triage_calls.specs.declared.listing.Form.TheVariants.{Text, Json, Page}
+
+-- The verdicts on a trace, whose events have these numbers of places.
+pub record AreVerdicts (r : Recording) (numbers : List ℕ) (apart : Bool) (vs : List Verdict) : Type 0 where
+  pub places : AreNumbers r numbers
+  pub verdicts : All (IsVerdict r (slice_index numbers) apart) vs
+  pub complete : AreAllTold r.events (slice_index numbers) vs
+  pub rising : AreRising vs
+
+-- the filters' texts
+abbrev pub only_of : Asked → List (List ℕ)
+only_of asked = map (λ t. t.now) asked.filters.only.now
+
+abbrev pub hide_of : Asked → List (List ℕ)
+hide_of asked = map (λ t. t.now) asked.filters.hide.now
+
+-- so many races are told of in this form
+abbrev pub IsToldIn : Form → Recording → Option (List (ℕ × ℕ)) → Asked → List Verdict → ℕ → List ℕ → Type 0
+IsToldIn Text r known asked vs races text =
+    (c : Chosen) × AreChosen r known (only_of asked) (hide_of asked) asked.apart vs c × IsTriageText r vs c text × (races ≡ c.races)
+IsToldIn Json r known asked vs races text =
+    (c : Chosen) × AreChosen r known (only_of asked) (hide_of asked) asked.apart vs c × (races ≡ c.races)
+IsToldIn (Page name) r known asked vs races text =
+    (rows : List Shown) × IsPage text rows × (known ≡ None → only_of asked ≡ [] → hide_of asked ≡ [] → rows ≡ all_rows asked.apart vs)
+
+-- The text tells of the verdicts on the trace what was asked for; `known` is the pairs of places whose races are known.
+pub record IsListing (r : Recording) (known : Option (List (ℕ × ℕ))) (asked : Asked) (races : ℕ) (text : List ℕ) : Type 0 where
+  pub numbers : List ℕ
+  pub verdicts : List Verdict
+  pub found : AreVerdicts r numbers asked.apart verdicts
+  pub told : IsToldIn asked.form r known asked verdicts races text
+
+-- more pairs of places than there may be have a conflicting pair of events
+abbrev pub IsCrowded : Recording → Type 0
+IsCrowded r = (numbers : List ℕ) × AreNumbers r numbers × AreTooMany r.events (slice_index numbers) MAX_PLACES
+
+-- where no text of known races is given, none is known
+abbrev pub IsGiven : {X : Type 0} → Option X → Option (List (ℕ × ℕ)) → Type 0
+IsGiven None known = known ≡ None
+IsGiven (Some text) known = ⊤
+
+-- the text tells what was asked for of the trace
+abbrev pub IsListed : {X : Type 0} → Recording → Option X → Asked → ℕ → List ℕ → Type 0
+IsListed r given asked races text = (known : Option (List (ℕ × ℕ))) × IsGiven given known × IsListing r known asked races text
+
+-- the text of known races was read, where there is one; or was not, for this reason
+abbrev pub IsKnownRead : {X Y : Type 0} → Option X → Option Y → Type 0
+IsKnownRead None None = ⊤
+IsKnownRead (Some source) (Some text) = ⊤
+IsKnownRead known listed = ⊥
+
+abbrev pub IsKnownUnread : Option (List ℕ) → TriageFault → Type 0
+IsKnownUnread rest (Replay fault) = IsInput 2 rest (Err fault)
+IsKnownUnread rest TooMany = ⊥
+
+-- why nothing is told of a trace
+abbrev pub IsUntold : Recording → TriageFault → Type 0
+IsUntold r (Replay OutOfMemory) = ⊤
+IsUntold r (Replay fault) = ⊥
+IsUntold r TooMany = IsCrowded r
+
+-- What was written of a trace: the whole text; or the writer failed, and it is a beginning of it; or, where nothing is told, nothing.
+abbrev pub IsWritten : {X : Type 0} → Recording → Option X → Asked → Option (List ℕ) → Option (List ℕ) → Result ℕ TriageFault → Type 0
+IsWritten r given asked old new (Ok races) = (text : List ℕ) × IsListed r given asked races text × Appends old new text
+IsWritten r given asked old new (Err (Replay Write)) = (races : ℕ) × (text : List ℕ) × IsListed r given asked races text × AppendsPart old new text
+IsWritten r given asked old new (Err fault) = IsUntold r fault × (new ≡ old)
+
+-- the text of known races is not read, where the trace is accepted
+abbrev pub IsKnownFault : List ℕ → List ℕ → ReplayFault → Type 0
+IsKnownFault bytes listed (Read input why) = (input ≡ 2) × IsAccepted (of_trace bytes) × IsUnreadable listed why
+IsKnownFault bytes listed fault = ⊥
+
+-- the trace's bytes are accepted, and the text tells what was asked for
+abbrev pub IsAnswer : {X : Type 0} → List ℕ → Option X → Asked → ℕ → List ℕ → Type 0
+IsAnswer bytes given asked races text =
+    (r : Recording) × IsRead bytes r × IsListed r given asked races text
+
+-- What is answered, and what the writer has taken: the whole text; or the writer failed, and it is a beginning of the text; or, at another
+-- fault, nothing.
+abbrev pub IsTriaged : {X : Type 0} → List ℕ → List ℕ → Option X → Asked → Option (List ℕ) → Option (List ℕ) → Result ℕ TriageFault → Type 0
+IsTriaged bytes listed given asked old new (Ok races) = (text : List ℕ) × IsAnswer bytes given asked races text × Appends old new text
+IsTriaged bytes listed given asked old new (Err (Replay Write)) =
+    (races : ℕ) × (text : List ℕ) × IsAnswer bytes given asked races text × AppendsPart old new text
+IsTriaged bytes listed given asked old new (Err (Replay OutOfMemory)) = new ≡ old
+IsTriaged bytes listed given asked old new (Err (Replay fault)) = (IsFault (of_trace bytes) fault ⊎ IsKnownFault bytes listed fault) × (new ≡ old)
+IsTriaged bytes listed given asked old new (Err TooMany) = (r : Recording) × IsRead bytes r × IsCrowded r × (new ≡ old)
