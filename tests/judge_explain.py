@@ -3,7 +3,8 @@
 
 Of each conflicting pair of traces drawn by chance, and of some that were made for what chance draws seldom: the verdict, with all that
 stands behind it (explained.py); that the schedule is a correct reordering which shows the pair, and has exactly the events of the least list in the
-order of the trace where there is one; that `replay` of its script tells the pair, and `info` of its trace has it as a candidate; and its picture (pictured.py).
+order of the trace where there is one, and else of what the search finds; that `replay` of its script tells the pair, and
+`info` of its trace has it as a candidate; and its picture (pictured.py).
 On small traces all correct reorderings are gone over: none shows a pair that is forced or guarded, and each list in the order of the trace that
 shows a pair has all events of the least one.
 
@@ -123,7 +124,7 @@ class Judge:
         if not trace.is_reordering(shown) or not trace.shows(shown, *pair):
             raise explained.Wrong(f"this list does not show the pair: {shown}")
         if listed is not None and tuple(sorted(shown)) != listed:
-            raise explained.Wrong(f"the schedule is {shown}, and the least list in the order of the trace is {listed}")
+            raise explained.Wrong(f"the schedule is {shown}, and its events are to be {listed}")
         self.judge_script(trace, pair, words, shown)
         self.judge_std(trace, words, shown + pair)
         pictured.judge_picture(trace, self.tally, self.printed("witness", "trace", *words, "--svg"), pair, shown)
@@ -151,7 +152,8 @@ class Judge:
 
 
 def verdict_of(trace, pair):
-    """What is to be said of a conflicting pair, and the least list in the order of the trace that shows it, or None."""
+    """What is to be said of a conflicting pair, and the events of the schedule that shows it, rising: those of the least list in the order of the
+    trace, or of what the search finds; or None."""
     kind = trace.kind(*pair)
     listed = trace.in_order(*pair)
     if kind == "candidate":
@@ -162,7 +164,8 @@ def verdict_of(trace, pair):
         return kind, None
     if listed is not None:
         return "beyond", listed
-    return "undecided" if trace.turned(*pair) is None else "turned", None
+    turned = trace.turned(*pair)
+    return ("undecided", None) if turned is None else ("turned", tuple(sorted(turned)))
 
 
 def judge_reorderings(trace, pairs):

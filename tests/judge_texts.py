@@ -51,6 +51,10 @@ ACCEPTED = [
     ),
     (["T1 w x", "T1 acq l", "T1 rel l", "T2 acq l", "T2 rel l", "T2 w x"], ONE_LOCK),
     (["T1 w x", "T2 r x", "T2 w z", "T1 w z"], "T1|w(x)|1\nT2|r(x)|2\nT2|w(z)|3\nT1|w(z)|4"),
+    (["M w x", "M fork W", "W r x"], "M|w(x)|1\nM|fork(W)|2\nW|r(x)|3"),
+    # the event before the fork of a thread that does nothing comes before that after its join
+    (["A w x", "A fork W", "B join W", "B w x"], "A|w(x)|\nA|fork(W)|\nB|join(W)|\nB|w(x)|"),
+    (["A w x", "B w x", "C w x", "A w x"], "A|w(x)|\nB|w(x)|\nC|w(x)|\nA|w(x)|"),
     ([f"T{number} w x" for number in range(65)], "".join(THREADS[:65])),
     ([f"T{number} w x" for number in range(256)], "".join(THREADS)),
     ("events 65537\nthreads 1\nvariables 1\nlocks 0\nthread 0 T1 65537\ncandidates 0\n", PAST_16_BITS),
