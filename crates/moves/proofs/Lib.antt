@@ -10,6 +10,7 @@ pub mod KeepLemmas
 pub mod ManyLemmas
 pub mod NameLemmas
 pub mod RowLemmas
+pub mod SpareLemmas
 pub mod StepLemmas
 pub mod TurnAllLemmas
 pub mod TurnLemmas

@@ -11,4 +11,5 @@ pub mod Layout
 pub mod Moves
 pub mod Names
 pub mod Rows
+pub mod Spares
 pub mod Words

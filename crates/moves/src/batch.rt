@@ -1,10 +1,12 @@
 //! Batches: commands applied all or none, and what takes them back.
-ghost use Rattle.std.specs.Prelude.{◌≡◌, ◌+◌, ◌<◌, ◌≤◌, ℕ, [], length, vec_len, vec_capacity, IfOk, OnOk};
+ghost use Rattle.std.specs.Prelude.{◌≡◌, ◌+◌, ◌<◌, ◌≤◌, ℕ, true, [], length, take, vec_len, vec_capacity, IfOk, OnOk};
+ghost use Rattle.std.specs.List.{list_all};
 ghost use Rattle.moves.specs.Rows.{IsListing, IsOfTrace, Below};
 ghost use Rattle.moves.specs.Ages.{age};
 ghost use Rattle.moves.specs.Boards.{IsBoardOf};
+ghost use Rattle.moves.specs.Spares.{builds, spares_memory, is_spare};
 ghost use Rattle.moves.specs.Inverses.{IsStepOf};
-ghost use Rattle.moves.specs.Batches.{IsRun, refused_as, CanTurnAll, IsTurnedAll, AreOfTrace};
+ghost use Rattle.moves.specs.Batches.{IsRun, IsAppliedAll, refused_as, CanTurnAll, IsTurnedAll, AreOfTrace};
 
 use crate::birth::Birth;
 use crate::board::Board;
@@ -88,6 +90,107 @@ fn refused(place: u32, cause: MoveRefusal) -> BatchRefusal
         MoveRefusal::OutOfMemory => BatchRefusal::OutOfMemory,
         cause => BatchRefusal::InBatch { place, cause },
     }
+}
+
+/// Applies the commands in place, all or none, where what takes back those before a refusal wants no memory.
+pub(crate) fn run_here(
+    rows: &mut Workspace,
+    mut done: Vec<Inverse>,
+    indexed: &Indexed,
+    board: &Board,
+    entry: u64,
+    commands: &[Command],
+) -> Result<Inverses, BatchRefusal>
+    requires of_trace { IsOfTrace indexed.now rows.old }
+    requires board { IsBoardOf indexed.now board.now }
+    requires late { Below (age entry 0) rows.old }
+    requires few { length commands.now < 4294967296 }
+    requires listing { IsListing rows.old }
+    requires none { done.items ≡ [] }
+    requires room { vec_len done + length commands.now ≤ vec_capacity done }
+    requires builds { (k : ℕ) → k < length commands.now → list_all builds (take k commands.now) ≡ true }
+    ensures { IsAppliedAll indexed.now board.now (age entry 0) commands.now rows.old rows.new result }
+{
+    let Err(why) = run(rows, &mut done, indexed, board, entry, commands) else {
+        return Ok(Inverses { items: done });
+    };
+    unwind(rows, indexed, done);
+    Err(why)
+}
+
+/// Whether all commands but the last are such that what takes them back wants no memory.
+pub(crate) fn builds_up(commands: &[Command]) -> bool
+    ensures { result ≡ true → (k : ℕ) → k < length commands.now → list_all builds (take k commands.now) ≡ true }
+{
+    match commands.split_last() {
+        None => true,
+        Some((last, earlier)) => {
+            let _ = last;
+            all_build(earlier)
+        },
+    }
+}
+
+fn all_build(commands: &[Command]) -> bool
+    ensures { result ≡ list_all builds commands.now }
+{
+    commands.iter().all(|command| builds(command))
+}
+
+fn builds(command: &Command) -> bool
+    ensures { result ≡ builds command.now }
+{
+    match *command {
+        Command::Fresh { name: _ } => true,
+        Command::Add { name: _, event: _ } => true,
+        Command::Back { name: _ } => false,
+        Command::Swap { name: _, at: _ } => true,
+        Command::Branch {
+            name: _,
+            length: _,
+            to: _,
+        } => true,
+        Command::Drop { name: _ } => false,
+        Command::Adopt {
+            name: _,
+            proposal: _,
+        } => false,
+    }
+}
+
+/// Whether none of the steps wants memory.
+pub(crate) fn are_spare(inverses: &[Inverse]) -> bool
+    ensures { result ≡ list_all is_spare inverses.now }
+{
+    inverses.iter().all(|inverse| spares_memory(&inverse.step))
+}
+
+fn spares_memory(step: &Step) -> bool
+    ensures { result ≡ spares_memory step.now }
+{
+    match step {
+        Step::Comes(_) => false,
+        Step::Gains(_) => false,
+        Step::Goes => true,
+        Step::Was(_) => true,
+        Step::Loses => true,
+        Step::Exchanges(_) => true,
+    }
+}
+
+/// Takes the commands back in place, the last first, where no step wants memory.
+pub(crate) fn unwind(rows: &mut Workspace, indexed: &Indexed, mut inverses: Vec<Inverse>)
+    requires of_trace { IsOfTrace indexed.now rows.old }
+    requires inverses { AreOfTrace indexed.now inverses.items }
+    requires fits { CanTurnAll inverses.items rows.old }
+    requires spare { list_all is_spare inverses.items ≡ true }
+    ensures { IsTurnedAll inverses.items rows.old rows.new }
+{
+    let Some(inverse) = inverses.pop() else {
+        return;
+    };
+    let _ = rows.take_back(indexed, inverse);
+    unwind(rows, indexed, inverses);
 }
 
 /// Takes the commands back, the last first, by steps of its own.

@@ -186,8 +186,9 @@ impl Workspace {
         self.run_all(indexed, board, entry, commands)
     }
 
-    // A batch of one command is done in place. Another is done on a copy, which takes the place of the rows at its end:
-    // what takes a command back may want memory, so it can't be promised to take back what stands before a refusal.
+    // A batch is done in place where what takes back all commands but the last wants no memory, so that a refusal can
+    // be promised to take back what stands before it. Another is done on a copy, which takes the place of the rows at
+    // its end.
     fn run_all(
         &mut self,
         indexed: &Indexed,
@@ -204,9 +205,8 @@ impl Workspace {
         let Ok(mut items) = Vec::with_capacity(self.alloc, commands.len()) else {
             return Err(BatchRefusal::OutOfMemory);
         };
-        if commands.len() <= 1 {
-            batch::run(self, &mut items, indexed, board, entry, commands)?;
-            return Ok(Inverses { items });
+        if batch::builds_up(commands) {
+            return batch::run_here(self, items, indexed, board, entry, commands);
         }
         let Ok(mut copy) = self.copied(indexed) else {
             return Err(BatchRefusal::OutOfMemory);
@@ -236,7 +236,7 @@ impl Workspace {
         self.turn_all(indexed, inverses)
     }
 
-    // In place where there is one inverse at the most, else on a copy, in the same way as `run_all`.
+    // In place where no step but the first that is taken wants memory, else on a copy.
     fn turn_all(
         &mut self,
         indexed: &Indexed,
@@ -249,14 +249,34 @@ impl Workspace {
         ensures err { OnErr result (self.new ≡ self.old) }
         ensures back { IfErr result (λ refused. refused.0 ≡ inverses) }
     {
-        if inverses.items.len() == 1 {
-            let inverse = inverses.items.pop().unwrap();
-            let Err((inverse, why)) = self.take_back(indexed, inverse) else {
-                return Ok(());
-            };
-            inverses.items.push_reserved(inverse);
-            return Err((inverses, why));
+        let Some(last) = inverses.items.pop() else {
+            return Ok(());
+        };
+        if !batch::are_spare(&inverses.items) {
+            inverses.items.push_reserved(last);
+            return self.turn_apart(indexed, inverses);
         }
+        let Err((last, why)) = self.take_back(indexed, last) else {
+            batch::unwind(self, indexed, inverses.items);
+            return Ok(());
+        };
+        inverses.items.push_reserved(last);
+        Err((inverses, why))
+    }
+
+    // On a copy, in the same way as `run_all`.
+    fn turn_apart(
+        &mut self,
+        indexed: &Indexed,
+        inverses: Inverses,
+    ) -> Result<(), (Inverses, OutOfMemory)>
+        requires of_trace { IsOfTrace indexed.now self.old }
+        requires steps { AreOfTrace indexed.now inverses }
+        requires fits { CanTurnAll inverses self.old }
+        ensures ok { OnOk result (IsTurnedAll inverses self.old self.new) }
+        ensures err { OnErr result (self.new ≡ self.old) }
+        ensures back { IfErr result (λ refused. refused.0 ≡ inverses) }
+    {
         let Ok(mut copy) = self.copied(indexed) else {
             return Err((inverses, OutOfMemory));
         };
