@@ -1,4 +1,5 @@
 pub mod CallerLemmas
 pub mod ManyLemmas
+pub mod NumberLemmas
 pub mod PlaceLemmas
 pub mod RisingLemmas

@@ -18,7 +18,7 @@ use Rattle.dependence.proofs.PlaceLemmas.{on_ok}
 use Rattle.dependence.proofs.RisingLemmas.{insert_last}
 
 -- the last number, put there again
-insert_there : (k : ℕ) (xs : List ℕ) → All (λ j. j < k) xs → insert_key nat_cmp (xs ++ k ∷ []) k ≡ xs ++ k ∷ []
+pub insert_there : (k : ℕ) (xs : List ℕ) → All (λ j. j < k) xs → insert_key nat_cmp (xs ++ k ∷ []) k ≡ xs ++ k ∷ []
 insert_there k [] all = subst (λ r. match_ordering r (k ∷ k ∷ []) (k ∷ []) (k ∷ k ∷ []) ≡ k ∷ []) (nat_cmp_is k k Equal refl) refl
 insert_there k (x ∷ xs) all =
     subst

@@ -2,15 +2,11 @@
 use Rattle.std.proofs.Common.{◌≡◌, ◌++◌, All, Contains, ℕ, suc, ◌<◌, ◌≤◌, Bool, true, false, ltb, eqb, cond, List, [], ◌∷◌, Option, None, Some, Result, Ok, Err, length, refl, sym, ap, subst, ◌∙◌, arith, inl, inr, Bor, find, slice_get}
 use Rattle.std.specs.BTreeSet.{insert_key}
 use Rattle.std.specs.List.{filter}
-use Rattle.std.specs.List.Sorted.{IsStrictlySortedBy}
 use Rattle.std.specs.Ordering.{nat_cmp, match_ordering}
-use Rattle.std.specs.declared.cmp.Ordering.TheVariants.{Less, Greater}
+use Rattle.std.specs.declared.cmp.Ordering.TheVariants.{Greater}
 use Rattle.std.specs.Cmp.{nat_cmp_is}
-use Rattle.std.proofs.lemmas.Cmp.{ranked}
 use Rattle.std.proofs.lemmas.Bool.{cases_Bool, cases_lt, lt-ltb, le-ltb}
 use Rattle.std.proofs.lemmas.List.Elements.{All-head, All-tail, All-cons, All-weaker, All-nil}
-use Rattle.std.proofs.lemmas.Map.Keys.{sorted_tail}
-use Rattle.std.proofs.lemmas.Map.Views.{All-after_first}
 use Rattle.std.specs.BTreeMap.Range.{range_contains}
 use Rattle.std.specs.declared.ops.Bound.TheVariants.{Excluded, Unbounded}
 use Rattle.std.specs.Option.{option_copied}
@@ -18,6 +14,7 @@ use Rattle.std.specs.Result.{OnOk}
 use Rattle.std.specs.Map.Iter.{TakesFirst}
 use Rattle.std.proofs.lemmas.Bool.Decides.{nat_tests}
 use Rattle.dependence.specs.Lists.{IsLeastAbove}
+use Rattle.dependence.specs.Rising.{Rises}
 
 -- a number above all others goes to the end
 pub insert_last : (k : ℕ) (xs : List ℕ) → All (λ j. j < k) xs → insert_key nat_cmp xs k ≡ xs ++ k ∷ []
@@ -60,16 +57,16 @@ past_low k x xs None low none = All-cons (λ j. j ≤ k) x xs low none
 past_low k x xs (Some m) low least = (there_later x m xs least.0, least.1, All-cons (λ j. k < j → m ≤ j) x xs (λ h. absurd (omega arith)) least.2)
 
 -- in a rising list the first number above k is the least
-pub first_is_least : (k : ℕ) (xs : List ℕ) → IsStrictlySortedBy nat_cmp xs → IsLeastAbove k xs (find (λ j. ltb k j) xs)
-first_is_least k [] sorted = All-nil (λ j. j ≤ k)
-first_is_least k (x ∷ xs) sorted = elim (cases_lt k x) [
+pub first_is_least : (k : ℕ) (xs : List ℕ) → Rises xs → IsLeastAbove k xs (find (λ j. ltb k j) xs)
+first_is_least k [] up = All-nil (λ j. j ≤ k)
+first_is_least k (x ∷ xs) up = elim (cases_lt k x) [
   | inl low ↦
-      let later : All (λ j. k < j → x ≤ j) xs = All-weaker (λ j. nat_cmp x j ≡ Less) (λ j. k < j → x ≤ j) (λ j h _. let up : x < j = ranked x j Less (sym h) in omega arith) xs (All-after_first nat_cmp x xs sorted) in
+      let later : All (λ j. k < j → x ≤ j) xs = All-weaker (λ j. x < j) (λ j. k < j → x ≤ j) (λ j h _. omega arith) xs up.0 in
       rw (lt-ltb k x low) ((0, omega arith, refl), low, All-cons (λ j. k < j → x ≤ j) x xs (λ _. omega arith) later)
-  | inr high ↦ rw (le-ltb k x high) (past_low k x xs (find (λ j. ltb k j) xs) high (first_is_least k xs (sorted_tail nat_cmp x xs sorted)))
+  | inr high ↦ rw (le-ltb k x high) (past_low k x xs (find (λ j. ltb k j) xs) high (first_is_least k xs up.1))
 ]
 
--- where it is put in its place, it is put at the end
-pub on_last : {A E : Type 0} (k : ℕ) (xs ys : List ℕ) (r : Result A E) → All (λ j. j < k) xs → OnOk r (ys ≡ insert_key nat_cmp xs k) → OnOk r (ys ≡ xs ++ k ∷ [])
-on_last k xs ys (Ok a) low h = h ∙ insert_last k xs low
+-- where it is put at the end, it is put in its place
+pub on_last : {A E : Type 0} (k : ℕ) (xs ys : List ℕ) (r : Result A E) → All (λ j. j < k) xs → OnOk r (ys ≡ xs ++ k ∷ []) → OnOk r (ys ≡ insert_key nat_cmp xs k)
+on_last k xs ys (Ok a) low h = h ∙ sym (insert_last k xs low)
 on_last k xs ys (Err e) low h = tt

@@ -35,6 +35,10 @@ last_of xs = slice_get xs (length xs - 1)
 abbrev pub IsLeastAbove : ℕ → List ℕ → Option ℕ → Type 0
 IsLeastAbove k xs r = MatchOption r (All (λ j. j ≤ k) xs) (λ m. Contains xs m × (k < m) × All (λ j. k < j → m ≤ j) xs)
 
+-- the numbers are below k, but for k itself where it stands at the end
+abbrev pub IsReached : ℕ → List ℕ → Type 0
+IsReached k ys = (xs : List ℕ) × All (λ j. j < k) xs × ((ys ≡ xs) ⊎ (ys ≡ xs ++ k ∷ []))
+
 -- U is T with the number k, at the end, under each name that the command touches
 abbrev pub Pushed : ℕ → Command → Lists → Lists → Type 0
 Pushed k d T U = (x : List ℕ) → under U x ≡ (if touches d x then under T x ++ k ∷ [] else under T x)

@@ -1,9 +1,10 @@
 //! A rising list of entry numbers.
-ghost use Rattle.std.specs.Prelude.{◌≡◌, ◌<◌, ◌++◌, ◌∷◌, [], All, OnOk, OnErr, IfOk, false, find, nat_eq, nat_lt};
+ghost use Rattle.std.specs.Prelude.{◌≡◌, ◌<◌, ◌++◌, ◌∷◌, [], All, OnOk, OnErr, IfOk, IsTrue, Some, ◌↔◌, false, find, nat_eq, nat_lt, slice_get};
 ghost use Rattle.std.specs.List.{list_any};
+ghost use Rattle.dependence.specs.Rising.{Rises};
 ghost use Rattle.std.specs.BTreeSet.{insert_key};
 ghost use Rattle.std.specs.Ordering.{nat_cmp};
-ghost use Rattle.dependence.specs.Lists.{without, last_of, IsLeastAbove};
+ghost use Rattle.dependence.specs.Lists.{without, last_of, IsLeastAbove, IsReached};
 
 use rapid_text::OutOfMemory;
 use std::alloc::Global;
@@ -11,19 +12,30 @@ use std::collections::BTreeSet;
 use std::marker::Model;
 use std::ops::Bound;
 
-/// Entry numbers, each once, in rising order. A number is found, put at the end and taken out of the middle at a
-/// cost of the logarithm of their count.
+/// How many numbers a removal may move: a list up to this length needs no tree.
+const MOVED_AT_MOST: usize = 512;
+
+/// Entry numbers, each once, in rising order.
+///
+/// A number is put at the end of a vector. Where one is taken out of the middle of a long vector, all its numbers go
+/// into a tree first, so each goes there at most once, and only in a log where that happens.
 #[derive(Drop)]
 pub(crate) struct Numbers {
-    items: BTreeSet<u64>,
+    // the lesser numbers
+    settled: BTreeSet<u64>,
+    // the greater ones
+    tail: Vec<u64>,
 }
 
 impl Model for Numbers {
-    ghost use Rattle.std.specs.Prelude.{List, ℕ};
+    ghost use Rattle.std.specs.Prelude.{◌++◌, List, ℕ};
+    ghost use Rattle.dependence.specs.Rising.{Rises};
 
     ghost Value = { List ℕ };
 
-    ghost view = { λ n. n.items.keys };
+    ghost view = { λ n. n.settled.keys ++ n.tail.items };
+
+    ghost invariant = { λ n. Rises (n.settled.keys ++ n.tail.items) };
 }
 
 impl Numbers {
@@ -31,7 +43,8 @@ impl Numbers {
         ensures { result ≡ [] }
     {
         Numbers {
-            items: BTreeSet::new(alloc),
+            settled: BTreeSet::new(alloc),
+            tail: Vec::new(alloc),
         }
     }
 
@@ -40,42 +53,152 @@ impl Numbers {
         ensures ok { OnOk result (self.new ≡ self.old ++ entry ∷ []) }
         ensures err { OnErr result (self.new ≡ self.old) }
     {
-        self.place(entry)
+        self.tail.push(entry)?;
+        Ok(())
     }
 
-    // Puts the number in its place, if it is not there yet.
+    // Puts the number at the end, if it is not there yet.
     pub(crate) fn place(&mut self, entry: u64) -> Result<(), OutOfMemory>
+        requires { IsReached entry self.old }
         ensures ok { OnOk result (self.new ≡ insert_key nat_cmp self.old entry) }
         ensures err { OnErr result (self.new ≡ self.old) }
     {
-        self.items.insert(entry)?;
-        Ok(())
+        if self.ends_in(entry) {
+            return Ok(());
+        }
+        self.push(entry)
+    }
+
+    fn ends_in(&self, entry: u64) -> bool
+        ensures { IsTrue result ↔ (last_of self.now ≡ Some entry) }
+    {
+        self.last() == Some(entry)
     }
 
     pub(crate) fn remove(&mut self, entry: u64)
         ensures taken { self.new ≡ without entry self.old }
         ensures gone { list_any (nat_eq entry) self.new ≡ false }
     {
-        self.items.remove(&entry);
+        if self.tail.len() > MOVED_AT_MOST && !self.ends_in(entry) {
+            self.settle_all();
+        }
+        self.take(entry);
+    }
+
+    // Puts the numbers of the vector into the tree, as far as there is memory.
+    fn settle_all(&mut self)
+        ensures { self.new ≡ self.old }
+    {
+        settle(&mut self.settled, &mut self.tail);
+    }
+
+    fn take(&mut self, entry: u64)
+        ensures taken { self.new ≡ without entry self.old }
+        ensures gone { list_any (nat_eq entry) self.new ≡ false }
+    {
+        take_settled(&mut self.settled, entry);
+        take_out(&mut self.tail, entry);
     }
 
     pub(crate) fn contains(&self, entry: u64) -> bool
         ensures { result ≡ list_any (nat_eq entry) self.now }
     {
-        self.items.contains(&entry)
+        is_settled(&self.settled, entry) || is_among(&self.tail, entry)
     }
 
     pub(crate) fn last(&self) -> Option<u64>
         ensures { result ≡ last_of self.now }
     {
-        self.items.last().copied()
+        match self.tail.last() {
+            Some(last) => Some(*last),
+            None => self.settled.last().copied(),
+        }
     }
 
     pub(crate) fn first_after(&self, entry: u64) -> Option<u64>
         ensures least { IsLeastAbove entry self.now result }
         ensures first { result ≡ find (λ k. nat_lt entry k) self.now }
     {
-        let mut above = self.items.range((Bound::Excluded(entry), Bound::Unbounded));
-        above.next().copied()
+        match first_settled(&self.settled, entry) {
+            Some(first) => Some(first),
+            None => first_above(&self.tail, entry),
+        }
     }
+}
+
+// Puts the numbers of the vector, which are above those of the tree, into the tree; those that find no memory stay.
+fn settle(settled: &mut BTreeSet<u64>, tail: &mut Vec<u64>)
+    requires { Rises (settled.old.keys ++ tail.old.items) }
+    ensures { settled.new.keys ++ tail.new.items ≡ settled.old.keys ++ tail.old.items }
+{
+    let mut moved = 0;
+    for number in tail.iter() {
+        let Ok(_) = settled.insert(*number) else {
+            break;
+        };
+        moved += 1;
+    }
+    tail.rotate_left(moved);
+    tail.truncate(tail.len() - moved);
+}
+
+// Takes the number out of a rising vector.
+fn take_out(numbers: &mut Vec<u64>, entry: u64)
+    requires { Rises numbers.old.items }
+    ensures { numbers.new.items ≡ without entry numbers.old.items }
+{
+    match numbers.binary_search(&entry) {
+        Ok(at) => {
+            numbers.remove(at);
+        }
+        Err(_) => {}
+    }
+}
+
+// Takes the number out of the tree.
+fn take_settled(numbers: &mut BTreeSet<u64>, entry: u64)
+    ensures { numbers.new.keys ≡ without entry numbers.old.keys }
+{
+    numbers.remove(&entry);
+}
+
+// Whether the number is in the tree.
+fn is_settled(numbers: &BTreeSet<u64>, entry: u64) -> bool
+    ensures { result ≡ list_any (nat_eq entry) numbers.now.keys }
+{
+    numbers.contains(&entry)
+}
+
+// Whether the number is in a rising list.
+#[tactic(auto, using(crate::proofs::NumberLemmas::searched_any))]
+fn is_among(numbers: &[u64], entry: u64) -> bool
+    requires { Rises numbers.now }
+    ensures { result ≡ list_any (nat_eq entry) numbers.now }
+{
+    numbers.binary_search(&entry).is_ok()
+}
+
+// The first number of the tree above this one.
+fn first_settled(numbers: &BTreeSet<u64>, entry: u64) -> Option<u64>
+    ensures { result ≡ find (λ k. nat_lt entry k) numbers.now.keys }
+{
+    let mut above = numbers.range((Bound::Excluded(entry), Bound::Unbounded));
+    above.next().copied()
+}
+
+// The first number of a rising list above this one.
+fn first_above(numbers: &[u64], entry: u64) -> Option<u64>
+    requires { Rises numbers.now }
+    ensures { result ≡ find (λ k. nat_lt entry k) numbers.now }
+{
+    match numbers.binary_search(&entry) {
+        Ok(at) => number_at(numbers, at + 1),
+        Err(at) => number_at(numbers, at),
+    }
+}
+
+fn number_at(numbers: &[u64], at: usize) -> Option<u64>
+    ensures { result ≡ slice_get numbers.now at }
+{
+    numbers.get(at).copied()
 }

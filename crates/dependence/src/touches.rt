@@ -5,7 +5,7 @@ ghost use Rattle.std.specs.List.{list_any};
 ghost use Rattle.std.specs.Map.{lookup};
 ghost use Rattle.moves.specs.Commands.{touches};
 ghost use Rattle.std.specs.Ordering.{nat_cmp};
-ghost use Rattle.dependence.specs.Lists.{under, without, Placed, PlacedSome, Pushed, PushedAll, Removed, RemovedAll, Same, AllBelow, IsLeastAbove};
+ghost use Rattle.dependence.specs.Lists.{under, without, Placed, PlacedSome, Pushed, PushedAll, Removed, RemovedAll, Same, AllBelow, IsLeastAbove, IsReached};
 ghost use Rattle.dependence.specs.Places.{HasAt};
 
 use crate::numbers::Numbers;
@@ -60,6 +60,7 @@ impl Touches {
 
     // Puts the entry under the name, where it is not there yet.
     fn place_name(&mut self, entry: u64, name: Name) -> Result<(), OutOfMemory>
+        requires { IsReached entry (under self.old name) }
         ensures ok { OnOk result ((x : List ℕ) → under self.new x ≡ (if bytes_eq x name then insert_key nat_cmp (under self.old x) entry else under self.old x)) }
         ensures err { OnErr result (Same self.old self.new) }
     {
@@ -88,6 +89,7 @@ impl Touches {
 
     // Puts the entry under each name that the command touches, where it is not there yet; or under some of them.
     fn place(&mut self, entry: u64, command: &Command) -> Result<(), OutOfMemory>
+        requires { (x : List ℕ) → IsReached entry (under self.old x) }
         ensures ok { OnOk result (Placed entry command.now self.old self.new) }
         ensures err { OnErr result (PlacedSome entry command.now self.old self.new) }
     {

@@ -1,17 +1,25 @@
-use Rattle.std.proofs.Common.{◌∙◌, ◌≡◌, sym, ap, arith, ltb, find, subst}
-use Rattle.std.proofs.lemmas.Grind.{common_steps}
-use Rattle.dependence.specs.Lists.{IsLeastAbove}
-use Rattle.dependence.proofs.RisingLemmas.{taken_first, first_above, first_is_least}
+use Rattle.std.proofs.Common.{subst, sym}
+use Rattle.dependence.specs.Rising.{Rises}
+use Rattle.dependence.proofs.NumberLemmas.{first_in_tree, first_in_tail, least_first, rises_right}
 use Rattle.dependence.proofs.numbers.Numbers.first_after.Goals as goal
 
-pub returns : goal.returns
-returns c =
-    let k = c.args.entry in
-    let xs = c.self.inside.items.keys in
-    let first : c.copied.result ≡ find (λ j. ltb k j) xs = c.copied.ensures
-    ∙ taken_first _ xs c.range-above.result c.next.new.self c.next.result (c.range-above.ensures.between tt) c.next.ensures.steps
-    ∙ first_above k _ (grind (arith, common_steps)) xs in
-    record {
-      least = subst (λ ys. IsLeastAbove k ys c.copied.result) c.self.view_is (subst (IsLeastAbove k xs) (sym first) (first_is_least k xs c.range-above.ensures.ordered));
-      first = first ∙ ap (find (λ j. ltb k j)) c.self.view_is;
-    }
+pub first_above-requires : goal.first_above-requires
+first_above-requires c = subst Rises (sym c.deref.ensures.value) (rises_right c.self.inside.settled.keys c.self.inside.tail.items c.self.invariant)
+
+pub returns-in-Some-clause-least : goal.returns-in-Some-clause-least
+returns-in-Some-clause-least c =
+    least_first c.args.entry c.args.self.now _ (subst Rises c.self.view_is c.self.invariant)
+    (first_in_tree c.args.entry c.self.inside.settled.keys c.self.inside.tail.items c.args.self.now c.first_settled.result c.in-Some.first c.in-Some.is c.first_settled.ensures c.self.view_is)
+
+pub returns-in-Some-clause-first : goal.returns-in-Some-clause-first
+returns-in-Some-clause-first c =
+    first_in_tree c.args.entry c.self.inside.settled.keys c.self.inside.tail.items c.args.self.now c.first_settled.result c.in-Some.first c.in-Some.is c.first_settled.ensures c.self.view_is
+
+pub returns-in-None-clause-least : goal.returns-in-None-clause-least
+returns-in-None-clause-least c =
+    least_first c.args.entry c.args.self.now c.first_above.result (subst Rises c.self.view_is c.self.invariant)
+    (first_in_tail c.args.entry c.self.inside.settled.keys c.self.inside.tail.items c.deref.result.now c.args.self.now c.first_settled.result c.first_above.result c.in-None.is c.first_settled.ensures c.first_above.ensures c.deref.ensures.value c.self.view_is)
+
+pub returns-in-None-clause-first : goal.returns-in-None-clause-first
+returns-in-None-clause-first c =
+    first_in_tail c.args.entry c.self.inside.settled.keys c.self.inside.tail.items c.deref.result.now c.args.self.now c.first_settled.result c.first_above.result c.in-None.is c.first_settled.ensures c.first_above.ensures c.deref.ensures.value c.self.view_is

@@ -1,6 +1,6 @@
-use Rattle.std.proofs.Common.{◌∙◌}
-use Rattle.dependence.proofs.RisingLemmas.{on_last}
+use Rattle.dependence.proofs.NumberLemmas.{pushed_rises}
 use Rattle.dependence.proofs.numbers.Numbers.push.Goals as goal
 
-pub returns-clause-ok : goal.returns-clause-ok
-returns-clause-ok c = on_last c.args.entry c.args.self.now c.place.new.self c.place.result c.requires c.place.ensures.ok
+pub invariant_of-self-2 : goal.invariant_of-self-2
+invariant_of-self-2 c =
+    pushed_rises c.self.inside.settled.keys c.self.inside.tail.items c.push.new.self.items c.args.self.now c.args.entry c.self.invariant c.self.view_is c.requires c.in_ok-push.ensures.items

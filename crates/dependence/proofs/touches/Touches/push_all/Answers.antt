@@ -2,7 +2,12 @@ use Rattle.std.proofs.Common.{◌+◌, take}
 use Rattle.moves.specs.Commands.{touches, touches_any}
 use Rattle.dependence.specs.Lists.{under}
 use Rattle.dependence.proofs.ManyLemmas.{touches_next, placed_next, placed_out}
+use Rattle.dependence.proofs.NumberLemmas.{reached_pushed}
 use Rattle.dependence.proofs.touches.Touches.push_all.Goals as goal
+
+pub place-requires : goal.place-requires
+place-requires c x =
+    reached_pushed (touches_any (take c.loop-command.command-index c.args.commands.now) x) c.args.entry (under c.loop-command.self x) (under c.args.self.now x) (c.requires x) (c.loop-command.invariant x)
 
 pub returns-in_default-clause-err : goal.returns-in_default-clause-err
 returns-in_default-clause-err c x =
