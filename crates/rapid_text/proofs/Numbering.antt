@@ -1,13 +1,12 @@
 -- The number of a name, and what one name more leaves as it was.
-use Rattle.std.proofs.Common.{◌≡◌, ℕ, ◌<◌, ◌≤◌, ◌+◌, ◌||◌, true, false, List, [], ◌∷◌, ◌++◌, map, length, refl, sym, ap, ◌∙◌, arith, inl, inr}
+use Rattle.std.proofs.Common.{◌≡◌, ℕ, ◌<◌, ◌≤◌, ◌+◌, true, false, List, [], ◌∷◌, ◌++◌, map, length, refl, sym, ap, ◌∙◌, arith, inl, inr}
 use Rattle.std.specs.Prelude.{Some, None, position, bytes_eq, Vec, unwrap_or}
 use Rattle.std.specs.List.{position_or_len, list_any}
 use Rattle.std.specs.Cmp.Lexicographic.{bytes_decides}
 use Rattle.indexmap.specs.IndexSet.{insert_key}
 use Rattle.std.proofs.lemmas.Bool.{cases_Bool, cond_below, eq-eqb, ne_eqb}
 use Rattle.std.proofs.lemmas.List.{length_push, map_push}
-use Rattle.std.proofs.Math.Bool.{or-false}
-use Rattle.std.proofs.lemmas.List.Folds.{position_or_len_push, list_any-append}
+use Rattle.std.proofs.lemmas.List.Folds.{position_or_len_push}
 use Rattle.std.proofs.lemmas.List.Quantifiers.{position-Some}
 use Rattle.rapid_text.specs.Growth.{with_name, IsNumber}
 use Rattle.rapid_text.specs.Reading.{number_of}
@@ -92,37 +91,3 @@ module _ {A : Type 0} where
         | inl is ↦ rw (is, sym any ∙ is) refl
         | inr none ↦ rw (none, sym any ∙ none) (map_push items keys key)
       ]
-
--- which of these names is there besides one that was noted
-known_besides : (names : List (List ℕ)) (first second : List ℕ) → bytes_eq second first ≡ false
-    → list_any (bytes_eq second) (with_name names first) ≡ list_any (bytes_eq second) names
-known_besides names first second other = elim (cases_Bool (list_any (bytes_eq first) names)) [
-  | inl is ↦ ap (list_any (bytes_eq second)) (old_name names first is)
-  | inr none ↦
-      ap (list_any (bytes_eq second)) (new_name names first none)
-      ∙ list_any-append (bytes_eq second) names (first ∷ [])
-      ∙ ap (λ b. list_any (bytes_eq second) names || (b || false)) other
-      ∙ or-false (list_any (bytes_eq second) names)
-]
-
--- how long a table is with a name, by whether the name is there
-pub length-with_known : (names : List (List ℕ)) (name : List ℕ) → list_any (bytes_eq name) names ≡ true → length (with_name names name) ≡ length names
-length-with_known names name is = ap length (old_name names name is)
-
-pub length-with_new : (names : List (List ℕ)) (name : List ℕ) → list_any (bytes_eq name) names ≡ false → length (with_name names name) ≡ length names + 1
-length-with_new names name none = ap length (new_name names name none) ∙ length_push names name
-
--- and how long with two names
-module _ (names : List (List ℕ)) (first second : List ℕ) where
-  pub length-with_same : second ≡ first → length (with_name (with_name names first) second) ≡ length (with_name names first)
-  length-with_same same =
-      ap (λ name. length (with_name (with_name names first) name)) same
-      ∙ ap length (with_name-found (with_name names first) first (position_or_len (bytes_eq first) names) (number-with_name names first))
-
-  pub length-with_second_known : bytes_eq second first ≡ false → list_any (bytes_eq second) names ≡ true
-      → length (with_name (with_name names first) second) ≡ length (with_name names first)
-  length-with_second_known other is = length-with_known (with_name names first) second (known_besides names first second other ∙ is)
-
-  pub length-with_second_new : bytes_eq second first ≡ false → list_any (bytes_eq second) names ≡ false
-      → length (with_name (with_name names first) second) ≡ length (with_name names first) + 1
-  length-with_second_new other none = length-with_new (with_name names first) second (known_besides names first second other ∙ none)

@@ -1,6 +1,5 @@
 //! Numbers names by their first uses.
-ghost use Rattle.std.specs.Prelude.{◌≡◌, ◌<◌, [], bytes_eq, length, OnOk, IfOk, IsTrue};
-ghost use Rattle.std.specs.List.{list_any};
+ghost use Rattle.std.specs.Prelude.{◌≡◌, ◌<◌, [], length, OnOk, IfOk, IsTrue};
 ghost use Rattle.rapid_text.specs.Growth.{names_of, with_name, IsNumber};
 ghost use Rattle.rapid_text.specs.Limits.{name_count_limit};
 
@@ -18,6 +17,9 @@ pub(crate) type Names = IndexSet<Vec<u8>, TextKeyed>;
 pub(crate) struct NameTable {
     pub(crate) names: Names,
     recent: Recent,
+    // Whether the name that was last looked up by its hash was new. The next one is then taken for new too: that
+    // hashes it once, where one that is searched for and not found is hashed twice.
+    was_new: bool,
 }
 
 impl NameTable {
@@ -28,19 +30,8 @@ impl NameTable {
         NameTable {
             names: IndexSet::with_hasher(alloc, hashers),
             recent: Recent::new(),
+            was_new: false,
         }
-    }
-
-    /// Whether the name is in the table.
-    fn contains(&self, name: &[u8]) -> bool
-        ensures { result ≡ list_any (bytes_eq name.now) (names_of self.now.names) }
-    {
-        if let Some(guess) = self.recent.guess(mix_of(name)) {
-            if is_at(&self.names, guess, name) {
-                return true;
-            }
-        }
-        self.names.contains(name)
     }
 
     /// The number of the name, which is noted as the last one if it is new.
@@ -56,7 +47,13 @@ impl NameTable {
                 return Ok(guess);
             }
         }
-        let number = number(&mut self.names, alloc, name)?;
+        let count = self.names.len();
+        let number = if self.was_new {
+            put(&mut self.names, alloc, name)?
+        } else {
+            number(&mut self.names, alloc, name)?
+        };
+        self.was_new = self.names.len() > count;
         self.recent.note(mix, number);
         Ok(number)
     }
@@ -93,34 +90,6 @@ impl BuildHasher for TextKeyed {
     }
 }
 
-/// How many names there are with this one.
-pub(crate) fn count_with(table: &NameTable, name: &[u8]) -> usize
-    requires { length (names_of table.now.names) < name_count_limit }
-    ensures { result ≡ length (with_name (names_of table.now.names) name.now) }
-{
-    if table.contains(name) {
-        table.names.len()
-    } else {
-        table.names.len() + 1
-    }
-}
-
-/// How many names there are with these two.
-pub(crate) fn count_with_both(table: &NameTable, first: &[u8], second: &[u8]) -> usize
-    requires { length (names_of table.now.names) < name_count_limit }
-    ensures { result ≡ length (with_name (with_name (names_of table.now.names) first.now) second.now) }
-{
-    let with_first = count_with(table, first);
-    if second == first {
-        return with_first;
-    }
-    if table.contains(second) {
-        with_first
-    } else {
-        with_first + 1
-    }
-}
-
 /// Whether the name stands at this place.
 fn is_at(names: &Names, place: u32, name: &[u8]) -> bool
     ensures { IsTrue result → IsNumber (names_of names.now) name.now place }
@@ -141,6 +110,15 @@ fn number(names: &mut Names, alloc: Global, name: &[u8]) -> Result<u32, OutOfMem
     if let Some(at) = names.get_index_of(name) {
         return Ok(at as u32);
     }
+    put(names, alloc, name)
+}
+
+// The number of the name; it is noted as the last one if it is new, which this is quick for.
+fn put(names: &mut Names, alloc: Global, name: &[u8]) -> Result<u32, OutOfMemory>
+    requires { length (names_of names.old) < name_count_limit }
+    ensures names { OnOk result (names_of names.new ≡ with_name (names_of names.old) name.now) }
+    ensures number { IfOk result (IsNumber (names_of names.new) name.now) }
+{
     let owned = Vec::from_slice(alloc, name)?;
     let (at, _) = names.insert_full(owned)?;
     Ok(at as u32)

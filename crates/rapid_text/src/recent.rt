@@ -3,9 +3,9 @@
 use std::hash::{FoldHasher, Hasher};
 
 // How many guesses are kept for one table: a power of two.
-const GUESSES: usize = 256;
+const GUESSES: usize = 1_024;
 // How far a mix is shifted to tell the place of its guess.
-const SHIFT: u32 = 56;
+const SHIFT: u32 = 54;
 
 /// The numbers that names were found to have, the last one for each place. A guess spares a look-up by
 /// `TextKeyed`, and is compared with the table before it is believed. So its own hash needs no key: who

@@ -1,8 +1,7 @@
 //! Gathers the events of a text that is being read.
-ghost use Rattle.std.specs.Prelude.{◌≡◌, ◌+◌, ◌<◌, ◌^◌, [], ◌∷◌, ◌++◌, None, Ok, length, nat_lt, OnOk, IfOk, IfErr};
+ghost use Rattle.std.specs.Prelude.{◌≡◌, ◌+◌, ◌<◌, ◌^◌, [], ◌∷◌, ◌++◌, None, Ok, length, OnOk, IfOk, IfErr};
 ghost use Rattle.rapid_text.specs.Canonical.{canonical_text};
-ghost use Rattle.rapid_text.specs.Growth.{fault_beyond, with_event, with_names, with_operand, HasRoom};
-ghost use Rattle.rapid_text.specs.Limits.{thread_limit};
+ghost use Rattle.rapid_text.specs.Growth.{fault_beyond, with_event, with_operand, HasRoom};
 ghost use Rattle.rapid_text.specs.LineLayout.{named_in};
 ghost use Rattle.rapid_text.specs.Reading.{numbered_op, reading_of, recording_of};
 ghost use Rattle.rapid_text.specs.Recorded.{recorded, AreParts, IsReady, StopsFor};
@@ -10,7 +9,7 @@ ghost use Rattle.rapid_text.specs.Recorded.{recorded, AreParts, IsReady, StopsFo
 use crate::event::{Event, Kind, Op};
 use crate::line::Fields;
 use crate::memory::OutOfMemory;
-use crate::names::{NameTable, TextKeyed, count_with, count_with_both};
+use crate::names::{NameTable, TextKeyed};
 use crate::raw_trace::{MAX_EVENTS, MAX_THREADS, RawTrace, Span};
 use crate::refusal::TextCause;
 use std::alloc::Global;
@@ -62,33 +61,6 @@ impl Recorder {
             spans: Vec::new(alloc),
             alloc,
         }
-    }
-
-    /// How many threads there are with those of the event.
-    fn threads_with(&self, fields: Fields<'_>) -> usize
-        requires { HasRoom (recorded self.now) }
-        ensures { result ≡ length (with_names (recorded self.now) (named_in fields.entry)).threads }
-    {
-        match fields.kind {
-            Kind::Reads | Kind::Writes | Kind::Acquires | Kind::Releases => {
-                count_with(&self.threads, fields.thread)
-            }
-            Kind::Forks | Kind::Joins => {
-                count_with_both(&self.threads, fields.thread, fields.name)
-            }
-        }
-    }
-
-    /// Whether the event would need a thread too many. Its line names two at most, so names are looked up
-    /// only where two more could be too many.
-    fn is_too_many_for(&self, fields: Fields<'_>) -> bool
-        requires { HasRoom (recorded self.now) }
-        ensures { result
-            ≡ nat_lt
-            thread_limit
-            (length (with_names (recorded self.now) (named_in fields.entry)).threads) }
-    {
-        self.threads.names.len() + 2 > MAX_THREADS && self.threads_with(fields) > MAX_THREADS
     }
 
     /// The operation by number; its name is numbered if it is new.
@@ -147,11 +119,12 @@ impl Recorder {
         if self.events.len() >= MAX_EVENTS {
             return Err(Stop::Fault(TextCause::TooManyEvents));
         }
-        if self.is_too_many_for(fields) {
-            return Err(Stop::Fault(TextCause::TooManyNames));
-        }
         let thread = self.threads.number(self.alloc, fields.thread)?;
         let op = self.number_operation(fields.kind, fields.name)?;
+        // counted once its names are there, so that no name is looked up twice
+        if self.threads.names.len() > MAX_THREADS {
+            return Err(Stop::Fault(TextCause::TooManyNames));
+        }
         self.put_last(Event { thread, op }, fields.location)?;
         Ok(())
     }

@@ -199,6 +199,16 @@ fn raise_all(row: &mut Vec<u32>, other: &[u32])
     ensures larger { (t : ℕ) → t < length row.old.items
         → slice_index row.new.items t ≡ max (slice_index row.old.items t) (slice_index other.now t) }
 {
+    raise_each(row.as_mut_slice(), other);
+}
+
+// The same of a slice: its place is not read anew for each number, so that several are raised at a time.
+fn raise_each(row: &mut [u32], other: &[u32])
+    requires { length row.old ≡ length other.now }
+    ensures len { length row.new ≡ length row.old }
+    ensures larger { (t : ℕ) → t < length row.old
+        → slice_index row.new t ≡ max (slice_index row.old t) (slice_index other.now t) }
+{
     for thread in 0..other.len() {
         row[thread] = row[thread].max(other[thread]);
     }

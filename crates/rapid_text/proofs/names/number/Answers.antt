@@ -1,9 +1,8 @@
-use Rattle.std.proofs.Common.{map, sym, ap, ◌∙◌, Some}
-use Rattle.std.specs.Prelude.{bytes_eq, position}
-use Rattle.std.specs.List.{position_or_len}
-use Rattle.rapid_text.specs.Growth.{names_of, with_name}
-use Rattle.rapid_text.proofs.Numbering.{items, number-with_name, with_name-found, names-insert_key}
-use Rattle.rapid_text.proofs.Positions.{position-map, position_or_len-map}
+use Rattle.std.proofs.Common.{sym, ◌∙◌}
+use Rattle.std.specs.Prelude.{bytes_eq}
+use Rattle.rapid_text.specs.Growth.{names_of}
+use Rattle.rapid_text.proofs.Numbering.{items, with_name-found}
+use Rattle.rapid_text.proofs.Positions.{position-map}
 use Rattle.rapid_text.proofs.names.number.Goals as goal
 
 pub returns-in-Some-clause-number : goal.returns-in-Some-clause-number
@@ -13,22 +12,3 @@ pub returns-in-Some-clause-names : goal.returns-in-Some-clause-names
 returns-in-Some-clause-names c =
     sym (with_name-found (names_of c.args.names.now) c.args.name.now c.in-Some.at
     (position-map items (bytes_eq c.args.name.now) c.args.names.now.keys ∙ sym c.in-Some.ensures.index))
-
-pub returns-clause-names : goal.returns-clause-names
-returns-clause-names c =
-    ap (map items) c.in_ok-at.ensures.keys
-    ∙ names-insert_key c.args.names.now.keys c.in_ok-owned.owned
-    ∙ ap (with_name (names_of c.args.names.now)) c.in_ok-owned.ensures.items
-
-pub returns-clause-number : goal.returns-clause-number
-returns-clause-number c =
-    let keys = c.args.names.now.keys in
-    let at = c.in_ok-at.ensures.index
-    ∙ ap (λ name. position_or_len (λ v. bytes_eq name (items v)) keys) c.in_ok-owned.ensures.items
-    ∙ sym (position_or_len-map items (bytes_eq c.args.name.now) keys) in
-    ap (position (bytes_eq c.args.name.now))
-    (ap (map items) c.in_ok-at.ensures.keys
-    ∙ names-insert_key keys c.in_ok-owned.owned
-    ∙ ap (with_name (names_of c.args.names.now)) c.in_ok-owned.ensures.items)
-    ∙ number-with_name (names_of c.args.names.now) c.args.name.now
-    ∙ ap Some (sym at)
