@@ -1,5 +1,5 @@
 -- What the ordered set of numbers does, as lists.
-use Rattle.std.proofs.Common.{◌≡◌, ◌++◌, All, Contains, ℕ, suc, ◌<◌, ◌≤◌, Bool, true, false, ltb, eqb, cond, List, [], ◌∷◌, Option, None, Some, Result, Ok, Err, length, refl, sym, ap, subst, ◌∙◌, arith, inl, inr, Bor, find, slice_get}
+use Rattle.std.proofs.Common.{◌≡◌, ◌++◌, All, Contains, ℕ, suc, ◌<◌, ◌≤◌, Bool, ltb, List, [], ◌∷◌, Option, None, Some, Result, Ok, Err, refl, sym, ap, subst, ◌∙◌, arith, inl, inr, Bor, find, slice_get}
 use Rattle.std.specs.BTreeSet.{insert_key}
 use Rattle.std.specs.List.{filter}
 use Rattle.std.specs.Ordering.{nat_cmp, match_ordering}

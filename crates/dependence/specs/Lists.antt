@@ -1,5 +1,5 @@
 -- Rising lists of entry numbers, under each name and of each client.
-use Rattle.std.specs.Prelude.{◌≡◌, ◌⊎◌, true, ◌<◌, ◌≤◌, ◌-◌, ◌++◌, ℕ, List, [], ◌∷◌, Option, None, Some, MatchOption, All, Contains, Bool, nat_eq, bytes_eq, if◌then◌else◌, length, slice_get}
+use Rattle.std.specs.Prelude.{◌≡◌, ◌⊎◌, true, ◌<◌, ◌≤◌, ◌-◌, ◌++◌, ℕ, List, [], ◌∷◌, Option, None, Some, MatchOption, All, Contains, nat_eq, bytes_eq, if◌then◌else◌, length, slice_get}
 use Rattle.std.specs.Map.{lookup}
 use Rattle.std.specs.Set.{remove_key}
 use Rattle.std.specs.BTreeSet.{insert_key}

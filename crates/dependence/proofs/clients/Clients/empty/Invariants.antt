@@ -1,4 +1,4 @@
-use Rattle.std.proofs.Common.{◌≡◌, ◌≤◌, List, ℕ, [], replicate, vec_capacity}
+use Rattle.std.proofs.Common.{◌≡◌, ◌≤◌, [], replicate, vec_capacity}
 use Rattle.dependence.proofs.clients.Clients.empty.Given as goal
 
 abbrev pub invariant-loop : goal.invariant-loop

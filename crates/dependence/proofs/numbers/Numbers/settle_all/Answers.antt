@@ -1,4 +1,4 @@
-use Rattle.std.proofs.Common.{◌∙◌, subst, sym}
+use Rattle.std.proofs.Common.{subst, sym}
 use Rattle.dependence.specs.Rising.{Rises}
 use Rattle.dependence.proofs.numbers.Numbers.settle_all.Goals as goal
 
