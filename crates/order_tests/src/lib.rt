@@ -3,6 +3,8 @@
 #![tactic(auto)]
 
 #[cfg(test)]
+mod clock_tests;
+#[cfg(test)]
 mod fixtures;
 #[cfg(test)]
 mod in_order_tests;
@@ -22,3 +24,5 @@ mod schedule_tests;
 mod search_tests;
 #[cfg(test)]
 mod text_tests;
+#[cfg(test)]
+mod worked_tests;
