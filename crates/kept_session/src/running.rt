@@ -1,4 +1,5 @@
 //! Answers an input line by line, as it comes.
+ghost use Rattle.std.specs.Io.KnownBytes.{IsAtEnd};
 ghost use Rattle.std.specs.Prelude.{◌≡◌, ◌<◌, false, length, OnOk};
 ghost use Rattle.kept_session.specs.Sessions.{IsInStep};
 
@@ -38,6 +39,7 @@ fn answer_begun<D: Device + Drop, K: Sink>(
     requires in_step { IsInStep D.seen D.may_leave session.old.bench.trace session.old.log session.old.bench.log }
     requires writer { K.has_failed writer.old ≡ false }
     ensures in_step { OnOk result (IsInStep D.seen D.may_leave session.new.bench.trace session.new.log session.new.bench.log) }
+    ensures trace { session.new.bench.trace ≡ session.old.bench.trace }
     ensures working { OnOk result (K.has_failed writer.new ≡ false) }
 {
     let mut out = Vec::new(alloc);
@@ -61,6 +63,7 @@ fn take_in<D: Device + Drop, K: Sink>(
     requires in_step { IsInStep D.seen D.may_leave session.old.bench.trace session.old.log session.old.bench.log }
     requires writer { K.has_failed writer.old ≡ false }
     ensures in_step { OnOk result (IsInStep D.seen D.may_leave session.new.bench.trace session.new.log session.new.bench.log) }
+    ensures trace { session.new.bench.trace ≡ session.old.bench.trace }
     ensures working { OnOk result (K.has_failed writer.new ≡ false) }
 {
     let mut rest = bytes;
@@ -89,6 +92,11 @@ fn run_pieces<D: Device + Drop, S: Source, K: Sink>(
     requires writer { K.has_failed writer.old ≡ false }
     requires room { 0 < length piece.old }
     ensures in_step { OnOk result (IsInStep D.seen D.may_leave session.new.bench.trace session.new.log session.new.bench.log) }
+    ensures trace { session.new.bench.trace ≡ session.old.bench.trace }
+
+    // It ends without a fault only at the end of the input, and where the reader has not failed meanwhile.
+    ensures end { OnOk result (IsAtEnd (S.rest reader.new)) }
+    ensures read { OnOk result (S.has_failed reader.new ≡ S.has_failed reader.old) }
 {
     let mut pending = Pending {
         begun: Vec::new(alloc),
@@ -129,6 +137,11 @@ pub fn run_session<D: Device + Drop, S: Source, K: Sink>(
     requires in_step { IsInStep D.seen D.may_leave session.old.bench.trace session.old.log session.old.bench.log }
     requires writer { K.has_failed writer.old ≡ false }
     ensures in_step { OnOk result (IsInStep D.seen D.may_leave session.new.bench.trace session.new.log session.new.bench.log) }
+    ensures trace { session.new.bench.trace ≡ session.old.bench.trace }
+
+    // It ends without a fault only at the end of the input, and where the reader has not failed meanwhile.
+    ensures end { OnOk result (IsAtEnd (S.rest reader.new)) }
+    ensures read { OnOk result (S.has_failed reader.new ≡ S.has_failed reader.old) }
 {
     let mut piece = vec![in alloc; 0u8; PIECE]?;
     run_pieces(alloc, session, client, reader, &mut piece, writer)

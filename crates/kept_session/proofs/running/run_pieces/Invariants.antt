@@ -1,4 +1,4 @@
--- the session is in step, and the writer works
+-- The session is in step, and its trace is that from before. The writer works, and the reader has not failed meanwhile.
 use Rattle.std.proofs.Common.{◌≡◌, ◌<◌, false, length}
 use Rattle.kept_session.specs.Sessions.{IsInStep}
 use Rattle.kept_session.proofs.running.run_pieces.Given as goal
@@ -6,6 +6,8 @@ use Rattle.kept_session.proofs.running.run_pieces.Given as goal
 abbrev pub invariant-reads : goal.invariant-reads
 invariant-reads g l = record {
   in_step : IsInStep g.D.Device.seen g.D.Device.may_leave l.session.bench.trace l.session.log l.session.bench.log;
+  trace : l.session.bench.trace ≡ l.fn.session.bench.trace;
+  read : g.S.Source.has_failed l.reader ≡ g.S.Source.has_failed l.fn.reader;
   working : g.K.Sink.has_failed l.writer ≡ false;
   room : 0 < length l.piece;
 }
