@@ -9,6 +9,8 @@ mod fakes;
 #[cfg(test)]
 mod fixtures;
 #[cfg(test)]
+mod log_tests;
+#[cfg(test)]
 mod memory_tests;
 #[cfg(test)]
 mod run_tests;

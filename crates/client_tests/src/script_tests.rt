@@ -4,7 +4,7 @@
 use crate::fakes::{AMPLE, Broken, Full, InterruptedReader, InterruptedWriter, with_room};
 use client_scripts::{
     FromRead, FromWrite, ReadCause, ReplayFault, ScriptCall, ScriptCause, ScriptRefusal, Tally,
-    fault_text, read_all, read_script, replay_joint, write_all,
+    fault_text, read_all, read_script, replay, replay_joint, write_all,
 };
 use inverse_log::Call;
 use moves::Command;
@@ -17,12 +17,20 @@ use trace_rules::{RuleCause, RuleRefusal};
 /// Two threads that write one variable after each took and let go one lock.
 const TRACE: &[u8] = b"T1|w(x)|1\nT1|acq(l)|2\nT1|rel(l)|3\nT2|acq(l)|4\nT2|rel(l)|5\nT2|w(x)|6\n";
 
+const SCRIPT: &[u8] = b"1 new A\n1 new A\n1 add A 3\n2 undo\n1 show A\n";
+
 /// The trace and the script in one.
 const JOINT: &[u8] =
     b"T1|w(x)|1\nT1|acq(l)|2\nT1|rel(l)|3\nT2|acq(l)|4\nT2|rel(l)|5\nT2|w(x)|6\n---\n1 new A\n1 new A\n1 add A 3\n2 undo\n1 show A\n";
 
 const ANSWERS: &[u8] =
     b"0: done\nrefused 43 name taken\n1: done\nrefused 51 nothing to undo\nshown 3\n";
+
+const COUNTED: Tally = Tally {
+    calls: 5,
+    accepted: 3,
+    refused: 2,
+};
 
 /// The fault of an input that was not read.
 fn unread(input: u32) -> ReplayFault {
@@ -54,6 +62,13 @@ fn stored_run(alloc: Global, room: usize) -> (Result<Tally, ReplayFault>, Full) 
 }
 
 #[test]
+fn a_replay_counts_its_calls(rt: HostRuntime) {
+    let (outcome, writer) = stored_run(rt.alloc(), AMPLE);
+    assert!(rt; outcome == Ok(COUNTED));
+    assert!(rt; writer.taken.as_slice() == ANSWERS);
+}
+
+#[test]
 fn readers_that_fail(rt: HostRuntime) {
     // The text has 110 bytes: 37 reads of at most three bytes, and one more that finds the end.
     for fails_at in 1..39 {
@@ -68,6 +83,31 @@ fn writers_that_fail(rt: HostRuntime) {
         assert!(rt; outcome == Err(ReplayFault::Write));
         assert!(rt; writer.taken.len() == room && ANSWERS.starts_with(&writer.taken));
     }
+}
+
+#[test]
+fn two_inputs(rt: HostRuntime) {
+    let mut writer = with_room(rt.alloc(), AMPLE);
+    let mut trace = FromRead::new(TRACE);
+    let mut script = FromRead::new(SCRIPT);
+    let outcome = replay(rt.alloc(), &mut trace, &mut script, &mut writer);
+    assert!(rt; outcome == Ok(COUNTED));
+    assert!(rt; writer.taken.as_slice() == ANSWERS);
+}
+
+#[test]
+fn a_script_that_could_not_be_opened(rt: HostRuntime) {
+    let mut writer = with_room(rt.alloc(), AMPLE);
+    let mut trace = FromRead::new(TRACE);
+    let mut script = Broken {
+        left: b"",
+        reads: 0,
+        fails_at: 1,
+        failed: false,
+    };
+    let outcome = replay(rt.alloc(), &mut trace, &mut script, &mut writer);
+    assert!(rt; outcome == Err(unread(2)));
+    assert!(rt; writer.taken.is_empty());
 }
 
 /// Whether each of the lines, as a script of its own, is refused for this cause, or read.

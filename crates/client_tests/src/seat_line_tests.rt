@@ -2,6 +2,7 @@
 //! where there is memory.
 
 use crate::fixtures::{ONE_LOCK, indexed_of};
+use crate::log_tests::is_printed;
 use event_index::Indexed;
 use inverse_log::Refusal;
 use moves::{MoveRefusal, Name};
@@ -52,6 +53,32 @@ fn each_kind(name: Name) -> [(SeatRefusal, &'static [u8]); 10] {
             b"refused 56 out of memory\n",
         ),
     ]
+}
+
+fn seat_refusal_on(alloc: Global, indexed: &Indexed, why: &SeatRefusal) -> Option<Vec<u8>> {
+    let mut out = Vec::new(alloc);
+    match seat_refusal(indexed, why, &mut out) {
+        Ok(()) => Some(out),
+        Err(_) => None,
+    }
+}
+
+// What is printed of it on the trace of one lock.
+fn seat_refusal_of(alloc: Global, why: &SeatRefusal) -> Option<Vec<u8>> {
+    match indexed_of(alloc, ONE_LOCK) {
+        Some(indexed) => seat_refusal_on(alloc, &indexed, why),
+        None => None,
+    }
+}
+
+#[test]
+fn lines_of_calls_that_a_seat_refuses(rt: HostRuntime) {
+    let Ok(name) = Name::new(b"A") else {
+        panic!(rt; "no name")
+    };
+    for (why, wanted) in each_kind(name) {
+        assert!(rt; is_printed(seat_refusal_of(rt.alloc(), &why), wanted));
+    }
 }
 
 // Whether the line was appended behind the byte that stood there.

@@ -8,7 +8,7 @@ use moves::{Command, Name};
 use std::alloc::Global;
 use std::sync::Wait;
 use std::test::Fail;
-use workspace_lock::{OpenRefusal, Seat, SeatRefusal, Seats, open, open_with_room};
+use workspace_lock::{CloseRefusal, OpenRefusal, Seat, SeatRefusal, Seats, open, open_with_room};
 
 fn opened(alloc: Global, bench: Bench, clients: u32) -> Option<Seats> {
     match open(alloc, bench, clients) {
@@ -90,6 +90,48 @@ pub(crate) fn shows_its_event<R: Wait>(rt: &R, seat: &mut Seat, own: &Own) -> bo
         Ok(Reply::Shown(events)) => events.items() == [own.event].as_slice(),
         _ => false,
     }
+}
+
+#[test]
+fn a_bad_count_is_refused(rt: HostRuntime) -> Result<(), Fail> {
+    for clients in [0, 33u32] {
+        let Some(bench) = bench_of(rt.alloc(), ONE_LOCK) else {
+            panic!(rt; "no bench")
+        };
+        let Err((bench, why)) = open(rt.alloc(), bench, clients) else {
+            panic!(rt; "opened")
+        };
+        assert!(rt; why == OpenRefusal::BadCount);
+        assert_eq!(rt; bench.log_len(), 0);
+    }
+    Ok(())
+}
+
+#[test]
+fn a_seat_that_is_out_keeps_the_seats_open(rt: HostRuntime) -> Result<(), Fail> {
+    let Some(mut seats) = seats_of(rt.alloc(), 32) else {
+        panic!(rt; "not opened")
+    };
+    let Some(mut one) = seats.take() else {
+        panic!(rt; "no seat")
+    };
+    assert_eq!(rt; one.number(), 1);
+    assert!(rt; one.run(&rt, &Call::Undo).is_err());
+    let Err((mut seats, why)) = seats.close() else {
+        panic!(rt; "closed")
+    };
+    assert!(rt; why == CloseRefusal::NotAll);
+    assert!(rt; seats.give(one).is_ok());
+    let Some(again) = seats.take() else {
+        panic!(rt; "no seat")
+    };
+    assert_eq!(rt; again.turns(), 1);
+    assert!(rt; seats.give(again).is_ok());
+    let Ok(bench) = seats.close() else {
+        panic!(rt; "not closed")
+    };
+    assert_eq!(rt; bench.log_len(), 0);
+    Ok(())
 }
 
 // Whether the refused call changed nothing, and the other seat is served.

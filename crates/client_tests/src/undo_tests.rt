@@ -449,3 +449,51 @@ fn each_change_is_counted_once(rt: HostRuntime) -> Result<(), Fail> {
     assert!(rt; is_counted(rt.alloc(), &rows));
     Ok(())
 }
+
+// Whether each round of a new schedule and its undo is answered as it must be.
+fn fill(bench: &mut Bench, fresh: &Call, rounds: u32) -> bool {
+    for round in 0..rounds {
+        let number = round as u64 * 2;
+        let is_round = is_answered(bench, 1, fresh, Told::Done(number))
+            && is_answered(bench, 1, &Call::Undo, Told::Undone(number + 1, number));
+        if !is_round {
+            return false;
+        }
+    }
+    true
+}
+
+fn is_full(bench: &mut Bench, fresh: &Call) -> bool {
+    is_answered(bench, 1, fresh, Told::Refused(55))
+        && is_answered(bench, 1, &Call::Undo, Told::Refused(55))
+        && is_answered(bench, 1, &Call::UndoAt { entry: 0 }, Told::Refused(55))
+        && is_answered(bench, 1, &Call::List, Told::Names(b""))
+}
+
+// Whether a log takes 1,000,000 entries and no more, and has counted each of these changes.
+fn fills_up_with(bench: &mut Bench, fresh: &Call) -> bool {
+    fill(bench, fresh, 500_000)
+        && is_full(bench, fresh)
+        && bench.edits() == 1_000_000
+        && bench.log_len() == 1_000_000
+}
+
+fn does_fill_up(alloc: Global, bench: &mut Bench) -> bool {
+    match call_of(alloc, Ask::New(b'A')) {
+        Some(fresh) => fills_up_with(bench, &fresh),
+        None => false,
+    }
+}
+
+fn fills_up(alloc: Global) -> bool {
+    match bench_of(alloc, ONE_LOCK) {
+        Some(mut bench) => does_fill_up(alloc, &mut bench),
+        None => false,
+    }
+}
+
+#[test]
+fn a_log_is_full_at_a_million_entries(rt: HostRuntime) -> Result<(), Fail> {
+    assert!(rt; fills_up(rt.alloc()));
+    Ok(())
+}
