@@ -9,6 +9,7 @@ pub mod LoopLemmas
 pub mod StateLemmas
 pub mod ConflictLemmas
 pub mod LaterLemmas
+pub mod OwnerLemmas
 pub mod PairLemmas
 pub mod KindLemmas
 pub mod CutLemmas

@@ -5,12 +5,13 @@ ghost use Rattle.indexmap.specs.IndexMap.{index_map_len};
 ghost use Rattle.rapid_text.specs.Recording.{IsWellFormed};
 ghost use Rattle.event_index.specs.Lookups.{events_of};
 ghost use Rattle.shb_clocks.specs.SharedRows.{Counted, len_of};
-ghost use Rattle.race_groups.specs.Classes.{AreClasses, AreMembers, AreWriters};
+ghost use Rattle.race_groups.specs.Classes.{AreClasses, AreMembers};
 ghost use Rattle.race_groups.specs.Counting.{AreFrontsAt, AreMoved, later_count};
 ghost use Rattle.race_groups.specs.Counts.{AreCounted, keeps};
 ghost use Rattle.race_groups.specs.Cuts.{IsCut};
 ghost use Rattle.race_groups.specs.Ends.{ends_of};
 ghost use Rattle.race_groups.specs.Found.{AreTooMany};
+ghost use Rattle.race_groups.specs.Owners.{AreConflicts};
 ghost use Rattle.race_groups.specs.Rows.{Part, count_at, AreRows, AreMore};
 
 use crate::class::Class;
@@ -21,7 +22,7 @@ use crate::events::threads_in;
 use crate::guesses::Guesses;
 use crate::rows::{Rows, RowsRefusal};
 use crate::walk::add_members;
-use crate::writers::{conflicting, writers_of};
+use crate::writers::{Conflicts, conflicting};
 use event_index::Indexed;
 use indexmap::IndexMap;
 use must_order::Must;
@@ -108,7 +109,7 @@ fn add_later(
     clocks: &Clocks,
     forced: &SharedRows,
     classes: &Classes,
-    writers: &[Vec<u32>],
+    conflicts: &Conflicts,
     thread: u32,
     at: usize,
 ) -> Result<(), OutOfMemory>
@@ -121,7 +122,8 @@ fn add_later(
     requires classes { All (λ c. c < length classes.now.infos.items) classes.now.numbers.items }
     requires few { length classes.now.infos.items ≤ 1048576 }
     requires members { AreMembers classes.now.infos.items classes.now.members.items }
-    requires writers { AreWriters classes.now.infos.items classes.now.members.items writers.now }
+    requires conflicts { AreConflicts indexed.now.events (length indexed.now.threads) classes.now.numbers.items
+        classes.now.infos.items classes.now.members.items conflicts.now }
     requires thread { thread < length indexed.now.threads }
     requires at { at < length (events_of indexed.now.events thread) }
     requires fronts { AreFrontsAt indexed.now.events (length indexed.now.threads) (length classes.now.infos.items)
@@ -148,8 +150,9 @@ fn add_later(
         fronts.forced.counts.as_slice(),
         classes.infos.as_slice(),
         &classes.lists,
-        conflicting(classes, writers, variable, class.op),
+        conflicting(classes, conflicts, variable, class.op),
         class,
+        thread,
     )?;
     Ok(())
 }
@@ -164,7 +167,7 @@ fn add_thread(
     forced: &SharedRows,
     classes: &Classes,
     limit: u32,
-    writers: &[Vec<u32>],
+    conflicts: &Conflicts,
     thread: u32,
 ) -> Result<(), RowsRefusal>
     requires clocks { clocks.now ≡ indexed.now }
@@ -176,7 +179,8 @@ fn add_thread(
     requires classes { All (λ c. c < length classes.now.infos.items) classes.now.numbers.items }
     requires few { length classes.now.infos.items ≤ 1048576 }
     requires members { AreMembers classes.now.infos.items classes.now.members.items }
-    requires writers { AreWriters classes.now.infos.items classes.now.members.items writers.now }
+    requires conflicts { AreConflicts indexed.now.events (length indexed.now.threads) classes.now.numbers.items
+        classes.now.infos.items classes.now.members.items conflicts.now }
     requires thread { thread < length indexed.now.threads }
     requires rows { AreRows rows.old }
     requires kept { index_map_len rows.old ≤ limit }
@@ -202,7 +206,7 @@ fn add_thread(
             clocks,
             forced,
             classes,
-            writers,
+            conflicts,
             thread,
             at,
         )?;
@@ -237,7 +241,7 @@ pub(crate) fn count_cuts(
     known_tells_shb();
     let _len = indexed.len();
     let forced = must.rows();
-    let writers = writers_of(alloc, classes.infos.as_slice(), classes.members.as_slice())?;
+    let conflicts = Conflicts::of(alloc, indexed, classes)?;
     let mut rows = IndexMap::new(alloc);
     let mut guesses = Guesses::new(alloc, classes.infos.as_slice())?;
     for thread in 0..threads_in(indexed) {
@@ -250,7 +254,7 @@ pub(crate) fn count_cuts(
             forced,
             classes,
             limit,
-            writers.as_slice(),
+            &conflicts,
             thread,
         ) {
             Ok(()) => {}

@@ -3,12 +3,15 @@ ghost use Rattle.std.specs.Prelude.{◌≡◌, ℕ, ◌+◌, ◌^◌, ◌<◌, �
 ghost use Rattle.event_index.specs.Relations.{is_clash_of_ops};
 ghost use Rattle.race_groups.specs.Classes.{adds_to};
 ghost use Rattle.race_groups.specs.Counts.{is_counted, keeps};
+ghost use Rattle.race_groups.specs.Owners.{AreRuns};
 ghost use Rattle.race_groups.specs.Rows.{Part, part, amount, by_cut, count_at, AreRows};
 
 use crate::class::Class;
 use crate::guesses::Guesses;
+use crate::owners::owner_of;
 use crate::rows::{Rows, Sums, add};
 use crate::sharing::are_sharing;
+use crate::writers::Walk;
 use indexmap::IndexSet;
 use rapid_text::{Op, OutOfMemory};
 
@@ -96,7 +99,7 @@ fn clash(first: Op, second: Op) -> bool
     }
 }
 
-/// Adds what an event of a class has with the events that come below its cuts, which are counted by class.
+/// Adds what an event of a class has with the events of other threads that come below its cuts, which are counted by class.
 pub(crate) fn add_members(
     rows: &mut Rows,
     guesses: &mut Guesses,
@@ -105,28 +108,41 @@ pub(crate) fn add_members(
     forced: &[u32],
     infos: &[Class],
     lists: &IndexSet<Vec<u32>>,
-    members: &[u32],
+    walk: Walk<'_>,
     later: Class,
+    thread: u32,
 ) -> Result<(), OutOfMemory>
-    requires members { All (λ c. c < length infos.now) members.now }
+    requires members { All (λ c. c < length infos.now) walk.members.now }
+    requires runs { AreRuns walk.owners.now walk.members.now walk.runs.now }
+    // Of the thread's own classes nothing is counted.
+    requires own { (c : ℕ) → c < length infos.now → slice_index walk.owners.now c ≡ thread
+        → (k : Part) → slice_index (by_cut earlier.now known.now forced.now k) c ≡ 0 }
     requires earlier { length earlier.now ≡ length infos.now }
     requires known { length known.now ≡ length infos.now }
     requires forced { length forced.now ≡ length infos.now }
     requires rows { AreRows rows.old }
     requires room { (k : Part) (p q : ℕ) → p ≤ q
-        → count_at k rows.old p q + sum_by (slice_index (by_cut earlier.now known.now forced.now k)) members.now < 2 ^ 64 }
+        → count_at k rows.old p q + sum_by (slice_index (by_cut earlier.now known.now forced.now k)) walk.members.now < 2 ^ 64 }
     ensures ok { OnOk result ((k : Part) (p q : ℕ) → p ≤ q → count_at k rows.new p q ≡ count_at k rows.old p q
         + sum_by (λ c. if adds_to (keeps lists.now.keys k) p q later (slice_get infos.now c)
-        then slice_index (by_cut earlier.now known.now forced.now k) c else 0) members.now) }
+        then slice_index (by_cut earlier.now known.now forced.now k) c else 0) walk.entry.members.now) }
     ensures rows { OnOk result (AreRows rows.new) }
 {
-    for member in members {
-        let below = Below {
-            earlier: earlier[*member as usize],
-            known: known[*member as usize],
-            forced: forced[*member as usize],
-        };
-        add_pairs(rows, guesses, lists, infos[*member as usize], later, below)?;
+    let members = walk.members;
+    let mut at = 0;
+    while at < members.len() {
+        let member = members[at];
+        if owner_of(walk.owners, member) == thread {
+            at = walk.runs[at];
+        } else {
+            let below = Below {
+                earlier: earlier[member as usize],
+                known: known[member as usize],
+                forced: forced[member as usize],
+            };
+            add_pairs(rows, guesses, lists, infos[member as usize], later, below)?;
+            at += 1;
+        }
     }
     Ok(())
 }
