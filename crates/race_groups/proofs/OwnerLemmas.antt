@@ -35,7 +35,7 @@ module _ (T : List Event) (threads : ℕ) (classes owners : List ℕ) (are : Are
       ∙ sum_by_zero xs
 
   -- none comes before the fronts of the owner
-  front_none : (fronts : List ℕ) → slice_index fronts u ≡ 0 → front_count T threads classes fronts c ≡ 0
+  pub front_none : (fronts : List ℕ) → slice_index fronts u ≡ 0 → front_count T threads classes fronts c ≡ 0
   front_none fronts begin =
       sum_by_each (λ t. class_count classes c (take (slice_index fronts t) (events_of T t))) (λ t. 0) (before threads)
       (λ t. elim (cases_eq t u) [

@@ -1,4 +1,4 @@
-//! What one later event adds to the rows.
+//! What one later event, or all those of one class of a thread, add to the rows.
 ghost use Rattle.std.specs.Prelude.{◌≡◌, ℕ, ◌+◌, ◌^◌, ◌<◌, ◌≤◌, length, All, Bool, Some, true, false, OnOk, if◌then◌else◌, slice_index, slice_get, sum_by};
 ghost use Rattle.event_index.specs.Relations.{is_clash_of_ops};
 ghost use Rattle.race_groups.specs.Classes.{adds_to};
@@ -15,15 +15,15 @@ use crate::writers::Walk;
 use indexmap::IndexSet;
 use rapid_text::{Op, OutOfMemory};
 
-/// How many events of a class come below each of the three cuts.
+/// How many pairs with the events of a class come below each of the three cuts.
 #[derive(Clone, Copy)]
 pub(crate) struct Below {
     /// Those that are earlier in the trace.
-    pub(crate) earlier: u32,
+    pub(crate) earlier: u64,
     /// Those that SHB keeps before.
-    pub(crate) known: u32,
+    pub(crate) known: u64,
     /// Those that are must-before.
-    pub(crate) forced: u32,
+    pub(crate) forced: u64,
 }
 
 impl Below {
@@ -40,19 +40,19 @@ impl Below {
         ensures { (k : Part) → part k result ≡ (if is_counted k is_shared then amount k self else 0) }
     {
         Sums {
-            all: u64::from(self.earlier),
-            known: u64::from(self.known),
+            all: self.earlier,
+            known: self.known,
             known_shared: where_shared(self.known, is_shared),
-            forced: u64::from(self.forced),
+            forced: self.forced,
             forced_shared: where_shared(self.forced, is_shared),
         }
     }
 }
 
-fn where_shared(count: u32, is_shared: bool) -> u64
+fn where_shared(count: u64, is_shared: bool) -> u64
     ensures { result ≡ (if is_shared then count else 0) }
 {
-    if is_shared { u64::from(count) } else { 0 }
+    if is_shared { count } else { 0 }
 }
 
 // The sums of pairs of two classes. Whether these hold a lock in common matters only where SHB orders some of the pairs.
@@ -103,9 +103,9 @@ fn clash(first: Op, second: Op) -> bool
 pub(crate) fn add_members(
     rows: &mut Rows,
     guesses: &mut Guesses,
-    earlier: &[u32],
-    known: &[u32],
-    forced: &[u32],
+    earlier: &[u64],
+    known: &[u64],
+    forced: &[u64],
     infos: &[Class],
     lists: &IndexSet<Vec<u32>>,
     walk: Walk<'_>,
