@@ -1,13 +1,14 @@
 -- What is said of each of the five parts that are counted.
-use Rattle.std.proofs.Common.{◌≡◌, ℕ, ◌&&◌, Bool, true, false, Some, Vec, List, slice_index, refl, ap, ◌∙◌}
+use Rattle.std.proofs.Common.{◌≡◌, ℕ, ◌&&◌, Bool, true, false, Some, Vec, List, slice_index, refl, sym, ap, ◌∙◌}
 use Rattle.std.specs.Bool.{if◌then◌else◌}
 use Rattle.std.specs.declared.alloc.Global.{Global}
 use Rattle.event_index.specs.Relations.{is_clash_of_ops}
-use Rattle.race_groups.specs.Counts.{keeps}
+use Rattle.race_groups.specs.Counts.{is_counted, keeps}
 use Rattle.race_groups.specs.Groups.{is_between}
 use Rattle.race_groups.specs.Classes.{adds_to}
 use Rattle.race_groups.specs.Rows.{Part, of_all, of_known, of_known_shared, of_forced, of_forced_shared, amount, by_cut}
 use Rattle.race_groups.specs.declared.class.Class.{Class}
+use Rattle.race_groups.specs.declared.walk.Below.{Below}
 
 -- what holds of what belongs to each of the three cuts
 pub each_cut : {X : Type 0} (P : X → Type 0) (earlier known forced : X) → P earlier → P known → P forced → (k : Part) → P (by_cut earlier known forced k)
@@ -47,3 +48,16 @@ amount_at earlier known forced c of_known = refl
 amount_at earlier known forced c of_known_shared = refl
 amount_at earlier known forced c of_forced = refl
 amount_at earlier known forced c of_forced_shared = refl
+
+-- where SHB orders none of the pairs, it does not matter whether the two have a lock in common
+none_kept : (b : Bool) (n : ℕ) → n ≡ 0 → ◌≡◌ {A = ℕ} 0 (if b then n else 0)
+none_kept true n none = sym none
+none_kept false n none = refl
+
+pub nothing_kept : (k : Part) (below : Below) (shared : Bool) → below.known ≡ 0 → below.forced ≡ 0
+    → (if is_counted k false then amount k below else 0) ≡ (if is_counted k shared then amount k below else 0)
+nothing_kept of_all below shared known forced = refl
+nothing_kept of_known below shared known forced = refl
+nothing_kept of_known_shared below shared known forced = none_kept shared below.known known
+nothing_kept of_forced below shared known forced = refl
+nothing_kept of_forced_shared below shared known forced = none_kept shared below.forced forced

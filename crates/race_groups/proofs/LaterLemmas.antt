@@ -40,7 +40,7 @@ counts_are fronts of_forced = refl
 counts_are fronts of_forced_shared = refl
 
 -- three things that are those of another three
-by_cut-same : {X : Type 0} (a b c d e f : X) → a ≡ d → b ≡ e → c ≡ f → (k : Part) → by_cut a b c k ≡ by_cut d e f k
+pub by_cut-same : {X : Type 0} (a b c d e f : X) → a ≡ d → b ≡ e → c ≡ f → (k : Part) → by_cut a b c k ≡ by_cut d e f k
 by_cut-same a b c d e f is also third of_all = is
 by_cut-same a b c d e f is also third of_known = also
 by_cut-same a b c d e f is also third of_known_shared = also

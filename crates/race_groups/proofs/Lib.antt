@@ -1,6 +1,7 @@
 pub mod SumLemmas
 pub mod ThreadLemmas
 pub mod FrontLemmas
+pub mod WeightLemmas
 pub mod EachPartLemmas
 pub mod RowLemmas
 pub mod WalkLemmas
@@ -9,7 +10,10 @@ pub mod LoopLemmas
 pub mod StateLemmas
 pub mod ConflictLemmas
 pub mod LaterLemmas
+pub mod OwnerLemmas
+pub mod ClassLemmas
 pub mod PairLemmas
+pub mod FlagLemmas
 pub mod KindLemmas
 pub mod CutLemmas
 pub mod RelationLemmas
@@ -22,5 +26,4 @@ pub mod PartLemmas
 pub mod TellLemmas
 pub mod ApartLemmas
 pub mod CompleteLemmas
-pub mod PlanLemmas
 pub mod Examples

@@ -5,12 +5,13 @@ ghost use Rattle.indexmap.specs.IndexMap.{index_map_len};
 ghost use Rattle.rapid_text.specs.Recording.{IsWellFormed};
 ghost use Rattle.event_index.specs.Lookups.{events_of};
 ghost use Rattle.shb_clocks.specs.SharedRows.{Counted, len_of};
-ghost use Rattle.race_groups.specs.Classes.{AreClasses, AreMembers, AreWriters};
-ghost use Rattle.race_groups.specs.Counting.{AreFrontsAt, AreMoved, later_count};
+ghost use Rattle.race_groups.specs.Classes.{AreClasses, AreMembers};
+ghost use Rattle.race_groups.specs.Counting.{AreFrontsAt, AreMoved, later_count, unflagged_count};
 ghost use Rattle.race_groups.specs.Counts.{AreCounted, keeps};
 ghost use Rattle.race_groups.specs.Cuts.{IsCut};
 ghost use Rattle.race_groups.specs.Ends.{ends_of};
 ghost use Rattle.race_groups.specs.Found.{AreTooMany};
+ghost use Rattle.race_groups.specs.Owners.{AreConflicts};
 ghost use Rattle.race_groups.specs.Rows.{Part, count_at, AreRows, AreMore};
 
 use crate::class::Class;
@@ -19,9 +20,10 @@ use crate::counting::Front;
 use crate::cuts::{Earlier, Forced, Known};
 use crate::events::threads_in;
 use crate::guesses::Guesses;
+use crate::heavy::{add_classes, heavies};
 use crate::rows::{Rows, RowsRefusal};
 use crate::walk::add_members;
-use crate::writers::{conflicting, writers_of};
+use crate::writers::{Conflicts, conflicting};
 use event_index::Indexed;
 use indexmap::IndexMap;
 use must_order::Must;
@@ -108,7 +110,7 @@ fn add_later(
     clocks: &Clocks,
     forced: &SharedRows,
     classes: &Classes,
-    writers: &[Vec<u32>],
+    conflicts: &Conflicts,
     thread: u32,
     at: usize,
 ) -> Result<(), OutOfMemory>
@@ -121,7 +123,8 @@ fn add_later(
     requires classes { All (λ c. c < length classes.now.infos.items) classes.now.numbers.items }
     requires few { length classes.now.infos.items ≤ 1048576 }
     requires members { AreMembers classes.now.infos.items classes.now.members.items }
-    requires writers { AreWriters classes.now.infos.items classes.now.members.items writers.now }
+    requires conflicts { AreConflicts indexed.now.events (length indexed.now.threads) classes.now.numbers.items
+        classes.now.infos.items classes.now.members.items conflicts.now }
     requires thread { thread < length indexed.now.threads }
     requires at { at < length (events_of indexed.now.events thread) }
     requires fronts { AreFrontsAt indexed.now.events (length indexed.now.threads) (length classes.now.infos.items)
@@ -148,8 +151,58 @@ fn add_later(
         fronts.forced.counts.as_slice(),
         classes.infos.as_slice(),
         &classes.lists,
-        conflicting(classes, writers, variable, class.op),
+        conflicting(classes, conflicts, variable, class.op),
         class,
+        thread,
+    )?;
+    Ok(())
+}
+
+// The same, but for an event of a class that is flagged.
+fn add_light(
+    rows: &mut Rows,
+    guesses: &mut Guesses,
+    fronts: &mut Fronts,
+    indexed: &Indexed,
+    clocks: &Clocks,
+    forced: &SharedRows,
+    classes: &Classes,
+    conflicts: &Conflicts,
+    thread: u32,
+    at: usize,
+    flags: &[u32],
+) -> Result<(), OutOfMemory>
+    requires clocks { clocks.now ≡ indexed.now }
+    requires width { forced.now.width ≡ length indexed.now.threads }
+    requires len { len_of forced.now ≡ length indexed.now.events }
+    requires formed { IsWellFormed indexed.now }
+    requires cuts { (k : Part) → IsCut indexed.now.events (ends_of indexed.now.events forced.now k) }
+    requires numbers { length classes.now.numbers.items ≡ length indexed.now.events }
+    requires classes { All (λ c. c < length classes.now.infos.items) classes.now.numbers.items }
+    requires few { length classes.now.infos.items ≤ 1048576 }
+    requires members { AreMembers classes.now.infos.items classes.now.members.items }
+    requires conflicts { AreConflicts indexed.now.events (length indexed.now.threads) classes.now.numbers.items
+        classes.now.infos.items classes.now.members.items conflicts.now }
+    requires thread { thread < length indexed.now.threads }
+    requires at { at < length (events_of indexed.now.events thread) }
+    requires flags { length flags.now ≡ length classes.now.infos.items }
+    requires fronts { AreFrontsAt indexed.now.events (length indexed.now.threads) (length classes.now.infos.items)
+        classes.now.numbers.items thread forced.now at fronts.old }
+    requires rows { AreRows rows.old }
+    requires room { (k : Part) (p q : ℕ) → p ≤ q → count_at k rows.old p q ≤ 2 ^ 40 }
+    ensures fronts { OnOk result (AreFrontsAt indexed.now.events (length indexed.now.threads) (length classes.now.infos.items)
+        classes.now.numbers.items thread forced.now (at + 1) fronts.new) }
+    ensures ok { OnOk result ((k : Part) (p q : ℕ) → p ≤ q → count_at k rows.new p q ≡ count_at k rows.old p q
+        + unflagged_count indexed.now.events (keeps classes.now.lists.keys k) classes.now.numbers.items classes.now.infos.items thread
+        (ends_of indexed.now.events forced.now k) p q flags.now (slice_index (events_of indexed.now.events thread) at)) }
+    ensures rows { OnOk result (AreRows rows.new) }
+{
+    let event = indexed.thread_events(thread)[at];
+    if flags[classes.numbers[event as usize] as usize] == 1 {
+        return Ok(());
+    }
+    add_later(
+        rows, guesses, fronts, indexed, clocks, forced, classes, conflicts, thread, at,
     )?;
     Ok(())
 }
@@ -164,7 +217,7 @@ fn add_thread(
     forced: &SharedRows,
     classes: &Classes,
     limit: u32,
-    writers: &[Vec<u32>],
+    conflicts: &Conflicts,
     thread: u32,
 ) -> Result<(), RowsRefusal>
     requires clocks { clocks.now ≡ indexed.now }
@@ -176,7 +229,8 @@ fn add_thread(
     requires classes { All (λ c. c < length classes.now.infos.items) classes.now.numbers.items }
     requires few { length classes.now.infos.items ≤ 1048576 }
     requires members { AreMembers classes.now.infos.items classes.now.members.items }
-    requires writers { AreWriters classes.now.infos.items classes.now.members.items writers.now }
+    requires conflicts { AreConflicts indexed.now.events (length indexed.now.threads) classes.now.numbers.items
+        classes.now.infos.items classes.now.members.items conflicts.now }
     requires thread { thread < length indexed.now.threads }
     requires rows { AreRows rows.old }
     requires kept { index_map_len rows.old ≤ limit }
@@ -192,9 +246,14 @@ fn add_thread(
         ≤ count_at k rows.old p q + sum_by (later_count indexed.now.events (keeps classes.now.lists.keys k) classes.now.numbers.items
         classes.now.infos.items thread (ends_of indexed.now.events forced.now k) p q) (events_of indexed.now.events thread)) }
 {
+    let flags = heavies(alloc, indexed, classes, conflicts, thread)?;
+    let flagged = flags.as_slice();
+    add_classes(
+        alloc, rows, guesses, indexed, clocks, forced, classes, limit, conflicts, thread, flagged,
+    )?;
     let mut fronts = Fronts::new(alloc, indexed, classes)?;
     for at in 0..indexed.thread_events(thread).len() {
-        add_later(
+        add_light(
             rows,
             guesses,
             &mut fronts,
@@ -202,9 +261,10 @@ fn add_thread(
             clocks,
             forced,
             classes,
-            writers,
+            conflicts,
             thread,
             at,
+            flagged,
         )?;
         if rows.len() > limit as usize {
             return Err(RowsRefusal::TooMany);
@@ -237,7 +297,7 @@ pub(crate) fn count_cuts(
     known_tells_shb();
     let _len = indexed.len();
     let forced = must.rows();
-    let writers = writers_of(alloc, classes.infos.as_slice(), classes.members.as_slice())?;
+    let conflicts = Conflicts::of(alloc, indexed, classes)?;
     let mut rows = IndexMap::new(alloc);
     let mut guesses = Guesses::new(alloc, classes.infos.as_slice())?;
     for thread in 0..threads_in(indexed) {
@@ -250,7 +310,7 @@ pub(crate) fn count_cuts(
             forced,
             classes,
             limit,
-            writers.as_slice(),
+            &conflicts,
             thread,
         ) {
             Ok(()) => {}

@@ -30,7 +30,7 @@ pub(crate) trait Cut {
 #[derive(Drop)]
 pub(crate) struct Front {
     pub(crate) fronts: Vec<u32>,
-    pub(crate) counts: Vec<u32>,
+    pub(crate) counts: Vec<u64>,
 }
 
 impl Front {
@@ -41,7 +41,7 @@ impl Front {
     {
         Ok(Front {
             fronts: vec![in alloc; 0u32; threads]?,
-            counts: vec![in alloc; 0u32; classes]?,
+            counts: vec![in alloc; 0u64; classes]?,
         })
     }
 
@@ -78,7 +78,7 @@ impl Front {
 }
 
 // Counts these events, each by its class.
-fn count(counts: &mut [u32], classes: &[u32], events: &[u32])
+fn count(counts: &mut [u64], classes: &[u32], events: &[u32])
     requires events { All (λ e. e < length classes.now) events.now }
     requires classes { All (λ c. c < length counts.old) classes.now }
     requires room { (c : ℕ) → c < length counts.old → slice_index counts.old c + length events.now < 2 ^ 32 }
@@ -92,7 +92,7 @@ fn count(counts: &mut [u32], classes: &[u32], events: &[u32])
 
 // Moves the front of one thread on.
 fn move_on(
-    counts: &mut [u32],
+    counts: &mut [u64],
     fronts: &mut [u32],
     classes: &[u32],
     indexed: &Indexed,
@@ -120,7 +120,7 @@ fn move_on(
 
 // Moves the fronts of all other threads on to the ends of a later event.
 fn advance<C: Cut>(
-    counts: &mut [u32],
+    counts: &mut [u64],
     fronts: &mut [u32],
     classes: &[u32],
     indexed: &Indexed,

@@ -9,11 +9,16 @@ mod counting;
 mod cuts;
 mod events;
 mod guesses;
+mod heavy;
 mod holding;
 mod kinds;
+mod owners;
 mod rows;
+mod runs;
 mod sharing;
+mod sums;
 mod walk;
+mod weighing;
 mod writers;
 
 pub use apart::is_apart;

@@ -1,15 +1,66 @@
-//! The classes that write: a read is in no pair with another read.
+//! With which classes an operation conflicts: a read is in no pair with another read, and no event with one of its own thread.
 ghost use Rattle.std.specs.Prelude.{◌≡◌, ◌<◌, ◌≤◌, All, IfOk, filter, length, slice_get};
 ghost use Rattle.event_index.specs.Relations.{is_access};
 ghost use Rattle.race_groups.specs.Classes.{AreConflicting, AreMembers, AreWriters, is_writing, is_writing_op};
+ghost use Rattle.race_groups.specs.Owners.{AreConflicts, AreRuns, AreRunsOf};
 
 use crate::class::Class;
 use crate::classes::Classes;
+use crate::owners::owners_of;
+use crate::runs::runs_of;
+use event_index::Indexed;
 use rapid_text::{Op, OutOfMemory};
 use std::alloc::Global;
 
-/// For each variable those of its classes that write it.
-pub(crate) fn writers_of(
+/// For each variable the classes that write it, and how the classes of one thread are passed by.
+#[derive(Drop)]
+pub(crate) struct Conflicts {
+    pub(crate) writers: Vec<Vec<u32>>,
+    /// For each class the thread that has all its events.
+    pub(crate) owners: Vec<u32>,
+    /// Where the runs of classes of one owner end, among those that access each variable.
+    pub(crate) runs: Vec<Vec<usize>>,
+    /// The same among those that write it.
+    pub(crate) writer_runs: Vec<Vec<usize>>,
+}
+
+/// The classes with which an operation conflicts, and where runs of one owner end among them.
+#[derive(Clone, Copy)]
+pub(crate) struct Walk<'a> {
+    pub(crate) members: &'a [u32],
+    pub(crate) owners: &'a [u32],
+    pub(crate) runs: &'a [usize],
+}
+
+impl Conflicts {
+    /// Those of a trace's classes.
+    pub(crate) fn of(
+        alloc: Global,
+        indexed: &Indexed,
+        classes: &Classes,
+    ) -> Result<Conflicts, OutOfMemory>
+        requires numbers { length classes.now.numbers.items ≡ length indexed.now.events }
+        requires classes { All (λ c. c < length classes.now.infos.items) classes.now.numbers.items }
+        requires members { AreMembers classes.now.infos.items classes.now.members.items }
+        ensures { IfOk result (AreConflicts indexed.now.events (length indexed.now.threads) classes.now.numbers.items
+            classes.now.infos.items classes.now.members.items) }
+    {
+        let members = classes.members.as_slice();
+        let writers = writers_of(alloc, classes.infos.as_slice(), members)?;
+        let owners = owners_of(alloc, indexed, classes)?;
+        let runs = runs_of(alloc, owners.as_slice(), members)?;
+        let writer_runs = runs_of(alloc, owners.as_slice(), writers.as_slice())?;
+        Ok(Conflicts {
+            writers,
+            owners,
+            runs,
+            writer_runs,
+        })
+    }
+}
+
+// For each variable those of its classes that write it.
+fn writers_of(
     alloc: Global,
     infos: &[Class],
     members: &[Vec<u32>],
@@ -59,17 +110,30 @@ fn is_write(op: Op) -> bool
 /// The classes of the variable with which the operation conflicts.
 pub(crate) fn conflicting<'a>(
     classes: &'a Classes,
-    writers: &'a [Vec<u32>],
+    conflicts: &'a Conflicts,
     variable: u32,
     op: Op,
-) -> &'a [u32]
+) -> Walk<'a>
     requires variable { variable < length classes.now.members.items }
     requires members { AreMembers classes.now.infos.items classes.now.members.items }
-    requires writers { AreWriters classes.now.infos.items classes.now.members.items writers.now }
-    ensures { AreConflicting classes.now.infos.items variable op result.now }
+    requires writers { AreWriters classes.now.infos.items classes.now.members.items conflicts.now.writers.items }
+    requires runs { AreRunsOf conflicts.now.owners.items classes.now.members.items conflicts.now.runs.items }
+    requires writer_runs { AreRunsOf conflicts.now.owners.items conflicts.now.writers.items conflicts.now.writer_runs.items }
+    ensures members { AreConflicting classes.now.infos.items variable op result.members.now }
+    ensures owners { result.owners.now ≡ conflicts.now.owners.items }
+    ensures runs { AreRuns result.owners.now result.members.now result.runs.now }
 {
+    let owners = conflicts.owners.as_slice();
     if is_write(op) {
-        return classes.members[variable as usize].as_slice();
+        return Walk {
+            members: classes.members[variable as usize].as_slice(),
+            owners,
+            runs: conflicts.runs[variable as usize].as_slice(),
+        };
     }
-    writers[variable as usize].as_slice()
+    Walk {
+        members: conflicts.writers[variable as usize].as_slice(),
+        owners,
+        runs: conflicts.writer_runs[variable as usize].as_slice(),
+    }
 }

@@ -9,6 +9,7 @@ use Rattle.race_groups.specs.Rows.{count_at}
 use Rattle.race_groups.specs.declared.class.Class.{Class}
 use Rattle.race_groups.proofs.ConflictLemmas.{conflicting_within}
 use Rattle.race_groups.proofs.LaterLemmas.{later_none, members_room, members_added}
+use Rattle.race_groups.proofs.OwnerLemmas.{own_nothing}
 use Rattle.race_groups.proofs.counted.add_later.Goals as goal
 
 pub returns-in_default-clause-ok : goal.returns-in_default-clause-ok
@@ -40,7 +41,7 @@ add_members-requires-clause-members c =
     let class = slice_get_within infos m j c.class_of-class.ensures in
     let x = c.in-Some.variable in
     let accessed : is_access x j.op ≡ true = c.in-Some.ensures.some in
-    subst (λ (ys : List Class). All (λ k. k < length ys) c.conflicting.result.now) (sym c.as_slice-4.ensures.value) (conflicting_within infos x j.op c.conflicting.result.now c.conflicting.ensures)
+    subst (λ (ys : List Class). All (λ k. k < length ys) c.conflicting.result.members.now) (sym c.as_slice-4.ensures.value) (conflicting_within infos x j.op c.conflicting.result.members.now c.conflicting.ensures.members)
 
 pub add_members-requires-clause-room : goal.add_members-requires-clause-room
 add_members-requires-clause-room c = λ k p q le.
@@ -56,7 +57,7 @@ add_members-requires-clause-room c = λ k p q le.
     let accessed : is_access x j.op ≡ true = c.in-Some.ensures.some in
     let few =
     members_room c.args.indexed.now c.requires.formed (length infos) classes c.args.thread c.args.forced.now (at + 1) c.advance.new.self c.advance.ensures.fronts infos x j.op refl c.requires.few
-    c.as_slice.result.now c.as_slice-2.result.now c.as_slice-3.result.now c.conflicting.result.now c.as_slice.ensures.value c.as_slice-2.ensures.value c.as_slice-3.ensures.value c.conflicting.ensures k
+    c.as_slice.result.now c.as_slice-2.result.now c.as_slice-3.result.now c.conflicting.result.members.now c.as_slice.ensures.value c.as_slice-2.ensures.value c.as_slice-3.ensures.value c.conflicting.ensures.members k
     in omega (arith, few, c.requires.room k p q le)
 
 pub returns-clause-ok : goal.returns-clause-ok
@@ -78,6 +79,14 @@ returns-clause-ok c = λ k p q le.
     let added =
     members_added c.args.indexed.now c.requires.formed (length infos) classes c.args.thread c.args.forced.now (at + 1) c.advance.new.self c.advance.ensures.fronts (slice_index (events_of T c.args.thread) at) c.advance.ensures.moved
     infos c.args.classes.now.lists.keys j x c.requires.numbers c.requires.classes refl accessed found
-    c.as_slice.result.now c.as_slice-2.result.now c.as_slice-3.result.now c.conflicting.result.now c.as_slice-4.result.now
-    c.as_slice.ensures.value c.as_slice-2.ensures.value c.as_slice-3.ensures.value c.as_slice-4.ensures.value c.conflicting.ensures k p q
+    c.as_slice.result.now c.as_slice-2.result.now c.as_slice-3.result.now c.conflicting.result.members.now c.as_slice-4.result.now
+    c.as_slice.ensures.value c.as_slice-2.ensures.value c.as_slice-3.ensures.value c.as_slice-4.ensures.value c.conflicting.ensures.members k p q
     in c.in_ok-add_members.ensures.ok k p q le ∙ ap (λ n. count_at k c.args.rows.now p q + n) added
+
+pub add_members-requires-clause-own : goal.add_members-requires-clause-own
+add_members-requires-clause-own c = λ m low own k.
+    let infos = c.args.classes.now.infos.items in
+    own_nothing c.args.indexed.now c.requires.formed (length infos) c.args.classes.now.numbers.items c.args.thread c.args.forced.now (c.args.at + 1) c.advance.new.self c.advance.ensures.fronts
+    c.args.conflicts.now.owners.items c.requires.conflicts.owners c.requires.thread
+    c.as_slice.result.now c.as_slice-2.result.now c.as_slice-3.result.now c.as_slice.ensures.value c.as_slice-2.ensures.value c.as_slice-3.ensures.value
+    m (omega (arith, low, ap length c.as_slice-4.ensures.value)) (ap (λ xs. slice_index xs m) (sym c.conflicting.ensures.owners) ∙ own) k

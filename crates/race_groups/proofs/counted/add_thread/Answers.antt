@@ -1,55 +1,79 @@
-use Rattle.std.proofs.Common.{◌≡◌, ◌+◌, length, take, sum_by, ap, ◌∙◌, arith}
+use Rattle.std.proofs.Common.{◌≡◌, ◌+◌, length, take, sum_by, ap, arith}
 use Rattle.std.proofs.lemmas.List.{take_all}
 use Rattle.std.proofs.lemmas.List.Sums.{sum_by_more, sum_by-take-le}
 use Rattle.event_index.specs.Lookups.{events_of}
-use Rattle.race_groups.specs.Counting.{later_count}
+use Rattle.race_groups.specs.Counting.{unflagged_count}
 use Rattle.race_groups.specs.Counts.{keeps}
 use Rattle.race_groups.specs.Ends.{ends_of}
-use Rattle.race_groups.specs.Rows.{count_at}
+use Rattle.race_groups.proofs.FlagLemmas.{flagged_all}
 use Rattle.race_groups.proofs.LoopLemmas.{later_sum-le}
 use Rattle.race_groups.proofs.counted.add_thread.Goals as goal
 
-pub add_later-requires-clause-room : goal.add_later-requires-clause-room
-add_later-requires-clause-room c = λ k p q le.
+pub add_light-requires-clause-room : goal.add_light-requires-clause-room
+add_light-requires-clause-room c = λ k p q le.
     let T = c.args.indexed.now.events in
     let lane = events_of T c.args.thread in
-    let f = later_count T (keeps c.args.classes.now.lists.keys k) c.args.classes.now.numbers.items c.args.classes.now.infos.items c.args.thread (ends_of T c.args.forced.now k) p q in
+    let keep = keeps c.args.classes.now.lists.keys k in
+    let numbers = c.args.classes.now.numbers.items in
+    let infos = c.args.classes.now.infos.items in
+    let end = ends_of T c.args.forced.now k in
+    let flags = c.as_slice-flagged.result.now in
+    let f = unflagged_count T keep numbers infos c.args.thread end p q flags in
     let part = sum_by-take-le f lane c.loop-at.at in
-    let few = later_sum-le T (keeps c.args.classes.now.lists.keys k) c.args.classes.now.numbers.items c.args.classes.now.infos.items c.args.thread (ends_of T c.args.forced.now k) p q lane in
-    omega (arith, part, few, c.loop-at.invariant.rows k p q le, c.requires.room k p q le)
+    let whole = flagged_all T keep numbers infos c.args.thread end p q flags c.requires.numbers c.requires.classes in
+    let few = later_sum-le T keep numbers infos c.args.thread end p q lane in
+    omega (arith, part, whole, few, c.in_ok-add_classes.ensures.ok k p q le, c.loop-at.invariant.rows k p q le, c.requires.room k p q le)
 
 pub loop-at-preserved : goal.loop-at-preserved
 loop-at-preserved c = record {
-  kept = c.in_ok-add_later.ensures.rows;
+  kept = c.in_ok-add_light.ensures.rows;
   few = omega (arith, c.if-len-limit.false, c.len.ensures.len);
-  fronts = c.in_ok-add_later.ensures.fronts;
+  fronts = c.in_ok-add_light.ensures.fronts;
   rows = λ k p q le.
       let T = c.args.indexed.now.events in
       let lane = events_of T c.args.thread in
-      let f = later_count T (keeps c.args.classes.now.lists.keys k) c.args.classes.now.numbers.items c.args.classes.now.infos.items c.args.thread (ends_of T c.args.forced.now k) p q in
+      let f = unflagged_count T (keeps c.args.classes.now.lists.keys k) c.args.classes.now.numbers.items c.args.classes.now.infos.items c.args.thread (ends_of T c.args.forced.now k) p q c.as_slice-flagged.result.now in
       let more = sum_by_more f lane c.loop-at.at 0 (omega (arith, c.loop-at-test.true, ap length c.thread_events-at-end.ensures.events)) in
-      omega (arith, more, c.in_ok-add_later.ensures.ok k p q le, c.loop-at.invariant.rows k p q le);
+      omega (arith, more, c.in_ok-add_light.ensures.ok k p q le, c.loop-at.invariant.rows k p q le);
+}
+
+pub loop-at-init : goal.loop-at-init
+loop-at-init c = record {
+  kept = c.in_ok-add_classes.ensures.rows;
+  few = c.in_ok-add_classes.ensures.kept;
+  fronts = c.in_ok-fronts.ensures c.args.thread c.args.forced.now;
+  rows = λ k p q le. omega (arith, c.in_ok-add_classes.ensures.ok k p q le);
 }
 
 pub returns-clause-ok : goal.returns-clause-ok
 returns-clause-ok c = λ k p q le.
     let T = c.args.indexed.now.events in
     let lane = events_of T c.args.thread in
-    let f = later_count T (keeps c.args.classes.now.lists.keys k) c.args.classes.now.numbers.items c.args.classes.now.infos.items c.args.thread (ends_of T c.args.forced.now k) p q in
+    let keep = keeps c.args.classes.now.lists.keys k in
+    let numbers = c.args.classes.now.numbers.items in
+    let infos = c.args.classes.now.infos.items in
+    let end = ends_of T c.args.forced.now k in
+    let flags = c.as_slice-flagged.result.now in
+    let f = unflagged_count T keep numbers infos c.args.thread end p q flags in
     let whole : take c.loop-at.at lane ≡ lane = take_all c.loop-at.at lane (omega (arith, c.loop-at-test.false, ap length c.thread_events-at-end.ensures.events)) in
-    c.loop-at.invariant.rows k p q le ∙ ap (λ xs. count_at k c.args.rows.now p q + sum_by f xs) whole
+    let same = ap (sum_by f) whole in
+    let all = flagged_all T keep numbers infos c.args.thread end p q flags c.requires.numbers c.requires.classes in
+    omega (arith, same, all, c.loop-at.invariant.rows k p q le)
 
 pub returns-then-len-limit-clause-too_many : goal.returns-then-len-limit-clause-too_many
 returns-then-len-limit-clause-too_many c = λ refused. (
-  record { are = c.in_ok-add_later.ensures.rows; more = omega (arith, c.if-len-limit.true, c.len.ensures.len); once = c.len.ensures.unique },
+  record { are = c.in_ok-add_light.ensures.rows; more = omega (arith, c.if-len-limit.true, c.len.ensures.len); once = c.len.ensures.unique },
   λ k p q le.
       let T = c.args.indexed.now.events in
       let lane = events_of T c.args.thread in
-      let f = later_count T (keeps c.args.classes.now.lists.keys k) c.args.classes.now.numbers.items c.args.classes.now.infos.items c.args.thread (ends_of T c.args.forced.now k) p q in
+      let keep = keeps c.args.classes.now.lists.keys k in
+      let numbers = c.args.classes.now.numbers.items in
+      let infos = c.args.classes.now.infos.items in
+      let end = ends_of T c.args.forced.now k in
+      let flags = c.as_slice-flagged.result.now in
+      let f = unflagged_count T keep numbers infos c.args.thread end p q flags in
       let more = sum_by_more f lane c.loop-at.at 0 (omega (arith, c.loop-at-test.true, ap length c.thread_events-at-end.ensures.events)) in
       let part = sum_by-take-le f lane (c.loop-at.at + 1) in
-      omega (arith, more, part, c.in_ok-add_later.ensures.ok k p q le, c.loop-at.invariant.rows k p q le),
+      let all = flagged_all T keep numbers infos c.args.thread end p q flags c.requires.numbers c.requires.classes in
+      omega (arith, more, part, all, c.in_ok-add_light.ensures.ok k p q le, c.loop-at.invariant.rows k p q le),
 )
-
-pub returns-clause-kept : goal.returns-clause-kept
-returns-clause-kept c = c.loop-at.invariant.few

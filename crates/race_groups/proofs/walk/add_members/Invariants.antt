@@ -1,4 +1,4 @@
-use Rattle.std.proofs.Common.{◌≡◌, ℕ, ◌+◌, ◌≤◌, take, slice_index, sum_by}
+use Rattle.std.proofs.Common.{◌≡◌, ℕ, ◌+◌, ◌-◌, ◌≤◌, length, take, slice_index, sum_by}
 use Rattle.std.specs.Bool.{if◌then◌else◌}
 use Rattle.std.specs.List.{slice_get}
 use Rattle.race_groups.specs.Classes.{adds_to}
@@ -6,11 +6,15 @@ use Rattle.race_groups.specs.Counts.{keeps}
 use Rattle.race_groups.specs.Rows.{Part, by_cut, count_at, AreRows}
 use Rattle.race_groups.proofs.walk.add_members.Given as goal
 
-abbrev pub invariant-loop-member : goal.invariant-loop-member
-invariant-loop-member l =
+abbrev pub invariant-loop-at : goal.invariant-loop-at
+invariant-loop-at l =
     record {
       rows : AreRows l.rows;
+      within : l.at ≤ length l.members;
       counts :
           (k : Part) (p q : ℕ) → p ≤ q
-          → count_at k l.rows p q ≡ count_at k l.fn.rows p q + sum_by (λ c. if adds_to (keeps l.lists.keys k) p q l.later (slice_get l.infos c) then slice_index (by_cut l.earlier l.known l.forced k) c else 0) (take l.member-index l.members);
+          → count_at k l.rows p q ≡ count_at k l.fn.rows p q + sum_by (λ c. if adds_to (keeps l.lists.keys k) p q l.later (slice_get l.infos c) then slice_index (by_cut l.earlier l.known l.forced k) c else 0) (take l.at l.members);
     }
+
+abbrev pub decreases-loop-at : goal.decreases-loop-at
+decreases-loop-at l = length l.members - l.at

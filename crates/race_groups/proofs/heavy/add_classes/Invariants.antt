@@ -1,0 +1,17 @@
+use Rattle.std.proofs.Common.{◌≡◌, ℕ, ◌+◌, ◌≤◌}
+use Rattle.indexmap.specs.IndexMap.{index_map_len}
+use Rattle.race_groups.specs.Counting.{flagged_sum}
+use Rattle.race_groups.specs.Counts.{keeps}
+use Rattle.race_groups.specs.Ends.{ends_of}
+use Rattle.race_groups.specs.Rows.{Part, count_at, AreRows}
+use Rattle.race_groups.proofs.heavy.add_classes.Given as goal
+
+abbrev pub invariant-loop-class : goal.invariant-loop-class
+invariant-loop-class l =
+    record {
+      kept : AreRows l.rows;
+      few : index_map_len l.rows ≤ l.limit;
+      rows :
+          (k : Part) (p q : ℕ) → p ≤ q → count_at k l.rows p q ≡ count_at k l.fn.rows p q
+          + flagged_sum l.indexed.events (keeps l.classes.lists.keys k) l.classes.numbers.items l.classes.infos.items l.thread (ends_of l.indexed.events l.forced k) p q l.flags l.class;
+    }

@@ -1,0 +1,57 @@
+//! Which thread has all events of a class. No event is in a pair with one of its own thread.
+ghost use Rattle.std.specs.Prelude.{◌≡◌, ◌+◌, ◌<◌, length, All, IfOk, slice_index};
+ghost use Rattle.race_groups.specs.Owners.{AreOwners, AreOwnersBelow};
+
+use crate::classes::Classes;
+use crate::events::{event_at, threads_in};
+use event_index::Indexed;
+use rapid_text::OutOfMemory;
+use std::alloc::Global;
+
+/// For each class the thread that has all its events; the number of the threads where more than one has some.
+pub(crate) fn owners_of(
+    alloc: Global,
+    indexed: &Indexed,
+    classes: &Classes,
+) -> Result<Vec<u32>, OutOfMemory>
+    requires numbers { length classes.now.numbers.items ≡ length indexed.now.events }
+    requires classes { All (λ c. c < length classes.now.infos.items) classes.now.numbers.items }
+    ensures { IfOk result (λ owners. AreOwners indexed.now.events (length indexed.now.threads) classes.now.numbers.items owners.items) }
+{
+    let numbers = classes.numbers.as_slice();
+    let many = threads_in(indexed);
+    let mut owners = vec![in alloc; many; classes.infos.as_slice().len()]?;
+    for event in 0..indexed.len() {
+        owners[numbers[event as usize] as usize] = event_at(indexed, event).thread;
+    }
+    for event in 0..indexed.len() {
+        part(owners.as_mut_slice(), numbers, indexed, many, event);
+    }
+    Ok(owners)
+}
+
+// The class of the event is nobody's where another thread has it.
+fn part(owners: &mut [u32], numbers: &[u32], indexed: &Indexed, many: u32, event: u32)
+    requires numbers { length numbers.now ≡ length indexed.now.events }
+    requires classes { All (λ c. c < length owners.old) numbers.now }
+    requires many { many ≡ length indexed.now.threads }
+    requires event { event < length indexed.now.events }
+    requires owners { AreOwnersBelow indexed.now.events (length indexed.now.threads) numbers.now event owners.old }
+    ensures owners { AreOwnersBelow indexed.now.events (length indexed.now.threads) numbers.now (event + 1) owners.new }
+    ensures len { length owners.new ≡ length owners.old }
+{
+    let class = numbers[event as usize] as usize;
+    if owners[class] != event_at(indexed, event).thread {
+        owners[class] = many;
+    }
+}
+
+/// The owner of the class.
+pub(crate) fn owner_of(owners: &[u32], class: u32) -> u32
+    ensures { result ≡ slice_index owners.now class }
+{
+    match owners.get(class as usize) {
+        Some(owner) => *owner,
+        None => 0,
+    }
+}

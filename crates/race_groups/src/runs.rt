@@ -1,0 +1,52 @@
+//! How far the classes of a list have one owner, so that a walk passes by those of one thread in one step.
+ghost use Rattle.std.specs.Prelude.{◌≡◌, ◌+◌, ◌≤◌, ◌<◌, ℕ, length, All, IfOk, slice_index};
+ghost use Rattle.race_groups.specs.Owners.{AreRuns, AreRunsOf, IsRun};
+
+use crate::owners::owner_of;
+use rapid_text::OutOfMemory;
+use std::alloc::Global;
+
+/// For each place of each list, where the run of classes of one owner ends that stands there.
+pub(crate) fn runs_of(
+    alloc: Global,
+    owners: &[u32],
+    lists: &[Vec<u32>],
+) -> Result<Vec<Vec<usize>>, OutOfMemory>
+    ensures { IfOk result (λ runs. AreRunsOf owners.now lists.now runs.items) }
+{
+    let mut runs = Vec::with_capacity(alloc, lists.len())?;
+    for variable in 0..lists.len() {
+        let found = runs_in(alloc, owners, lists[variable].as_slice())?;
+        runs.push(found)?;
+    }
+    Ok(runs)
+}
+
+// The same of one list, from its end.
+fn runs_in(alloc: Global, owners: &[u32], classes: &[u32]) -> Result<Vec<usize>, OutOfMemory>
+    ensures { IfOk result (λ runs. AreRuns owners.now classes.now runs.items) }
+{
+    let mut runs = vec![in alloc; 0usize; classes.len()]?;
+    for done in 0..classes.len() {
+        let at = classes.len() - 1 - done;
+        runs[at] = run_at(owners, classes, runs.as_slice(), at);
+    }
+    Ok(runs)
+}
+
+// Where the run ends that stands at this place, from those of the places after it.
+fn run_at(owners: &[u32], classes: &[u32], runs: &[usize], at: usize) -> usize
+    requires at { at < length classes.now }
+    requires len { length runs.now ≡ length classes.now }
+    requires runs { (i : ℕ) → at < i → i < length classes.now → IsRun owners.now classes.now i (slice_index runs.now i) }
+    ensures { IsRun owners.now classes.now at result }
+{
+    let next = at + 1;
+    if next == classes.len() {
+        return next;
+    }
+    if owner_of(owners, classes[at]) != owner_of(owners, classes[next]) {
+        return next;
+    }
+    runs[next]
+}
