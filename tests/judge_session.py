@@ -214,14 +214,14 @@ def entry_words(log, number):
 
 
 def judge_cuts(sessions):
-    """A file that is cut at each of its last bytes stands for the lines that are whole, and the next session goes on from them."""
+    """A file that is cut at each of its bytes, or is whole, stands for the lines that are whole, and the next session goes on from them."""
     fresh()
     running.write("trace", "T1|w(x)|1\nT2|w(x)|2\n")
     for text in [b"1 new A\n", b"1 new B\n2 new C\n1 undo\n", b"2 add C 1\n"]:
         sessions.run(text)
     whole = pathlib.Path("log").read_bytes()
     lines = whole[HEAD:].split(b"\n")[:-1]
-    for size in range(len(whole)):
+    for size in range(len(whole) + 1):
         pathlib.Path("log").write_bytes(whole[:size])
         if size < HEAD:
             sessions.run(b"", status=1, error=b"racebench: log of another trace\n")
@@ -234,10 +234,14 @@ def judge_cuts(sessions):
         if pathlib.Path("log").read_bytes() != whole[:HEAD] + b"\n".join([*lines[:count], b" 3 new Z", b"!"]):
             fail(f"cut to {size} bytes, the file is {pathlib.Path('log').read_bytes()}")
         sessions.tally["cuts"] += 1
-    # What stands behind a closed gate never counts.
-    pathlib.Path("log").write_bytes(whole + b" 1 new D\n 1 new E\n")
-    if sessions.run(b"3 new Z\n") != f"{len(lines)}: done\n".encode("ascii") or pathlib.Path("log").read_bytes() != whole[:-1] + b" 3 new Z\n!":
-        fail("what stands behind a closed gate counted")
+    # What stands behind a closed gate never counts, be it a block whose write was cut short or lines with open gates. Two lines in one block take its place.
+    answers = f"{len(lines)}: done\n{len(lines) + 1}: done\n".encode("ascii")
+    for torn in [b"1 new D\n 1 ad", b" 1 new D\n 1 new E\n"]:
+        pathlib.Path("log").write_bytes(whole + torn)
+        told = sessions.run(b"3 new Z\n3 add Z 0\n")
+        left = pathlib.Path("log").read_bytes()
+        if told != answers or left != whole[:-1] + b" 3 new Z\n 3 add Z 0\n!":
+            fail(f"with {torn} behind the closed gate the file is {left}")
 
 
 def judge_edits(sessions):

@@ -15,6 +15,3 @@ pub use lines::first_line;
 pub use log::{AppendError, KeptLog, OpenError, create};
 pub use memory::Memory;
 pub use turns::EnterError;
-
-#[cfg(test)]
-mod tests;
