@@ -1,6 +1,6 @@
 mod ChosenLemmas
 mod FilterLemmas
-mod HeldLemmas
+pub mod HeldLemmas
 mod MarkLemmas
 mod OutcomeLemmas
 mod PieceLemmas
