@@ -1,125 +1,169 @@
-//! What the program does at each of its words: it opens the inputs, makes the call, and hands on what the writer keeps back.
+//! What the program does at each of its words: it opens the inputs, makes the call, hands on what the writer keeps back, and answers the status.
+ghost use Rattle.std.specs.Prelude.{◌≡◌, ◌<◌, ◌≤◌, All, false, vec_len};
 
-use crate::input::{Watched, input_at, inputs_at};
-use crate::stop::{Stop, in_files, in_joint, in_pair, say};
-use crate::words::no_script;
+use crate::input::{Input, Watched, input_at, inputs_at};
+use crate::telling::{say, tell_files, tell_joint, tell_pair, tell_replay};
 use client_scripts::{FromWrite, ReplayFault, replay, replay_joint};
 use pair_calls::{Form, explain, witness};
-use program_calls::{BenchFault, MAX_SCRIPTS, MAX_WORKERS, info, threads_with_room};
+use program_calls::{BEST_ROOM, BenchFault, MAX_SCRIPTS, info, threads_with_room};
+use program_words::{PairTask, ScheduleForm, ThreadsTask};
 use std::io;
+use std::process::ExitCode;
 use std::sync::Wait;
 use std::thread::Threads;
 
 /// Hands on what a writer keeps back.
-pub(crate) fn finish<W: io::Write>(writer: &mut FromWrite<W>) -> Result<(), Stop> {
+pub(crate) fn finish<W: io::Write>(rt: &HostRuntime, writer: &mut FromWrite<W>) -> ExitCode {
     match writer.flush() {
-        Ok(()) => Ok(()),
-        Err(_) => Err(Stop::from(ReplayFault::Write)),
+        Ok(()) => ExitCode::SUCCESS,
+        Err(_) => tell_replay(rt, ReplayFault::Write),
     }
 }
 
 /// Replays the joint text on standard input. A text without a line `---` has no script, which a note says.
-pub(crate) fn replay_input(rt: &HostRuntime) -> Result<(), Stop> {
-    let mut input = Watched::new(rt.alloc(), rt.reader())?;
+pub(crate) fn replay_input(rt: &HostRuntime) -> ExitCode {
+    match Watched::new(rt.alloc(), rt.reader()) {
+        Ok(mut input) => replay_watched(rt, &mut input),
+        Err(_) => tell_replay(rt, ReplayFault::OutOfMemory),
+    }
+}
+
+/// Replays the joint text that this gives.
+fn replay_watched<R: io::Read + Drop>(rt: &HostRuntime, input: &mut Watched<R>) -> ExitCode
+    requires { input.old.reader.1 ≡ false }
+{
     let mut writer = FromWrite::new(io::writer(rt));
-    match replay_joint(rt.alloc(), &mut input, &mut writer) {
-        Ok(_) => finish(&mut writer)?,
-        Err(fault) => return Err(in_joint(rt, fault, &input.kept, input.is_whole)),
+    match replay_joint(rt.alloc(), input, &mut writer) {
+        Ok(_) => {
+            if writer.flush().is_err() {
+                return tell_replay(rt, ReplayFault::Write);
+            }
+            if !input.has_divider() {
+                say(rt, b"note: there is no line `---`, so there is no script\n");
+            }
+            ExitCode::SUCCESS
+        }
+        Err(fault) => tell_joint(rt, fault, &input.kept, input.is_whole),
     }
-    if !input.has_divider() {
-        say(rt, b"note: there is no line `---`, so there is no script\n");
-    }
-    Ok(())
 }
 
 /// Prints what the trace in a file holds.
-pub(crate) fn info_of_file(rt: &HostRuntime, path: &str) -> Result<(), Stop> {
+pub(crate) fn info_of_file(rt: &HostRuntime, trace: &str) -> ExitCode {
     let mut writer = FromWrite::new(io::writer(rt));
-    match info(rt.alloc(), &mut input_at(rt, path), &mut writer) {
-        Ok(()) => finish(&mut writer),
-        Err(fault) => Err(in_files(rt, fault, &[path])),
+    let mut input = input_at(rt, trace);
+    match info(rt.alloc(), &mut input, &mut writer) {
+        Ok(()) => finish(rt, &mut writer),
+        Err(fault) => tell_files(rt, fault, &[trace]),
     }
 }
 
 /// Explains a pair of events of the trace in a file.
-pub(crate) fn explain_in_file(
-    rt: &HostRuntime,
-    path: &str,
-    one: u32,
-    other: u32,
-    all: bool,
-) -> Result<(), Stop> {
+pub(crate) fn explain_in_file(rt: &HostRuntime, pair: &PairTask<'_>, all: bool) -> ExitCode {
     let mut writer = FromWrite::new(io::writer(rt));
-    let mut input = input_at(rt, path);
-    match explain(rt.alloc(), &mut input, one, other, all, &mut writer) {
-        Ok(()) => finish(&mut writer),
-        Err(fault) => Err(in_pair(rt, fault, path)),
+    let mut input = input_at(rt, pair.trace);
+    match explain(
+        rt.alloc(),
+        &mut input,
+        pair.one,
+        pair.other,
+        all,
+        &mut writer,
+    ) {
+        Ok(()) => finish(rt, &mut writer),
+        Err(fault) => tell_pair(rt, fault, pair.trace),
+    }
+}
+
+/// The form of a schedule, as the call takes it.
+fn form_of(form: ScheduleForm) -> Form {
+    match form {
+        ScheduleForm::Events => Form::Events,
+        ScheduleForm::Script => Form::Script,
+        ScheduleForm::Trace => Form::Trace,
+        ScheduleForm::Svg => Form::Svg,
     }
 }
 
 /// Prints the schedule that shows a pair of events of the trace in a file.
 pub(crate) fn witness_in_file(
     rt: &HostRuntime,
-    path: &str,
-    one: u32,
-    other: u32,
-    form: Form,
-) -> Result<(), Stop> {
+    pair: &PairTask<'_>,
+    form: ScheduleForm,
+) -> ExitCode {
     let mut writer = FromWrite::new(io::writer(rt));
-    let mut input = input_at(rt, path);
-    match witness(rt.alloc(), &mut input, one, other, form, &mut writer) {
-        Ok(()) => finish(&mut writer),
-        Err(fault) => Err(in_pair(rt, fault, path)),
+    let mut input = input_at(rt, pair.trace);
+    let form = form_of(form);
+    match witness(
+        rt.alloc(),
+        &mut input,
+        pair.one,
+        pair.other,
+        form,
+        &mut writer,
+    ) {
+        Ok(()) => finish(rt, &mut writer),
+        Err(fault) => tell_pair(rt, fault, pair.trace),
     }
 }
 
 /// Replays the script in one file on the trace in another.
-pub(crate) fn replay_files<'a>(
-    rt: &HostRuntime,
-    trace: &'a str,
-    script: &'a str,
-) -> Result<(), Stop> {
+pub(crate) fn replay_files(rt: &HostRuntime, trace: &str, script: &str) -> ExitCode {
     let mut writer = FromWrite::new(io::writer(rt));
     let mut trace_file = input_at(rt, trace);
     let mut script_file = input_at(rt, script);
     match replay(rt.alloc(), &mut trace_file, &mut script_file, &mut writer) {
-        Ok(_) => finish(&mut writer),
-        Err(fault) => Err(in_files(rt, BenchFault::from(fault), &[trace, script])),
+        Ok(_) => finish(rt, &mut writer),
+        Err(fault) => tell_files(rt, BenchFault::from(fault), &[trace, script]),
     }
 }
 
-/// Runs the scripts in files on the trace in another, each in a thread of its own, beside so many workers; the trace's path is the
-/// first. More scripts than there are clients for are refused before a file is opened.
-pub(crate) fn threads_on_files<R: Threads + Wait + Sync + Clone + Send + Drop + 'static>(
+/// Runs the scripts that these inputs give on a trace.
+fn run_scripts<R: Threads + Wait + Sync + Clone + Send + Drop + 'static>(
     rt: &HostRuntime,
     starts: &R,
-    paths: &[&str],
-    workers: u32,
-    room: u32,
-) -> Result<(), Stop> {
-    let Some((trace, scripts)) = paths.split_first() else {
-        return Err(Stop::from(no_script(rt.alloc())?));
-    };
-    if scripts.is_empty() {
-        return Err(Stop::from(no_script(rt.alloc())?));
-    }
-    if scripts.len() > MAX_SCRIPTS {
-        return Err(Stop::from(BenchFault::TooManyScripts));
-    }
-    let mut trace_file = input_at(rt, trace);
-    let inputs = inputs_at(rt, scripts)?;
+    trace: &mut Input,
+    scripts: Vec<Input>,
+    task: &ThreadsTask<'_>,
+) -> ExitCode
+    requires trace { trace.old.failed ≡ false }
+    requires scripts { All (λ input. input.failed ≡ false) scripts.items }
+    requires some { 0 < vec_len scripts }
+    requires workers { task.now.workers ≤ 16 }
+{
     let mut writer = FromWrite::new(io::writer(rt));
-    // The words name no more workers than there may be.
+    let room = task.room.unwrap_or(BEST_ROOM);
+    let workers = task.workers;
     match threads_with_room(
         starts,
         rt.alloc(),
-        &mut trace_file,
-        inputs,
-        workers.min(MAX_WORKERS),
+        trace,
+        scripts,
+        workers,
         room,
         &mut writer,
     ) {
-        Ok(()) => finish(&mut writer),
-        Err(fault) => Err(in_files(rt, fault, paths)),
+        Ok(()) => finish(rt, &mut writer),
+        Err(fault) => tell_files(rt, fault, &task.paths),
+    }
+}
+
+/// Runs the scripts in files on the trace in another, each in a thread of its own. More scripts than there are clients for are refused
+/// before a file is opened.
+pub(crate) fn threads_on_files<R: Threads + Wait + Sync + Clone + Send + Drop + 'static>(
+    rt: &HostRuntime,
+    starts: &R,
+    task: &ThreadsTask<'_>,
+) -> ExitCode
+    requires scripts { 1 < vec_len task.now.paths }
+    requires workers { task.now.workers ≤ 16 }
+{
+    let scripts = &task.paths[1..];
+    if scripts.len() > MAX_SCRIPTS {
+        return tell_files(rt, BenchFault::TooManyScripts, &task.paths);
+    }
+    let mut trace = input_at(rt, task.paths[0]);
+    match inputs_at(rt, scripts) {
+        Ok(inputs) => run_scripts(rt, starts, &mut trace, inputs, task),
+        Err(_) => tell_replay(rt, ReplayFault::OutOfMemory),
     }
 }

@@ -1,65 +1,87 @@
-//! The workbench as a program: replays a script on a trace, runs several at once, answers lines as they come, prints what a trace holds, or explains a
-//! pair of its events.
+//! The workbench as a program: replays a script on a trace, runs several at once, answers lines as they come, prints what a trace holds, lists its races, or
+//! explains a pair of its events.
 #![tactic(auto)]
+
+ghost use Rattle.program_words.specs.Tasks.{IsWithin};
 
 mod doing;
 mod input;
 mod notes;
 mod sessions;
-mod stop;
+mod telling;
 mod triaging;
-mod words;
 
 use crate::doing::{
     explain_in_file, info_of_file, replay_files, replay_input, threads_on_files, witness_in_file,
 };
 use crate::sessions::{log_of_file, session_on_files};
-use crate::stop::{Stop, tell};
+use crate::telling::tell_words;
 use crate::triaging::triage_file;
-use crate::words::{Task, no_text, task_of};
-use client_scripts::ReplayFault;
+use program_calls::{MAX_SCRIPTS, MAX_WORKERS};
+use program_words::{Limits, Task, Told, no_text, task_of};
 use std::io;
 use std::process::ExitCode;
 use std::sync::Wait;
 use std::thread::Threads;
+use triage_calls::MAX_TRIES;
+
+/// What the words may ask for. There is a client more than there may be scripts at once, which is left for what a search finds.
+const LIMITS: Limits = Limits {
+    clients: MAX_SCRIPTS as u32 + 1,
+    workers: MAX_WORKERS,
+    tries: MAX_TRIES,
+};
 
 /// The words that the program is called with, its own name first.
-fn read_words(rt: &HostRuntime) -> Result<Vec<String>, Stop> {
+fn read_words(rt: &HostRuntime) -> Result<Vec<String>, Told> {
     match std::env::args(rt) {
-        Ok(words) => Ok(words.collect(rt.alloc())?),
+        Ok(words) => match words.collect(rt.alloc()) {
+            Ok(words) => Ok(words),
+            Err(_) => Err(Told::OutOfMemory),
+        },
         Err(error) => match error.kind() {
-            io::ErrorKind::OutOfMemory => Err(Stop::from(ReplayFault::OutOfMemory)),
-            _ => Err(Stop::from(no_text(rt.alloc())?)),
+            io::ErrorKind::OutOfMemory => Err(Told::OutOfMemory),
+            _ => Err(no_text(rt.alloc(), LIMITS)),
         },
     }
 }
 
-/// Does what the words ask for. What starts threads is passed beside the rest, since it is given to `main` alone.
+/// Does what is asked for. What starts threads is passed beside the rest, since it is given to `main` alone.
 fn work<R: Threads + Wait + Sync + Clone + Send + Drop + 'static>(
     rt: &HostRuntime,
     starts: &R,
-) -> Result<(), Stop> {
-    let words = read_words(rt)?;
-    match task_of(rt.alloc(), words.as_slice())? {
+    task: &Task<'_>,
+) -> ExitCode
+    requires { IsWithin LIMITS task.now }
+{
+    match task {
         Task::Joint => replay_input(rt),
-        Task::Info(path) => info_of_file(rt, path),
+        Task::Info(trace) => info_of_file(rt, trace),
         Task::Replay(trace, script) => replay_files(rt, trace, script),
-        Task::Session { trace, log, client } => session_on_files(rt, trace, log, client),
-        Task::Log(path) => log_of_file(rt, path),
-        Task::Threads {
-            paths,
-            workers,
-            room,
-        } => threads_on_files(rt, starts, &paths, workers, room),
-        Task::Explain(path, one, other, all) => explain_in_file(rt, path, one, other, all),
-        Task::Witness(path, one, other, form) => witness_in_file(rt, path, one, other, form),
+        Task::Session(task) => session_on_files(rt, task.trace, task.log, task.client),
+        Task::Log(log) => log_of_file(rt, log),
+        Task::Threads(task) => threads_on_files(rt, starts, task),
         Task::Triage(task) => triage_file(rt, starts, task),
+        Task::Explain(pair, all) => explain_in_file(rt, pair, *all),
+        Task::Witness(pair, form) => witness_in_file(rt, pair, *form),
+    }
+}
+
+/// Does what the words ask for.
+fn work_on_words<R: Threads + Wait + Sync + Clone + Send + Drop + 'static>(
+    rt: &HostRuntime,
+    starts: &R,
+    words: &[String],
+) -> ExitCode {
+    match task_of(rt.alloc(), words, LIMITS) {
+        Ok(task) => work(rt, starts, &task),
+        Err(told) => tell_words(rt, &told),
     }
 }
 
 fn main(rt: HostRuntime) -> ExitCode {
-    match work(&rt, &rt) {
-        Ok(()) => ExitCode::SUCCESS,
-        Err(stop) => tell(&rt, &stop),
+    match read_words(&rt) {
+        Ok(words) => work_on_words(&rt, &rt, words.as_slice()),
+        Err(told) => tell_words(&rt, &told),
     }
 }

@@ -1,10 +1,10 @@
 //! Notes: what stands behind the line of a fault and says more of it, each in a line of its own.
 ghost use Rattle.std.specs.Prelude.{◌≤◌, length};
 
-use crate::words::{JOINT, LISTED_BEHIND};
 use client_scripts::{FromRead, ReadCause, ReplayFault, ScriptCause, ScriptRefusal, read_all};
 use memchr::memchr;
 use program_calls::BenchFault;
+use program_words::{LISTED_BEHIND, overview};
 use rapid_text::{OutOfMemory, TextCause, trim};
 use std::fs::{File, metadata};
 
@@ -84,9 +84,9 @@ fn before_gap(text: &[u8]) -> &[u8] {
 
 /// How a line with this command word is written behind the client, as help has it.
 fn usage_of(command: &[u8]) -> Option<&'static [u8]> {
-    let mut rest = JOINT.as_bytes();
+    let mut rest = overview().as_bytes();
     let mut is_listed = false;
-    'lines: for _ in 0..JOINT.len() {
+    'lines: for _ in 0..rest.len() {
         let line = first_line(rest, true)?;
         if is_listed && first_word(trim(line)) == command {
             return Some(before_gap(trim(line)));
@@ -201,20 +201,31 @@ pub(crate) fn append_joint_notes(
     }
 }
 
+/// Whether the file is there and a plain one.
+fn is_plain(rt: &HostRuntime, path: &str) -> bool {
+    match metadata(rt, path) {
+        Ok(found) => found.is_file(),
+        Err(_) => false,
+    }
+}
+
 /// What a file holds, read again. Nothing where it is no plain file, since another kind may not give its bytes twice, or wait.
 fn bytes_again(rt: &HostRuntime, path: &str) -> Vec<u8> {
-    let none = Vec::new(rt.alloc());
-    match metadata(rt, path) {
-        Ok(found) => {
-            if !found.is_file() {
-                return none;
-            }
-        }
-        Err(_) => return none,
+    if !is_plain(rt, path) {
+        return Vec::new(rt.alloc());
     }
     match File::open(rt, path) {
-        Ok(file) => read_all(rt.alloc(), &mut FromRead::new(file)).unwrap_or(none),
-        Err(_) => none,
+        Ok(file) => bytes_of(rt, file),
+        Err(_) => Vec::new(rt.alloc()),
+    }
+}
+
+/// What is read of a file.
+fn bytes_of(rt: &HostRuntime, file: File) -> Vec<u8> {
+    let mut source = FromRead::new(file);
+    match read_all(rt.alloc(), &mut source) {
+        Ok(bytes) => bytes,
+        Err(_) => Vec::new(rt.alloc()),
     }
 }
 

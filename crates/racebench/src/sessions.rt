@@ -2,13 +2,14 @@
 
 use crate::doing::finish;
 use crate::input::input_at;
-use crate::stop::{Stop, in_log, in_session};
+use crate::telling::{tell_log, tell_session};
 use client_scripts::{FromRead, FromWrite, ReadCause, ReplayFault, load, read_input};
 use event_index::Indexed;
 use kept_host::Host;
 use kept_session::{Session, SessionFault, head_of, make_log, print_log, run_session};
 use std::fs::File;
 use std::path::Path;
+use std::process::ExitCode;
 use std::{fs, io};
 
 /// How many names are tried for the file that becomes the log.
@@ -51,41 +52,85 @@ fn put_in_place(rt: &HostRuntime, made: &str, path: &str) -> Result<(), SessionF
     sync_folder(rt, path)
 }
 
+/// Fills the file of a new log, which has this name, and gives it its own.
+fn fill_file(
+    rt: &HostRuntime,
+    file: File,
+    made: &str,
+    path: &str,
+    head: &[u8],
+) -> Result<(), SessionFault> {
+    let mut host = Host::new(file);
+    match make_log(rt.alloc(), &mut host, head) {
+        Ok(()) => put_in_place(rt, made, path),
+        Err(fault) => {
+            let _ = fs::remove_file(rt, made);
+            Err(fault)
+        }
+    }
+}
+
+/// Makes the file of a log under this name, and gives it its own. Where a file has this name already, answers that none was made.
+fn make_file_by(
+    rt: &HostRuntime,
+    made: &str,
+    path: &str,
+    head: &[u8],
+) -> Result<bool, SessionFault> {
+    let opened = File::options()
+        .read(true)
+        .write(true)
+        .create_new(true)
+        .open(rt, made);
+    match opened {
+        Ok(file) => match fill_file(rt, file, made, path, head) {
+            Ok(()) => Ok(true),
+            Err(fault) => Err(fault),
+        },
+        Err(error) => {
+            if error.kind() == io::ErrorKind::AlreadyExists {
+                Ok(false)
+            } else {
+                Err(unwritten())
+            }
+        }
+    }
+}
+
+/// Makes the file of a log by way of a name with this number.
+fn make_file_numbered(
+    rt: &HostRuntime,
+    number: u32,
+    path: &str,
+    head: &[u8],
+) -> Result<bool, SessionFault> {
+    match format!(in rt.alloc(); "{path}.new{number}") {
+        Ok(made) => make_file_by(rt, made.as_str(), path, head),
+        Err(_) => Err(SessionFault::from(ReplayFault::OutOfMemory)),
+    }
+}
+
 /// Makes the file of a log: whole under another name first, so that a crash leaves no part of a head under its own.
 fn make_file(rt: &HostRuntime, path: &str, head: &[u8]) -> Result<(), SessionFault> {
     for number in 0..MAX_NAMES {
-        let made = format!(in rt.alloc(); "{path}.new{number}")?;
-        let opened = File::options()
-            .read(true)
-            .write(true)
-            .create_new(true)
-            .open(rt, made.as_str());
-        match opened {
-            Ok(file) => {
-                let mut host = Host::new(file);
-                if let Err(fault) = make_log(rt.alloc(), &mut host, head) {
-                    let _ = fs::remove_file(rt, made.as_str());
-                    return Err(fault);
-                }
-                return put_in_place(rt, made.as_str(), path);
-            }
-            Err(error) => {
-                if error.kind() != io::ErrorKind::AlreadyExists {
-                    return Err(unwritten());
-                }
-            }
+        if make_file_numbered(rt, number, path, head)? {
+            return Ok(());
         }
     }
     Err(unwritten())
 }
 
-/// Opens the file of a log, which is made where it is missing.
-fn log_at(rt: &HostRuntime, path: &str, head: &[u8]) -> Result<File, SessionFault> {
-    let is_missing = match fs::symlink_metadata(rt, path) {
+/// Whether there is nothing at a path.
+fn is_missing(rt: &HostRuntime, path: &str) -> bool {
+    match fs::symlink_metadata(rt, path) {
         Ok(_) => false,
         Err(error) => error.kind() == io::ErrorKind::NotFound,
-    };
-    if is_missing {
+    }
+}
+
+/// Opens the file of a log, which is made where it is missing.
+fn log_at(rt: &HostRuntime, path: &str, head: &[u8]) -> Result<File, SessionFault> {
+    if is_missing(rt, path) {
         make_file(rt, path, head)?;
     }
     match File::options().read(true).write(true).open(rt, path) {
@@ -96,8 +141,46 @@ fn log_at(rt: &HostRuntime, path: &str, head: &[u8]) -> Result<File, SessionFaul
 
 /// The trace in a file.
 fn trace_at(rt: &HostRuntime, path: &str) -> Result<Indexed, SessionFault> {
-    let text = read_input(rt.alloc(), &mut input_at(rt, path), 1)?;
-    Ok(load(rt.alloc(), &text)?)
+    let mut input = input_at(rt, path);
+    match read_input(rt.alloc(), &mut input, 1) {
+        Ok(text) => match load(rt.alloc(), &text) {
+            Ok(indexed) => Ok(indexed),
+            Err(fault) => Err(SessionFault::from(fault)),
+        },
+        Err(fault) => Err(SessionFault::from(fault)),
+    }
+}
+
+/// Answers standard input on a trace and the log in this file, which begins with this head.
+fn answer_on_file(
+    rt: &HostRuntime,
+    indexed: Indexed,
+    head: &[u8],
+    file: File,
+    client: Option<u32>,
+) -> Result<(), SessionFault> {
+    let mut reader = FromRead::new(rt.reader());
+    let mut writer = FromWrite::new(io::writer(rt));
+    match Session::open(rt.alloc(), indexed, head, Host::new(file)) {
+        Ok(mut session) => run_session(rt.alloc(), &mut session, client, &mut reader, &mut writer),
+        Err((fault, _)) => Err(fault),
+    }
+}
+
+/// Answers standard input on a trace and the log at this path.
+fn answer_on_trace(
+    rt: &HostRuntime,
+    indexed: Indexed,
+    log: &str,
+    client: Option<u32>,
+) -> Result<(), SessionFault> {
+    match head_of(rt.alloc(), &indexed) {
+        Ok(head) => match log_at(rt, log, &head) {
+            Ok(file) => answer_on_file(rt, indexed, &head, file, client),
+            Err(fault) => Err(fault),
+        },
+        Err(fault) => Err(SessionFault::from(fault)),
+    }
 }
 
 /// Answers standard input on the trace in a file and the log in another.
@@ -107,36 +190,31 @@ fn answer_input(
     log: &str,
     client: Option<u32>,
 ) -> Result<(), SessionFault> {
-    let indexed = trace_at(rt, trace)?;
-    let head = head_of(rt.alloc(), &indexed)?;
-    let host = Host::new(log_at(rt, log, &head)?);
-    let mut session = match Session::open(rt.alloc(), indexed, &head, host) {
-        Ok(session) => session,
-        Err((fault, _)) => return Err(fault),
-    };
-    let mut reader = FromRead::new(rt.reader());
-    let mut writer = FromWrite::new(io::writer(rt));
-    run_session(rt.alloc(), &mut session, client, &mut reader, &mut writer)
+    match trace_at(rt, trace) {
+        Ok(indexed) => answer_on_trace(rt, indexed, log, client),
+        Err(fault) => Err(fault),
+    }
 }
 
 /// Answers the lines on standard input, as they come.
-pub(crate) fn session_on_files<'a>(
+pub(crate) fn session_on_files(
     rt: &HostRuntime,
-    trace: &'a str,
-    log: &'a str,
+    trace: &str,
+    log: &str,
     client: Option<u32>,
-) -> Result<(), Stop> {
+) -> ExitCode {
     match answer_input(rt, trace, log, client) {
-        Ok(()) => Ok(()),
-        Err(fault) => Err(in_session(rt, fault, trace, log)),
+        Ok(()) => ExitCode::SUCCESS,
+        Err(fault) => tell_session(rt, fault, trace, log),
     }
 }
 
 /// Prints the lines that count in the file of a log.
-pub(crate) fn log_of_file(rt: &HostRuntime, path: &str) -> Result<(), Stop> {
+pub(crate) fn log_of_file(rt: &HostRuntime, path: &str) -> ExitCode {
     let mut writer = FromWrite::new(io::writer(rt));
-    match print_log(rt.alloc(), &mut input_at(rt, path), &mut writer) {
-        Ok(()) => finish(&mut writer),
-        Err(fault) => Err(in_log(rt, fault, path)),
+    let mut input = input_at(rt, path);
+    match print_log(rt.alloc(), &mut input, &mut writer) {
+        Ok(()) => finish(rt, &mut writer),
+        Err(fault) => tell_log(rt, fault, path),
     }
 }

@@ -1,0 +1,32 @@
+-- Which tasks the words may ask for. All notions here are this project's own.
+use Rattle.std.specs.Prelude.{◌<◌, ◌≤◌, IfSome, vec_len, ⊤}
+use Rattle.program_words.specs.declared.task.Limits.{Limits}
+use Rattle.program_words.specs.declared.task.SessionTask.{SessionTask}
+use Rattle.program_words.specs.declared.task.ThreadsTask.{ThreadsTask}
+use Rattle.program_words.specs.declared.task.TriageTask.{TriageTask}
+use Rattle.program_words.specs.declared.task.Task.{Task}
+use Rattle.program_words.specs.declared.task.Task.TheVariants.{Joint, Info, Replay, Session, Log, Threads, Triage, Explain, Witness}
+
+-- the client, where one is named, is one of those that there may be
+abbrev pub IsSessionWithin : Limits → SessionTask → Type 0
+IsSessionWithin limits task = IfSome task.client (λ client. (1 ≤ client) × (client ≤ limits.clients))
+
+-- there is a script behind the trace, and no more workers than there may be
+abbrev pub IsThreadsWithin : Limits → ThreadsTask → Type 0
+IsThreadsWithin limits task = (1 < vec_len task.paths) × (task.workers ≤ limits.workers)
+
+-- there are no more tries and workers than there may be
+abbrev pub IsTriageWithin : Limits → TriageTask → Type 0
+IsTriageWithin limits task = (task.tries ≤ limits.tries) × (task.workers ≤ limits.workers)
+
+-- a task whose numbers are within the limits
+abbrev pub IsWithin : Limits → Task → Type 0
+IsWithin limits Joint = ⊤
+IsWithin limits (Info trace) = ⊤
+IsWithin limits (Replay trace script) = ⊤
+IsWithin limits (Session task) = IsSessionWithin limits task
+IsWithin limits (Log log) = ⊤
+IsWithin limits (Threads task) = IsThreadsWithin limits task
+IsWithin limits (Triage task) = IsTriageWithin limits task
+IsWithin limits (Explain pair all) = ⊤
+IsWithin limits (Witness pair form) = ⊤

@@ -1,0 +1,16 @@
+//! The words of the program: what may stand behind its name, what help says of that, and what the words ask for.
+#![tactic(auto)]
+
+mod building;
+mod commands;
+mod program;
+mod reading;
+mod task;
+mod told;
+
+pub use program::{LISTED_BEHIND, overview};
+pub use reading::task_of;
+pub use task::{
+    Limits, PairTask, RacesForm, ScheduleForm, SessionTask, Task, ThreadsTask, TriageTask,
+};
+pub use told::{Told, no_text};

@@ -1,0 +1,246 @@
+//! What the words ask for, read from what `clap` found in them.
+ghost use Rattle.std.specs.Prelude.{◌≤◌, IfOk};
+ghost use Rattle.program_words.specs.Tasks.{IsWithin, IsSessionWithin, IsThreadsWithin, IsTriageWithin};
+
+use crate::building::words_taken;
+use crate::commands::{CommandName, command_of};
+use crate::task::{
+    Limits, PairTask, RacesForm, ScheduleForm, SessionTask, Task, ThreadsTask, TriageTask,
+};
+use crate::told::{Told, refused, told_of};
+use clap::ArgMatches;
+use clap::error::Error;
+use std::alloc::{AllocError, Global};
+
+/// Why words that `clap` takes are refused all the same.
+enum Unread {
+    /// For this reason.
+    Refused(&'static str),
+    /// There was no memory.
+    OutOfMemory,
+}
+
+impl From<AllocError> for Unread {
+    fn from(_error: AllocError) -> Unread {
+        Unread::OutOfMemory
+    }
+}
+
+/// The word of this name, which `clap` has seen to be there.
+fn word<'a>(given: &ArgMatches<'a>, name: &str) -> &'a str {
+    given.get_str(name).unwrap_or("")
+}
+
+/// Whether the word is one or more decimal digits.
+fn is_number(word: &str) -> bool {
+    !word.is_empty() && word.as_bytes().iter().all(|byte| byte.is_ascii_digit())
+}
+
+/// The number that the word is, from `least` to `most`. `clap` has seen to the bounds, and takes a sign before the digits, which is
+/// refused for this reason.
+fn number(word: &str, least: u32, most: u32, reason: &'static str) -> Result<u32, Unread>
+    ensures { IfOk result (λ n. (least ≤ n) × (n ≤ most)) }
+{
+    if !is_number(word) {
+        return Err(Unread::Refused(reason));
+    }
+    match word.parse::<u32>() {
+        Ok(number) if least <= number && number <= most => Ok(number),
+        _ => Err(Unread::Refused(reason)),
+    }
+}
+
+/// The event that the word names. A number that is larger than any event is one that no trace has.
+fn event(word: &str) -> Result<u32, Unread> {
+    if !is_number(word) {
+        return Err(Unread::Refused("an event is a number in decimal digits"));
+    }
+    Ok(word.parse::<u32>().unwrap_or(u32::MAX))
+}
+
+/// What `session` is asked for.
+fn session<'a>(given: &ArgMatches<'a>, limits: Limits) -> Result<SessionTask<'a>, Unread>
+    ensures { IfOk result (IsSessionWithin limits) }
+{
+    let client = match given.get_str("client") {
+        Some(word) => Some(number(
+            word,
+            1,
+            limits.clients,
+            "`--client` takes a number in decimal digits",
+        )?),
+        None => None,
+    };
+    Ok(SessionTask {
+        trace: word(given, "TRACE"),
+        log: word(given, "LOG"),
+        client,
+    })
+}
+
+/// The paths that `threads` is given, that of the trace first.
+fn paths<'a>(alloc: Global, given: &ArgMatches<'a>) -> Result<Vec<&'a str>, AllocError> {
+    let mut paths = Vec::new(alloc);
+    paths.push(word(given, "TRACE"))?;
+    paths.extend_from_slice(given.get_strs("SCRIPT").unwrap_or(&[]))?;
+    Ok(paths)
+}
+
+/// What `threads` is asked for.
+fn threads<'a>(
+    alloc: Global,
+    given: &ArgMatches<'a>,
+    limits: Limits,
+) -> Result<ThreadsTask<'a>, Unread>
+    ensures { IfOk result (IsThreadsWithin limits) }
+{
+    let workers = number(
+        word(given, "workers"),
+        0,
+        limits.workers,
+        "`--workers` takes a number in decimal digits",
+    )?;
+    let room = match given.get_str("room") {
+        Some(word) => word.parse::<u32>().ok(),
+        None => None,
+    };
+    let paths = paths(alloc, given)?;
+    if paths.len() < 2 {
+        return Err(Unread::Refused("there is no script"));
+    }
+    Ok(ThreadsTask {
+        paths,
+        workers,
+        room,
+    })
+}
+
+/// The texts that a flag is given.
+fn texts<'a>(
+    alloc: Global,
+    given: &ArgMatches<'a>,
+    name: &str,
+) -> Result<Vec<&'a str>, AllocError> {
+    Vec::from_slice(alloc, given.get_strs(name).unwrap_or(&[]))
+}
+
+/// In which form `triage` is asked for.
+fn races_form(given: &ArgMatches<'_>) -> RacesForm {
+    if given.get_flag("page") {
+        RacesForm::Page
+    } else if given.get_flag("json") {
+        RacesForm::Json
+    } else {
+        RacesForm::Text
+    }
+}
+
+/// What `triage` is asked for.
+fn triage<'a>(
+    alloc: Global,
+    given: &ArgMatches<'a>,
+    limits: Limits,
+) -> Result<TriageTask<'a>, Unread>
+    ensures { IfOk result (IsTriageWithin limits) }
+{
+    let reason = "`--tries` and `--workers` take numbers in decimal digits";
+    let tries = number(word(given, "tries"), 0, limits.tries, reason)?;
+    let workers = number(word(given, "workers"), 0, limits.workers, reason)?;
+    let only = texts(alloc, given, "only")?;
+    let hide = texts(alloc, given, "hide")?;
+    Ok(TriageTask {
+        trace: word(given, "TRACE"),
+        known: given.get_str("known"),
+        only,
+        hide,
+        apart: given.get_flag("apart"),
+        tries,
+        workers,
+        form: races_form(given),
+        fail: given.get_flag("fail"),
+    })
+}
+
+/// The pair that the words name.
+fn pair<'a>(given: &ArgMatches<'a>) -> Result<PairTask<'a>, Unread> {
+    Ok(PairTask {
+        trace: word(given, "TRACE"),
+        one: event(word(given, "A"))?,
+        other: event(word(given, "B"))?,
+    })
+}
+
+/// In which form `witness` is asked for.
+fn schedule_form(given: &ArgMatches<'_>) -> ScheduleForm {
+    if given.get_flag("script") {
+        ScheduleForm::Script
+    } else if given.get_flag("std") {
+        ScheduleForm::Trace
+    } else if given.get_flag("svg") {
+        ScheduleForm::Svg
+    } else {
+        ScheduleForm::Events
+    }
+}
+
+/// What a command is asked for.
+fn command_task<'a>(
+    alloc: Global,
+    command: CommandName,
+    given: &ArgMatches<'a>,
+    limits: Limits,
+) -> Result<Task<'a>, Unread>
+    ensures { IfOk result (IsWithin limits) }
+{
+    match command {
+        CommandName::Info => Ok(Task::Info(word(given, "TRACE"))),
+        CommandName::Replay => Ok(Task::Replay(word(given, "TRACE"), word(given, "SCRIPT"))),
+        CommandName::Session => Ok(Task::Session(session(given, limits)?)),
+        CommandName::Log => Ok(Task::Log(word(given, "LOG"))),
+        CommandName::Threads => Ok(Task::Threads(threads(alloc, given, limits)?)),
+        CommandName::Triage => Ok(Task::Triage(triage(alloc, given, limits)?)),
+        CommandName::Explain => Ok(Task::Explain(pair(given)?, given.get_flag("all"))),
+        CommandName::Witness => Ok(Task::Witness(pair(given)?, schedule_form(given))),
+    }
+}
+
+/// What is asked for in the words that `clap` took.
+fn task_in<'a>(alloc: Global, given: &ArgMatches<'a>, limits: Limits) -> Result<Task<'a>, Unread>
+    ensures { IfOk result (IsWithin limits) }
+{
+    let Some((name, given)) = given.subcommand() else {
+        return Ok(Task::Joint);
+    };
+    match command_of(name) {
+        Some(command) => command_task(alloc, command, given, limits),
+        None => Err(Unread::Refused("nothing is done at this command")),
+    }
+}
+
+/// What `clap` finds in the words.
+fn matches<'a>(
+    alloc: Global,
+    words: &'a [String],
+    limits: Limits,
+) -> Result<ArgMatches<'a>, Error> {
+    match words_taken(alloc, limits) {
+        Ok(taken) => taken.try_get_matches_from(words),
+        Err(error) => Err(Error::from(error)),
+    }
+}
+
+/// What the words ask for, of which the first is the program's name, or what is said in its place. The numbers of a task are within
+/// the limits.
+pub fn task_of<'a>(alloc: Global, words: &'a [String], limits: Limits) -> Result<Task<'a>, Told>
+    ensures { IfOk result (IsWithin limits) }
+{
+    let given = match matches(alloc, words, limits) {
+        Ok(given) => given,
+        Err(error) => return Err(told_of(alloc, &error)),
+    };
+    match task_in(alloc, &given, limits) {
+        Ok(task) => Ok(task),
+        Err(Unread::Refused(reason)) => Err(refused(alloc, limits, reason)),
+        Err(Unread::OutOfMemory) => Err(Told::OutOfMemory),
+    }
+}

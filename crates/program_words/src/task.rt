@@ -1,0 +1,128 @@
+//! What the words may ask for.
+
+use crate::commands::Most;
+
+/// How large the numbers among the words may be.
+#[derive(Clone, Copy)]
+pub struct Limits {
+    /// How many clients there may be.
+    pub clients: u32,
+    /// How many workers.
+    pub workers: u32,
+    /// How many pairs of events may be tried for a pair of places.
+    pub tries: u32,
+}
+
+impl Limits {
+    /// The most that a number may be.
+    pub(crate) fn most(&self, most: Most) -> u32 {
+        match most {
+            Most::Clients => self.clients,
+            Most::Workers => self.workers,
+            Most::Tries => self.tries,
+        }
+    }
+}
+
+/// In which form a schedule is asked for.
+#[derive(Clone, Copy)]
+pub enum ScheduleForm {
+    /// Its events, each with its line of the trace.
+    Events,
+    /// A script that makes it.
+    Script,
+    /// A trace, with the pair behind it.
+    Trace,
+    /// A picture.
+    Svg,
+}
+
+/// In which form the races are asked for.
+#[derive(Clone, Copy)]
+pub enum RacesForm {
+    /// Lines of text.
+    Text,
+    /// An object a line.
+    Json,
+    /// A page.
+    Page,
+}
+
+/// A pair of events of the trace in a file.
+#[derive(Clone, Copy)]
+pub struct PairTask<'a> {
+    /// The path of the trace.
+    pub trace: &'a str,
+    /// One event.
+    pub one: u32,
+    /// The other.
+    pub other: u32,
+}
+
+/// Lines that are answered as they come.
+#[derive(Clone, Copy)]
+pub struct SessionTask<'a> {
+    /// The path of the trace.
+    pub trace: &'a str,
+    /// The path of the log.
+    pub log: &'a str,
+    /// Whose calls the lines are, where they do not say it.
+    pub client: Option<u32>,
+}
+
+/// Scripts that run at once.
+#[derive(Drop)]
+pub struct ThreadsTask<'a> {
+    /// The paths, that of the trace first and those of the scripts behind it.
+    pub paths: Vec<&'a str>,
+    /// How many workers slice candidates meanwhile.
+    pub workers: u32,
+    /// How many seats at a time may queue for the lock, where it is said.
+    pub room: Option<u32>,
+}
+
+/// The races of a trace by pairs of places.
+#[derive(Drop)]
+pub struct TriageTask<'a> {
+    /// The path of the trace.
+    pub trace: &'a str,
+    /// The path of what was printed before, whose races are left out.
+    pub known: Option<&'a str>,
+    /// Texts of which a block has to hold one, where there are any.
+    pub only: Vec<&'a str>,
+    /// Texts of which a block may hold none.
+    pub hide: Vec<&'a str>,
+    /// Whether blocks are printed of what is apart.
+    pub apart: bool,
+    /// How many open pairs of a pair of places are tried.
+    pub tries: u32,
+    /// How many threads look for schedules at once.
+    pub workers: u32,
+    /// In which form they are printed.
+    pub form: RacesForm,
+    /// Whether a race that is printed makes the status 3.
+    pub fail: bool,
+}
+
+/// What the words ask for.
+#[derive(Drop)]
+pub enum Task<'a> {
+    /// No words: the joint text on standard input.
+    Joint,
+    /// What the trace in this file holds.
+    Info(&'a str),
+    /// The script in the second file, on the trace in the first.
+    Replay(&'a str, &'a str),
+    /// The lines on standard input as they come, on the trace in a file and the log in another.
+    Session(SessionTask<'a>),
+    /// The lines of the log in this file.
+    Log(&'a str),
+    /// The scripts in files at once, on the trace in another.
+    Threads(ThreadsTask<'a>),
+    /// The races of a trace by pairs of places.
+    Triage(TriageTask<'a>),
+    /// What is found of a pair, with all runs of its schedule or the last.
+    Explain(PairTask<'a>, bool),
+    /// The schedule that shows a pair, in this form.
+    Witness(PairTask<'a>, ScheduleForm),
+}

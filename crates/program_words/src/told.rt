@@ -1,0 +1,55 @@
+//! What is said where the words name nothing to do: help, or why they are refused.
+
+use crate::building::words_taken;
+use crate::task::Limits;
+use clap::error::{Error, ErrorKind};
+use std::alloc::{AllocError, Global};
+
+/// What is said in place of a task.
+#[derive(Drop)]
+pub enum Told {
+    /// Help or the version, which the words ask for: a text for standard output.
+    Help(String),
+    /// Why the words are refused: a text for standard error.
+    Refusal(String),
+    /// There was no memory to read the words.
+    OutOfMemory,
+}
+
+/// What `clap` says, as a text.
+pub(crate) fn told_of(alloc: Global, error: &Error) -> Told {
+    if error.kind() == ErrorKind::OutOfMemory {
+        return Told::OutOfMemory;
+    }
+    match format!(in alloc; "{error}") {
+        Ok(text) => {
+            if error.use_stderr() {
+                Told::Refusal(text)
+            } else {
+                Told::Help(text)
+            }
+        }
+        Err(_) => Told::OutOfMemory,
+    }
+}
+
+/// A refusal that `clap` itself does not make, in its form.
+fn refusal_of(alloc: Global, limits: Limits, text: &str) -> Result<Error, AllocError> {
+    match words_taken(alloc, limits) {
+        Ok(mut words) => words.error(ErrorKind::InvalidValue, text),
+        Err(error) => Err(error),
+    }
+}
+
+/// The refusal of words for this reason.
+pub(crate) fn refused(alloc: Global, limits: Limits, text: &str) -> Told {
+    match refusal_of(alloc, limits, text) {
+        Ok(error) => told_of(alloc, &error),
+        Err(_) => Told::OutOfMemory,
+    }
+}
+
+/// The refusal of words that are no text, which never come to `task_of`.
+pub fn no_text(alloc: Global, limits: Limits) -> Told {
+    refused(alloc, limits, "the words are no text")
+}

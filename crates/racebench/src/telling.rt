@@ -1,0 +1,186 @@
+//! What the program says where it stops short of what the words ask for, and the status that it ends with then.
+
+use crate::notes::{append_file_notes, append_joint_notes};
+use client_scripts::{FromWrite, ReplayFault, write_all};
+use kept_session::{SessionFault, session_fault_text};
+use pair_calls::{PairFault, pair_fault_text};
+use program_calls::{BenchFault, bench_fault_text};
+use program_words::Told;
+use rapid_text::OutOfMemory;
+use std::io;
+use std::process::ExitCode;
+use triage_calls::{TriageFault, triage_fault_text};
+
+/// The status where words are refused, or ask for more than the program does.
+const REFUSED: u8 = 2;
+
+/// Writes these bytes on standard error. Where that fails there is nobody left to tell.
+pub(crate) fn say(rt: &HostRuntime, bytes: &[u8]) {
+    let mut errors = FromWrite::new(rt.stderr());
+    let _ = write_all(&mut errors, bytes);
+}
+
+/// A fault of one of the calls.
+#[derive(Clone, Copy)]
+enum Fault {
+    Bench(BenchFault),
+    Pair(PairFault),
+    Session(SessionFault),
+    Triage(TriageFault),
+}
+
+/// Appends the text of a fault.
+fn append_text(out: &mut Vec<u8>, fault: &Fault) -> Result<(), OutOfMemory> {
+    match fault {
+        Fault::Bench(fault) => bench_fault_text(fault, out),
+        Fault::Pair(fault) => pair_fault_text(fault, out),
+        Fault::Session(fault) => session_fault_text(fault, out),
+        Fault::Triage(fault) => triage_fault_text(fault, out),
+    }
+}
+
+/// Appends the line that tells a fault.
+fn append_fault(out: &mut Vec<u8>, fault: &Fault) -> Result<(), OutOfMemory> {
+    out.extend_from_slice(b"racebench: ")?;
+    append_text(out, fault)?;
+    out.extend_from_slice(b"\n")?;
+    Ok(())
+}
+
+/// Says these lines and ends with this status; where there was no memory to make them, says that.
+fn end(
+    rt: &HostRuntime,
+    lines: &[u8],
+    made: Result<(), OutOfMemory>,
+    status: ExitCode,
+) -> ExitCode {
+    match made {
+        Ok(()) => {
+            say(rt, lines);
+            status
+        }
+        Err(_) => {
+            say(rt, b"racebench: out of memory\n");
+            ExitCode::FAILURE
+        }
+    }
+}
+
+/// Tells a fault without notes.
+fn tell(rt: &HostRuntime, fault: Fault) -> ExitCode {
+    let mut lines = Vec::new(rt.alloc());
+    let made = append_fault(&mut lines, &fault);
+    end(rt, &lines, made, ExitCode::FAILURE)
+}
+
+/// Tells a fault of reading, of a text, or of writing, or want of memory.
+pub(crate) fn tell_replay(rt: &HostRuntime, fault: ReplayFault) -> ExitCode {
+    tell(rt, Fault::Bench(BenchFault::from(fault)))
+}
+
+/// Appends the line that tells a fault of a joint text, of which these are the first bytes, and its notes.
+fn append_in_joint(
+    out: &mut Vec<u8>,
+    fault: ReplayFault,
+    kept: &[u8],
+    is_whole: bool,
+) -> Result<(), OutOfMemory> {
+    append_fault(out, &Fault::Bench(BenchFault::from(fault)))?;
+    append_joint_notes(out, kept, is_whole, &fault)
+}
+
+/// Tells a fault of the joint text, of which these are the first bytes.
+pub(crate) fn tell_joint(
+    rt: &HostRuntime,
+    fault: ReplayFault,
+    kept: &[u8],
+    is_whole: bool,
+) -> ExitCode {
+    let mut lines = Vec::new(rt.alloc());
+    let made = append_in_joint(&mut lines, fault, kept, is_whole);
+    end(rt, &lines, made, ExitCode::FAILURE)
+}
+
+/// Appends the line that tells a fault of the trace and the scripts at these paths, and its notes.
+fn append_in_files(
+    rt: &HostRuntime,
+    out: &mut Vec<u8>,
+    fault: &BenchFault,
+    paths: &[&str],
+) -> Result<(), OutOfMemory> {
+    append_fault(out, &Fault::Bench(*fault))?;
+    append_file_notes(rt, out, paths, fault)
+}
+
+/// The status of a fault.
+fn status_of(fault: &BenchFault) -> ExitCode {
+    match fault {
+        BenchFault::TooManyScripts => ExitCode::from(REFUSED),
+        _ => ExitCode::FAILURE,
+    }
+}
+
+/// Tells a fault of the trace and the scripts at these paths.
+pub(crate) fn tell_files(rt: &HostRuntime, fault: BenchFault, paths: &[&str]) -> ExitCode {
+    let mut lines = Vec::new(rt.alloc());
+    let made = append_in_files(rt, &mut lines, &fault, paths);
+    end(rt, &lines, made, status_of(&fault))
+}
+
+/// Tells a fault of a call on a pair of events of the trace at this path.
+pub(crate) fn tell_pair(rt: &HostRuntime, fault: PairFault, trace: &str) -> ExitCode {
+    match fault {
+        PairFault::Replay(fault) => tell_files(rt, BenchFault::from(fault), &[trace]),
+        fault => tell(rt, Fault::Pair(fault)),
+    }
+}
+
+/// Tells a fault of a session on the trace and the log at these paths.
+pub(crate) fn tell_session(
+    rt: &HostRuntime,
+    fault: SessionFault,
+    trace: &str,
+    log: &str,
+) -> ExitCode {
+    match fault {
+        SessionFault::Replay(ReplayFault::Read { input: 3, why }) => {
+            tell_joint(rt, ReplayFault::Read { input: 1, why }, &[], true)
+        }
+        SessionFault::Replay(fault) => tell_files(rt, BenchFault::from(fault), &[trace, log]),
+        fault => tell(rt, Fault::Session(fault)),
+    }
+}
+
+/// Tells a fault of the log at this path, which is input 2.
+pub(crate) fn tell_log(rt: &HostRuntime, fault: SessionFault, log: &str) -> ExitCode {
+    tell_session(rt, fault, log, log)
+}
+
+/// Tells a fault of `triage` on the trace and the known races at these paths.
+pub(crate) fn tell_triage(rt: &HostRuntime, fault: TriageFault, paths: &[&str]) -> ExitCode {
+    match fault {
+        TriageFault::Replay(fault) => tell_files(rt, BenchFault::from(fault), paths),
+        fault => tell(rt, Fault::Triage(fault)),
+    }
+}
+
+/// Prints the help that the words ask for.
+fn help(rt: &HostRuntime, text: &[u8]) -> ExitCode {
+    let mut writer = FromWrite::new(io::writer(rt));
+    if write_all(&mut writer, text).is_err() || writer.flush().is_err() {
+        return tell_replay(rt, ReplayFault::Write);
+    }
+    ExitCode::SUCCESS
+}
+
+/// Tells what is said in place of a task.
+pub(crate) fn tell_words(rt: &HostRuntime, told: &Told) -> ExitCode {
+    match told {
+        Told::Help(text) => help(rt, text.as_bytes()),
+        Told::Refusal(text) => {
+            say(rt, text.as_bytes());
+            ExitCode::from(REFUSED)
+        }
+        Told::OutOfMemory => tell_replay(rt, ReplayFault::OutOfMemory),
+    }
+}
