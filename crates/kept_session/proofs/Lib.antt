@@ -4,3 +4,5 @@ pub mod HeadLemmas
 pub mod LineLemmas
 pub mod LogLemmas
 pub mod PieceLemmas
+pub mod RunLemmas
+pub mod SplitLemmas

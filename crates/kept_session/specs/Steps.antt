@@ -1,5 +1,6 @@
 -- What the steps of a session do. No public clause cites this module. `T` is the trace; L and M are the bench's logs before and after a step.
-use Rattle.std.specs.Prelude.{◌≡◌, ◌⊎◌, ℕ, List, ◌++◌, Option, Some, Result, Ok}
+use Rattle.std.specs.Prelude.{◌≡◌, ◌⊎◌, ◌≤◌, ℕ, List, [], ◌∷◌, ◌++◌, length, Option, Some, Result, Ok}
+use Rattle.std.specs.Io.KnownBytes.{Appends, Consumes}
 use Rattle.rapid_text.specs.Recording.{Recording}
 use Rattle.inverse_log.specs.Answer.{Called}
 use Rattle.inverse_log.specs.declared.call.Call.{Call}
@@ -10,8 +11,14 @@ use Rattle.inverse_log.specs.declared.reply.Reply.{Reply}
 use Rattle.inverse_log.specs.declared.reply.Reply.TheVariants.{Undone}
 use Rattle.script_language.specs.Scripts.{script_line_reading}
 use Rattle.script_language.specs.declared.refusal.ScriptCause.{ScriptCause}
-use Rattle.client_scripts.specs.Replay.{answer_text}
-use Rattle.kept_session.specs.Sessions.{log_behind, AreLogged, IsAnswered, AreAnswered}
+use Rattle.client_scripts.specs.Replay.{answer_text, IsUnreadable}
+use Rattle.client_scripts.specs.declared.fault.ReadCause.TheVariants.{TooLong}
+use Rattle.client_scripts.specs.declared.fault.ReplayFault.TheVariants.{Read, OutOfMemory as NoMemory}
+use Rattle.kept_log.specs.declared.log.KeptLog.{KeptLog}
+use Rattle.kept_session.specs.Runs.{IsRun}
+use Rattle.kept_session.specs.Sessions.{log_behind, AreLogged, IsAnswered, AreAnswered, number_behind}
+use Rattle.kept_session.specs.declared.fault.SessionFault.{SessionFault}
+use Rattle.kept_session.specs.declared.fault.SessionFault.TheVariants.{Replay}
 
 -- the line reads as the call, or, of an undo that was answered so, as the undo of that entry by its number
 abbrev pub SaysCall : ℕ → Call → Reply → List ℕ → Type 0
@@ -48,3 +55,22 @@ pub record PieceAnswered (T : Recording) (client : Option ℕ) (first : ℕ) (ra
   pub kept : block_new ≡ block_old ++ lines
   pub gained : log_behind T L lines ≡ M
   pub logged : AreLogged T L lines
+
+-- Bytes were taken in: their whole lines were answered, of which the first had this number, and the answers written. What is begun, the line of
+-- number `next`, is left.
+pub record IsTakenIn {D : Type 0} (seen : D → List ℕ) (found : D → List (List ℕ)) (T : Recording) (client : Option ℕ) (number next : ℕ) (old new : KeptLog D) (bytes begun : List ℕ) (taken_old taken_new : Option (List ℕ)) : Type 0 where
+  pub text : List ℕ
+  pub run : IsRun seen found T client number old new bytes (begun ∷ []) text
+  pub numbers : next ≡ number_behind number run.asked
+  pub written : Appends taken_old taken_new text
+
+-- a fault of bytes that are kept: want of memory, or there are too many
+abbrev pub IsKeepFault : List ℕ → SessionFault → Type 0
+IsKeepFault bytes fault = (fault ≡ Replay NoMemory) ⊎ ((fault ≡ Replay (Read 3 TooLong)) × IsUnreadable bytes TooLong)
+
+-- A session is underway with its input: it has taken in what it has read, which was something each time.
+pub record IsUnderway {D : Type 0} (seen : D → List ℕ) (found : D → List (List ℕ)) (T : Recording) (client : Option ℕ) (reads next : ℕ) (old new : KeptLog D) (begun : List ℕ) (rest_old rest_new taken_old taken_new : Option (List ℕ)) : Type 0 where
+  pub bytes : List ℕ
+  pub read : Consumes rest_old rest_new bytes
+  pub some : reads ≤ length bytes
+  pub taken_in : IsTakenIn seen found T client 1 next old new bytes begun taken_old taken_new

@@ -1,7 +1,16 @@
 //! Answers an input line by line, as it comes.
-ghost use Rattle.std.specs.Io.KnownBytes.{IsAtEnd};
-ghost use Rattle.std.specs.Prelude.{◌≡◌, ◌<◌, false, length, OnOk};
-ghost use Rattle.kept_session.specs.Sessions.{IsInStep};
+ghost use Rattle.std.specs.Io.KnownBytes.{Appends, Consumes, IsAtEnd};
+ghost use Rattle.std.specs.Prelude.{◌≡◌, ◌≢◌, ◌⊎◌, ◌<◌, ℕ, List, [], ◌∷◌, ◌++◌, false, true, length, None, IfSome, IfErr, OnOk};
+ghost use Rattle.rapid_text.specs.Reading.{is_line_feed};
+ghost use Rattle.client_scripts.specs.declared.fault.ReadCause.{ReadCause};
+ghost use Rattle.client_scripts.specs.declared.fault.ReadCause.TheVariants.{Device as DeviceFailed};
+ghost use Rattle.client_scripts.specs.declared.fault.ReplayFault.TheVariants.{Read, OutOfMemory as NoMemory};
+ghost use Rattle.std.specs.List.{slice_split};
+ghost use Rattle.kept_log.specs.Lines.{IsLine};
+ghost use Rattle.kept_session.specs.Runs.{IsLogTurn, IsFinished, IsHalted};
+ghost use Rattle.kept_session.specs.Sessions.{IsInStep, number_behind};
+ghost use Rattle.kept_session.specs.Steps.{IsKeepFault, IsTakenIn};
+ghost use Rattle.kept_session.specs.declared.fault.SessionFault.TheVariants.{Replay};
 
 use crate::fault::{LINES_INPUT, SessionFault};
 use crate::session::Session;
@@ -14,7 +23,9 @@ use std::alloc::Global;
 const PIECE: usize = 65_536;
 
 /// The lines were not read.
-fn unread(why: ReadCause) -> SessionFault {
+fn unread(why: ReadCause) -> SessionFault
+    ensures { result ≡ Replay (Read 3 why) }
+{
     SessionFault::Replay(ReplayFault::Read {
         input: LINES_INPUT,
         why,
@@ -41,14 +52,43 @@ fn answer_begun<D: Device + Drop, K: Sink>(
     ensures in_step { OnOk result (IsInStep D.seen D.may_leave session.new.bench.trace session.new.log session.new.bench.log) }
     ensures trace { session.new.bench.trace ≡ session.old.bench.trace }
     ensures working { OnOk result (K.has_failed writer.new ≡ false) }
+    ensures begun { OnOk result (pending.new.begun.items ≡ []) }
+    ensures next { OnOk result (pending.new.number ≡ number_behind pending.old.number (slice_split is_line_feed pending.old.begun.items)) }
+    ensures answered { OnOk result ((text : List ℕ) × IsLogTurn D.seen D.found session.old.bench.trace client pending.old.number
+        (slice_split is_line_feed pending.old.begun.items) session.old.log session.new.log text × Appends (K.taken writer.old) (K.taken writer.new) text) }
+    ensures halted { IfErr result (λ fault. IsHalted D.seen D.found session.old.bench.trace client pending.old.number session.old.log session.new.log
+        pending.old.begun.items (K.has_failed writer.new) (K.taken writer.old) (K.taken writer.new) fault) }
+    ensures lines_read { IfErr result (λ fault. (why : ReadCause) → fault ≢ Replay (Read 3 why)) }
 {
     let mut out = Vec::new(alloc);
     pending.number = session.answer(alloc, client, pending.number, &pending.begun, &mut out)?;
     pending.begun.clear();
-    if write_all(writer, &out).is_err() {
-        return Err(SessionFault::from(ReplayFault::Write));
+    match write_all(writer, &out) {
+        Ok(()) => Ok(()),
+        Err(_) => Err(SessionFault::from(ReplayFault::Write)),
     }
+}
+
+/// Keeps bytes of a line whose end did not come yet.
+fn keep_begun(pending: &mut Pending, bytes: &[u8]) -> Result<(), SessionFault>
+    ensures number { pending.new.number ≡ pending.old.number }
+    ensures begun { OnOk result (pending.new.begun.items ≡ pending.old.begun.items ++ bytes.now) }
+    ensures fault { IfErr result (IsKeepFault (pending.old.begun.items ++ bytes.now)) }
+{
+    if bytes.len() > LIMIT.saturating_sub(pending.begun.len()) {
+        return Err(unread(ReadCause::TooLong));
+    }
+    pending.begun.extend_from_slice(bytes)?;
     Ok(())
+}
+
+/// What stands before the last end of a line, and what stands behind it.
+fn cut_last_end(bytes: &[u8]) -> Option<(&[u8], &[u8])>
+    ensures some { IfSome result (λ parts. (bytes.now ≡ parts.0.now ++ 10 ∷ parts.1.now) × IsLine parts.1.now) }
+    ensures none { result ≡ None → IsLine bytes.now }
+{
+    let end = memrchr(b'\n', bytes)?;
+    Some((&bytes[..end], &bytes[end + 1..]))
 }
 
 /// Takes in bytes that were read: whole lines are answered at once, and what is behind the last of them waits for its end.
@@ -62,21 +102,23 @@ fn take_in<D: Device + Drop, K: Sink>(
 ) -> Result<(), SessionFault>
     requires in_step { IsInStep D.seen D.may_leave session.old.bench.trace session.old.log session.old.bench.log }
     requires writer { K.has_failed writer.old ≡ false }
+    requires begun { IsLine pending.old.begun.items }
     ensures in_step { OnOk result (IsInStep D.seen D.may_leave session.new.bench.trace session.new.log session.new.bench.log) }
     ensures trace { session.new.bench.trace ≡ session.old.bench.trace }
     ensures working { OnOk result (K.has_failed writer.new ≡ false) }
+    ensures begun { OnOk result (IsLine pending.new.begun.items) }
+    ensures taken_in { OnOk result (IsTakenIn D.seen D.found session.old.bench.trace client pending.old.number pending.new.number session.old.log session.new.log
+        (pending.old.begun.items ++ bytes.now) pending.new.begun.items (K.taken writer.old) (K.taken writer.new)) }
+    ensures halted { IfErr result (λ fault. IsHalted D.seen D.found session.old.bench.trace client pending.old.number session.old.log session.new.log
+        (pending.old.begun.items ++ bytes.now) (K.has_failed writer.new) (K.taken writer.old) (K.taken writer.new) fault) }
+    ensures reader { IfErr result (λ fault. fault ≢ Replay (Read 3 DeviceFailed)) }
 {
-    let mut rest = bytes;
-    if let Some(end) = memrchr(b'\n', bytes) {
-        pending.begun.extend_from_slice(&bytes[..end])?;
-        answer_begun(alloc, session, client, pending, writer)?;
-        rest = &bytes[end + 1..];
-    }
-    if rest.len() > LIMIT.saturating_sub(pending.begun.len()) {
-        return Err(unread(ReadCause::TooLong));
-    }
-    pending.begun.extend_from_slice(rest)?;
-    Ok(())
+    let Some((lines, rest)) = cut_last_end(bytes) else {
+        return keep_begun(pending, bytes);
+    };
+    pending.begun.extend_from_slice(lines)?;
+    answer_begun(alloc, session, client, pending, writer)?;
+    keep_begun(pending, rest)
 }
 
 /// Answers the lines that come, reading by way of `piece`.
@@ -97,6 +139,11 @@ fn run_pieces<D: Device + Drop, S: Source, K: Sink>(
     // It ends without a fault only at the end of the input, and where the reader has not failed meanwhile.
     ensures end { OnOk result (IsAtEnd (S.rest reader.new)) }
     ensures read { OnOk result (S.has_failed reader.new ≡ S.has_failed reader.old) }
+    ensures device { IfErr result (λ fault. fault ≡ Replay (Read 3 DeviceFailed) → S.has_failed reader.new ≡ true) }
+    ensures answered { OnOk result ((bytes : List ℕ) × Consumes (S.rest reader.old) (S.rest reader.new) bytes × IsFinished D.seen D.found session.old.bench.trace
+        client 1 session.old.log session.new.log bytes (K.taken writer.old) (K.taken writer.new)) }
+    ensures halted { IfErr result (λ fault. (bytes : List ℕ) × Consumes (S.rest reader.old) (S.rest reader.new) bytes × IsHalted D.seen D.found session.old.bench.trace
+        client 1 session.old.log session.new.log bytes (K.has_failed writer.new) (K.taken writer.old) (K.taken writer.new) fault) }
 {
     let mut pending = Pending {
         begun: Vec::new(alloc),
@@ -142,6 +189,17 @@ pub fn run_session<D: Device + Drop, S: Source, K: Sink>(
     // It ends without a fault only at the end of the input, and where the reader has not failed meanwhile.
     ensures end { OnOk result (IsAtEnd (S.rest reader.new)) }
     ensures read { OnOk result (S.has_failed reader.new ≡ S.has_failed reader.old) }
+
+    // A read is told to have failed only where one has.
+    ensures device { IfErr result (λ fault. fault ≡ Replay (Read 3 DeviceFailed) → S.has_failed reader.new ≡ true) }
+
+    // Each line that was read is answered once and in order, in turns, and what was written is the answers, in order, and nothing else.
+    ensures answered { OnOk result ((bytes : List ℕ) × Consumes (S.rest reader.old) (S.rest reader.new) bytes × IsFinished D.seen D.found session.old.bench.trace
+        client 1 session.old.log session.new.log bytes (K.taken writer.old) (K.taken writer.new)) }
+
+    // At a fault that is so of the first lines. Of the answers of one turn more a part may be written, where the writer failed.
+    ensures halted { IfErr result (λ fault. (bytes : List ℕ) × Consumes (S.rest reader.old) (S.rest reader.new) bytes × IsHalted D.seen D.found session.old.bench.trace
+        client 1 session.old.log session.new.log bytes (K.has_failed writer.new) (K.taken writer.old) (K.taken writer.new) fault) }
 {
     let mut piece = vec![in alloc; 0u8; PIECE]?;
     run_pieces(alloc, session, client, reader, &mut piece, writer)

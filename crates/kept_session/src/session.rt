@@ -5,7 +5,8 @@ ghost use Rattle.rapid_text.specs.Reading.{is_line_feed};
 ghost use Rattle.kept_log.specs.Device.{Only, LeavesOnly};
 ghost use Rattle.kept_log.specs.Lines.{kept_lines};
 ghost use Rattle.kept_log.specs.Log.{at_rest, head_of, lines_of, lines_behind, BeginsWith, IsAtRest, IsOldOrNew, HasTurn, LosesNone};
-ghost use Rattle.client_scripts.specs.declared.fault.ReplayFault.TheVariants.{Write, OutOfMemory as NoMemory};
+ghost use Rattle.client_scripts.specs.declared.fault.ReadCause.{ReadCause};
+ghost use Rattle.client_scripts.specs.declared.fault.ReplayFault.TheVariants.{Read, Write, OutOfMemory as NoMemory};
 ghost use Rattle.kept_session.specs.declared.fault.SessionFault.TheVariants.{Replay, LogLine, OtherTrace};
 ghost use Rattle.kept_session.specs.Faults.{IsTurnFault, IsOpenFault};
 ghost use Rattle.kept_session.specs.Sessions.{IsInStep, IsAtWork, IsTurn, IsOpened, IsHandedBack, log_of, number_behind, AreLogged};
@@ -198,6 +199,7 @@ impl<D: Device + Drop> Session<D> {
         ensures any_moment { LeavesOnly D.moment D.left_since self.old.log.device self.new.log.device
             (BeginsWith (head_of D.seen self.old.log) (lines_of D.seen self.old.log)) }
         ensures fault { IfErr result (IsTurnFault self.old.bench.trace (lines_of D.seen self.old.log) (lines_of D.seen self.new.log)) }
+        ensures input { IfErr result (λ fault. (input : ℕ) (why : ReadCause) → fault ≡ Replay (Read input why) → input ≡ 2) }
     {
         match self.log.enter(alloc) {
             Ok(text) => {
@@ -289,6 +291,9 @@ impl<D: Device + Drop> Session<D> {
 
         // 101 is told with the first line that adds no entry, or with the last known one where the file is shorter than it was.
         ensures fault { IfErr result (IsTurnFault self.old.bench.trace (lines_of D.seen self.old.log) (lines_of D.seen self.new.log)) }
+
+        // Where something was not read, that is the file of the log, input 2.
+        ensures input { IfErr result (λ fault. (input : ℕ) (why : ReadCause) → fault ≡ Replay (Read input why) → input ≡ 2) }
     {
         self.catch_up(alloc)?;
         let next = self.make_piece(alloc, client, first, piece, out)?;

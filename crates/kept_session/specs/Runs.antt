@@ -1,0 +1,78 @@
+-- What a session makes of its input, turn after turn, until the input ends or a fault comes. All notions here are this project's own. `T` is
+-- the trace.
+use Rattle.std.specs.Prelude.{◌≡◌, ◌⊎◌, ℕ, ◌<◌, Bool, true, false, List, [], ◌∷◌, ◌++◌, Option, length, take}
+use Rattle.std.specs.List.{slice_split}
+use Rattle.std.specs.Io.KnownBytes.{Appends}
+use Rattle.rapid_text.specs.Recording.{Recording}
+use Rattle.rapid_text.specs.Reading.{is_line_feed}
+use Rattle.client_scripts.specs.Replay.{IsUnreadable}
+use Rattle.client_scripts.specs.declared.fault.ReadCause.{ReadCause}
+use Rattle.client_scripts.specs.declared.fault.ReplayFault.TheVariants.{Read, Write}
+use Rattle.kept_log.specs.Log.{LosesNone, head_of, lines_of, lines_behind}
+use Rattle.kept_log.specs.declared.log.KeptLog.{KeptLog}
+use Rattle.kept_session.specs.Faults.{IsTurnFault}
+use Rattle.kept_session.specs.Sessions.{IsTurn, log_of, number_behind}
+use Rattle.kept_session.specs.declared.fault.SessionFault.{SessionFault}
+use Rattle.kept_session.specs.declared.fault.SessionFault.TheVariants.{Replay}
+
+module _ {D : Type 0} (seen : D → List ℕ) (found : D → List (List ℕ)) (T : Recording) (client : Option ℕ) where
+  -- A turn of a log: these lines, of which the first has this number, were answered by these texts together. The file's lock was taken once,
+  -- when the file held this; the head stands.
+  pub record IsLogTurn (number : ℕ) (raws : List (List ℕ)) (old new : KeptLog D) (text : List ℕ) : Type 0 where
+    pub file : List ℕ
+    pub once : found new.device ≡ file ∷ found old.device
+    pub head : head_of seen new ≡ head_of seen old
+    pub turn : IsTurn T client number raws (lines_of seen old) (lines_behind new.start file) (lines_of seen new) (log_of T (lines_of seen new)) [] text
+
+  -- Turns, one after another: from the log `old` on these lines, of which the first has this number, were answered by these texts together,
+  -- each line in one turn, and left the log as it is last.
+  pub data AreTurns (number : ℕ) (old : KeptLog D) : List (List ℕ) → List ℕ → KeptLog D → Type 0 where
+    no_turn : AreTurns number old [] [] old
+    one_more : (raws more : List (List ℕ)) (text answers : List ℕ) (log new : KeptLog D) → AreTurns number old raws text log → IsLogTurn (number_behind number raws) more log new answers
+        → AreTurns number old (raws ++ more) (text ++ answers) new
+
+  -- The first of the lines of these bytes were answered in turns, by these texts together; the others are left.
+  pub record IsRun (number : ℕ) (old new : KeptLog D) (bytes : List ℕ) (left : List (List ℕ)) (text : List ℕ) : Type 0 where
+    pub asked : List (List ℕ)
+    pub turns : AreTurns number old asked text new
+    pub split : slice_split is_line_feed bytes ≡ asked ++ left
+
+  -- All lines of these bytes were answered, but for an empty last one, which has no answer, and the answers were written.
+  pub record IsFinished (number : ℕ) (old new : KeptLog D) (bytes : List ℕ) (taken_old taken_new : Option (List ℕ)) : Type 0 where
+    pub text : List ℕ
+    pub left : List (List ℕ)
+    pub run : IsRun number old new bytes left text
+    pub whole : (left ≡ []) ⊎ (left ≡ [] ∷ [])
+    pub written : Appends taken_old taken_new text
+
+  -- A fault behind turns that left `log`: their answers, these texts, were written, and nothing else was. A turn that it ended lost no line.
+  pub record IsUnanswered (log new : KeptLog D) (text : List ℕ) (failed : Bool) (taken_old taken_new : Option (List ℕ)) (fault : SessionFault) : Type 0 where
+    pub working : failed ≡ false
+    pub written : Appends taken_old taken_new text
+    pub none_lost : LosesNone seen found log new
+    pub told : IsTurnFault T (lines_of seen log) (lines_of seen new) fault
+
+  -- A failed write behind turns that left `log`, whose answers are these texts: the first of the lines that are left were answered in one more
+  -- turn, and the writer took all answers but the last bytes of that turn.
+  pub record IsUnwritten (number : ℕ) (log new : KeptLog D) (text : List ℕ) (left : List (List ℕ)) (failed : Bool) (taken_old taken_new : Option (List ℕ)) (fault : SessionFault) : Type 0 where
+    pub more : List (List ℕ)
+    pub beyond : List (List ℕ)
+    pub answers : List ℕ
+    pub count : ℕ
+    pub next : left ≡ more ++ beyond
+    pub turn : IsLogTurn number more log new answers
+    pub short : count < length answers
+    pub written : Appends taken_old taken_new (text ++ take count answers)
+    pub broken : failed ≡ true
+    pub told : fault ≡ Replay Write
+
+  -- A fault: the first of the lines of these bytes were answered in turns, and the answers written. Where the input, which is number 3, was not
+  -- read on, one line is left, whose end did not come.
+  pub record IsHalted (number : ℕ) (old new : KeptLog D) (bytes : List ℕ) (failed : Bool) (taken_old taken_new : Option (List ℕ)) (fault : SessionFault) : Type 0 where
+    pub log : KeptLog D
+    pub text : List ℕ
+    pub left : List (List ℕ)
+    pub run : IsRun number old log bytes left text
+    pub behind : IsUnanswered log new text failed taken_old taken_new fault
+        ⊎ IsUnwritten (number_behind number run.asked) log new text left failed taken_old taken_new fault
+    pub unread : (why : ReadCause) → fault ≡ Replay (Read 3 why) → (line : List ℕ) × (left ≡ line ∷ []) × IsUnreadable bytes why
