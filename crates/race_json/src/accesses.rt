@@ -1,13 +1,16 @@
-//! An access as an object.
-ghost use Rattle.std.specs.Prelude.{◌≡◌, ◌<◌, length};
+//! Accesses as objects.
+ghost use Rattle.std.specs.Prelude.{◌≡◌, ◌<◌, ◌++◌, ◌∷◌, [], IfOk, OnOk, length, map};
+ghost use Rattle.rapid_text.specs.Canonical.{name_at};
 ghost use Rattle.rapid_text.specs.Recording.{IsNamedOp};
+ghost use Rattle.serde_json.specs.View.{view};
+ghost use Rattle.race_triage.specs.Texts.{held_locks};
+ghost use Rattle.race_json.specs.Objects.{access_at, access_object, accesses, lock_names, op_name, op_word, text};
 
-use crate::object::{Object, text_of};
 use event_index::Indexed;
 use must_order::Must;
 use rapid_text::{Op, OutOfMemory, RawTrace};
-use serde_json::Value;
-use std::alloc::Global;
+use serde_json::{Value, json};
+use std::alloc::{AllocError, Global};
 
 /// The two accesses of a pair.
 pub(crate) fn accesses_of(
@@ -18,70 +21,124 @@ pub(crate) fn accesses_of(
     second: u32,
 ) -> Result<Value, OutOfMemory>
     requires must { must.now ≡ indexed.now }
+    ensures { IfOk result (λ both. view both ≡ accesses indexed.now first second) }
 {
-    let mut accesses = Vec::new(alloc);
-    for event in [first, second] {
-        if event < indexed.len() {
-            let access = access_of(alloc, indexed, must, event)?;
-            accesses.push(access)?;
-        }
-    }
-    Ok(Value::Array(accesses))
+    let mut both = Vec::new(alloc);
+    push_access(&mut both, indexed, must, first)?;
+    push_access(&mut both, indexed, must, second)?;
+    Ok(Value::Array(both))
 }
 
-/// An access, with the locks that its thread holds before it.
+/// Adds the access of the event, where the trace has it.
+fn push_access(
+    both: &mut Vec<Value>,
+    indexed: &Indexed,
+    must: &Must,
+    event: u32,
+) -> Result<(), OutOfMemory>
+    requires must { must.now ≡ indexed.now }
+    ensures { OnOk result (map view both.new.items ≡ map view both.old.items ++ access_at indexed.now event) }
+{
+    if event >= indexed.len() {
+        return Ok(());
+    }
+    let access = access_of(*both.allocator(), indexed, must, event)?;
+    both.push(access)?;
+    Ok(())
+}
+
+/// The access of an event.
 fn access_of(
     alloc: Global,
     indexed: &Indexed,
     must: &Must,
     event: u32,
 ) -> Result<Value, OutOfMemory>
-    requires event { event < length indexed.now.events }
     requires must { must.now ≡ indexed.now }
+    requires event { event < length indexed.now.events }
+    ensures { IfOk result (λ access. view access ∷ [] ≡ access_at indexed.now event) }
 {
     let holds = locks_of(alloc, indexed, must, event)?;
-    let mut object = Object::new(alloc);
-    add_event(alloc, indexed, event, &mut object)?;
-    object.add(alloc, "holds", holds)?;
-    Ok(object.into_value())
-}
-
-/// Adds what an event is.
-fn add_event(
-    alloc: Global,
-    indexed: &Indexed,
-    event: u32,
-    object: &mut Object,
-) -> Result<(), OutOfMemory>
-    requires event { event < length indexed.now.events }
-{
     let raw = indexed.trace().raw();
     let found = raw.event(event);
-    object.add_numbers(alloc, &[("event", u64::from(event))])?;
-    object.add_text(alloc, "thread", raw.thread_name(found.thread))?;
-    object.add_words(alloc, "operation", word_of(found.op))?;
-    object.add_text(alloc, "variable", name_of(raw, found.op))?;
-    object.add_text(alloc, "location", raw.location(event))
+    let access = named(
+        alloc,
+        event,
+        holds,
+        raw.location(event),
+        word_of(found.op),
+        raw.thread_name(found.thread),
+        name_of(raw, found.op),
+    )?;
+    Ok(access)
+}
+
+/// An access with these names.
+fn named(
+    alloc: Global,
+    event: u32,
+    holds: Value,
+    location: &[u8],
+    operation: &str,
+    thread: &[u8],
+    variable: &[u8],
+) -> Result<Value, AllocError>
+    ensures { IfOk result (λ access. view access ≡ access_object event (view holds) location.now operation.now thread.now variable.now) }
+{
+    json!(in alloc; {
+        "event": event,
+        "thread": text_of(alloc, thread)?,
+        "operation": operation,
+        "variable": text_of(alloc, variable)?,
+        "location": text_of(alloc, location)?,
+        "holds": holds
+    })
 }
 
 /// The names of the locks that the event's thread holds before it.
 fn locks_of(alloc: Global, indexed: &Indexed, must: &Must, event: u32) -> Result<Value, OutOfMemory>
-    requires event { event < length indexed.now.events }
     requires must { must.now ≡ indexed.now }
+    requires event { event < length indexed.now.events }
+    ensures { IfOk result (λ names. view names ≡ lock_names indexed.now (held_locks indexed.now event)) }
 {
-    let raw = indexed.trace().raw();
-    let mut names = Vec::new(alloc);
     let locks = must.locks_held(alloc, indexed, event)?;
-    for lock in locks.iter() {
-        if *lock < raw.locks() {
-            let name = text_of(alloc, raw.lock_name(*lock))?;
-            names.push(name)?;
-        }
+    names_of(alloc, indexed, locks.as_slice())
+}
+
+/// The names of these locks.
+fn names_of(alloc: Global, indexed: &Indexed, locks: &[u32]) -> Result<Value, OutOfMemory>
+    ensures { IfOk result (λ names. view names ≡ lock_names indexed.now locks.now) }
+{
+    let mut names = Vec::new(alloc);
+    for lock in locks {
+        let name = text_of(alloc, lock_name(indexed, *lock))?;
+        names.push(name)?;
     }
     Ok(Value::Array(names))
 }
 
-fn word_of(op: Op) -> &'static str {
+/// The name of a lock; nothing where the trace has no such lock.
+fn lock_name(indexed: &Indexed, lock: u32) -> &[u8]
+    ensures { result.now ≡ name_at indexed.now.locks lock }
+{
+    let raw = indexed.trace().raw();
+    if lock < raw.locks() {
+        raw.lock_name(lock)
+    } else {
+        b""
+    }
+}
+
+/// Bytes from outside as a text: what is no UTF-8 becomes U+FFFD.
+fn text_of(alloc: Global, bytes: &[u8]) -> Result<Value, AllocError>
+    ensures { IfOk result (λ value. view value ≡ text bytes.now) }
+{
+    Ok(Value::String(String::from_utf8_lossy(alloc, bytes)?))
+}
+
+fn word_of(op: Op) -> &'static str
+    ensures { result.now ≡ op_word op }
+{
     match op {
         Op::Read(_) => "r",
         Op::Write(_) => "w",
@@ -95,6 +152,7 @@ fn word_of(op: Op) -> &'static str {
 /// The name of what the operation is done to.
 fn name_of(trace: &RawTrace, op: Op) -> &[u8]
     requires { IsNamedOp trace.now op }
+    ensures { result.now ≡ op_name trace.now op }
 {
     match op {
         Op::Read(variable) => trace.variable_name(variable),

@@ -2,7 +2,7 @@
 #![tactic(auto)]
 
 mod accesses;
-mod object;
+mod lines;
 mod objects;
 
-pub use objects::triage_json;
+pub use lines::triage_json;

@@ -3,9 +3,9 @@ use crate::commands::{shell_word, write_command};
 use crate::own::Tag;
 use crate::piece::Piece;
 use crate::rows::{MOST_PICTURES, MOST_ROWS};
-use crate::selecting::Written;
 use crate::shown::Sort;
 use crate::words::{count, element};
+use race_triage::Chosen;
 use rapid_text::OutOfMemory;
 
 /// Writes how many rows and pictures of a sort are left out where there are so many, and how to see them.
@@ -62,7 +62,7 @@ fn write_more(piece: &mut Piece, word: &[u8], sort: Sort, more: u64) -> Result<(
 /// Writes what the options left out.
 pub(crate) fn write_unlisted(
     piece: &mut Piece,
-    written: Written,
+    chosen: &Chosen,
     apart: bool,
 ) -> Result<(), OutOfMemory> {
     if !apart {
@@ -72,17 +72,16 @@ pub(crate) fn write_unlisted(
             b"Pairs of places that are apart have no rows here; with --apart they have.",
         )?;
     }
-    if written.known > 0 {
-        write_count(piece, written.known, b" left out as known before.")?;
-    }
-    if written.hidden > 0 {
-        write_count(piece, written.hidden, b" left out by --only and --hide.")?;
-    }
-    Ok(())
+    write_count(piece, chosen.known, b" left out as known before.")?;
+    write_count(piece, chosen.hidden, b" left out by --only and --hide.")
 }
 
-/// Writes how many rows were left out, and why.
-fn write_count(piece: &mut Piece, number: u64, words: &[u8]) -> Result<(), OutOfMemory> {
+/// Writes how many rows were left out, where there are some, and why.
+fn write_count(piece: &mut Piece, left_out: Option<u64>, words: &[u8]) -> Result<(), OutOfMemory> {
+    let number = left_out.unwrap_or(0);
+    if number == 0 {
+        return Ok(());
+    }
     piece.begin(Tag::Paragraph)?;
     count(piece, number, b"row")?;
     piece.text(words)?;

@@ -1,24 +1,12 @@
-//! Which verdicts have a row.
-ghost use Rattle.std.specs.Prelude.{◌≡◌, [], None, true, IfOk, OnOk};
+//! Of which sort a verdict is, and its row.
+ghost use Rattle.std.specs.Prelude.{◌≡◌, IfOk};
 ghost use Rattle.std.specs.List.{filter};
 ghost use Rattle.race_page.specs.Rows.{is_of, is_sort, outcome_sort, row_of};
 
 use crate::shown::{Shown, Sort};
-use event_index::Indexed;
-use race_triage::{Filters, Known, Outcome, Verdict, Verdicts, is_kept, is_known};
+use race_triage::{Outcome, Verdict};
 use rapid_text::OutOfMemory;
 use std::alloc::Global;
-
-/// What was written of the verdicts.
-#[derive(Clone, Copy)]
-pub(crate) struct Written {
-    /// How many races have a row, or would have one if there were room.
-    pub(crate) races: u64,
-    /// How many were left out as known.
-    pub(crate) known: u64,
-    /// How many verdicts the filters left out.
-    pub(crate) hidden: u64,
-}
 
 /// Of which sort a verdict is.
 fn sort_of(verdict: Verdict) -> Sort
@@ -58,54 +46,26 @@ pub(crate) fn shown_of(verdict: Verdict) -> Shown
     }
 }
 
-/// The verdicts of a sort, in their order, but races of known places, and what the filters do not keep; these are counted.
-pub(crate) fn selected(
+/// The verdicts of a sort, in their order.
+pub(crate) fn of_sort(
     alloc: Global,
-    indexed: &Indexed,
-    verdicts: &Verdicts,
-    known: &Option<Known>,
-    filters: Filters<'_>,
+    told: &[Verdict],
     sort: Sort,
-    written: &mut Written,
 ) -> Result<Vec<Verdict>, OutOfMemory>
-    // Where nothing is known and nothing is filtered, none is left out.
-    ensures { known.now ≡ None → filters.entry.only.now ≡ [] → filters.entry.hide.now ≡ []
-        → IfOk result (λ kept. kept.items ≡ filter (is_of sort) verdicts.now.verdicts.items) }
+    ensures { IfOk result (λ kept. kept.items ≡ filter (is_of sort) told.now) }
 {
     let mut kept = Vec::new(alloc);
-    for at in 0..verdicts.verdicts.len() {
-        let verdict = verdicts.verdicts[at];
-        if are_same(sort_of(verdict), sort) {
-            if is_listed(alloc, indexed, known, filters, verdict, written)? {
-                kept.push(verdict)?;
-            }
+    for verdict in told {
+        if is_of_sort(verdict, sort) {
+            kept.push(*verdict)?;
         }
     }
     Ok(kept)
 }
 
-/// Whether the verdict has a row; where it has none, it is counted as known or as hidden.
-fn is_listed(
-    alloc: Global,
-    indexed: &Indexed,
-    known: &Option<Known>,
-    filters: Filters<'_>,
-    verdict: Verdict,
-    written: &mut Written,
-) -> Result<bool, OutOfMemory>
-    ensures { known.now ≡ None → filters.entry.only.now ≡ [] → filters.entry.hide.now ≡ [] → IfOk result (λ listed. listed ≡ true) }
+/// Whether the verdict is of the sort.
+fn is_of_sort(verdict: &Verdict, sort: Sort) -> bool
+    ensures { result ≡ is_of sort verdict.now }
 {
-    let is_race = are_same(sort_of(verdict), Sort::Race);
-    if is_race && is_known(known, &verdict) {
-        written.known = written.known.saturating_add(1);
-        return Ok(false);
-    }
-    if !is_kept(alloc, indexed, filters, &verdict)? {
-        written.hidden = written.hidden.saturating_add(1);
-        return Ok(false);
-    }
-    if is_race {
-        written.races = written.races.saturating_add(1);
-    }
-    Ok(true)
+    are_same(sort_of(*verdict), sort)
 }

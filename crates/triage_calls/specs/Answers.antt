@@ -3,9 +3,9 @@ use Rattle.std.specs.Prelude.{◌≡◌, ◌⊎◌, ℕ, Bool, List, [], length,
 use Rattle.std.specs.Io.KnownBytes.{Appends}
 use Rattle.rapid_text.specs.Recording.{Recording}
 use Rattle.race_groups.specs.Found.{AreTooMany}
+use Rattle.race_json.specs.Lines.{IsTriageJson}
 use Rattle.race_page.specs.Pages.{IsPage}
 use Rattle.race_page.specs.Rows.{all_rows}
-use Rattle.race_page.specs.declared.shown.Shown.{Shown}
 use Rattle.race_triage.specs.Chosen.{AreChosen}
 use Rattle.race_triage.specs.Places.{AreNumbers}
 use Rattle.race_triage.specs.Texts.{IsTriageText}
@@ -38,14 +38,14 @@ only_of asked = map (λ t. t.now) asked.filters.only.now
 abbrev pub hide_of : Asked → List (List ℕ)
 hide_of asked = map (λ t. t.now) asked.filters.hide.now
 
--- so many races are told of in this form
+-- so many races are told of in this form, of the same choice in each
 abbrev pub IsToldIn : Form → Recording → Option (List (ℕ × ℕ)) → Asked → List Verdict → ℕ → List ℕ → Type 0
 IsToldIn Text r known asked vs races text =
     (c : Chosen) × AreChosen r known (only_of asked) (hide_of asked) asked.apart vs c × IsTriageText r vs c text × (races ≡ c.races)
 IsToldIn Json r known asked vs races text =
-    (c : Chosen) × AreChosen r known (only_of asked) (hide_of asked) asked.apart vs c × (races ≡ c.races)
+    (c : Chosen) × AreChosen r known (only_of asked) (hide_of asked) asked.apart vs c × IsTriageJson r vs c text × (races ≡ c.races)
 IsToldIn (Page name) r known asked vs races text =
-    (rows : List Shown) × IsPage text rows × (known ≡ None → only_of asked ≡ [] → hide_of asked ≡ [] → rows ≡ all_rows asked.apart vs)
+    (c : Chosen) × AreChosen r known (only_of asked) (hide_of asked) asked.apart vs c × IsPage text (all_rows asked.apart c.verdicts.items) × (races ≡ c.races)
 
 -- The text tells of the verdicts on the trace what was asked for; `known` is the pairs of places whose races are known.
 pub record IsListing (r : Recording) (known : Option (List (ℕ × ℕ))) (asked : Asked) (races : ℕ) (text : List ℕ) : Type 0 where

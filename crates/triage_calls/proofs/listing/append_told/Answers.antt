@@ -1,4 +1,5 @@
 use Rattle.std.proofs.Common.{List, ℕ, refl, subst, sym}
+use Rattle.std.proofs.lemmas.Result.{IfOk-weaker}
 use Rattle.race_triage.specs.Chosen.{known_places}
 use Rattle.triage_calls.specs.Answers.{IsToldIn}
 use Rattle.triage_calls.specs.declared.listing.Form.{Form}
@@ -19,7 +20,18 @@ returns-in_ok-triage_json-in-Json c =
     let made = c.in_ok-triage_json-in-Json.ensures.ok in
     let told = c.in_ok-chosen-in-Json.chosen in (
       made.0,
-      made.1,
+      made.2,
       subst (λ (f : Form). IsToldIn f c.args.indexed.now (known_places c.args.known.now) c.args.asked c.args.found.now.verdicts.items told.races made.0) (sym c.in-Json.is)
-          (told, c.in_ok-chosen-in-Json.ensures, refl),
+          (told, c.in_ok-chosen-in-Json.ensures, made.1, refl),
     )
+
+pub returns-in-Page : goal.returns-in-Page
+returns-in-Page c =
+    IfOk-weaker c.page_text.result _ _
+    (λ races told. (
+      told.2,
+      told.3,
+      subst (λ (f : Form). IsToldIn f c.args.indexed.now (known_places c.args.known.now) c.args.asked c.args.found.now.verdicts.items races told.2) (sym c.in-Page.is)
+          (told.0, told.1, told.4, told.5),
+    ))
+    c.page_text.ensures.ok
