@@ -15,13 +15,16 @@ use Rattle.rapid_text.proofs.CallerLemmas.{fork-from_test}
 use Rattle.trace_rules.specs.Rules.{IsDisciplined}
 use Rattle.event_index.specs.Events.{op_at, thread_at, is_of_thread, is_write_at, is_fork_at}
 use Rattle.event_index.specs.Relations.{IsConflicting}
-use Rattle.event_index.specs.Lookups.{before, events_of, place_of, place_by, last_writer, last_writer_by, fork_of, or_else, base_of, base_by, section_end, section_of, section_by}
+use Rattle.event_index.specs.Lookups.{before, events_of, place_of, place_by, last_writer, last_writer_by, fork_of, or_else, base_of, base_by, section_by, section_of, section_end}
 use Rattle.event_index.proofs.StepLemmas.{count_before-le}
 -- what an event found in the trace does, and which thread does it
 pub use Rattle.event_index.proofs.EventLemmas.{thread_event, op_event, thread_here, op_here, thread_within, is_of_thread-from, one_thread}
 pub use Rattle.event_index.proofs.PlaceLemmas.{events_before, length-events_before, events_of-place, place_of-events_of}
 -- the first and the last that passes a test, one event further; how a count and a place go on
 pub use Rattle.event_index.proofs.ScanLemmas.{before_more, filter_more_before, find_first_is, find_last_is, find_last_none, find_last_yes, find_last_no, none_found, find_none}
+-- a look of any list, and the least number of which something holds
+pub use Rattle.event_index.proofs.FindLemmas.{find-member, find-passes, find-all_fail, all_fail-find, find-fails, find-same}
+pub use Rattle.event_index.proofs.LeastLemmas.{IsLeastOf-same, IsLeastOf-unique, find_cases, find-least}
 pub use Rattle.event_index.proofs.StepLemmas.{passes_here, passes_event, take_event, count_more, place_of-count}
 -- where the events of each thread begin in a row of all, thread by thread
 pub use Rattle.event_index.proofs.RowLemmas.{start_of-more, start_of-within, count_before-all}
@@ -29,6 +32,8 @@ pub use Rattle.event_index.proofs.RowLemmas.{start_of-more, start_of-within, cou
 pub use Rattle.event_index.proofs.TableLemmas.{get_or-IsTable, IsTable-from_get_or, IsTable-nil, IsTable-replicate, IsTable-push, IsTable-set, IsTable-like}
 -- how often a thread holds a lock, one event further
 pub use Rattle.event_index.proofs.HoldLemmas.{takes, frees, takes_is, frees_is, takes_not_thread, frees_not_thread, hold_same, hold_taken, hold_freed}
+-- while a section is open
+pub use Rattle.event_index.proofs.SectionLemmas.{held_above}
 pub use Rattle.event_index.proofs.RelationLaws.{Decides-is_clash, Decides-is_apart, Decides-is_conflict, Decides-is_independent, IsIndependent-sym}
 
 never : {A : Type 0} (w : ℕ) → None ≡ Some w → A
@@ -114,13 +119,13 @@ base_of-earlier T rules e b h =
           ]
     ]
 
-section_by-some : (T : List Event) (e t j : ℕ) (op : Op) → section_by T e t op ≡ Some j → (e < j) × (j < length T)
+section_by-some : (T : List Event) (e t j : ℕ) (op : Op) → section_by T (length T) e t op ≡ Some j → (e < j) × (j < length T)
 section_by-some T e t j (Acquire l) h =
     let found = find_first_is _ (e + 1) (length T - (e + 1)) j h in
     (omega (arith, found.0), omega (arith, found.0, found.1))
 section_by-some T e t j op h = never j h
 
-section_of-some : (T : List Event) (e j : ℕ) (o : Option Event) → section_of T e o ≡ Some j → (e < j) × (j < length T)
+section_of-some : (T : List Event) (e j : ℕ) (o : Option Event) → section_of T (length T) e o ≡ Some j → (e < j) × (j < length T)
 section_of-some T e j None h = never j h
 section_of-some T e j (Some v) h = section_by-some T e v.thread j v.op h
 

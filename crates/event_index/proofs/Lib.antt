@@ -1,6 +1,8 @@
 pub mod CallerLemmas
 pub mod EventLemmas
+pub mod FindLemmas
 pub mod HoldLemmas
+pub mod LeastLemmas
 pub mod PlaceLemmas
 pub mod ReadLemmas
 pub mod RelationLaws

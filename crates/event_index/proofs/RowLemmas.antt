@@ -9,7 +9,8 @@ use Rattle.std.proofs.lemmas.Option.{slice_get_within}
 use Rattle.rapid_text.specs.declared.event.Event.{Event}
 use Rattle.event_index.specs.Events.{is_of_thread}
 use Rattle.event_index.specs.Lookups.{before, events_of, place_of}
-use Rattle.event_index.specs.Layout.{IsTable, IsGrouped, IsFilled, count_before, start_of}
+use Rattle.event_index.specs.Layout.{IsTable, IsGrouped, IsFilled, count_before}
+use Rattle.event_index.specs.Lookups.{start_of}
 use Rattle.event_index.proofs.ScanLemmas.{filter_more_before}
 use Rattle.event_index.proofs.StepLemmas.{passes_here, count_more, place_of-count}
 use Rattle.event_index.proofs.TableLemmas.{get_or-IsTable}

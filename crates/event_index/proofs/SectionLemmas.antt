@@ -13,9 +13,9 @@ use Rattle.rapid_text.specs.declared.event.Op.{Op}
 use Rattle.rapid_text.specs.declared.event.Op.TheVariants.{Read, Write, Acquire, Release, Fork, Join}
 use Rattle.trace_rules.specs.Rules.{hold_count, IsDisciplined}
 use Rattle.event_index.specs.Events.{passes_at}
-use Rattle.event_index.specs.Lookups.{section_end, section_of, section_by}
+use Rattle.event_index.specs.Lookups.{is_end, section_by, section_of, end_before, section_end}
 use Rattle.event_index.specs.Layout.{IsTable}
-use Rattle.event_index.specs.Open.{HasOp, is_end, end_by, end_of, end_before, IsOpen, IsStack, IsHeld, AreOpen}
+use Rattle.event_index.specs.Open.{HasOp, IsOpen, IsStack, IsHeld, AreOpen}
 use Rattle.event_index.specs.declared.sections.Open.{Open}
 use Rattle.event_index.proofs.ScanLemmas.{range_more, find_none, none_found}
 use Rattle.event_index.proofs.StepLemmas.{passes_here}
@@ -61,23 +61,23 @@ not_later T i e t l h =
       | inl early ↦ stays (find (is_end T e t l) (range_with_len (e + 1) (i - (e + 1)))) i (is_end T e t l i) (h early) ∙ sym (find_more (is_end T e t l) e i early)
     ]
 
-end_by-same : (T : List Event) (i e t : ℕ) (op : Op) → ((l : ℕ) → op ≡ Acquire l → EndsNot T i e t l) → end_by T i e t op ≡ end_by T (i + 1) e t op
-end_by-same T i e t (Acquire l) h = not_later T i e t l (h l refl)
-end_by-same T i e t op h = refl
+section_by-same : (T : List Event) (i e t : ℕ) (op : Op) → ((l : ℕ) → op ≡ Acquire l → EndsNot T i e t l) → section_by T i e t op ≡ section_by T (i + 1) e t op
+section_by-same T i e t (Acquire l) h = not_later T i e t l (h l refl)
+section_by-same T i e t op h = refl
 
-end_of-same :
+section_of-same :
     (T : List Event) (i e : ℕ) (o : Option Event)
     → ((v : Event) (l : ℕ) → o ≡ Some v → v.op ≡ Acquire l → EndsNot T i e v.thread l)
-    → end_of T i e o ≡ end_of T (i + 1) e o
-end_of-same T i e None h = refl
-end_of-same T i e (Some v) h = end_by-same T i e v.thread v.op (λ l op. h v l refl op)
+    → section_of T i e o ≡ section_of T (i + 1) e o
+section_of-same T i e None h = refl
+section_of-same T i e (Some v) h = section_by-same T i e v.thread v.op (λ l op. h v l refl op)
 
 -- event i ends no section of e
 end_before-same :
     (T : List Event) (i e : ℕ)
     → ((v : Event) (l : ℕ) → slice_get T e ≡ Some v → v.op ≡ Acquire l → EndsNot T i e v.thread l)
     → end_before T i e ≡ end_before T (i + 1) e
-end_before-same T i e h = end_of-same T i e (slice_get T e) h
+end_before-same T i e h = section_of-same T i e (slice_get T e) h
 
 -- ---- when a section is open
 
@@ -112,6 +112,21 @@ open_above T rules a t l i v at h f ends within (suc k) low =
           λ back. absurd (true≢false (sym (and_from _ _ (passes_here (λ u. frees u t l) T j w there ∙ down.0) (eq-eqb _ _ back)) ∙ ends j (omega arith) (omega arith))) in
           omega (arith, no_end, down.1)
     ])
+
+-- the same at each event up to i
+pub held_above :
+    (T : List Event) → IsDisciplined T
+    → (a t l i : ℕ) (v : Event)
+    → slice_get T a ≡ Some v
+    → takes v t l ≡ true
+    → frees v t l ≡ false
+    → ((j : ℕ) → a + 1 ≤ j → j < i → is_end T a t l j ≡ false)
+    → i ≤ length T
+    → (j : ℕ) → a < j → j ≤ i → hold_count (take a T) t l < hold_count (take j T) t l
+held_above T rules a t l i v at h f ends within j low high =
+    let place : a + 1 + (j - (a + 1)) ≡ j = omega arith in
+    subst (λ (n : ℕ). hold_count (take a T) t l < hold_count (take n T) t l) place
+    (open_above T rules a t l i v at h f ends within (j - (a + 1)) (omega arith))
 
 -- an event that does not free the lock for the thread ends no section of it
 ends_not : (T : List Event) (i e t l : ℕ) (v : Event) → slice_get T i ≡ Some v → frees v t l ≡ false → is_end T e t l i ≡ false
@@ -416,11 +431,8 @@ one_open T rules i t l d a e w was there h f other early within unended same =
       | inr apart ↦
           elim apart [
             | inl lt ↦
-                let k = a - (e + 1) in
-                let place : e + 1 + k ≡ a = omega arith in
-                let more = open_above T rules e t l i w there h f ends within k (omega (arith, was.early)) in
-                let here : hold_count (take e T) t l < hold_count (take a T) t l = subst (λ (n : ℕ). hold_count (take e T) t l < hold_count (take n T) t l) place more in
-                omega (arith, was.depth)
+                let here = held_above T rules e t l i w there h f ends within a lt (omega (arith, was.early)) in
+                omega (arith, here, was.depth)
             | inr lt ↦
                 let more = was.above e lt (omega arith) in
                 omega (arith, more)
@@ -453,7 +465,7 @@ end_found T outer i l a v top at op end =
     _
     (passes_here (λ w. frees w t l) T i v at ∙ frees_from v t l refl op)
     (eq-eqb (hold_count (take (i + 1) T) t l) (hold_count (take a T) t l) (end.after ∙ sym was.depth)) in
-    ap (end_of T (i + 1) a) was.acquire
+    ap (section_of T (i + 1) a) was.acquire
     ∙ find_more test a i was.early
     ∙ ap (λ o. option_or o (cond (test i) (Some i) None)) none
     ∙ cond-true (test i) (Some i) None now
@@ -593,13 +605,13 @@ passed_by r i v known at off was =
           (was.held l within);
     }
 
-end_by-none : (T : List Event) (e t : ℕ) (op : Op) → end_by T 0 e t op ≡ None
-end_by-none T e t (Acquire l) = find_late (is_end T e t l) e 0 (omega arith)
-end_by-none T e t op = refl
+section_by-none : (T : List Event) (e t : ℕ) (op : Op) → section_by T 0 e t op ≡ None
+section_by-none T e t (Acquire l) = find_late (is_end T e t l) e 0 (omega arith)
+section_by-none T e t op = refl
 
-end_of-none : (T : List Event) (e : ℕ) (o : Option Event) → end_of T 0 e o ≡ None
-end_of-none T e None = refl
-end_of-none T e (Some v) = end_by-none T e v.thread v.op
+section_of-none : (T : List Event) (e : ℕ) (o : Option Event) → section_of T 0 e o ≡ None
+section_of-none T e None = refl
+section_of-none T e (Some v) = section_by-none T e v.thread v.op
 
 -- what is known before the first event
 pub nothing_known :
@@ -613,7 +625,7 @@ nothing_known r known ends top outer =
       ends = subst
           (λ (xs : List (Option ℕ)). IsTable (end_before r.events 0) (length r.events) xs)
           (sym ends)
-          (IsTable-replicate (end_before r.events 0) (length r.events) None (λ e within. end_of-none r.events e (slice_get r.events e)));
+          (IsTable-replicate (end_before r.events 0) (length r.events) None (λ e within. section_of-none r.events e (slice_get r.events e)));
       outer = ap length outer ∙ length-replicate (length r.events) None;
       top = ap length top ∙ length-replicate (length r.locks) None;
       held = λ l within.
@@ -621,20 +633,9 @@ nothing_known r known ends top outer =
           record { holder = 0; others = λ u other. refl; stack = empty };
     }
 
-end_by-all : (T : List Event) (e t : ℕ) (op : Op) → end_by T (length T) e t op ≡ section_by T e t op
-end_by-all T e t (Acquire l) = refl
-end_by-all T e t op = refl
-
-end_of-all : (T : List Event) (e : ℕ) (o : Option Event) → end_of T (length T) e o ≡ section_of T e o
-end_of-all T e None = refl
-end_of-all T e (Some v) = end_by-all T e v.thread v.op
-
 -- what is known after the last event
 pub all_known : (r : Recording) (i : ℕ) (known : Open) → i ≡ length r.events → AreOpen r i known → IsTable (section_end r.events) (length r.events) known.ends.items
-all_known r i known all was =
-    let ends : IsTable (end_before r.events (length r.events)) (length r.events) known.ends.items =
-    subst (λ (k : ℕ). IsTable (end_before r.events k) (length r.events) known.ends.items) all was.ends in
-    IsTable-like (end_before r.events (length r.events)) (section_end r.events) (length r.events) known.ends.items ends (λ e within. end_of-all r.events e (slice_get r.events e))
+all_known r i known all was = subst (λ (k : ℕ). IsTable (end_before r.events k) (length r.events) known.ends.items) all was.ends
 
 -- what a release makes of what is known, and the acquire whose section it ends
 pub top_found :

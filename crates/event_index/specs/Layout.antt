@@ -1,12 +1,12 @@
 -- How the tables of an index lie. No public clause cites this module.
-use Rattle.std.specs.Prelude.{◌≡◌, ℕ, ◌+◌, ◌-◌, ◌<◌, ◌≤◌, ◌==◌, nat_lt, filter, List, length, take, drop, reverse, find, count_by, slice_get, slice_index, Some, Option}
+use Rattle.std.specs.Prelude.{◌≡◌, ℕ, ◌+◌, ◌-◌, ◌<◌, ◌≤◌, filter, List, length, take, drop, reverse, find, slice_index, Option}
 use Rattle.rapid_text.specs.declared.event.Event.{Event}
 use Rattle.rapid_text.specs.Recording.{Recording, IsWellFormed}
 use Rattle.trace_rules.specs.Rules.{IsDisciplined}
 use Rattle.event_index.specs.Events.{is_of_thread, is_fork_at}
 pub use Rattle.event_index.specs.Tables.{IsTable}
 pub use Rattle.event_index.specs.Lookups.{count_before}
-use Rattle.event_index.specs.Lookups.{before, events_of, place_of, last_writer, fork_of, base_of, section_end}
+use Rattle.event_index.specs.Lookups.{before, events_of, place_of, last_writer, fork_of, base_of, section_end, start_of}
 use Rattle.event_index.specs.declared.indexed.Indexed.TheInside.{Inside}
 use Rattle.event_index.specs.declared.tables.Tables.{Tables}
 
@@ -24,10 +24,6 @@ pub record IsGrouped (events_of_thread : ℕ → List ℕ) (threads : ℕ) (grou
   pub len : length starts ≡ threads + 1
   pub bounds : (t : ℕ) → t < threads → (slice_index starts t ≤ slice_index starts (t + 1)) × (slice_index starts (t + 1) ≤ length grouped)
   pub part : (t : ℕ) → t < threads → take (slice_index starts (t + 1) - slice_index starts t) (drop (slice_index starts t) grouped) ≡ events_of_thread t
-
--- where the events of the thread begin in the row: how many events are of lower threads
-abbrev pub start_of : List Event → ℕ → ℕ
-start_of T t = count_by (λ v. nat_lt v.thread t) T
 
 -- the first e events stand in the row where they belong
 pub record IsFilled (T : List Event) (threads e : ℕ) (row : List ℕ) : Type 0 where

@@ -1,7 +1,7 @@
 -- What the look-ups of an index answer. `T` is the events of a trace, named by their numbers.
 -- The last writer is that of Mathur, Kini and Viswanathan, "What happens-after the first race?"
 -- (OOPSLA 2018); the end of a section and the base are this project's own.
-use Rattle.std.specs.Prelude.{ℕ, ◌+◌, ◌-◌, ◌==◌, ◌&&◌, List, reverse, length, take, filter, find, count_by, slice_get, Option, Some, None}
+use Rattle.std.specs.Prelude.{ℕ, Bool, ◌+◌, ◌-◌, ◌==◌, ◌&&◌, nat_lt, List, reverse, length, take, filter, find, count_by, slice_get, Option, Some, None}
 use Rattle.std.specs.List.{range_with_len}
 use Rattle.rapid_text.specs.Operations.{is_release}
 use Rattle.rapid_text.specs.declared.event.Event.{Event}
@@ -58,22 +58,28 @@ base_by T e (Some v) = or_else (find (is_of_thread T v.thread) (reverse (before 
 abbrev pub base_of : List Event → ℕ → Option ℕ
 base_of T e = base_by T e (slice_get T e)
 
--- the first release of the lock by the thread after e at which the thread holds the lock as often as
--- it did before e
-abbrev pub release_after : List Event → ℕ → ℕ → ℕ → Option ℕ
-release_after T e t l =
-    find
-    (λ j. passes_at (λ v. v.thread == t && is_release l v.op) T j && hold_count (take (j + 1) T) t l == hold_count (take e T) t l)
-    (range_with_len (e + 1) (length T - (e + 1)))
+-- whether event j is a release of l by t after which t holds l as often as before event e
+abbrev pub is_end : List Event → ℕ → ℕ → ℕ → ℕ → Bool
+is_end T e t l j =
+    passes_at (λ v. v.thread == t && is_release l v.op) T j && hold_count (take (j + 1) T) t l == hold_count (take e T) t l
 
-abbrev pub section_by : List Event → ℕ → ℕ → Op → Option ℕ
-section_by T e t (Acquire l) = release_after T e t l
-section_by T e t op = None
+abbrev pub section_by : List Event → ℕ → ℕ → ℕ → Op → Option ℕ
+section_by T i e t (Acquire l) = find (is_end T e t l) (range_with_len (e + 1) (i - (e + 1)))
+section_by T i e t op = None
 
-abbrev pub section_of : List Event → ℕ → Option Event → Option ℕ
-section_of T e None = None
-section_of T e (Some v) = section_by T e v.thread v.op
+abbrev pub section_of : List Event → ℕ → ℕ → Option Event → Option ℕ
+section_of T i e None = None
+section_of T i e (Some v) = section_by T i e v.thread v.op
+
+-- the release among the first i events that ends the critical section of the acquire e: the first by its thread after which
+-- the thread holds the lock as often as it did before e
+abbrev pub end_before : List Event → ℕ → ℕ → Option ℕ
+end_before T i e = section_of T i e (slice_get T e)
 
 -- the release that ends the critical section of the acquire e, or none; none too where e is no acquire
 abbrev pub section_end : List Event → ℕ → Option ℕ
-section_end T e = section_of T e (slice_get T e)
+section_end T = end_before T (length T)
+
+-- how many events are of threads below t
+abbrev pub start_of : List Event → ℕ → ℕ
+start_of T t = count_by (λ v. nat_lt v.thread t) T

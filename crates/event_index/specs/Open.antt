@@ -1,37 +1,18 @@
 -- What the pass over the sections knows after some events. No public clause cites this module.
 -- `T` is the events, `i` how many of them were seen.
-use Rattle.std.specs.Prelude.{◌≡◌, ◌≢◌, ℕ, Bool, zero, suc, ◌+◌, ◌-◌, ◌<◌, ◌≤◌, ◌==◌, ◌&&◌, List, length, take, find, slice_get, Some, None, Option, slice_index_or}
-use Rattle.std.specs.List.{range_with_len}
-use Rattle.rapid_text.specs.Operations.{is_release}
+use Rattle.std.specs.Prelude.{◌≡◌, ◌≢◌, ℕ, zero, suc, ◌<◌, ◌≤◌, List, length, take, slice_get, Some, None, Option, slice_index_or}
 use Rattle.rapid_text.specs.Recording.{Recording}
 use Rattle.rapid_text.specs.declared.event.Event.{Event}
 use Rattle.rapid_text.specs.declared.event.Op.{Op}
 use Rattle.rapid_text.specs.declared.event.Op.TheVariants.{Acquire}
 use Rattle.trace_rules.specs.Rules.{hold_count}
-use Rattle.event_index.specs.Events.{passes_at}
+use Rattle.event_index.specs.Lookups.{end_before}
 use Rattle.event_index.specs.Layout.{IsTable}
 use Rattle.event_index.specs.declared.sections.Open.{Open}
 
 -- the event does this
 abbrev pub HasOp : List Event → ℕ → Op → Type 0
 HasOp T e op = (v : Event) × (slice_get T e ≡ Some v) × (v.op ≡ op)
-
--- whether event j is a release of l by t after which t holds l as often as before event e
-abbrev pub is_end : List Event → ℕ → ℕ → ℕ → ℕ → Bool
-is_end T e t l j =
-    passes_at (λ v. v.thread == t && is_release l v.op) T j && hold_count (take (j + 1) T) t l == hold_count (take e T) t l
-
-abbrev pub end_by : List Event → ℕ → ℕ → ℕ → Op → Option ℕ
-end_by T i e t (Acquire l) = find (is_end T e t l) (range_with_len (e + 1) (i - (e + 1)))
-end_by T i e t op = None
-
-abbrev pub end_of : List Event → ℕ → ℕ → Option Event → Option ℕ
-end_of T i e None = None
-end_of T i e (Some v) = end_by T i e v.thread v.op
-
--- the release among the first i events that ends the section of the acquire e
-abbrev pub end_before : List Event → ℕ → ℕ → Option ℕ
-end_before T i e = end_of T i e (slice_get T e)
 
 -- Acquire a of l by t is open, and t held l d times before it: from it on t holds l more often.
 pub record IsOpen (T : List Event) (i t l d a : ℕ) : Type 0 where

@@ -2,7 +2,8 @@
 ghost use Rattle.std.specs.Prelude.{◌≡◌, ◌+◌, ◌<◌, length, IfOk};
 ghost use Rattle.rapid_text.specs.Recording.{IsWellFormed};
 ghost use Rattle.event_index.specs.Lookups.{place_of, events_of};
-ghost use Rattle.event_index.specs.Layout.{IsTable, IsGrouped, IsFilled, count_before, start_of};
+ghost use Rattle.event_index.specs.Layout.{IsTable, IsGrouped, IsFilled, count_before};
+ghost use Rattle.event_index.specs.Lookups.{start_of};
 
 use rapid_text::{OutOfMemory, RawTrace};
 use std::alloc::Global;

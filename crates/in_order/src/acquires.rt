@@ -7,7 +7,6 @@ ghost use Rattle.must_order.specs.Sections.{is_outer};
 ghost use Rattle.in_order.specs.Acquires.{IsOneOf, IsTaken, IsPassed, AreLanesUpTo, AreTakenUpTo, AreTaken, AreShared};
 
 use crate::closing::lock_of;
-use crate::events::{locks_in, threads_in};
 use event_index::Indexed;
 use rapid_text::OutOfMemory;
 use std::alloc::Global;
@@ -49,7 +48,7 @@ impl Acquires {
         ensures ok { IfOk result (λ acquires. acquires ≡ indexed.now) }
     {
         let by_lock = lanes_of(alloc, indexed)?;
-        let shared = shared_of(alloc, by_lock.as_slice(), locks_in(indexed))?;
+        let shared = shared_of(alloc, by_lock.as_slice(), indexed.locks())?;
         Ok(Acquires {
             trace: Snapshot::of(indexed),
             by_lock,
@@ -63,7 +62,7 @@ fn lanes_of(alloc: Global, indexed: &Indexed) -> Result<Vec<Vec<Lane>>, OutOfMem
     ensures { IfOk result (λ made. AreTaken indexed.now made.items) }
 {
     let mut by_lock = no_lanes(alloc, indexed)?;
-    for thread in 0..threads_in(indexed) {
+    for thread in 0..indexed.threads() {
         add_thread(alloc, &mut by_lock, indexed, thread)?;
     }
     Ok(by_lock)
@@ -73,7 +72,7 @@ fn no_lanes(alloc: Global, indexed: &Indexed) -> Result<Vec<Vec<Lane>>, OutOfMem
     ensures { IfOk result (λ made. AreTakenUpTo indexed.now 0 0 made.items) }
 {
     let mut by_lock = Vec::new(alloc);
-    for _lock in 0..locks_in(indexed) {
+    for _lock in 0..indexed.locks() {
         by_lock.push(Vec::new(alloc))?;
     }
     Ok(by_lock)

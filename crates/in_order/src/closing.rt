@@ -6,7 +6,6 @@ ghost use Rattle.event_index.specs.Lookups.{events_of, place_of};
 ghost use Rattle.must_order.specs.Layout.{source_of};
 ghost use Rattle.in_order.specs.Layout.{IsEither, IsNeededRow, IsBehind, Takes, IsStep, IsLockVisit, IsVisit};
 
-use crate::events::{event_at, locks_in, threads_in};
 use event_index::Indexed;
 use rapid_text::{Op, OutOfMemory};
 use std::alloc::Global;
@@ -26,13 +25,13 @@ pub(crate) fn needed_row(
     ensures within { IfOk result
         (λ row. (t : ℕ) → slice_index row.items t ≤ length (events_of indexed.now.events t)) }
 {
-    let threads = threads_in(indexed) as usize;
+    let threads = indexed.threads() as usize;
     let mut row = zeros(alloc, threads)?;
     let mut visited = zeros(alloc, threads)?;
-    let mut latest = nones(alloc, locks_in(indexed) as usize)?;
+    let mut latest = nones(alloc, indexed.locks() as usize)?;
     take_in(&mut row, indexed, first);
     take_in(&mut row, indexed, second);
-    let mut next = behind(row.as_slice(), visited.as_slice(), threads_in(indexed), 0);
+    let mut next = behind(row.as_slice(), visited.as_slice(), indexed.threads(), 0);
     while let Some(thread) = next {
         let event = event_in(indexed, thread, visited[thread as usize]);
         visit(&mut row, &mut latest, indexed, event);
@@ -40,7 +39,7 @@ pub(crate) fn needed_row(
         next = behind(
             row.as_slice(),
             visited.as_slice(),
-            threads_in(indexed),
+            indexed.threads(),
             thread,
         );
     }
@@ -98,7 +97,7 @@ fn take_in(row: &mut Vec<u32>, indexed: &Indexed, event: Option<u32>)
     ensures takes { Takes indexed.now.events (λ d. event ≡ Some d) (λ t. slice_index row.old.items t) (λ t. slice_index row.new.items t) }
 {
     if let Some(event) = event {
-        let thread = event_at(indexed, event).thread as usize;
+        let thread = indexed.event(event).thread as usize;
         row[thread] = row[thread].max(indexed.place(event) + 1);
     }
 }
@@ -129,7 +128,7 @@ pub(crate) fn lock_of(indexed: &Indexed, event: u32) -> Option<u32>
     ensures named { IfSome result (λ l. l < length indexed.now.locks) }
     ensures none { result ≡ None → (l : ℕ) → op_at indexed.now.events event ≢ Some (Acquire l) }
 {
-    match event_at(indexed, event).op {
+    match indexed.event(event).op {
         Op::Acquire(lock) => Some(lock),
         Op::Read(_) => None,
         Op::Write(_) => None,
@@ -146,7 +145,7 @@ fn source_at(indexed: &Indexed, event: u32) -> Option<u32>
     ensures source { result ≡ source_of indexed.now.events event }
     ensures within { IfSome result (λ s. s < length indexed.now.events) }
 {
-    match event_at(indexed, event).op {
+    match indexed.event(event).op {
         Op::Read(_) => indexed.last_writer(event),
         Op::Join(thread) => {
             let last = indexed.thread_events(thread).last().copied();

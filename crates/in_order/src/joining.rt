@@ -13,7 +13,6 @@ ghost use Rattle.in_order.specs.declared.refusal.InOrderRefusal.TheVariants.{Out
 
 use crate::acquires::{Acquires, Lane};
 use crate::closing::zeros;
-use crate::events::threads_in;
 use crate::lasting::due_on;
 use crate::listing::{judge, unless_needed};
 use crate::refusal::InOrderRefusal;
@@ -126,7 +125,7 @@ fn begun(
     ensures len { IfOk result (λ row. length row.items ≡ length indexed.now.threads) }
     ensures joined { IfOk result (λ row. IsJoined indexed.now.events (IsEither first second) (λ t. slice_index row.items t)) }
 {
-    let mut row = zeros(alloc, threads_in(indexed) as usize)?;
+    let mut row = zeros(alloc, indexed.threads() as usize)?;
     raise(&mut row, indexed, must, first);
     raise(&mut row, indexed, must, second);
     Ok(row)
@@ -140,7 +139,7 @@ fn raise(row: &mut Vec<u32>, indexed: &Indexed, must: &Must, event: Option<u32>)
     ensures len { length row.new.items ≡ length indexed.now.threads }
     ensures joins { Joins indexed.now.events (λ d. event ≡ Some d) (λ t. slice_index row.old.items t) (λ t. slice_index row.new.items t) }
 {
-    let _threads = threads_in(indexed);
+    let _threads = indexed.threads();
     if let Some(event) = event {
         must.rows().raise(event, row);
     }

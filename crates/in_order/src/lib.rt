@@ -4,7 +4,6 @@
 
 mod acquires;
 mod closing;
-mod events;
 mod joining;
 mod lasting;
 mod laws;

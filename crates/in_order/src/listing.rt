@@ -14,7 +14,6 @@ ghost use Rattle.in_order.specs.Refusals.{AreThere, IsLeastInOrder, IsNeverShown
 ghost use Rattle.in_order.specs.declared.refusal.InOrderRefusal.TheVariants.{OutOfMemory as NoMemory};
 
 use crate::closing::needed_row;
-use crate::events::event_at;
 use crate::refusal::InOrderRefusal;
 use event_index::{EventList, Indexed};
 use rapid_text::OutOfMemory;
@@ -144,7 +143,7 @@ pub(crate) fn is_counted(row: &[u32], indexed: &Indexed, event: u32) -> bool
     requires len { length row.now ≡ length indexed.now.threads }
     ensures { IsTrue result ↔ IsCounted indexed.now.events (λ t. slice_index row.now t) event }
 {
-    indexed.place(event) < row[event_at(indexed, event).thread as usize]
+    indexed.place(event) < row[indexed.event(event).thread as usize]
 }
 
 /// The events that the row counts, in the order of the trace.

@@ -8,7 +8,6 @@ ghost use Rattle.in_order.specs.Sizes.{IsSizeInOrder};
 ghost use Rattle.in_order.specs.declared.refusal.InOrderRefusal.TheVariants.{OutOfMemory as NoMemory};
 
 use crate::acquires::Acquires;
-use crate::events::threads_in;
 use crate::joining::joined_in_order;
 use crate::refusal::InOrderRefusal;
 use event_index::Indexed;
@@ -47,7 +46,7 @@ fn events_counted(indexed: &Indexed, row: &[u32]) -> u32
     ensures { IsListLength indexed.now.events (λ t. slice_index row.now t) result }
 {
     let mut count = 0;
-    for thread in 0..threads_in(indexed) {
+    for thread in 0..indexed.threads() {
         count += row[thread as usize];
     }
     count
@@ -59,7 +58,7 @@ fn threads_counted(indexed: &Indexed, row: &[u32]) -> u32
     ensures { IsThreadCount (λ t. slice_index row.now t) (length indexed.now.threads) result }
 {
     let mut count = 0;
-    for thread in 0..threads_in(indexed) {
+    for thread in 0..indexed.threads() {
         if row[thread as usize] > 0 {
             count += 1;
         }

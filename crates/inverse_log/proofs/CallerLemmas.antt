@@ -4,6 +4,7 @@ use Rattle.std.specs.List.{find, list_any}
 use Rattle.std.proofs.lemmas.Bool.{cases_Bool, le-ltb, eq-eqb, and_left}
 use Rattle.std.proofs.lemmas.List.{append-nil, reverse-append, reverse-reverse, length_push}
 use Rattle.std.proofs.lemmas.List.Elements.{All-nil, All-cons, All-head, All-tail, All-weaker, All-push}
+use Rattle.event_index.proofs.CallerLemmas.{all_fail-find}
 use Rattle.moves.specs.declared.command.Command.{Command}
 use Rattle.rapid_text.specs.Recording.{Recording}
 use Rattle.moves.specs.Commands.{touches_any}
@@ -27,7 +28,7 @@ use Rattle.inverse_log.proofs.LiveLemmas.{Climbs, IsThere, rises_above, rises_li
 use Rattle.inverse_log.proofs.ReplyLemmas.{done_reply, all_done_reply, undo_reply, undo_at_reply, proposed_reply, seen_reply}
 use Rattle.inverse_log.proofs.SizeLemmas.{IsUndid, entry_undo, entry_undo_at, limited_ok, sized_ok}
 use Rattle.inverse_log.proofs.LawLemmas.{All-reverse, HasRows, legal_has}
-use Rattle.inverse_log.proofs.DirectLemmas.{undo_answer, undo_rows, find_missing}
+use Rattle.inverse_log.proofs.DirectLemmas.{undo_answer, undo_rows}
 
 grown_undid : (L E : List Entry) (c : ℕ) → IsUndid c E → Grown L c (L ++ E)
 grown_undid L E c is = elim is [
@@ -175,7 +176,7 @@ module _ (T : Recording) (L : List Entry) (c : ℕ) (alone : IsAlone c L) where
   undo_case (g ∷ R) is all k x h =
       let split : live_of L ≡ reverse R ++ g ∷ [] = sym (reverse-reverse (live_of L)) ∙ ap reverse is ∙ reverse-append (g ∷ []) R in
       let low : All (λ (p : Live). p.number ≤ g.number) (live_of L) = subst (All (λ (p : Live). p.number ≤ g.number)) (sym split) (rises_last (reverse R) g 0 (length L) (subst (λ X. Climbs 0 X (length L)) split (rises_live L))) in
-      let none : blocker_of L g ≡ None = find_missing (blocks g) (live_of L) (All-weaker (λ (p : Live). p.number ≤ g.number) (λ p. blocks g p ≡ false) (λ p le. and_left (ltb g.number p.number) (list_any (touches_any p.commands) (written g)) (le-ltb g.number p.number le)) (live_of L) low) in
+      let none : blocker_of L g ≡ None = all_fail-find (blocks g) (live_of L) (All-weaker (λ (p : Live). p.number ≤ g.number) (λ p. blocks g p ≡ false) (λ p le. and_left (ltb g.number p.number) (list_any (touches_any p.commands) (written g)) (le-ltb g.number p.number le)) (live_of L) low) in
       let here : is_by c g ≡ true = All-head (λ (p : Live). is_by c p ≡ true) g R all in
       let answer : undo_or L (find (is_by c) (g ∷ R)) ≡ Ok (Undone (length L) g.number) = rw here (ap (undone_or (length L) g) none) in
       absurd cc

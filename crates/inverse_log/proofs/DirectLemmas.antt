@@ -3,7 +3,8 @@ use Rattle.std.proofs.Common.{◌≡◌, ℕ, ◌+◌, ◌<◌, Bool, true, fals
 use Rattle.std.specs.List.{find, list_any}
 use Rattle.std.proofs.lemmas.Bool.{eq-eqb, le-ltb, lt-ltb, and_left}
 use Rattle.std.proofs.lemmas.List.{append-nil, reverse-append, length_push}
-use Rattle.std.proofs.lemmas.List.Elements.{All-head, All-tail, All-weaker}
+use Rattle.std.proofs.lemmas.List.Elements.{All-weaker}
+use Rattle.event_index.proofs.CallerLemmas.{all_fail-find}
 use Rattle.moves.specs.declared.command.Command.{Command}
 use Rattle.moves.specs.Commands.{writes, touches_any}
 use Rattle.rapid_text.specs.Recording.{Recording}
@@ -19,10 +20,6 @@ use Rattle.inverse_log.proofs.LawLemmas.{Comes, HasRows, board_done, board_undid
 
 find_first : (q : Live → Bool) (x : Live) (xs : List Live) → q x ≡ true → find q (x ∷ xs) ≡ Some x
 find_first q x xs h = rw h refl
-
-pub find_missing : (q : Live → Bool) (xs : List Live) → All (λ p. q p ≡ false) xs → find q xs ≡ None
-find_missing q [] all = refl
-find_missing q (x ∷ xs) all = rw (All-head (λ p. q p ≡ false) x xs all) (find_missing q xs (All-tail (λ p. q p ≡ false) x xs all))
 
 -- the last entry did the commands D of the client c
 module _ (T : Recording) (L : List Entry) (e : Entry) (c : ℕ) (D : List Command) (is : done_by e ≡ Some (c, D)) where
@@ -40,7 +37,7 @@ module _ (T : Recording) (L : List Entry) (e : Entry) (c : ℕ) (D : List Comman
   none_blocks : blocker_of M g ≡ None
   none_blocks =
       let low : All (λ (p : Live). p.number < length M) (live_of M) = (rises_below (live_of M) 0 (length M) (rises_live M)).0 in
-      find_missing (blocks g) (live_of M) (All-weaker (λ (p : Live). p.number < length M) (λ p. blocks g p ≡ false) (λ p h. and_left (ltb (length L) p.number) (list_any (touches_any p.commands) (map writes D)) (le-ltb (length L) p.number (omega (arith, length_push L e)))) (live_of M) low)
+      all_fail-find (blocks g) (live_of M) (All-weaker (λ (p : Live). p.number < length M) (λ p. blocks g p ≡ false) (λ p h. and_left (ltb (length L) p.number) (list_any (touches_any p.commands) (map writes D)) (le-ltb (length L) p.number (omega (arith, length_push L e)))) (live_of M) low)
 
   -- it is answered
   pub undo_answer : length L + 1 < 1000000 → answer_of T M c Undo ≡ Ok (Undone (length M) (length L))

@@ -4,6 +4,7 @@ use Rattle.std.specs.List.{list_any}
 use Rattle.std.specs.Option.{unwrap_or}
 use Rattle.std.proofs.lemmas.Bool.{cases_Bool, and_parts, and_from, lt-ltb, eq-eqb, ltb-true, false≢true}
 use Rattle.std.proofs.lemmas.List.Elements.{All-nil, All-cons, All-head, All-tail, All-weaker}
+use Rattle.event_index.proofs.CallerLemmas.{find-all_fail}
 use Rattle.rapid_text.specs.Recording.{Recording}
 use Rattle.moves.specs.declared.board.Proposal.{Proposal}
 use Rattle.moves.specs.declared.row.Row.{Row}
@@ -23,7 +24,7 @@ use Rattle.inverse_log.specs.Headline.{IsSound, RowsAreTheFold, Blocks, IsLeastB
 use Rattle.inverse_log.specs.Log.{Live, is_own, is_client, done_in, written, rests_on, steps_of, live_of, live_at, board_of, rows_of, blocks, blocker_of}
 use Rattle.inverse_log.proofs.CallerLemmas.{undo_directly, undo_restores, never_rests}
 use Rattle.inverse_log.proofs.LawLemmas.{legal_has, legal_fold}
-use Rattle.inverse_log.proofs.LiveLemmas.{Climbs, rises_steps, find_none, last_split, last_mine, rises_live, rises_above}
+use Rattle.inverse_log.proofs.LiveLemmas.{Climbs, rises_steps, last_split, last_mine, rises_live, rises_above}
 use Rattle.inverse_log.proofs.NumberedLemmas.{among_lives, lives_at, at_there, at_number}
 use Rattle.inverse_log.proofs.SizeLemmas.{legal_short}
 use Rattle.inverse_log.proofs.SoundLemmas as sound
@@ -129,7 +130,7 @@ module _ (T : Recording) (L : List Entry) (c : ℕ) (e : Live) where
 
   rests_from : (k : ℕ) (x : List ℕ) (o : Option Live) → blocker_of L e ≡ o → IsLeastBlocker L e k x → undone_or (length L) e o ≡ Err (RestsOn k x)
   rests_from k x None is h =
-      let none : blocks e h.blocker ≡ false = All-at (λ (d : Live). blocks e d ≡ false) (live_of L) h.blocker (find_none (blocks e) (live_of L) is) h.live in
+      let none : blocks e h.blocker ≡ false = All-at (λ (d : Live). blocks e d ≡ false) (live_of L) h.blocker (find-all_fail (blocks e) (live_of L) is) h.live in
       absurd (false≢true (sym none ∙ tells h.blocker h.blocks))
   rests_from k x (Some b) is h =
       let first = first_least (blocks e) (live_of L) 0 (length L) b (rises_live L) is in
@@ -140,7 +141,7 @@ module _ (T : Recording) (L : List Entry) (c : ℕ) (e : Live) where
       ap (λ n. Err (RestsOn n (rests_on e b))) same ∙ ap (λ (q : Live). Err (RestsOn k (rests_on e q))) one ∙ ap (λ o. Err (RestsOn k (unwrap_or o []))) h.name
 
   free_to : (o : Option Live) → blocker_of L e ≡ o → undone_or (length L) e o ≡ Ok (Undone (length L) e.number) → All (λ (b : Live). ¬ Blocks e b) (live_of L)
-  free_to None is h = All-weaker (λ (d : Live). blocks e d ≡ false) (λ (d : Live). ¬ Blocks e d) (λ d none blocked. false≢true (sym none ∙ tells d blocked)) (live_of L) (find_none (blocks e) (live_of L) is)
+  free_to None is h = All-weaker (λ (d : Live). blocks e d ≡ false) (λ (d : Live). ¬ Blocks e d) (λ d none blocked. false≢true (sym none ∙ tells d blocked)) (live_of L) (find-all_fail (blocks e) (live_of L) is)
   free_to (Some b) is h = absurd cc
 
   free_from : (o : Option Live) → blocker_of L e ≡ o → All (λ (b : Live). ¬ Blocks e b) (live_of L) → undone_or (length L) e o ≡ Ok (Undone (length L) e.number)

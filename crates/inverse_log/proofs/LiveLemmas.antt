@@ -10,6 +10,7 @@ use Rattle.std.proofs.lemmas.List.Folds.{list_any-append}
 use Rattle.std.proofs.lemmas.Grind.{flat_map-append}
 use Rattle.std.proofs.lemmas.List.FromFn.{get_or-range_with_len, length-range_with_len}
 use Rattle.std.specs.Option.{option_to_list, IfSome}
+use Rattle.event_index.proofs.CallerLemmas.{find-all_fail}
 use Rattle.moves.specs.Commands.{touches_any}
 use Rattle.moves.specs.Ages.{age}
 use Rattle.moves.specs.Fold.{Numbered, numbered, Rises}
@@ -230,13 +231,6 @@ find_split q (x ∷ xs) e h = elim (cases_Bool (q x)) [
   | inr f ↦ let rest = find_split q xs e (rw f at h) in (x ∷ rest.0, rest.1, ap (λ ys. x ∷ ys) rest.2, rest.3)
 ]
 
-pub find_none : (q : Live → Bool) (xs : List Live) → find q xs ≡ None → All (λ p. q p ≡ false) xs
-find_none q [] h = All-nil (λ p. q p ≡ false)
-find_none q (x ∷ xs) h = elim (cases_Bool (q x)) [
-  | inl t ↦ let is : Some x ≡ None = rw t at h in absurd cc
-  | inr f ↦ All-cons (λ p. q p ≡ false) x xs f (find_none q xs (rw f at h))
-]
-
 pub last_split : (L : List Entry) (c : ℕ) (e : Live) → last_live L c ≡ Some e → (E : List Live) × (F : List Live) × (live_of L ≡ E ++ e ∷ F)
 last_split L c e h =
     let s = find_split (is_by c) (reverse (live_of L)) e h in (
@@ -252,7 +246,7 @@ All-back P (e ∷ E) F all = All-back P E F (All-tail P e (E ++ F) all)
 -- none blocks: no later live entry touches one of the names
 pub clear_after : (L : List Entry) (g : Live) (E F : List Live) → live_of L ≡ E ++ g ∷ F → blocker_of L g ≡ None → All (λ (p : Live). list_any (touches_any p.commands) (written g) ≡ false) F
 clear_after L g E F is none =
-    let all : All (λ p. blocks g p ≡ false) (E ++ g ∷ F) = subst (All (λ p. blocks g p ≡ false)) is (find_none (blocks g) (live_of L) none) in
+    let all : All (λ p. blocks g p ≡ false) (E ++ g ∷ F) = subst (All (λ p. blocks g p ≡ false)) is (find-all_fail (blocks g) (live_of L) none) in
     let back : All (λ p. blocks g p ≡ false) F = All-back (λ p. blocks g p ≡ false) (g ∷ []) F (All-back (λ p. blocks g p ≡ false) E (g ∷ F) all) in
     both F back (above E 0 (rises_split L E F g is))
   where

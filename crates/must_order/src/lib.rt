@@ -3,7 +3,6 @@
 #![tactic(auto)]
 
 mod chains;
-mod events;
 mod joins;
 mod kind;
 mod laws;

@@ -9,7 +9,6 @@ ghost use Rattle.must_order.specs.Telling.{TellsMust};
 ghost use Rattle.shb_clocks.specs.SharedRows.{len_of, count_of};
 
 use crate::chains::Chain;
-use crate::events::locks_in;
 use crate::joins::Joins;
 use crate::kind::Kind;
 use crate::reasons::chains_of;
@@ -192,7 +191,7 @@ fn locks_of(
     ensures { IfOk result (λ locks. AreLocksHeld indexed.now.events event (length indexed.now.locks) locks.items) }
 {
     let mut locks = Vec::new(alloc);
-    for lock in 0..locks_in(indexed) {
+    for lock in 0..indexed.locks() {
         sections.add_held(indexed, event, lock, &mut locks)?;
     }
     Ok(locks)
@@ -206,7 +205,7 @@ fn guard_of(sections: &Sections, indexed: &Indexed, first: u32, second: u32) -> 
     ensures least { IfSome result (λ l. (k : ℕ) → k < l → ¬ IsSharedBefore indexed.now.events first second k) }
     ensures none { result ≡ None → (k : ℕ) → k < length indexed.now.locks → ¬ IsSharedBefore indexed.now.events first second k }
 {
-    for lock in 0..locks_in(indexed) {
+    for lock in 0..indexed.locks() {
         if sections.is_shared(indexed, first, second, lock) {
             return Some(lock);
         }

@@ -8,7 +8,6 @@ ghost use Rattle.must_order.specs.MustBefore.{IsMustBefore};
 ghost use Rattle.must_order.specs.declared.chains.Reason.TheVariants.{Ended};
 
 use crate::chains::{Chain, Reason, Step};
-use crate::events::event_at;
 use crate::joins::{Join, Joins};
 use crate::must::Must;
 use crate::rows::source_at;
@@ -25,7 +24,7 @@ fn base_step(indexed: &Indexed, event: u32) -> Option<Step>
     ensures none { result ≡ None → base_of indexed.now.events event ≡ None }
 {
     let base = indexed.base(event)?;
-    let reason = if event_at(indexed, base).thread == event_at(indexed, event).thread {
+    let reason = if indexed.event(base).thread == indexed.event(event).thread {
         Reason::Later
     } else {
         Reason::Forked
@@ -45,9 +44,9 @@ fn source_reason(indexed: &Indexed, event: u32, source: u32) -> Reason
     ensures reason { IsReason indexed.now.events source event result }
     ensures plain { (p : ℕ) → result ≢ Ended p }
 {
-    match event_at(indexed, event).op {
+    match indexed.event(event).op {
         Op::Join(thread) => {
-            if event_at(indexed, source).thread == thread {
+            if indexed.event(source).thread == thread {
                 Reason::Joined
             } else {
                 Reason::ForkJoined

@@ -9,7 +9,6 @@ ghost use Rattle.must_order.specs.Layout.{AreCounts, IsRow, IsBegun, IsClosed, I
 ghost use Rattle.must_order.specs.MustBefore.{IsMustBefore};
 ghost use Rattle.must_order.specs.Sections.{AreSections, IsOwed};
 
-use crate::events::event_at;
 use crate::joins::Joins;
 use crate::sections::Sections;
 use event_index::Indexed;
@@ -87,7 +86,7 @@ fn keep_row(
     ensures few { OnOk result (rows_in counts.new ≤ event + 1) }
     ensures counts { OnOk result (AreCounts indexed.now.events (length indexed.now.threads) counts.new) }
 {
-    let thread = event_at(indexed, event).thread;
+    let thread = indexed.event(event).thread;
     let own = row[thread as usize];
     match alike_base(counts, spare, row, thread, indexed.base(event)) {
         Some(base) => counts.share(base, own)?,
@@ -161,7 +160,7 @@ pub(crate) fn source_at(indexed: &Indexed, event: u32) -> Option<u32>
     ensures within { IfSome result (λ s. s < length indexed.now.events) }
     ensures rules { IsDisciplined indexed.now.events }
 {
-    match event_at(indexed, event).op {
+    match indexed.event(event).op {
         Op::Read(_) => indexed.last_writer(event),
         Op::Join(thread) => {
             let last = indexed.thread_events(thread).last().copied();
@@ -186,7 +185,7 @@ fn begin_row(row: &mut Vec<u32>, counts: &SharedRows, indexed: &Indexed, event: 
     ensures begun { IsBegun indexed.now.events event (λ t. slice_index row.new.items t) }
     ensures fresh { IsFresh indexed.now.events event (λ t. slice_index row.new.items t) }
 {
-    let own = event_at(indexed, event).thread as usize;
+    let own = indexed.event(event).thread as usize;
     copy_row(row, counts, indexed.base(event));
     raise_row(row, counts, source_at(indexed, event));
     row[own] = indexed.place(event) + 1;
@@ -253,7 +252,7 @@ fn learns(indexed: &Indexed, event: u32) -> bool
 {
     match source_at(indexed, event) {
         None => false,
-        Some(source) => event_at(indexed, source).thread != event_at(indexed, event).thread,
+        Some(source) => indexed.event(source).thread != indexed.event(event).thread,
     }
 }
 

@@ -9,7 +9,6 @@ ghost use Rattle.must_order.specs.Layout.{IsBegun, IsClosed};
 ghost use Rattle.must_order.specs.MustBefore.{IsInSection, IsHeldBefore, IsSharedBefore};
 ghost use Rattle.must_order.specs.Sections.{is_outer, last_outer, AreSections, IsOpenAt, IsOwed, IsSettledOn, IsSettledBy, IsSettledWithin};
 
-use crate::events::{event_at, threads_in};
 use event_index::Indexed;
 use rapid_text::{Op, OutOfMemory};
 use std::alloc::Global;
@@ -45,7 +44,7 @@ impl Sections {
         requires known { AreSections indexed.now event self.old }
         ensures { OnOk result (AreSections indexed.now (event + 1) self.new) }
     {
-        match event_at(indexed, event).op {
+        match indexed.event(event).op {
             Op::Acquire(lock) => self.begin(indexed, event, lock),
             Op::Release(_) => {
                 self.end(indexed, event);
@@ -244,7 +243,7 @@ impl Sections {
         ensures none { result ≡ None → (l : ℕ) → op_at indexed.now.events event ≡ Some (Acquire l)
             → IsSettledOn indexed.now.events event (λ t. slice_index row.now t) l }
     {
-        match event_at(indexed, event).op {
+        match indexed.event(event).op {
             Op::Acquire(lock) => self.owed_on(indexed, row, event, lock),
             Op::Read(_) => None,
             Op::Write(_) => None,
@@ -271,8 +270,8 @@ impl Sections {
         ensures earlier { IfSome result (λ owed. owed.1 < event) }
         ensures none { result ≡ None → IsSettledWithin indexed.now.events event (λ t. slice_index row.now t) begun }
     {
-        let taken = event_at(indexed, begun);
-        if taken.thread != event_at(indexed, event).thread {
+        let taken = indexed.event(begun);
+        if taken.thread != indexed.event(event).thread {
             return None;
         }
         if !is_open_at(indexed, begun, event) {
@@ -301,7 +300,7 @@ impl Sections {
         ensures earlier { IfSome result (λ owed. owed.1 < event) }
         ensures none { result ≡ None → IsSettledOn indexed.now.events event (λ t. slice_index row.now t) lock }
     {
-        for thread in 0..threads_in(indexed) {
+        for thread in 0..indexed.threads() {
             if let Some(owed) = self.owed_by(indexed, row, event, lock, thread) {
                 return Some(owed);
             }
@@ -330,7 +329,7 @@ impl Sections {
         ensures earlier { IfSome result (λ owed. owed.1 < event) }
         ensures none { result ≡ None → IsSettledBy indexed.now.events event (λ t. slice_index row.now t) lock thread }
     {
-        let own = event_at(indexed, event).thread;
+        let own = indexed.event(event).thread;
         if own == thread {
             return None;
         }
@@ -369,7 +368,7 @@ fn end_after(indexed: &Indexed, begun: u32, thread: u32, last: u32) -> Option<(u
     ensures none { result ≡ None → thread_at indexed.now.events begun ≡ Some thread
         → (r : ℕ) → section_end indexed.now.events begun ≡ Some r → r ≤ last }
 {
-    if event_at(indexed, begun).thread != thread {
+    if indexed.event(begun).thread != thread {
         return None;
     }
     match indexed.section(begun) {
@@ -402,7 +401,7 @@ fn is_held_from(indexed: &Indexed, begun: u32, event: u32) -> bool
     ensures outside { result ≡ false → thread_at indexed.now.events begun ≡ thread_at indexed.now.events event
         → ¬ IsOpenAt indexed.now.events event begun }
 {
-    if event_at(indexed, begun).thread != event_at(indexed, event).thread {
+    if indexed.event(begun).thread != indexed.event(event).thread {
         return false;
     }
     is_open_at(indexed, begun, event)

@@ -6,7 +6,6 @@ ghost use Rattle.race_groups.specs.Classes.{AreClasses, AreLocks, AreMembers};
 ghost use Rattle.race_groups.specs.Holding.{AreHeld};
 
 use crate::class::Class;
-use crate::events::event_at;
 use crate::holding::{begin, note, number_of};
 use event_index::Indexed;
 use indexmap::IndexSet;
@@ -105,7 +104,7 @@ impl Numbering {
         ensures { OnOk result (AreNumbered indexed.now.events (slice_index places.now) (event + 1)
             self.new.numbers.items self.new.infos.items self.new.lists.keys) }
     {
-        let found = event_at(indexed, event);
+        let found = indexed.event(event);
         let locks = held[found.thread as usize].as_slice();
         let class = Class {
             place: places[event as usize],

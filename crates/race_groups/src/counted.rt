@@ -18,7 +18,6 @@ use crate::class::Class;
 use crate::classes::{Classes, variable_of};
 use crate::counting::Front;
 use crate::cuts::{Earlier, Forced, Known};
-use crate::events::threads_in;
 use crate::guesses::Guesses;
 use crate::heavy::{add_classes, heavies};
 use crate::rows::{Rows, RowsRefusal};
@@ -45,7 +44,7 @@ impl Fronts {
         ensures { IfOk result (λ fronts. (u : ℕ) (rows : Counted) → AreFrontsAt indexed.now.events (length indexed.now.threads)
             (length classes.now.infos.items) classes.now.numbers.items u rows 0 fronts) }
     {
-        let threads = threads_in(indexed) as usize;
+        let threads = indexed.threads() as usize;
         let size = classes.infos.as_slice().len();
         Ok(Fronts {
             earlier: Front::new(alloc, threads, size)?,
@@ -300,7 +299,7 @@ pub(crate) fn count_cuts(
     let conflicts = Conflicts::of(alloc, indexed, classes)?;
     let mut rows = IndexMap::new(alloc);
     let mut guesses = Guesses::new(alloc, classes.infos.as_slice())?;
-    for thread in 0..threads_in(indexed) {
+    for thread in 0..indexed.threads() {
         match add_thread(
             alloc,
             &mut rows,

@@ -7,7 +7,6 @@ ghost use Rattle.event_index.specs.Lookups.{events_of};
 ghost use Rattle.race_groups.specs.Cuts.{IsCut};
 ghost use Rattle.race_groups.specs.Counting.{AreCounts, AreFronts, class_count};
 
-use crate::events::threads_in;
 use event_index::Indexed;
 use rapid_text::OutOfMemory;
 use std::alloc::Global;
@@ -138,7 +137,7 @@ fn advance<C: Cut>(
     ensures counts { AreCounts indexed.now.events (length indexed.now.threads) classes.now fronts.new counts.new }
     ensures fronts { AreFronts (length indexed.now.threads) own (C.end_of cut.now later) fronts.new }
 {
-    for thread in 0..threads_in(indexed) {
+    for thread in 0..indexed.threads() {
         if thread != own {
             let from = fronts[thread as usize];
             let to = cut.end(later, thread, from);

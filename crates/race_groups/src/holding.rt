@@ -5,7 +5,6 @@ ghost use Rattle.rapid_text.specs.declared.event.Op.TheVariants.{Acquire, Releas
 ghost use Rattle.race_groups.specs.Building.{IsGrown, text_at};
 ghost use Rattle.race_groups.specs.Holding.{AreHeld, times};
 
-use crate::events::{event_at, threads_in};
 use event_index::Indexed;
 use indexmap::IndexSet;
 use rapid_text::{Event, Op, OutOfMemory};
@@ -19,7 +18,7 @@ pub(crate) fn begin(alloc: Global, indexed: &Indexed) -> Result<Held, OutOfMemor
     ensures held { IfOk result (λ held. AreHeld indexed.now.events 0 held.items) }
     ensures len { IfOk result (λ held. length held.items ≡ length indexed.now.threads) }
 {
-    let threads = threads_in(indexed);
+    let threads = indexed.threads();
     let mut held = Vec::with_capacity(alloc, threads as usize)?;
     for _thread in 0..threads {
         held.push(Vec::new(alloc))?;
@@ -36,7 +35,7 @@ pub(crate) fn note(held: &mut Held, indexed: &Indexed, event: u32) -> Result<(),
     ensures len { OnOk result (length held.new.items ≡ length held.old.items) }
 {
     let _len = indexed.len();
-    let found = event_at(indexed, event);
+    let found = indexed.event(event);
     if let Some(lock) = acquired(found.op) {
         return take(held, indexed, event, found, lock);
     }

@@ -7,7 +7,6 @@ mod classes;
 mod counted;
 mod counting;
 mod cuts;
-mod events;
 mod guesses;
 mod heavy;
 mod holding;

@@ -3,7 +3,6 @@ ghost use Rattle.std.specs.Prelude.{◌≡◌, ◌+◌, ◌<◌, length, All, If
 ghost use Rattle.race_groups.specs.Owners.{AreOwners, AreOwnersBelow};
 
 use crate::classes::Classes;
-use crate::events::{event_at, threads_in};
 use event_index::Indexed;
 use rapid_text::OutOfMemory;
 use std::alloc::Global;
@@ -19,10 +18,10 @@ pub(crate) fn owners_of(
     ensures { IfOk result (λ owners. AreOwners indexed.now.events (length indexed.now.threads) classes.now.numbers.items owners.items) }
 {
     let numbers = classes.numbers.as_slice();
-    let many = threads_in(indexed);
+    let many = indexed.threads();
     let mut owners = vec![in alloc; many; classes.infos.as_slice().len()]?;
     for event in 0..indexed.len() {
-        owners[numbers[event as usize] as usize] = event_at(indexed, event).thread;
+        owners[numbers[event as usize] as usize] = indexed.event(event).thread;
     }
     for event in 0..indexed.len() {
         part(owners.as_mut_slice(), numbers, indexed, many, event);
@@ -41,7 +40,7 @@ fn part(owners: &mut [u32], numbers: &[u32], indexed: &Indexed, many: u32, event
     ensures len { length owners.new ≡ length owners.old }
 {
     let class = numbers[event as usize] as usize;
-    if owners[class] != event_at(indexed, event).thread {
+    if owners[class] != indexed.event(event).thread {
         owners[class] = many;
     }
 }

@@ -6,7 +6,6 @@ ghost use Rattle.race_groups.specs.Counting.{AreSums, below_sum, class_count};
 ghost use Rattle.race_groups.specs.Cuts.{IsCut};
 
 use crate::counting::{Cut, Front};
-use crate::events::threads_in;
 use crate::weighing::weigh_all;
 use event_index::Indexed;
 use rapid_text::OutOfMemory;
@@ -31,7 +30,7 @@ pub(crate) fn sums_below<C: Cut>(
     ensures counted { IfOk result (λ sums. (c : ℕ) → c < size → slice_index sums.items c
         ≡ below_sum indexed.now.events (length indexed.now.threads) classes.now own (C.end_of cut.now) class c (events_of indexed.now.events own)) }
 {
-    let threads = threads_in(indexed) as usize;
+    let threads = indexed.threads() as usize;
     let mut front = Front::new(alloc, threads, size)?;
     let left = count_class(classes, indexed.thread_events(own), class);
     let sums = front.counts.as_mut_slice();

@@ -6,7 +6,6 @@ ghost use Rattle.event_index.specs.Lookups.{events_of};
 ghost use Rattle.race_groups.specs.Counting.{AreFronts, weigh as weighed, weight};
 
 use crate::counting::Cut;
-use crate::events::threads_in;
 use event_index::Indexed;
 
 // Adds to the sum of each event's class.
@@ -83,7 +82,7 @@ pub(crate) fn weigh_all<C: Cut>(
         → slice_index sums.new c + weight indexed.now.events (length indexed.now.threads) fronts.old (weighed classes.now left c)
         ≡ slice_index sums.old c + weight indexed.now.events (length indexed.now.threads) fronts.new (weighed classes.now left c) }
 {
-    for thread in 0..threads_in(indexed) {
+    for thread in 0..indexed.threads() {
         if thread != own {
             let from = fronts[thread as usize];
             let to = cut.end(later, thread, from);

@@ -16,11 +16,7 @@ use Rattle.schedule.specs.declared.latest.Key.TheVariants.{Variable, Lock}
 use Rattle.schedule.specs.declared.latest.Latest.{Latest}
 use Rattle.schedule.proofs.LockLemmas.{AtEach-grows, find-reverse_push, counts_push}
 
--- two tests that agree find the same and count the same
-pub find-same : (p r : ℕ → Bool) → ((x : ℕ) → p x ≡ r x) → (xs : List ℕ) → find p xs ≡ find r xs
-find-same p r same [] = refl
-find-same p r same (x ∷ xs) = ap (λ b. cond b (Some x) (find p xs)) (same x) ∙ ap (cond (r x) (Some x)) (find-same p r same xs)
-
+-- two tests that agree count the same
 pub count_by-same : (p r : ℕ → Bool) → ((x : ℕ) → p x ≡ r x) → (xs : List ℕ) → count_by p xs ≡ count_by r xs
 count_by-same p r same [] = refl
 count_by-same p r same (x ∷ xs) =

@@ -10,13 +10,12 @@ use Rattle.rapid_text.specs.declared.event.Op.TheVariants.{Acquire}
 use Rattle.rapid_text.proofs.CallerLemmas.{acquire-from_test}
 use Rattle.trace_rules.specs.Rules.{acquire_count, release_count, hold_count}
 use Rattle.event_index.specs.Events.{passes_by, thread_at}
-use Rattle.event_index.proofs.CallerLemmas.{passes_event}
+use Rattle.event_index.proofs.CallerLemmas.{passes_event, find-passes, all_fail-find}
 use Rattle.schedule.specs.Locks.{is_acquire_at, is_acquire_by, is_release_by, last_taker}
 use Rattle.schedule.specs.Refusals.{other_holder, IsOnlyHolder}
 use Rattle.schedule.specs.Reordering.{events_at, AtEach, FindsLockFree, RespectsLocks}
 use Rattle.schedule.proofs.CountLemmas.{count_by-events_at}
 use Rattle.schedule.proofs.ListLemmas.{Contains-here, Contains-later}
-use Rattle.schedule.proofs.TestLemmas.{find-None}
 
 -- what is kept from each place to the next holds of the whole list
 grown : (Q : List ℕ → Type 0) (R : List ℕ → ℕ → Type 0) (P : List ℕ) → Q [] → ((xs : List ℕ) (e : ℕ) → Q xs → R xs e → Q (xs ++ e ∷ [])) → AtEach P R → (k : ℕ) → k ≤ length P → Q (take k P)
@@ -156,17 +155,6 @@ find-only p (x ∷ xs) u (suc k, lt, at) so only =
       | inr fails ↦ cond-false (p x) (Some x) (find p xs) fails ∙ find-only p xs u (k, omega arith, at) so only
     ]
 
--- what is found passes
-pub find-passes : (p : ℕ → Bool) (xs : List ℕ) (u : ℕ) → find p xs ≡ Some u → p u ≡ true
-find-passes p [] u h = absurd (none-some u h)
-find-passes p (x ∷ xs) u h =
-    elim (cases_Bool (p x)) [
-      | inl passes ↦
-          let same : x ≡ u = same_Some x u (sym (cond-true (p x) (Some x) (find p xs) passes) ∙ h) in
-          ap p (sym same) ∙ passes
-      | inr fails ↦ find-passes p xs u (sym (cond-false (p x) (Some x) (find p xs) fails) ∙ h)
-    ]
-
 -- whether the thread is another one that holds the lock
 abbrev pub holds_beside : List Event → List ℕ → ℕ → ℕ → ℕ → Bool
 holds_beside T P t l u = not (u == t) && nat_lt 0 (hold_count (events_at T P) u l)
@@ -185,8 +173,9 @@ holds_beside-from T P t l u other holds =
 -- no other thread holds it, where none can
 pub no_other_holder : (T : List Event) (P : List ℕ) (t l : ℕ) → ((u : ℕ) → u ≢ t → 0 < hold_count (events_at T P) u l → ⊥) → other_holder T P t l ≡ None
 no_other_holder T P t l none =
-    find-None (holds_beside T P t l) (map (λ v. v.thread) (events_at T P))
-    (λ u _. false_from_ne_true (holds_beside T P t l u) (λ so. let h = holds_beside-true T P t l u so in none u h.0 h.1))
+    let fails : (u : ℕ) → holds_beside T P t l u ≡ false =
+    λ u. false_from_ne_true (holds_beside T P t l u) (λ so. let h = holds_beside-true T P t l u so in none u h.0 h.1) in
+    all_fail-find (holds_beside T P t l) (map (λ v. v.thread) (events_at T P)) (λ k d lt. fails (get_or (map (λ v. v.thread) (events_at T P)) k d))
 
 -- the thread that took the lock last is the other holder, where it is another one and holds the lock
 pub other_holder-taker : (T : List Event) (P : List ℕ) (t l u : ℕ) → RespectsLocks T P → last_taker T P l ≡ Some u → u ≢ t → 0 < hold_count (events_at T P) u l → other_holder T P t l ≡ Some u

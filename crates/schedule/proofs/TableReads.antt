@@ -7,7 +7,7 @@ use Rattle.rapid_text.specs.declared.event.Event.{Event}
 use Rattle.trace_rules.specs.Rules.{IsDisciplined, hold_count}
 use Rattle.event_index.specs.Events.{thread_at, is_write_at}
 use Rattle.event_index.specs.Lookups.{events_of, place_of, last_write}
-use Rattle.event_index.proofs.CallerLemmas.{events_of-place}
+use Rattle.event_index.proofs.CallerLemmas.{events_of-place, find-same}
 use Rattle.schedule.specs.Locks.{is_acquire_at, last_acquire, last_taker}
 use Rattle.schedule.specs.Refusals.{is_in}
 use Rattle.schedule.specs.Reordering.{IsCorrectReordering, KeepsThreadOrder, events_at}
@@ -17,7 +17,7 @@ use Rattle.schedule.specs.declared.latest.Key.TheVariants.{Variable, Lock}
 use Rattle.schedule.specs.declared.latest.Latest.{Latest}
 use Rattle.schedule.specs.declared.tables.Tables.{Tables}
 use Rattle.schedule.proofs.DepthLemmas.{hold_count-taker}
-use Rattle.schedule.proofs.LatestLemmas.{find-same, event_of-latest, sets_variable, sets_lock}
+use Rattle.schedule.proofs.LatestLemmas.{event_of-latest, sets_variable, sets_lock}
 use Rattle.schedule.proofs.TableLemmas.{count_of}
 use Rattle.schedule.proofs.TestLemmas.{is_in-true, is_in-member}
 use Rattle.schedule.proofs.ThreadLemmas.{earlier_in, later_not_in}

@@ -202,7 +202,7 @@ impl Schedule {
         ensures cause { IfErr result
             (λ cause. swap_refusal self.old.trace.events self.old.events at ≡ Some cause) }
     {
-        if let Some(cause) = swap_refusal(indexed, &self.events, at) {
+        if let Err(cause) = self.exchangeable(indexed, at) {
             return Err(cause);
         }
         let at = at as usize;

@@ -7,8 +7,8 @@ use Rattle.std.proofs.lemmas.List.Sums.{sum_by_more, sum_by-set, sum_by-take-le}
 use Rattle.std.proofs.lemmas.Option.{none-some, same_Some, slice_get_within}
 use Rattle.rapid_text.specs.Recording.{Recording, IsWellFormed}
 use Rattle.rapid_text.specs.declared.event.Event.{Event}
-use Rattle.event_index.specs.Lookups.{events_of, place_of}
-use Rattle.event_index.specs.Layout.{IsTable, start_of}
+use Rattle.event_index.specs.Lookups.{events_of, place_of, start_of}
+use Rattle.event_index.specs.Tables.{IsTable}
 use Rattle.event_index.proofs.CallerLemmas.{events_of-place, length-events_before, get_or-IsTable, start_of-more, start_of-within, count_before-all}
 use Rattle.shb_clocks.specs.Search.{linked_variable, IsLinked, AreSpots}
 use Rattle.shb_clocks.specs.declared.spots.Spots.{Spots}

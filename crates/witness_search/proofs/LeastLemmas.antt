@@ -1,16 +1,11 @@
 -- The least number of which something holds.
 use Rattle.std.proofs.Common.{◌≡◌, ℕ, ◌<◌, ◌≤◌, ◌⊎◌, ◌&&◌, cond, Bool, true, List, [], ◌∷◌, find, filter, Option, Some, None, sym, refl, ap, ◌∙◌, subst, arith, inl, inr}
-use Rattle.std.proofs.lemmas.Bool.{cases_Bool, cases_lt, cond-true, cond-false, cond_below, cond_above, true≢false}
-use Rattle.std.proofs.lemmas.Option.{none-some, same_Some}
+use Rattle.std.proofs.lemmas.Bool.{cases_Bool, cases_lt, cond-true, cond-false, cond_below, cond_above}
 use Rattle.event_index.specs.Lookups.{before}
-use Rattle.event_index.proofs.CallerLemmas.{find_first_is, find_none}
+use Rattle.event_index.specs.Least.{IsLeastOf}
+use Rattle.event_index.proofs.CallerLemmas.{find-least}
 use Rattle.witness_search.specs.Layout.{kept}
-use Rattle.witness_search.specs.Searches.{IsLeastOf, lesser}
-
--- of what holds of the same numbers the same is the least
-pub IsLeastOf-same : (Q R : ℕ → Type 0) → ((e : ℕ) → Q e → R e) → ((e : ℕ) → R e → Q e) → (r : Option ℕ) → IsLeastOf Q r → IsLeastOf R r
-IsLeastOf-same Q R there back None is = λ e h. is e (back e h)
-IsLeastOf-same Q R there back (Some x) is = (there x is.0, λ e h. is.1 e (back e h))
+use Rattle.witness_search.specs.Searches.{lesser}
 
 lesser-cases : (x y : ℕ) → ((lesser (Some x) (Some y) ≡ Some x) × (x ≤ y)) ⊎ ((lesser (Some x) (Some y) ≡ Some y) × (y ≤ x))
 lesser-cases x y =
@@ -34,29 +29,6 @@ IsLeastOf-lesser Q R (Some x) (Some y) q r =
           (inr r.0, λ e h. elim h [ inl here ↦ omega (arith, q.1 e here, second.1) | inr there ↦ r.1 e there ])
     ]
 
--- there is one least
-IsLeastOf-unique : (Q : ℕ → Type 0) (r s : Option ℕ) → IsLeastOf Q r → IsLeastOf Q s → r ≡ s
-IsLeastOf-unique Q None None is also = refl
-IsLeastOf-unique Q None (Some y) is also = absurd (is y also.0)
-IsLeastOf-unique Q (Some x) None is also = absurd (also x is.0)
-IsLeastOf-unique Q (Some x) (Some y) is also = ap Some (omega (arith, is.1 y also.0, also.1 x is.0))
-
--- what a look from 0 on finds
-find_cases : (q : ℕ → Bool) (n : ℕ) (o : Option ℕ) → find q (before n) ≡ o → IsLeastOf (λ e. (e < n) × (q e ≡ true)) o
-find_cases q n None is = λ e h. true≢false (sym h.1 ∙ find_none q 0 n is e (omega arith) (omega (arith, h.0)))
-find_cases q n (Some x) is =
-    let first = find_first_is q 0 n x is in (
-      (omega (arith, first.1), first.2),
-      λ e h. elim (cases_lt e x) [
-        | inl early ↦ absurd (true≢false (sym h.1 ∙ first.3 e (omega arith) early))
-        | inr late ↦ late
-      ],
-    )
-
--- the least of the first n numbers that pass is found
-pub find-least : (q : ℕ → Bool) (n : ℕ) (r : Option ℕ) → IsLeastOf (λ e. (e < n) × (q e ≡ true)) r → find q (before n) ≡ r
-find-least q n r is = IsLeastOf-unique (λ e. (e < n) × (q e ≡ true)) (find q (before n)) r (find_cases q n (find q (before n)) refl) is
-
 -- a look among those that pass a test is a look for both
 find-filter : (p test : ℕ → Bool) (xs : List ℕ) → find p (filter test xs) ≡ find (λ e. test e && p e) xs
 find-filter p test [] = refl
@@ -76,12 +48,3 @@ find-filter p test (x ∷ xs) =
 
 pub find-kept : (p test : ℕ → Bool) (n : ℕ) (r : Option ℕ) → IsLeastOf (λ e. (e < n) × ((test e && p e) ≡ true)) r → find p (kept test n) ≡ r
 find-kept p test n r is = find-filter p test (before n) ∙ find-least (λ e. test e && p e) n r is
-
--- what is found passes
-pub find-passes : (p : ℕ → Bool) (xs : List ℕ) (e : ℕ) → find p xs ≡ Some e → p e ≡ true
-find-passes p [] e is = absurd (none-some e is)
-find-passes p (x ∷ xs) e is =
-    elim (cases_Bool (p x)) [
-      | inl passes ↦ subst (λ (y : ℕ). p y ≡ true) (same_Some x e (sym (cond-true (p x) (Some x) (find p xs) passes) ∙ is)) passes
-      | inr fails ↦ find-passes p xs e (sym (cond-false (p x) (Some x) (find p xs) fails) ∙ is)
-    ]

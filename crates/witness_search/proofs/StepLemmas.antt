@@ -11,9 +11,10 @@ use Rattle.rapid_text.specs.declared.event.Event.{Event}
 use Rattle.rapid_text.specs.declared.event.Op.TheVariants.{Read}
 use Rattle.trace_rules.specs.Rules.{IsDisciplined}
 use Rattle.event_index.specs.Events.{thread_at}
+use Rattle.event_index.specs.Least.{IsLeastOf}
 use Rattle.event_index.specs.Lookups.{before}
 use Rattle.event_index.specs.Relations.{is_conflict}
-use Rattle.event_index.proofs.CallerLemmas.{find_first_is, Decides-is_conflict}
+use Rattle.event_index.proofs.CallerLemmas.{IsLeastOf-same, find_cases, find-least, find-passes, Decides-is_conflict}
 use Rattle.shb_clocks.proofs.CallerLemmas.{thread_here, thread_within, one_thread}
 use Rattle.schedule.specs.Refusals.{refusal_of, next_of}
 use Rattle.schedule.specs.Reordering.{IsCorrectReordering, IsEnabled, IsPrefix}
@@ -23,9 +24,9 @@ use Rattle.witness_search.specs.Greedy.{may_take, next_step, followed_by, after_
 use Rattle.witness_search.specs.Wanted.{AreWanted}
 use Rattle.witness_search.proofs.KeptLemmas.{kept_member, kept_passes, kept-rises}
 use Rattle.witness_search.proofs.WantedLemmas.{IsWanted-within}
-use Rattle.witness_search.specs.Searches.{is_marked, marked_events, is_step, lesser, IsLeastOf, IsStepBelow, IsStepOf, TellWanted}
+use Rattle.witness_search.specs.Searches.{is_marked, marked_events, is_step, lesser, IsStepBelow, IsStepOf, TellWanted}
 use Rattle.witness_search.proofs.FoundLemmas.{IsPrefix-self, IsPrefix-push, IsPrefix-trans}
-use Rattle.witness_search.proofs.LeastLemmas.{IsLeastOf-same, IsLeastOf-lesser, find-least, find-kept, find-passes}
+use Rattle.witness_search.proofs.LeastLemmas.{IsLeastOf-lesser, find-kept}
 
 is_none-true : {X : Type 0} (o : Option X) → is_none o ≡ true → o ≡ None
 is_none-true None h = refl
@@ -233,15 +234,12 @@ Shows-does_show T P a b is shown =
     }
 
 -- the list that is found is one of the first lists, and shows the pair
-find_some : (q : ℕ → Bool) (n j : ℕ) → find q (before n) ≡ Some j → (j < n) × (q j ≡ true)
-find_some q n j is = let first = find_first_is q 0 n j is in (omega (arith, first.1), first.2)
-
 module _ (T : List Event) (a b : ℕ) (N P : List ℕ) (budget : ℕ) where
   found_at : (L : List ℕ) (o : Option ℕ) → find (shown_at T a b N P) (before (budget + 1)) ≡ o → option_map (after_steps T a b N P) o ≡ Some L
       → (j : ℕ) × (j ≤ budget) × (after_steps T a b N P j ≡ L) × (does_show T L a b ≡ true)
   found_at L None at is = absurd (none-some L is)
   found_at L (Some j) at is =
-      let found = find_some (shown_at T a b N P) (budget + 1) j at in
+      let found = (find_cases (shown_at T a b N P) (budget + 1) (Some j) at).0 in
       let same : after_steps T a b N P j ≡ L = same_Some (after_steps T a b N P j) L is in
       (j, omega (arith, found.0), same, ap (λ R. does_show T R a b) (sym same) ∙ found.1)
 

@@ -7,7 +7,7 @@ use Rattle.std.proofs.lemmas.List.{get_or_default}
 use Rattle.std.proofs.lemmas.Option.{same_Some, none-some, slice_get_within, get_or_from_slice_get}
 use Rattle.rapid_text.specs.declared.event.Event.{Event}
 use Rattle.rapid_text.specs.declared.event.Op.{Op}
-use Rattle.rapid_text.specs.declared.event.Op.TheVariants.{Read, Write, Acquire, Release, Fork, Join}
+use Rattle.rapid_text.specs.declared.event.Op.TheVariants.{Read, Acquire, Fork, Join}
 use Rattle.trace_rules.specs.Rules.{IsDisciplined}
 use Rattle.event_index.specs.Events.{op_at, thread_at}
 use Rattle.event_index.specs.Lookups.{events_of, fork_of, or_else, base_of, section_by, section_of}
@@ -33,11 +33,9 @@ end_asks T e u d joins (Some x) at is =
 by_op : (T : List Event) (e d : ℕ) (o : Option Op) → op_at T e ≡ o → partner_by T e o ≡ Some d → Asks T e d
 by_op T e d None at is = absurd (none-some d is)
 by_op T e d (Some (Read x)) at is = for_writer is
-by_op T e d (Some (Write x)) at is = absurd (none-some d is)
 by_op T e d (Some (Acquire l)) at is = for_release is
-by_op T e d (Some (Release l)) at is = absurd (none-some d is)
-by_op T e d (Some (Fork u)) at is = absurd (none-some d is)
 by_op T e d (Some (Join u)) at is = end_asks T e u d at (slice_get (events_of T u) (length (events_of T u) - 1)) refl is
+by_op T e d (Some op) at is = absurd (none-some d is)
 
 -- what is looked for is asked for
 pub Asks-sought : (T : List Event) (e d : ℕ) → IsSought T e d → Asks T e d
@@ -45,17 +43,13 @@ Asks-sought T e d (inl base) = for_base base
 Asks-sought T e d (inr partner) = by_op T e d (op_at T e) refl partner
 
 -- only an acquire has a section
-section_by-acquires : (T : List Event) (e t d : ℕ) (op : Op) → section_by T e t op ≡ Some d → (l : ℕ) × (op ≡ Acquire l)
-section_by-acquires T e t d (Acquire l) is = (l, refl)
-section_by-acquires T e t d (Read x) is = absurd (none-some d is)
-section_by-acquires T e t d (Write x) is = absurd (none-some d is)
-section_by-acquires T e t d (Release l) is = absurd (none-some d is)
-section_by-acquires T e t d (Fork u) is = absurd (none-some d is)
-section_by-acquires T e t d (Join u) is = absurd (none-some d is)
+section_by-acquires : (T : List Event) (i e t d : ℕ) (op : Op) → section_by T i e t op ≡ Some d → (l : ℕ) × (op ≡ Acquire l)
+section_by-acquires T i e t d (Acquire l) is = (l, refl)
+section_by-acquires T i e t d op is = absurd (none-some d is)
 
-section_acquires : (T : List Event) (e d : ℕ) (o : Option Event) → section_of T e o ≡ Some d → (l : ℕ) × (option_map (λ (v : Event). v.op) o ≡ Some (Acquire l))
+section_acquires : (T : List Event) (e d : ℕ) (o : Option Event) → section_of T (length T) e o ≡ Some d → (l : ℕ) × (option_map (λ (v : Event). v.op) o ≡ Some (Acquire l))
 section_acquires T e d None is = absurd (none-some d is)
-section_acquires T e d (Some v) is = let found = section_by-acquires T e v.thread d v.op is in (found.0, ap Some found.1)
+section_acquires T e d (Some v) is = let found = section_by-acquires T (length T) e v.thread d v.op is in (found.0, ap Some found.1)
 
 -- a wanted event is one of the trace
 Asks-within : (T : List Event) → IsDisciplined T → (e d : ℕ) → e < length T → Asks T e d → d < length T

@@ -1,5 +1,5 @@
 -- What the greedy search knows on its way. No public clause cites this module. `T` is the events of a trace.
-use Rattle.std.specs.Prelude.{◌≡◌, ◌≢◌, ℕ, ◌-◌, ◌<◌, ◌≤◌, ◌⊎◌, ◌↔◌, ◌&&◌, nat_lt, if◌then◌else◌, Bool, true, false, List, length, slice_get, slice_index, slice_index_or, Option, Some, None, AllPairs, Contains}
+use Rattle.std.specs.Prelude.{◌≡◌, ◌≢◌, ℕ, ◌-◌, ◌<◌, ◌⊎◌, ◌↔◌, ◌&&◌, nat_lt, if◌then◌else◌, Bool, true, false, List, length, slice_get, slice_index, slice_index_or, Option, Some, None, AllPairs, Contains}
 use Rattle.rapid_text.specs.declared.event.Event.{Event}
 use Rattle.rapid_text.specs.declared.event.Op.{Op}
 use Rattle.rapid_text.specs.declared.event.Op.TheVariants.{Read, Acquire, Join}
@@ -66,11 +66,6 @@ marked_events T marks = kept (is_marked marks) (length T)
 -- whether the search takes e, if it is the least such
 abbrev pub is_step : List Event → ℕ → ℕ → List Bool → List ℕ → ℕ → Bool
 is_step T a b marks P e = is_marked marks e && may_take T a b P e
-
--- r is the least number of which Q holds, or none where it holds of none
-abbrev pub IsLeastOf : (ℕ → Type 0) → Option ℕ → Type 0
-IsLeastOf Q None = (e : ℕ) → ¬ Q e
-IsLeastOf Q (Some x) = Q x × ((e : ℕ) → Q e → x ≤ e)
 
 -- the lesser of two numbers, or the one that is there
 abbrev pub lesser : Option ℕ → Option ℕ → Option ℕ

@@ -7,7 +7,8 @@ ghost use Rattle.schedule.specs.Refusals.{refusal_of};
 ghost use Rattle.schedule.specs.Reordering.{IsCorrectReordering, IsPrefix};
 ghost use Rattle.schedule.specs.Shows.{Shows};
 ghost use Rattle.witness_search.specs.Greedy.{next_step, first_shown, IsGreedyAnswer};
-ghost use Rattle.witness_search.specs.Searches.{TellWanted, marked_events, is_step, lesser, IsLeastOf, IsStepOf};
+ghost use Rattle.event_index.specs.Least.{IsLeastOf};
+ghost use Rattle.witness_search.specs.Searches.{TellWanted, marked_events, is_step, lesser, IsStepOf};
 
 use crate::wanting::wanted_for;
 use event_index::{EventList, Indexed};

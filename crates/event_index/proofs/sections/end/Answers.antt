@@ -1,7 +1,8 @@
 use Rattle.std.proofs.Common.{◌≡◌, ◌<◌, ◌+◌, ℕ, Some, None, get_or, set, length, ◌∙◌, ap, arith, length-set, subst, sym}
 use Rattle.std.proofs.lemmas.List.{get_or_default}
 use Rattle.event_index.specs.Layout.{IsTable}
-use Rattle.event_index.specs.Open.{IsHeld, end_before}
+use Rattle.event_index.specs.Lookups.{end_before}
+use Rattle.event_index.specs.Open.{IsHeld}
 use Rattle.event_index.proofs.SectionLemmas.{top_found}
 use Rattle.event_index.proofs.sections.end.Goals as goal
 

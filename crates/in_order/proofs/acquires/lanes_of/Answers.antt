@@ -7,6 +7,6 @@ pub returns : goal.returns
 returns c =
     let r = c.args.indexed.now in
     let end : c.loop-thread.thread ≡ length r.threads =
-    omega (arith, c.loop-thread-test.false, c.loop-thread.auto.thread-end, c.threads_in-thread-end.ensures.len) in
-    AreTaken-end r c.threads_in-thread-end.ensures.well_formed c.loop-thread.by_lock.items
+    omega (arith, c.loop-thread-test.false, c.loop-thread.auto.thread-end, c.threads-thread-end.ensures.len) in
+    AreTaken-end r c.threads-thread-end.ensures.well_formed c.loop-thread.by_lock.items
     (subst (λ (n : ℕ). AreTakenUpTo r n 0 c.loop-thread.by_lock.items) end c.loop-thread.invariant)

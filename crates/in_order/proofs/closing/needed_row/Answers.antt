@@ -12,11 +12,11 @@ loop-next-init c =
     let visited = c.in_ok-visited.visited.items in
     record {
       row = c.take_in-2.ensures.len;
-      visited = c.in_ok-visited.ensures.len ∙ c.threads_in-threads.ensures.len;
-      locks = c.in_ok-latest.ensures.len ∙ c.locks_in.ensures.len;
+      visited = c.in_ok-visited.ensures.len ∙ c.threads-threads.ensures.len;
+      locks = c.in_ok-latest.ensures.len ∙ c.locks.ensures.len;
       found = behind_found row visited c.as_slice.result.now c.as_slice-2.result.now c.behind-next.result c.as_slice.ensures.value c.as_slice-2.ensures.value c.behind-next.ensures.found;
       none = behind_none row visited c.as_slice.result.now c.as_slice-2.result.now c.behind-next.result c.as_slice.ensures.value c.as_slice-2.ensures.value c.behind-next.ensures.none;
-      closing = IsClosing-start T c.threads_in-threads.ensures.disciplined c.args.first c.args.second
+      closing = IsClosing-start T c.threads-threads.ensures.disciplined c.args.first c.args.second
           (λ t. get_or c.in_ok-row.row.items t 0) (λ t. get_or c.take_in.new.row.items t 0) (λ t. get_or row t 0) (λ t. get_or visited t 0) _
           (zeros_at _ c.in_ok-row.row.items c.in_ok-row.ensures.items) (zeros_at _ visited c.in_ok-visited.ensures.items) (nones_at _ c.in_ok-latest.latest.items c.in_ok-latest.ensures.items)
           c.take_in.ensures.takes c.take_in-2.ensures.takes;
@@ -32,8 +32,8 @@ overflow_add-index_mut c =
     let inv = c.loop-next.invariant in
     omega (
       arith,
-      c.threads_in-threads.ensures.well_formed.events,
-      visited_fits c.args.indexed.now.events c.threads_in-threads.ensures.disciplined (IsEither c.args.first c.args.second)
+      c.threads-threads.ensures.well_formed.events,
+      visited_fits c.args.indexed.now.events c.threads-threads.ensures.disciplined (IsEither c.args.first c.args.second)
           c.loop-next.row.items c.visit.new.row.items c.loop-next.visited.items c.loop-next.latest.items c.visit.new.latest.items
           inv.closing c.event_in-event.result c.in-Some.thread (length c.args.indexed.now.threads) inv.visited inv.row c.event_in-event.ensures.thread
           c.loop-next.next c.in-Some.is inv.found c.index.result.now c.index.ensures c.event_in-event.ensures.place c.index_mut.result.now c.index_mut.ensures.value,
@@ -42,7 +42,7 @@ overflow_add-index_mut c =
 pub loop-next-smaller : goal.loop-next-smaller
 loop-next-smaller c =
     let inv = c.loop-next.invariant in
-    smaller c.args.indexed.now.events c.threads_in-threads.ensures.disciplined (IsEither c.args.first c.args.second)
+    smaller c.args.indexed.now.events c.threads-threads.ensures.disciplined (IsEither c.args.first c.args.second)
     c.loop-next.row.items c.visit.new.row.items c.loop-next.visited.items c.loop-next.latest.items c.visit.new.latest.items
     inv.closing c.event_in-event.result c.in-Some.thread (length c.args.indexed.now.threads) inv.visited inv.row c.event_in-event.ensures.thread
     c.loop-next.next c.in-Some.is inv.found c.index.result.now c.index.ensures c.event_in-event.ensures.place c.index_mut.result.now c.index_mut.ensures.value c.visit.ensures.visit
@@ -57,7 +57,7 @@ loop-next-preserved c =
       locks = c.visit.ensures.locks;
       found = behind_found _ _ c.as_slice-in-Some.result.now c.as_slice-in-Some-2.result.now now.result c.as_slice-in-Some.ensures.value c.as_slice-in-Some-2.ensures.value now.ensures.found;
       none = behind_none _ _ c.as_slice-in-Some.result.now c.as_slice-in-Some-2.result.now now.result c.as_slice-in-Some.ensures.value c.as_slice-in-Some-2.ensures.value now.ensures.none;
-      closing = advanced c.args.indexed.now.events c.threads_in-threads.ensures.disciplined (IsEither c.args.first c.args.second)
+      closing = advanced c.args.indexed.now.events c.threads-threads.ensures.disciplined (IsEither c.args.first c.args.second)
           c.loop-next.row.items c.visit.new.row.items c.loop-next.visited.items c.loop-next.latest.items c.visit.new.latest.items
           inv.closing c.event_in-event.result c.in-Some.thread (length c.args.indexed.now.threads) inv.visited inv.row c.event_in-event.ensures.thread
           c.loop-next.next c.in-Some.is inv.found c.index.result.now c.index.ensures c.event_in-event.ensures.place c.index_mut.result.now c.index_mut.ensures.value c.visit.ensures.visit;
@@ -65,7 +65,7 @@ loop-next-preserved c =
 
 pub returns-clause-row : goal.returns-clause-row
 returns-clause-row c =
-    IsNeededRow-closed c.args.indexed.now.events c.threads_in-threads.ensures.disciplined (IsEither c.args.first c.args.second)
+    IsNeededRow-closed c.args.indexed.now.events c.threads-threads.ensures.disciplined (IsEither c.args.first c.args.second)
     (λ t. get_or c.loop-next.row.items t 0) (λ t. get_or c.loop-next.visited.items t 0) (λ l. get_or c.loop-next.latest.items l _)
     c.loop-next.invariant.closing (c.loop-next.invariant.none c.in_default.is)
 

@@ -11,8 +11,8 @@ overflow_add-count c =
     let row : ℕ → ℕ = λ t. get_or c.args.row.now t 0 in
     let t = c.loop-thread.thread in
     let low = c.loop-thread-test.true in
-    let bound = sum_to-bound c.args.indexed.now c.threads_in-thread-end.ensures.well_formed row c.requires.within (t + 1) (omega (arith, low, c.threads_in-thread-end.ensures.len)) in
-    omega (arith, c.loop-thread.invariant, sum_to-next row t, bound, c.threads_in-thread-end.ensures.well_formed.events)
+    let bound = sum_to-bound c.args.indexed.now c.threads-thread-end.ensures.well_formed row c.requires.within (t + 1) (omega (arith, low, c.threads-thread-end.ensures.len)) in
+    omega (arith, c.loop-thread.invariant, sum_to-next row t, bound, c.threads-thread-end.ensures.well_formed.events)
 
 pub loop-thread-preserved : goal.loop-thread-preserved
 loop-thread-preserved c =
@@ -25,6 +25,6 @@ returns c =
     let r = c.args.indexed.now in
     let row : ℕ → ℕ = λ t. get_or c.args.row.now t 0 in
     let end : c.loop-thread.thread ≡ length r.threads =
-    omega (arith, c.loop-thread-test.false, c.loop-thread.auto.thread-end, c.threads_in-thread-end.ensures.len) in
+    omega (arith, c.loop-thread-test.false, c.loop-thread.auto.thread-end, c.threads-thread-end.ensures.len) in
     let is : sum_to row (length r.threads) ≡ c.loop-thread.count = sym (subst (λ (n : ℕ). c.loop-thread.count ≡ sum_to row n) end c.loop-thread.invariant) in
-    subst (IsListLength r.events row) is (IsListLength-sum r c.threads_in-thread-end.ensures.well_formed row c.requires.within)
+    subst (IsListLength r.events row) is (IsListLength-sum r c.threads-thread-end.ensures.well_formed row c.requires.within)

@@ -22,5 +22,5 @@ loop-thread-preserved c =
 pub returns : goal.returns
 returns c =
     let end : c.loop-thread.thread ≡ length c.args.indexed.now.threads =
-    omega (arith, c.loop-thread-test.false, c.loop-thread.auto.thread-end, c.threads_in-thread-end.ensures.len) in
+    omega (arith, c.loop-thread-test.false, c.loop-thread.auto.thread-end, c.threads-thread-end.ensures.len) in
     subst (λ (n : ℕ). IsThreadCount (λ t. get_or c.args.row.now t 0) n c.loop-thread.count) end c.loop-thread.invariant.0

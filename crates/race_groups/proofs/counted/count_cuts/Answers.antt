@@ -36,7 +36,7 @@ add_thread-requires-clause-cuts c =
 pub add_thread-requires-clause-room : goal.add_thread-requires-clause-room
 add_thread-requires-clause-room c = λ k p q le.
     let r = c.args.indexed.now in
-    let room = room_is r c.len-len.ensures.well_formed (keeps c.args.classes.now.lists.keys k) c.args.classes.now.numbers.items c.args.classes.now.infos.items (ends_of r.events c.rows-forced.result.now k) p q c.loop-thread.thread (omega (arith, c.loop-thread-test.true, c.threads_in-thread-end.ensures.len)) in
+    let room = room_is r c.len-len.ensures.well_formed (keeps c.args.classes.now.lists.keys k) c.args.classes.now.numbers.items c.args.classes.now.infos.items (ends_of r.events c.rows-forced.result.now k) p q c.loop-thread.thread (omega (arith, c.loop-thread-test.true, c.threads-thread-end.ensures.len)) in
     omega (arith, room, c.loop-thread.invariant.counts k p q le)
 
 pub loop-thread-preserved : goal.loop-thread-preserved
@@ -72,7 +72,7 @@ returns-clause-counted c =
           let numbers = c.args.classes.now.numbers.items in
           let infos = c.args.classes.now.infos.items in
           let f : ℕ → ℕ = λ u. sum_by (later_count T keep numbers infos u end p q) (events_of T u) in
-          let done : c.loop-thread.thread ≡ length r.threads = omega (arith, c.loop-thread-test.false, c.threads_in-thread-end.ensures.len, c.loop-thread.auto.thread-end) in
+          let done : c.loop-thread.thread ≡ length r.threads = omega (arith, c.loop-thread-test.false, c.threads-thread-end.ensures.len, c.loop-thread.auto.thread-end) in
           c.loop-thread.invariant.counts k p q le
           ∙ ap (λ n. sum_by f (before n)) done
           ∙ sym (group_is r c.len-len.ensures.well_formed (slice_index c.args.places.now) keep numbers infos end c.requires.classes (cuts k) p q);
@@ -103,6 +103,6 @@ returns-in-Err-clause-too_many c = λ refused.
     (λ k p q le.
     let f : ℕ → ℕ = λ u. sum_by (later_count T (keeps lists k) numbers infos u (ends_of T rows k) p q) (events_of T u) in
     let u = c.loop-thread.thread in
-    let part = sum_by_below-le f u (length r.threads) (omega (arith, c.loop-thread-test.true, c.threads_in-thread-end.ensures.len)) in
+    let part = sum_by_below-le f u (length r.threads) (omega (arith, c.loop-thread-test.true, c.threads-thread-end.ensures.len)) in
     let whole = group_is r c.len-len.ensures.well_formed place (keeps lists k) numbers infos (ends_of T rows k) c.requires.classes (cuts k) p q in
     omega (arith, told.1 k p q le, c.loop-thread.invariant.counts k p q le, part, whole))

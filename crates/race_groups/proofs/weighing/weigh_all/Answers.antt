@@ -7,7 +7,7 @@ use Rattle.race_groups.proofs.weighing.weigh_all.Goals.{then-thread-own, else-th
 
 pub weigh_on-requires-clause-room : goal.weigh_on-requires-clause-room
 weigh_on-requires-clause-room g c = λ k lt.
-    let few = weight-le c.args.indexed.now c.threads_in-thread-end.ensures.well_formed c.args.classes.now c.loop-thread.fronts k c.args.left c.requires.left c.loop-thread.invariant.inside in
+    let few = weight-le c.args.indexed.now c.threads-thread-end.ensures.well_formed c.args.classes.now c.loop-thread.fronts k c.args.left c.requires.left c.loop-thread.invariant.inside in
     omega (arith, few, c.loop-thread.invariant.moved k lt, c.requires.room k (omega (arith, lt, c.loop-thread.auto.sums)))
 
 below_other : (t n : ℕ) → t < n + 1 → t ≢ n → t < n
@@ -23,7 +23,7 @@ loop-thread-preserved g c =
     let fronts = c.loop-thread.fronts in
     let front = c.if-thread-own.fronts in
     let inv = c.loop-thread.invariant in
-    let here : thread < length fronts = omega (arith, c.loop-thread-test.true, c.threads_in-thread-end.ensures.len, inv.fronts_len) in
+    let here : thread < length fronts = omega (arith, c.loop-thread-test.true, c.threads-thread-end.ensures.len, inv.fronts_len) in
     elim c.if-thread-own.branch [
       | then-thread-own w ↦
           let to = w.end-to.result in

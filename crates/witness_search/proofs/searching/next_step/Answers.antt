@@ -1,5 +1,6 @@
 use Rattle.std.proofs.Common.{sym, subst, arith}
-use Rattle.witness_search.specs.Searches.{IsLeastOf, IsStepBelow}
+use Rattle.event_index.specs.Least.{IsLeastOf}
+use Rattle.witness_search.specs.Searches.{IsStepBelow}
 use Rattle.witness_search.proofs.StepLemmas.{IsStepBelow-more, next_step-least}
 use Rattle.witness_search.proofs.searching.next_step.Goals as goal
 

@@ -1,4 +1,5 @@
-use Rattle.witness_search.specs.Searches.{IsLeastOf, IsStepBelow}
+use Rattle.event_index.specs.Least.{IsLeastOf}
+use Rattle.witness_search.specs.Searches.{IsStepBelow}
 use Rattle.witness_search.proofs.searching.next_step.Given as goal
 
 abbrev pub invariant-loop-thread : goal.invariant-loop-thread

@@ -15,11 +15,11 @@ returns c =
     let place = slice_index c.args.places.now in
     let n = c.args.event in
     let s = c.args.self.now in
-    let v = c.event_at-found.result in
-    let at = c.event_at-found.ensures.found in
+    let v = c.event-found.result in
+    let at = c.event-found.ensures.found in
     let held = c.args.held.now in
     let u = c.index-held-found.result in
-    let is = slice_get_read held (length held) v.thread u refl (omega (arith, c.event_at-found.ensures.named.0, c.requires.len)) c.index-held-found.is in
+    let is = slice_get_read held (length held) v.thread u refl (omega (arith, c.event-found.ensures.named.0, c.requires.len)) c.index-held-found.is in
     let lists = c.list_number.new.lists.keys in
     let class : Class = record { place = place n; op = v.op; held = c.in_ok-list_number.field-0 } in
     let locks : (x : ℕ) → is_access x class.op ≡ true → AreLocksOf T lists n class.held = λ x accessed. AreLocksOf-from T lists held n c.in_ok-list_number.field-0 v u at c.requires.held is (c.in_ok-list_number.ensures.at x accessed ∙ ap Some c.as_slice-locks.ensures.value) in

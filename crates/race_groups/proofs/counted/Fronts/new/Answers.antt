@@ -10,9 +10,9 @@ returns c = λ u rows.
     let threads = length c.args.indexed.now.threads in
     let n = length c.args.classes.now.infos.items in
     let classes = c.args.classes.now.numbers.items in
-    let m = c.threads_in-threads.result in
+    let m = c.threads-threads.result in
     let l = length c.as_slice-size.result.now in
-    let wide = c.threads_in-threads.ensures.len in
+    let wide = c.threads-threads.ensures.len in
     let few : l ≡ n = ap length c.as_slice-size.ensures.value in
     record {
       earlier = IsFront-begin T threads n classes u (count_before T) c.in_ok-new.field-0 m l c.in_ok-new.ensures.fronts c.in_ok-new.ensures.counts wide few;
