@@ -19,6 +19,7 @@ mod text;
 mod totals;
 mod tries;
 mod verdicts;
+mod watch;
 mod windows;
 mod workers;
 
@@ -31,3 +32,4 @@ pub use race_groups::{Counts, Row};
 pub use text::triage_text;
 pub use totals::Totals;
 pub use verdicts::{MAX_PLACES, MAX_TRIES, Outcome, TriageRefusal, Verdict, Verdicts, triage};
+pub use watch::{Silent, Watch};

@@ -7,6 +7,7 @@ ghost use Rattle.race_triage.specs.Verdicts.{IsVerdict, AreAllTold, AreRising};
 use crate::found::found_of;
 use crate::pairs::Tables;
 use crate::places::Places;
+use crate::watch::Watch;
 use crate::workers::all_verdicts;
 use event_index::Indexed;
 use explain_report::How;
@@ -113,8 +114,8 @@ pub struct Verdicts {
 
 /// A verdict for each pair of places. Of an open pair of places the first `tries` least open pairs are tried. The pairs of events of
 /// what is apart are told where `apart` is true; else they are 0 and 0. With workers so many threads look for schedules at once, where they can be
-/// started; what is answered is the same for any number of them.
-pub fn triage<R: Threads + Sync>(
+/// started; what is answered is the same for any number of them. Who watches is told of each verdict.
+pub fn triage<R: Threads + Sync, W: Watch + Sync>(
     rt: &R,
     alloc: Global,
     indexed: &Indexed,
@@ -123,6 +124,7 @@ pub fn triage<R: Threads + Sync>(
     tries: u32,
     apart: bool,
     workers: u32,
+    watch: &W,
 ) -> Result<Verdicts, TriageRefusal>
     requires clocks { clocks.now ≡ indexed.now }
     requires must { must.now ≡ indexed.now }
@@ -148,7 +150,7 @@ pub fn triage<R: Threads + Sync>(
         places: places.numbers.as_slice(),
     };
     let found = found_of(alloc, tables, tries, apart)?;
-    let mut verdicts = all_verdicts(rt, alloc, tables, &found, apart, workers)?;
+    let mut verdicts = all_verdicts(rt, alloc, tables, &found, apart, workers, watch)?;
     sort(tables, &mut verdicts, apart);
     Ok(Verdicts { verdicts, places })
 }

@@ -10,6 +10,7 @@ use crate::found::Found;
 use crate::judging::Proposed;
 use crate::pairs::Tables;
 use crate::verdicts::Verdict;
+use crate::watch::Watch;
 use race_groups::Row;
 use rapid_text::OutOfMemory;
 use std::alloc::Global;
@@ -17,13 +18,14 @@ use std::thread;
 use std::thread::Threads;
 
 /// The verdicts on all rows, found by so many threads, or by this one.
-pub(crate) fn all_verdicts<R: Threads + Sync>(
+pub(crate) fn all_verdicts<R: Threads + Sync, W: Watch + Sync>(
     rt: &R,
     alloc: Global,
     tables: Tables<'_>,
     found: &Found,
     apart: bool,
     workers: u32,
+    watch: &W,
 ) -> Result<Vec<Verdict>, OutOfMemory>
     requires clocks { tables.clocks.now ≡ tables.indexed.now }
     requires must { tables.must.now ≡ tables.indexed.now }
@@ -33,20 +35,21 @@ pub(crate) fn all_verdicts<R: Threads + Sync>(
     ensures { IfOk result (λ vs. AreWhole tables.entry.indexed.now (slice_index tables.entry.places.now) apart found.now.groups.rows.items vs.items) }
 {
     if workers == 0 {
-        let part = part_of(alloc, tables, found, apart, 0, 1)?;
+        let part = part_of(alloc, tables, found, apart, 0, 1, watch)?;
         return Ok(part);
     }
-    by_workers(rt, alloc, tables, found, apart, workers)
+    by_workers(rt, alloc, tables, found, apart, workers, watch)
 }
 
 // The verdicts, found by several threads: each takes as many of the rows as the others.
-fn by_workers<R: Threads + Sync>(
+fn by_workers<R: Threads + Sync, W: Watch + Sync>(
     rt: &R,
     alloc: Global,
     tables: Tables<'_>,
     found: &Found,
     apart: bool,
     workers: u32,
+    watch: &W,
 ) -> Result<Vec<Verdict>, OutOfMemory>
     requires clocks { tables.clocks.now ≡ tables.indexed.now }
     requires must { tables.must.now ≡ tables.indexed.now }
@@ -65,19 +68,20 @@ fn by_workers<R: Threads + Sync>(
         requires rows { All (IsRow tables.indexed.now (slice_index tables.places.now)) found.now.groups.rows.items }
         requires every { 0 < every }
         ensures { IfOk result (λ vs. ArePart tables.entry.indexed.now (slice_index tables.entry.places.now) apart found.entry.now.groups.rows.items worker every vs.items) }
-    { part_of(alloc, tables, found, apart, worker, every) };
+    { part_of(alloc, tables, found, apart, worker, every, watch) };
     let parts = thread::map_indices(rt, alloc, every, &find_some)?;
     joined(alloc, tables, found, parts.as_slice(), apart, every)
 }
 
 // The verdicts on every so many rows, from one of them on.
-fn part_of(
+fn part_of<W: Watch>(
     alloc: Global,
     tables: Tables<'_>,
     found: &Found,
     apart: bool,
     from: usize,
     every: usize,
+    watch: &W,
 ) -> Result<Vec<Verdict>, OutOfMemory>
     requires clocks { tables.clocks.now ≡ tables.indexed.now }
     requires must { tables.must.now ≡ tables.indexed.now }
@@ -92,13 +96,23 @@ fn part_of(
         return Ok(verdicts);
     }
     for at in 0..found.groups.rows.len() {
-        add_own(alloc, tables, found, &mut verdicts, apart, at, from, every)?;
+        add_own(
+            alloc,
+            tables,
+            found,
+            &mut verdicts,
+            apart,
+            at,
+            from,
+            every,
+            watch,
+        )?;
     }
     Ok(verdicts)
 }
 
-// Adds the verdict on the row at a place, where it is one of every so many.
-fn add_own(
+// Adds the verdict on the row at a place, where it is one of every so many, and tells who watches.
+fn add_own<W: Watch>(
     alloc: Global,
     tables: Tables<'_>,
     found: &Found,
@@ -107,6 +121,7 @@ fn add_own(
     at: usize,
     from: usize,
     every: usize,
+    watch: &W,
 ) -> Result<(), OutOfMemory>
     requires clocks { tables.clocks.now ≡ tables.indexed.now }
     requires must { tables.must.now ≡ tables.indexed.now }
@@ -127,6 +142,7 @@ fn add_own(
     }
     let row = found.groups.rows[at];
     add(alloc, tables, verdicts, row, found.proposed(at), apart)?;
+    watch.judged(found.groups.rows.len());
     Ok(())
 }
 

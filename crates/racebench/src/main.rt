@@ -7,6 +7,7 @@ ghost use Rattle.program_words.specs.Tasks.{IsWithin};
 mod doing;
 mod input;
 mod notes;
+mod progress;
 mod sessions;
 mod telling;
 mod triaging;

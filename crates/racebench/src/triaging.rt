@@ -2,13 +2,16 @@
 ghost use Rattle.std.specs.Prelude.{◌≡◌, IfSome, false};
 
 use crate::input::{Input, input_at};
+use crate::progress::Progress;
 use crate::telling::{tell_replay, tell_triage};
 use client_scripts::{FromWrite, ReplayFault};
 use program_words::{RacesForm, TriageTask};
-use std::io;
+use std::io::IsTerminal;
 use std::process::ExitCode;
+use std::sync::Wait;
 use std::thread::Threads;
-use triage_calls::{Asked, Filters, Form, triage};
+use std::{io, thread};
+use triage_calls::{Asked, Filters, Form, Silent, Watch, triage};
 
 /// The status where a race is printed, if that is asked for.
 const RACES: u8 = 3;
@@ -52,21 +55,60 @@ fn status_at(races: u64, fail: bool) -> ExitCode {
     }
 }
 
-/// Lists the races of the trace in a file.
-pub(crate) fn triage_file<R: Threads + Sync>(
+/// Lists the races of the trace in a file. Who watches is told how far that is, and of the end before anything is written.
+fn list_races<R: Threads + Sync, W: Watch + Sync>(
     rt: &HostRuntime,
     starts: &R,
     task: &TriageTask<'_>,
+    watch: &W,
 ) -> ExitCode {
     let mut writer = FromWrite::new(io::writer(rt));
     let mut reader = input_at(rt, task.trace);
     let known = known_at(rt, task.known);
     let asked = asked_of(task);
-    match triage(starts, rt.alloc(), &mut reader, known, asked, &mut writer) {
+    let listed = triage(
+        starts,
+        rt.alloc(),
+        &mut reader,
+        known,
+        asked,
+        &mut writer,
+        watch,
+    );
+    watch.end();
+    match listed {
         Ok(races) => match writer.flush() {
             Ok(()) => status_at(races, task.fail),
             Err(_) => tell_replay(rt, ReplayFault::Write),
         },
         Err(fault) => tell_triage(rt, fault, &[task.trace, task.known.unwrap_or("")]),
+    }
+}
+
+/// The same, while a thread beside this one shows on standard error how far the work is.
+fn list_shown<R: Threads + Wait + Sync>(
+    rt: &HostRuntime,
+    starts: &R,
+    task: &TriageTask<'_>,
+) -> ExitCode {
+    let progress = Progress::new(rt, starts);
+    let (_, status) = thread::join(
+        starts,
+        || progress.show(),
+        || list_races(rt, starts, task, &progress),
+    );
+    status
+}
+
+/// Lists the races of the trace in a file. Where standard error is a terminal, it shows how far that is.
+pub(crate) fn triage_file<R: Threads + Wait + Sync>(
+    rt: &HostRuntime,
+    starts: &R,
+    task: &TriageTask<'_>,
+) -> ExitCode {
+    if rt.stderr().is_terminal() {
+        list_shown(rt, starts, task)
+    } else {
+        list_races(rt, starts, task, &Silent)
     }
 }

@@ -7,4 +7,4 @@ mod writing;
 
 pub use fault::{TriageFault, triage_fault_text};
 pub use listing::{Asked, Form, triage};
-pub use race_triage::{Filters, MAX_TRIES};
+pub use race_triage::{Filters, MAX_TRIES, Silent, Watch};

@@ -15,7 +15,7 @@ use pair_calls::read_trace;
 use race_json::triage_json;
 use race_page::page_text;
 use race_triage::{
-    Chosen, Filters, Known, Places, TriageRefusal, Verdicts, chosen_of, known_of,
+    Chosen, Filters, Known, Places, TriageRefusal, Verdicts, Watch, chosen_of, known_of,
     triage as verdicts_of, triage_text,
 };
 use rapid_text::OutOfMemory;
@@ -54,14 +54,15 @@ pub enum Form<'a> {
 
 /// Reads a trace text, whole, and writes what is found of its conflicting pairs by pair of places: the counts, and a block for each
 /// race, or the same in another form. Races that the text of `known` lists, where it is given, are left out. Before a fault nothing is written, but at 95, where
-/// what was written is a beginning of the text. Answers how many races were written.
-pub fn triage<R: Threads + Sync, S: Source, L: Source + Drop, K: Sink>(
+/// what was written is a beginning of the text. Answers how many races were written. Who watches is told how far the work is.
+pub fn triage<R: Threads + Sync, S: Source, L: Source + Drop, K: Sink, W: Watch + Sync>(
     rt: &R,
     alloc: Global,
     reader: &mut S,
     known: Option<L>,
     asked: Asked<'_>,
     writer: &mut K,
+    watch: &W,
 ) -> Result<u64, TriageFault>
     requires reader { S.has_failed reader.old ≡ false }
     requires known { IfSome known (λ k. L.has_failed k ≡ false) }
@@ -81,31 +82,34 @@ pub fn triage<R: Threads + Sync, S: Source, L: Source + Drop, K: Sink>(
         Ok(indexed) => indexed,
         Err(fault) => return Err(TriageFault::Replay(fault)),
     };
+    watch.read(indexed.len());
     let listed = match read_known(alloc, known) {
         Ok(listed) => listed,
         Err(fault) => return Err(fault),
     };
-    write_listing(rt, alloc, &indexed, &listed, asked, writer)
+    write_listing(rt, alloc, &indexed, &listed, asked, writer, watch)
 }
 
 /// Writes what is found of the trace. Answers how many races were written.
-fn write_listing<R: Threads + Sync, K: Sink>(
+fn write_listing<R: Threads + Sync, K: Sink, W: Watch + Sync>(
     rt: &R,
     alloc: Global,
     indexed: &Indexed,
     listed: &Option<Vec<u8>>,
     asked: Asked<'_>,
     writer: &mut K,
+    watch: &W,
 ) -> Result<u64, TriageFault>
     requires { K.has_failed writer.old ≡ false }
     ensures written { IsWritten indexed.now listed.now asked.entry (K.taken writer.old) (K.taken writer.new) result }
     ensures failed { K.has_failed writer.new ≡ true → result ≡ Err (Replay Write) }
     ensures write { result ≡ Err (Replay Write) → K.has_failed writer.new ≡ true }
 {
-    let (text, races) = match text_of(rt, alloc, indexed, listed, asked) {
+    let (text, races) = match text_of(rt, alloc, indexed, listed, asked, watch) {
         Ok(made) => made,
         Err(fault) => return Err(fault),
     };
+    watch.end();
     match write_text(writer, text.as_slice()) {
         Ok(()) => Ok(races),
         Err(fault) => Err(fault),
@@ -132,12 +136,13 @@ fn read_known<L: Source + Drop>(
 }
 
 /// The verdicts on the trace's pairs of places, told in the form that is asked for, and how many races it tells of.
-fn text_of<R: Threads + Sync>(
+fn text_of<R: Threads + Sync, W: Watch + Sync>(
     rt: &R,
     alloc: Global,
     indexed: &Indexed,
     listed: &Option<Vec<u8>>,
     asked: Asked<'_>,
+    watch: &W,
 ) -> Result<(Vec<u8>, u64), TriageFault>
     ensures listing { IfOk result (λ made. (known : Option (List (ℕ × ℕ))) × IsGiven listed.now known
         × IsListing indexed.now known asked.entry made.1 made.0.items) }
@@ -151,7 +156,7 @@ fn text_of<R: Threads + Sync>(
         Ok(clocks) => clocks,
         Err(_) => return Err(TriageFault::Replay(ReplayFault::OutOfMemory)),
     };
-    let found = match found_of(rt, alloc, indexed, &clocks, &must, asked) {
+    let found = match found_of(rt, alloc, indexed, &clocks, &must, asked, watch) {
         Ok(found) => found,
         Err(fault) => return Err(fault),
     };
@@ -245,13 +250,14 @@ fn chosen(
 }
 
 /// What is found of the trace's pairs of places.
-fn found_of<R: Threads + Sync>(
+fn found_of<R: Threads + Sync, W: Watch + Sync>(
     rt: &R,
     alloc: Global,
     indexed: &Indexed,
     clocks: &Clocks,
     must: &Must,
     asked: Asked<'_>,
+    watch: &W,
 ) -> Result<Verdicts, TriageFault>
     requires clocks { clocks.now ≡ indexed.now }
     requires must { must.now ≡ indexed.now }
@@ -267,6 +273,7 @@ fn found_of<R: Threads + Sync>(
         asked.tries,
         asked.apart,
         asked.workers,
+        watch,
     ) {
         Ok(found) => Ok(found),
         Err(TriageRefusal::TooMany) => Err(TriageFault::TooMany),

@@ -5,7 +5,7 @@ use Rattle.race_triage.specs.Verdicts.{IsAnswered}
 use Rattle.race_triage.proofs.workers.add_own.Goals as goal
 
 pub returns-clause-answered : goal.returns-clause-answered
-returns-clause-answered c =
+returns-clause-answered g c =
     let r = c.args.tables.indexed.now in
     let place = slice_index c.args.tables.places.now in
     let rows = c.args.found.now.groups.rows.items in

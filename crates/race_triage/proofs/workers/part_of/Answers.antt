@@ -5,7 +5,7 @@ use Rattle.race_triage.specs.Verdicts.{IsAnswered}
 use Rattle.race_triage.proofs.workers.part_of.Goals as goal
 
 pub loop-at-preserved : goal.loop-at-preserved
-loop-at-preserved c =
+loop-at-preserved g c =
     let r = c.args.tables.indexed.now in
     let place = slice_index c.args.tables.places.now in
     let rows = c.args.found.now.groups.rows.items in
@@ -22,7 +22,7 @@ loop-at-preserved c =
     )
 
 pub returns : goal.returns
-returns c =
+returns g c =
     record {
       verdicts = c.loop-at.invariant.0;
       answered = λ k d lt own. c.loop-at.invariant.1 k d (omega (arith, lt, c.loop-at-test.false)) lt own;

@@ -1,0 +1,120 @@
+//! What standard error shows while the races of a trace are looked for, where it is a terminal: a line that is written anew a few times a second, and wiped out
+//! before anything else is written.
+
+use crate::telling::say;
+use rapid_text::OutOfMemory;
+use report::{Piece, append_pieces};
+use std::sync::atomic::{AtomicU64, Ordering};
+use std::sync::{Mutex, Wait};
+use std::time::Duration;
+use triage_calls::Watch;
+
+/// How many milliseconds the work takes before a line is shown, so that what is quick shows none.
+const FIRST: u64 = 1_000;
+
+/// How many milliseconds lie between two lines.
+const BETWEEN: u64 = 200;
+
+/// As many blanks as the longest line has characters, that of 1,048,576 pairs of places. A line is never shorter than the one before it.
+const WIPE: &[u8] = b"\r                                  \r";
+
+/// How far the work is. Those who work count here, and one thread beside them shows it.
+#[derive(Drop)]
+pub(crate) struct Progress<'a, R: Wait> {
+    rt: &'a HostRuntime,
+    waits: &'a R,
+    events: AtomicU64,
+    pairs: AtomicU64,
+    judged: AtomicU64,
+    has_ended: AtomicU64,
+    // Whether a line stands there. Who has this alone writes.
+    is_shown: Mutex<bool>,
+}
+
+impl<'a, R: Wait> Progress<'a, R> {
+    /// The progress of work that begins. What waits is passed beside the rest.
+    pub(crate) fn new(rt: &'a HostRuntime, waits: &'a R) -> Progress<'a, R> {
+        Progress {
+            rt,
+            waits,
+            events: AtomicU64::new(0),
+            pairs: AtomicU64::new(0),
+            judged: AtomicU64::new(0),
+            has_ended: AtomicU64::new(0),
+            is_shown: Mutex::new(false),
+        }
+    }
+
+    /// Shows it until the work has ended.
+    pub(crate) fn show(&self) {
+        let mut nap = FIRST;
+        for _ in self.waits.forever() {
+            self.has_ended
+                .park_timeout(self.waits, 0, Duration::from_millis(nap));
+            if self.has_ended.load(Ordering::SeqCst) != 0 {
+                return;
+            }
+            self.show_once();
+            nap = BETWEEN;
+        }
+        unreachable!()
+    }
+
+    // Writes the line, where there is something to tell. The work may have ended meanwhile.
+    fn show_once(&self) {
+        let mut line = Vec::new(self.rt.alloc());
+        let is_made = self.append_line(&mut line).is_ok();
+        let mut is_shown = self.is_shown.lock(self.waits);
+        if is_made && !line.is_empty() && self.has_ended.load(Ordering::SeqCst) == 0 {
+            say(self.rt, line.as_slice());
+            *is_shown = true;
+        }
+    }
+
+    // Appends the line, or nothing before the trace was read.
+    fn append_line(&self, out: &mut Vec<u8>) -> Result<(), OutOfMemory> {
+        let judged = self.judged.load(Ordering::SeqCst);
+        let events = self.events.load(Ordering::SeqCst);
+        if judged > 0 {
+            append_judged(out, judged, self.pairs.load(Ordering::SeqCst))
+        } else if events > 0 {
+            append_pieces(out, &[Piece::Words(b"\revents "), Piece::Number(events)])
+        } else {
+            Ok(())
+        }
+    }
+}
+
+// Appends the line that tells how many pairs of places have their verdict.
+fn append_judged(out: &mut Vec<u8>, judged: u64, pairs: u64) -> Result<(), OutOfMemory> {
+    append_pieces(
+        out,
+        &[
+            Piece::Words(b"\rpairs of places "),
+            Piece::Number(judged),
+            Piece::Words(b" of "),
+            Piece::Number(pairs),
+        ],
+    )
+}
+
+impl<R: Wait> Watch for Progress<'_, R> {
+    fn read(&self, events: u32) {
+        self.events.store(u64::from(events), Ordering::SeqCst);
+    }
+
+    fn judged(&self, of: usize) {
+        self.pairs.store(of as u64, Ordering::SeqCst);
+        self.judged.fetch_add(1, Ordering::SeqCst);
+    }
+
+    fn end(&self) {
+        self.has_ended.store(1, Ordering::SeqCst);
+        self.has_ended.wake_all();
+        let mut is_shown = self.is_shown.lock(self.waits);
+        if *is_shown {
+            say(self.rt, WIPE);
+            *is_shown = false;
+        }
+    }
+}

@@ -1,0 +1,157 @@
+#!/usr/bin/env python3
+"""Judges what `triage` shows of its progress where standard error is a terminal: a line that is written anew while it works, and wiped out before
+anything else is written.
+
+The trace is one whose work takes long enough, which is measured, since no size would do on every machine. What comes on standard output and the status
+have to be those of a run whose standard error is a pipe, and nothing may come through that pipe. What is quick shows nothing.
+Takes the program's path. Says what is wrong, if something is, and ends with status 1 then.
+"""
+
+import os
+import re
+import subprocess
+import sys
+import tempfile
+import time
+import tty
+
+sys.dont_write_bytecode = True
+import running
+
+# How many seconds the work takes at least where lines have to come, how many pairs of places are tried first, and how many at most.
+LEAST_SECONDS = 1.8
+FIRST_PAIRS = 250
+MOST_PAIRS = 64_000
+# Events that stand before the pairs, so that each search goes over many.
+OTHERS = 60_000
+# How many lines that tell of more pairs of places have to come then; and how long nothing comes before the first line.
+LEAST_LINES = 2
+QUIET_SECONDS = 0.9
+SHOWN = re.compile(r"\r(?:events (\d+)|pairs of places (\d+) of (\d+))")
+WIPED = re.compile(r"\r *\r")
+
+
+def trace(pairs):
+    """So many pairs of places, each shown by critical sections in another order alone, which is searched for."""
+    lines = [f"T{i % 2}|r(y)|others" for i in range(OTHERS)]
+    for i in range(pairs):
+        lines += [f"T0|acq(l)|a{i}", f"T0|w(x{i})|a{i}", f"T0|rel(l)|a{i}", f"T1|acq(l)|b{i}", f"T1|rel(l)|b{i}", f"T1|w(x{i})|b{i}"]
+    return "".join(line + "\n" for line in lines), len(lines)
+
+
+class Shown:
+    """A run whose standard error is a terminal, and its standard output the same terminal where no file is named."""
+
+    def __init__(self, program, words, output):
+        mine, theirs = os.openpty()
+        tty.setraw(theirs)
+        with open(output, "wb") if output else os.fdopen(os.dup(theirs), "wb") as out:
+            start = time.monotonic()
+            run = subprocess.Popen([program, *words], stdin=subprocess.DEVNULL, stdout=out, stderr=theirs)
+        os.close(theirs)
+        self.quiet, sent = None, b""
+        try:
+            while piece := os.read(mine, 65_536):
+                self.quiet = self.quiet or time.monotonic() - start
+                sent += piece
+        except OSError:
+            pass  # nobody has the other end any more
+        os.close(mine)
+        self.status = run.wait()
+        self.seconds = time.monotonic() - start
+        self.sent = sent.decode("ascii")
+
+
+def judge_shown(run, events, pairs, rest=""):
+    """Judges what a terminal was sent: lines of rising numbers, the wiping, and the rest. Answers how many lines told of more pairs of places."""
+    at, longest, judged, told = 0, 0, 0, 0
+    while line := SHOWN.match(run.sent, at):
+        at = line.end()
+        longest = max(longest, len(line[0]) - 1)
+        if line[1] is not None and (judged or int(line[1]) != events):
+            sys.exit(f"progress: behind {judged} pairs of places, of {events} events, {line[0]!r} was shown")
+        if line[2] is not None:
+            if not judged <= int(line[2]) <= int(line[3]) or int(line[3]) != pairs:
+                sys.exit(f"progress: behind {judged} of {pairs} pairs of places {line[0]!r} was shown")
+            told += int(line[2]) > judged
+            judged = int(line[2])
+    wiped = WIPED.match(run.sent, at)
+    if longest and (not wiped or len(wiped[0]) - 2 < longest):
+        sys.exit(f"progress: a line of {longest} characters was not wiped out: {run.sent[at : at + 100]!r}")
+    at = wiped.end() if longest else at
+    if run.sent[at:] != rest:
+        sys.exit(f"progress: {run.sent[at:][:300]!r} came behind the line, and not {rest[:300]!r}")
+    if run.seconds >= LEAST_SECONDS and told < LEAST_LINES:
+        sys.exit(f"progress: in {run.seconds:.1f} s {told} lines told of more pairs of places: {run.sent[:300]!r}")
+    if longest and run.quiet < QUIET_SECONDS:
+        sys.exit(f"progress: something was shown after {run.quiet:.2f} s")
+    return told
+
+
+def judge_status(words, status, wanted):
+    if status != wanted:
+        sys.exit(f"progress: {words}: status {status} beside a terminal, and not {wanted}")
+
+
+def judge_output(words, wanted):
+    """Compares standard output with that of a run without a terminal."""
+    with open("out", "rb") as out:
+        if out.read() != wanted:
+            sys.exit(f"progress: {words}: another standard output beside a terminal")
+
+
+def judge_quick(program):
+    """What is quick shows nothing, whether it ends well or with a fault."""
+    running.write("quick", "T1|w(x)|1\nT2|w(x)|2\n")
+    for words in (["triage", "quick"], ["triage", "none"]):
+        status, out, err = running.ended(program, words)
+        run = Shown(program, words, "out")
+        judge_status(words, run.status, status)
+        judge_output(words, out)
+        if run.seconds < QUIET_SECONDS and run.sent != err.decode("ascii"):
+            sys.exit(f"progress: {words} shows {run.sent!r}, and writes {err!r} where no terminal is")
+
+
+def long_run(program):
+    """A run that takes long, how many events and pairs of places its trace has, and what it prints."""
+    pairs = FIRST_PAIRS
+    while True:
+        text, events = trace(pairs)
+        running.write("trace", text)
+        run = Shown(program, ["triage", "trace"], "out")
+        judge_status(["triage", "trace"], run.status, 0)
+        if run.seconds >= LEAST_SECONDS:
+            return run, events, pairs
+        if pairs == MOST_PAIRS:
+            sys.exit(f"progress: the work on {pairs} pairs of places took {run.seconds:.1f} s only")
+        pairs = min(int(pairs * 1.2 * LEAST_SECONDS / run.seconds) + 1, MOST_PAIRS)
+
+
+def judge_long(program):
+    """What takes long shows lines: beside a file, by a worker with all on one terminal, and before a fault."""
+    run, events, pairs = long_run(program)
+    status, out, err = running.ended(program, ["triage", "trace"])
+    if status != 0 or err:
+        sys.exit(f"progress: status {status} where no terminal is, and on standard error {err[:300]!r}")
+    judge_output(["triage", "trace"], out)
+    lines = judge_shown(run, events, pairs)
+    words = ["triage", "trace", "--workers", "1"]
+    run = Shown(program, words, None)
+    judge_status(words, run.status, 0)
+    lines += judge_shown(run, events, pairs, out.decode("ascii"))
+    words = ["triage", "trace"]
+    run = Shown(program, words, "/dev/full")
+    judge_status(words, run.status, 1)
+    return lines + judge_shown(run, events, pairs, "racebench: write failed\n"), pairs
+
+
+def main():
+    program = os.path.abspath(sys.argv[1])
+    with tempfile.TemporaryDirectory() as folder:
+        os.chdir(folder)
+        judge_quick(program)
+        lines, pairs = judge_long(program)
+    print(f"progress: {lines} lines told of {pairs} pairs of places in three runs, each was wiped out, and nothing came where no terminal is")
+
+
+main()
