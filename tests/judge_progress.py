@@ -20,7 +20,7 @@ import running
 
 # How many seconds the work takes at least where lines have to come, how many pairs of places are tried first, and how many at most.
 LEAST_SECONDS = 1.8
-FIRST_PAIRS = 250
+FIRST_PAIRS = 20
 MOST_PAIRS = 64_000
 # Events that stand before the pairs, so that each search goes over many.
 OTHERS = 60_000
