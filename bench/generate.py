@@ -110,6 +110,46 @@ def write_traces(folder):
     write_trace(folder, f"many_names_{EVENTS}", named_trace(EVENTS, 64, [f"variable_{i}" for i in range(EVENTS)]))
 
 
+def guarded_places(events, threads):
+    """Two accesses of a lock's variable under the lock, again and again, by threads drawn by chance, at 200 places."""
+    chance = random.Random(6)
+    lines = []
+    while len(lines) + 4 <= events:
+        thread, lock = chance.randrange(threads), chance.randrange(64)
+        accesses = [f"T{thread}|{chance.choice('rw')}(x{lock})|p{chance.randrange(200)}" for _ in range(2)]
+        lines += [f"T{thread}|acq(l{lock})|p", *accesses, f"T{thread}|rel(l{lock})|p"]
+    return lines
+
+
+def free_places(events, threads):
+    """Accesses of 1,000 variables at 200 places, one in twenty a write, that nothing orders."""
+    chance = random.Random(7)
+    kinds = "r" * 19 + "w"
+    return [f"T{chance.randrange(threads)}|{chance.choice(kinds)}(x{chance.randrange(1_000)})|p{chance.randrange(200)}" for _ in range(events)]
+
+
+def crowded_places(events, threads):
+    """Reads and writes of one variable at 1,400 places."""
+    chance = random.Random(8)
+    return [f"T{chance.randrange(threads)}|{chance.choice('rw')}(x)|p{chance.randrange(1_400)}" for _ in range(events)]
+
+
+def one_writing_place(events):
+    """One thread writes at one place, another reads each time at a new one."""
+    return [line for i in range(events // 2) for line in ("T0|w(x)|w", f"T1|r(x)|r{i}")]
+
+
+def write_places(folder):
+    os.makedirs(folder)
+    for events, threads in ((EVENTS, 16), (MOST_EVENTS, 16), (MOST_EVENTS, 256)):
+        write_trace(folder, f"guarded_{threads}_{events}", guarded_places(events, threads))
+    for events in (EVENTS, MOST_EVENTS):
+        write_trace(folder, f"free_16_{events}", free_places(events, 16))
+    write_trace(folder, f"crowded_16_{EVENTS}", crowded_places(EVENTS, 16))
+    write_trace(folder, f"one_writing_{sized(100_000)}", one_writing_place(sized(100_000)))
+    write_trace(folder, f"written_everywhere_{sized(40_000)}", [f"T0|w(x)|p{i}" for i in range(sized(40_000))])
+
+
 def last_pair(lines):
     """The last event that writes what another thread has written, and the first such write."""
     fields = [line.split("|") for line in lines]
@@ -244,6 +284,7 @@ def main():
     os.makedirs(folder, exist_ok=True)
     write_traces(os.path.join(folder, "info"))
     write_pairs(os.path.join(folder, "explain"))
+    write_places(os.path.join(folder, "triage"))
     write_seats(os.path.join(folder, "threads"))
     write_sessions(os.path.join(folder, "sessions"))
     for threads in (4, 64):
