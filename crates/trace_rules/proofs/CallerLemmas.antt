@@ -1,6 +1,6 @@
 -- What the rules say of a list of events, for the crates above: a list that keeps them has no first
 -- breach and the other way round; what a first breach says; and who holds a lock.
-use Rattle.std.proofs.Common.{◌≡◌, ◌≢◌, ℕ, zero, suc, ◌+◌, ◌-◌, ◌<◌, ◌≤◌, ◌==◌, Bool, true, false, ◌||◌, cond, List, [], ◌∷◌, ◌++◌, length, take, slice_get, option_and_then, Option, Some, None, refl, sym, ap, ◌∙◌, subst, arith, add-one, lt_irrefl, eq-eqb, ne_eqb, inl, inr}
+use Rattle.std.proofs.Common.{◌≡◌, ◌≢◌, ℕ, zero, suc, ◌+◌, ◌-◌, ◌<◌, ◌≤◌, ◌==◌, Bool, true, false, ◌||◌, cond, List, [], ◌∷◌, ◌++◌, length, take, slice_get, option_and_then, Option, Some, None, refl, sym, ap, ◌∙◌, arith, add-one, lt_irrefl, eq-eqb, ne_eqb, inl, inr}
 use Rattle.std.specs.List.{list_any}
 use Rattle.std.proofs.lemmas.Bool.{cases_Bool, cases_eq, cases_lt, or_left, or_right, or_from, true≢false, false_from_ne_true, eqb-false}
 use Rattle.std.proofs.lemmas.Option.{none-some, same_Some, slice_get_within}
@@ -23,16 +23,14 @@ use Rattle.trace_rules.proofs.TableLemmas.{take-event, cond-from_none, breach_at
 
 module _ (p : Event → Bool) where
   -- an event that passes stands among the first j where it stands below j
-  list_any_before : (T : List Event) (i j : ℕ) (d : Event) → i < j → slice_get T i ≡ Some d → p d ≡ true
-      → list_any p (take j T) ≡ true
+  list_any_before : (T : List Event) (i j : ℕ) (d : Event) → i < j → slice_get T i ≡ Some d → p d ≡ true → list_any p (take j T) ≡ true
   list_any_before [] i j d less at passes = absurd (none-some d at)
   list_any_before (x ∷ T) i zero d less at passes = absurd (omega arith)
   list_any_before (x ∷ T) zero (suc j) d less at passes = or_left (p x) (list_any p (take j T)) (ap p (same_Some x d at) ∙ passes)
   list_any_before (x ∷ T) (suc i) (suc j) d less at passes = or_right (p x) (list_any p (take j T)) (list_any_before T i j d (omega arith) at passes)
 
   -- where no event below j passes
-  none_before : (T : List Event) (j : ℕ)
-      → ((i : ℕ) (d : Event) → i < j → slice_get T i ≡ Some d → p d ≡ false) → list_any p (take j T) ≡ false
+  none_before : (T : List Event) (j : ℕ) → ((i : ℕ) (d : Event) → i < j → slice_get T i ≡ Some d → p d ≡ false) → list_any p (take j T) ≡ false
   none_before T zero none = refl
   none_before [] (suc j) none = refl
   none_before (x ∷ T) (suc j) none = or_from (p x) (list_any p (take j T)) (none zero x (omega arith) refl) (none_before T j (λ i d less at. none (suc i) d (omega arith) at))
@@ -111,8 +109,7 @@ module _ (T : List Event) (is : IsDisciplined T) (j : ℕ) (e : Event) (here : s
 
   early : (u : ℕ) → e.op ≡ Fork u → list_any (λ d. d.thread == u || is_join u d.op) (take j T) ≡ false
   early u fork =
-      none_before (λ d. d.thread == u || is_join u d.op) T j
-      (λ i d less there. or_from (d.thread == u) (is_join u d.op)
+      none_before (λ d. d.thread == u || is_join u d.op) T j (λ i d less there. or_from (d.thread == u) (is_join u d.op)
       (ne_eqb d.thread u (is.no_event_before_fork i j u d e less there here fork))
       (false_from_ne_true (is_join u d.op) (λ passes. is.no_join_before_fork i j u d e less there here fork (join-from_test u d.op passes))))
 
@@ -133,8 +130,7 @@ module _ (T : List Event) (is : IsDisciplined T) (j : ℕ) (e : Event) (here : s
   event_keeps = breach_at-event T j e here ∙ ap (λ b. cond b (Some AfterJoin) (breach_of_op (take j T) e.thread e.op)) running ∙ op_keeps e.op refl
 
 -- in a list that keeps the rules, no event breaks one
-breach_at-cases : (T : List Event) → IsDisciplined T → (j : ℕ) (o : Option Event) → slice_get T j ≡ o
-    → breach_at T j ≡ None
+breach_at-cases : (T : List Event) → IsDisciplined T → (j : ℕ) (o : Option Event) → slice_get T j ≡ o → breach_at T j ≡ None
 breach_at-cases T is j None at = ap (option_and_then (breach_of (take j T))) at
 breach_at-cases T is j (Some e) at = event_keeps T is j e at
 
@@ -149,8 +145,7 @@ pub no_breach-disciplined : (T : List Event) → first_breach T ≡ None → IsD
 no_breach-disciplined T is = IsDisciplined-from_none T (none-from_first_breach T is)
 
 -- a list with a breach does not keep the rules
-pub undisciplined-from_breach : (T : List Event) (j : ℕ) (why : RuleCause) → j < length T → breach_at T j ≡ Some why
-    → ¬ IsDisciplined T
+pub undisciplined-from_breach : (T : List Event) (j : ℕ) (why : RuleCause) → j < length T → breach_at T j ≡ Some why → ¬ IsDisciplined T
 undisciplined-from_breach T j why within breach is = none-some why (sym (none-from_IsDisciplined T is j within) ∙ breach)
 
 -- a first breach is of an event, is its first breach, and no earlier event has one
@@ -183,8 +178,7 @@ module _ (T : List Event) (none : HasNoBreach T) (l : ℕ) where
       ]
 
   -- past an event e
-  hold_after : (j : ℕ) (e : Event) (h : Hold) → slice_get T j ≡ Some e → IsHoldOf (take j T) l h
-      → (after : Hold) × IsHoldOf (take j T ++ e ∷ []) l after
+  hold_after : (j : ℕ) (e : Event) (h : Hold) → slice_get T j ≡ Some e → IsHoldOf (take j T) l h → (after : Hold) × IsHoldOf (take j T ++ e ∷ []) l after
   hold_after j e h here is =
       elim (cases_Bool (is_acquire l e.op)) [
         | inl takes ↦
@@ -198,12 +192,11 @@ module _ (T : List Event) (none : HasNoBreach T) (l : ℕ) where
         ]
       ]
 
-  hold_past : (j : ℕ) (o : Option Event) → slice_get T j ≡ o → (h : Hold) × IsHoldOf (take j T) l h
-      → (after : Hold) × IsHoldOf (take (j + 1) T) l after
-  hold_past j None past before = (before.0, subst (λ es. IsHoldOf es l before.0) (take-past T j past) before.1)
+  hold_past : (j : ℕ) (o : Option Event) → slice_get T j ≡ o → (h : Hold) × IsHoldOf (take j T) l h → (after : Hold) × IsHoldOf (take (j + 1) T) l after
+  hold_past j None past before = (before.0, rw (← take-past T j past) before.1)
   hold_past j (Some e) here before =
       let after = hold_after j e before.0 here before.1 in
-      (after.0, subst (λ es. IsHoldOf es l after.0) (sym (take-event T j e here)) after.1)
+      (after.0, rw (take-event T j e here) after.1)
 
   hold_up_to : (j : ℕ) → (h : Hold) × IsHoldOf (take j T) l h
   hold_up_to zero = (record { owner = None; depth = 0 }, record { counts = λ t. refl; depth = refl })
@@ -215,7 +208,7 @@ owner-from_depth None depth t above = absurd (omega arith)
 owner-from_depth (Some u) depth t above =
     elim (cases_eq u t) [
       | inl same ↦ ap Some same
-      | inr other ↦ absurd (lt_irrefl 0 (subst (λ n. 0 < n) (depth_for-other (Some u) depth u refl t (λ is. other (sym is))) above))
+      | inr other ↦ absurd (lt_irrefl 0 (rw (← depth_for-other (Some u) depth u refl t (λ is. other (sym is))) above))
     ]
 
 module _ (T : List Event) (is : IsDisciplined T) (j t l : ℕ) where

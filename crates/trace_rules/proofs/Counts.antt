@@ -29,13 +29,11 @@ slice_get-replicate (suc n) zero x y is = same_Some x y is
 slice_get-replicate (suc n) (suc k) x y is = slice_get-replicate n k x y is
 
 -- one more element counts where it passes
-pub count_by_push : {X : Type 0} (p : X → Bool) (xs : List X) (y : X)
-    → count_by p (xs ++ y ∷ []) ≡ count_by p xs + cond (p y) 1 0
+pub count_by_push : {X : Type 0} (p : X → Bool) (xs : List X) (y : X) → count_by p (xs ++ y ∷ []) ≡ count_by p xs + cond (p y) 1 0
 count_by_push p xs y = sum_by_push (λ x. cond (p x) 1 0) xs y
 
 -- some element passes where one did before, or where the new one does
-pub list_any_push : {X : Type 0} (p : X → Bool) (xs : List X) (y : X)
-    → list_any p (xs ++ y ∷ []) ≡ (list_any p xs || p y)
+pub list_any_push : {X : Type 0} (p : X → Bool) (xs : List X) (y : X) → list_any p (xs ++ y ∷ []) ≡ (list_any p xs || p y)
 list_any_push p xs y = list_any-append p xs (y ∷ []) ∙ ap (λ b. list_any p xs || b) (or-false (p y))
 
 -- no element passes a test that nothing passes
@@ -49,8 +47,7 @@ rest_above n true fails above = absurd (true≢false fails)
 rest_above n false fails above = omega arith
 
 -- what counts above 0 is there, and passes each weaker test
-pub list_any-from_count : {X : Type 0} (p q : X → Bool) (xs : List X) → ((x : X) → p x ≡ true → q x ≡ true)
-    → 0 < count_by p xs → list_any q xs ≡ true
+pub list_any-from_count : {X : Type 0} (p q : X → Bool) (xs : List X) → ((x : X) → p x ≡ true → q x ≡ true) → 0 < count_by p xs → list_any q xs ≡ true
 list_any-from_count p q [] h above = absurd (omega arith)
 list_any-from_count p q (x ∷ xs) h above =
     elim (cases_Bool (p x)) [
@@ -67,8 +64,7 @@ or_swap false true false d = refl
 or_swap false false c d = refl
 
 -- some element passes one of two tests where some passes the first or some passes the second
-pub list_any-or : {X : Type 0} (p q : X → Bool) (xs : List X)
-    → list_any (λ x. p x || q x) xs ≡ (list_any p xs || list_any q xs)
+pub list_any-or : {X : Type 0} (p q : X → Bool) (xs : List X) → list_any (λ x. p x || q x) xs ≡ (list_any p xs || list_any q xs)
 list_any-or p q [] = refl
 list_any-or p q (x ∷ xs) = ap (λ b. (p x || q x) || b) (list_any-or p q xs) ∙ or_swap (p x) (q x) (list_any p xs) (list_any q xs)
 
@@ -96,8 +92,7 @@ and-true false b h = refl
 
 module _ (es : List Event) (e : Event) (t l : ℕ) where
   -- an acquire of the lock counts for its thread
-  pub acquire_count-acquire : e.op ≡ Acquire l
-      → acquire_count (es ++ e ∷ []) t l ≡ acquire_count es t l + cond (e.thread == t) 1 0
+  pub acquire_count-acquire : e.op ≡ Acquire l → acquire_count (es ++ e ∷ []) t l ≡ acquire_count es t l + cond (e.thread == t) 1 0
   acquire_count-acquire is =
       acquire_count_push es e t l ∙ ap (λ b. acquire_count es t l + cond b 1 0) (and-true (e.thread == t) (is_acquire l e.op) (ap (is_acquire l) is ∙ eq-eqb l l refl))
 
@@ -106,8 +101,7 @@ module _ (es : List Event) (e : Event) (t l : ℕ) where
       no_more (release_count es t l) (release_count (es ++ e ∷ []) t l) (e.thread == t && is_release l e.op) (release_count_push es e t l) (and-false (e.thread == t) (is_release l e.op) (ap (is_release l) is))
 
   -- a release of the lock counts for its thread
-  pub release_count-release : e.op ≡ Release l
-      → release_count (es ++ e ∷ []) t l ≡ release_count es t l + cond (e.thread == t) 1 0
+  pub release_count-release : e.op ≡ Release l → release_count (es ++ e ∷ []) t l ≡ release_count es t l + cond (e.thread == t) 1 0
   release_count-release is =
       release_count_push es e t l ∙ ap (λ b. release_count es t l + cond b 1 0) (and-true (e.thread == t) (is_release l e.op) (ap (is_release l) is ∙ eq-eqb l l refl))
 
@@ -130,12 +124,9 @@ abbrev pub is_held_by_another : List Event → ℕ → ℕ → Bool
 is_held_by_another es t l = list_any (λ e. not (e.thread == t) && ltb 0 (hold_count es e.thread l)) es
 
 -- it fails where all other threads have no hold
-pub is_held_by_another-false : (es : List Event) (t l : ℕ) → ((u : ℕ) → u ≢ t → hold_count es u l ≡ 0)
-    → is_held_by_another es t l ≡ false
+pub is_held_by_another-false : (es : List Event) (t l : ℕ) → ((u : ℕ) → u ≢ t → hold_count es u l ≡ 0) → is_held_by_another es t l ≡ false
 is_held_by_another-false es t l none =
-    list_any_never
-    (λ e. not (e.thread == t) && ltb 0 (hold_count es e.thread l))
-    es
+    list_any_never (λ e. not (e.thread == t) && ltb 0 (hold_count es e.thread l)) es
     (λ e. elim (cases_Bool (e.thread == t)) [
       | inl there ↦ and_left (not (e.thread == t)) (ltb 0 (hold_count es e.thread l)) (ap not there)
       | inr other ↦
@@ -148,23 +139,16 @@ acquires-from_hold : (es : List Event) (u l : ℕ) → 0 < hold_count es u l →
 acquires-from_hold es u l held = omega arith
 
 -- it succeeds where another thread has a hold
-pub is_held_by_another-true : (es : List Event) (t l u : ℕ) → u ≢ t → 0 < hold_count es u l
-    → is_held_by_another es t l ≡ true
+pub is_held_by_another-true : (es : List Event) (t l u : ℕ) → u ≢ t → 0 < hold_count es u l → is_held_by_another es t l ≡ true
 is_held_by_another-true es t l u other held =
-    list_any-from_count
-    (λ e. e.thread == u && is_acquire l e.op)
-    (λ e. not (e.thread == t) && ltb 0 (hold_count es e.thread l))
-    es
-    (λ e passes.
+    list_any-from_count (λ e. e.thread == u && is_acquire l e.op) (λ e. not (e.thread == t) && ltb 0 (hold_count es e.thread l)) es (λ e passes.
     let same : e.thread ≡ u = eqb-true e.thread u (and_parts (e.thread == u) (is_acquire l e.op) passes).0 in
     let apart : (e.thread == t) ≡ false = ne_eqb e.thread t (λ is. other (sym same ∙ is)) in
     let holds : ltb 0 (hold_count es e.thread l) ≡ true = lt-ltb 0 (hold_count es e.thread l) (rw same held) in
-    ap₂ (λ a b. not a && b) apart holds)
-    (acquires-from_hold es u l held)
+    ap₂ (λ a b. not a && b) apart holds) (acquires-from_hold es u l held)
 
 -- where it fails, no other thread has a hold
-pub hold_count-other : (es : List Event) (t l u : ℕ) → is_held_by_another es t l ≡ false → u ≢ t
-    → hold_count es u l ≡ 0
+pub hold_count-other : (es : List Event) (t l u : ℕ) → is_held_by_another es t l ≡ false → u ≢ t → hold_count es u l ≡ 0
 hold_count-other es t l u fails other =
     elim (cases_Bool (ltb 0 (hold_count es u l))) [
       | inl there ↦ absurd (true≢false (sym (is_held_by_another-true es t l u other (ltb-true 0 (hold_count es u l) there)) ∙ fails))

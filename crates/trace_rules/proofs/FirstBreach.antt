@@ -16,8 +16,7 @@ no_refusal : (i : ℕ) (breach : Option RuleCause) → refused_for i breach ≡ 
 no_refusal i None is = refl
 no_refusal i (Some why) is = absurd (none-some _ (sym is))
 
-refusal_is : (i : ℕ) (breach : Option RuleCause) (r : RuleRefusal) → refused_for i breach ≡ Some r
-    → (r.event ≡ i) × (breach ≡ Some r.why)
+refusal_is : (i : ℕ) (breach : Option RuleCause) (r : RuleRefusal) → refused_for i breach ≡ Some r → (r.event ≡ i) × (breach ≡ Some r.why)
 refusal_is i None r is = absurd (none-some r is)
 refusal_is i (Some why) r is =
     let same : record { event = i; why = why } ≡ r = same_Some (record { event = i; why = why }) r is in

@@ -19,8 +19,7 @@ pub depth_for-owner : (owner depth : ℕ) → depth_for (Some owner) depth owner
 depth_for-owner owner depth = grind (arith, nat_tests)
 
 -- nobody but the owner has a hold
-pub depth_for-other : (owner : Option ℕ) (depth t : ℕ) → IsOpenFor t owner → (u : ℕ) → u ≢ t
-    → depth_for owner depth u ≡ 0
+pub depth_for-other : (owner : Option ℕ) (depth t : ℕ) → IsOpenFor t owner → (u : ℕ) → u ≢ t → depth_for owner depth u ≡ 0
 depth_for-other None depth t free u other = refl
 depth_for-other (Some owner) depth t free u other = grind (arith, nat_tests)
 
@@ -31,8 +30,7 @@ depth_for-taken None depth th t free is = grind (arith, nat_tests)
 depth_for-taken (Some owner) depth th t free is = grind (arith, nat_tests)
 
 -- one more release, of several
-pub depth_for-let_go : (depth th t : ℕ) → 0 < depth
-    → depth_for (Some th) depth t ≡ depth_for (Some th) (depth - 1) t + cond (th == t) 1 0
+pub depth_for-let_go : (depth th t : ℕ) → 0 < depth → depth_for (Some th) depth t ≡ depth_for (Some th) (depth - 1) t + cond (th == t) 1 0
 depth_for-let_go depth th t above = grind (arith, nat_tests)
 
 -- the last release
@@ -102,8 +100,7 @@ depth-above None depth u is same = absurd (none-some u same)
 depth-above (Some owner) depth u is same = is
 
 -- a lock is held no deeper than there were events
-depth-cases : (es : List Event) (l : ℕ) (h : Hold) → IsHoldOf es l h → (owner : Option ℕ) → h.owner ≡ owner
-    → h.depth ≤ length es
+depth-cases : (es : List Event) (l : ℕ) (h : Hold) → IsHoldOf es l h → (owner : Option ℕ) → h.owner ≡ owner → h.depth ≤ length es
 depth-cases es l h is None same =
     let nothing : h.depth ≡ 0 = subst (λ o. IsDepthOf o h.depth) same is.depth in
     omega arith
@@ -116,13 +113,11 @@ module _ (es : List Event) (l : ℕ) (h : Hold) (is : IsHoldOf es l h) (t : ℕ)
   -- an acquire breaks no rule where the lock is free or the thread's own
   pub breach_of_op-acquire : IsOpenFor t h.owner → breach_of_op es t (Acquire l) ≡ None
   breach_of_op-acquire free =
-      ap
-      (λ b. cond b (Some AcquireHeld) None)
+      ap (λ b. cond b (Some AcquireHeld) None)
       (is_held_by_another-false es t l (λ u other. hold_count-IsHoldOf es l h is u ∙ depth_for-other h.owner h.depth t free u other))
 
   -- it breaks one where another thread holds the lock
-  pub breach_of_op-acquire_held : (u : ℕ) → h.owner ≡ Some u → u ≢ t
-      → breach_of_op es t (Acquire l) ≡ Some AcquireHeld
+  pub breach_of_op-acquire_held : (u : ℕ) → h.owner ≡ Some u → u ≢ t → breach_of_op es t (Acquire l) ≡ Some AcquireHeld
   breach_of_op-acquire_held u owned other =
       let depth : depth_for h.owner h.depth u ≡ h.depth = ap (λ o. depth_for o h.depth u) owned ∙ depth_for-owner u h.depth in
       let above : 0 < h.depth = depth-above h.owner h.depth u is.depth owned in
@@ -137,14 +132,11 @@ module _ (es : List Event) (l : ℕ) (h : Hold) (is : IsHoldOf es l h) (t : ℕ)
       ap (λ b. cond b (Some ReleaseNotHeld) None) (ne_eqb (hold_count es t l) 0 (λ none. omega (arith, hold_count-IsHoldOf es l h is t)))
 
   -- it breaks one where another thread holds the lock, or none
-  pub breach_of_op-release_other : depth_for h.owner h.depth t ≡ 0
-      → breach_of_op es t (Release l) ≡ Some ReleaseNotHeld
-  breach_of_op-release_other none =
-      ap (λ b. cond b (Some ReleaseNotHeld) None) (eq-eqb (hold_count es t l) 0 (hold_count-IsHoldOf es l h is t ∙ none))
+  pub breach_of_op-release_other : depth_for h.owner h.depth t ≡ 0 → breach_of_op es t (Release l) ≡ Some ReleaseNotHeld
+  breach_of_op-release_other none = ap (λ b. cond b (Some ReleaseNotHeld) None) (eq-eqb (hold_count es t l) 0 (hold_count-IsHoldOf es l h is t ∙ none))
 
   -- where an acquire breaks no rule, the lock is free or the thread's own
-  IsOpenFor-cases : (owner : Option ℕ) → h.owner ≡ owner → breach_of_op es t (Acquire l) ≡ None
-      → IsOpenFor t owner
+  IsOpenFor-cases : (owner : Option ℕ) → h.owner ≡ owner → breach_of_op es t (Acquire l) ≡ None → IsOpenFor t owner
   IsOpenFor-cases None same kept = tt
   IsOpenFor-cases (Some u) same kept =
       elim (cases_eq u t) [
@@ -157,8 +149,7 @@ module _ (es : List Event) (l : ℕ) (h : Hold) (is : IsHoldOf es l h) (t : ℕ)
 
   -- where a release breaks no rule, the lock is the thread's own
   owner-cases : (owner : Option ℕ) → h.owner ≡ owner → breach_of_op es t (Release l) ≡ None → owner ≡ Some t
-  owner-cases None same kept =
-      absurd (none-some ReleaseNotHeld (sym kept ∙ breach_of_op-release_other (ap (λ o. depth_for o h.depth t) same)))
+  owner-cases None same kept = absurd (none-some ReleaseNotHeld (sym kept ∙ breach_of_op-release_other (ap (λ o. depth_for o h.depth t) same)))
   owner-cases (Some u) same kept =
       elim (cases_eq u t) [
         | inl mine ↦ ap Some mine
@@ -174,7 +165,6 @@ pub owner-from_test : (owner : Option ℕ) (t : ℕ) → option_eq nat_eq owner 
 owner-from_test None t is = absurd (true≢false (sym is))
 owner-from_test (Some u) t is = ap Some (eqb-true u t is)
 
-pub depth_for-from_test : (owner : Option ℕ) (depth t : ℕ) → option_eq nat_eq owner (Some t) ≡ false
-    → depth_for owner depth t ≡ 0
+pub depth_for-from_test : (owner : Option ℕ) (depth t : ℕ) → option_eq nat_eq owner (Some t) ≡ false → depth_for owner depth t ≡ 0
 depth_for-from_test None depth t is = refl
 depth_for-from_test (Some u) depth t is = depth_for-other (Some u) depth u refl t (λ same. eqb-false u t is (sym same))

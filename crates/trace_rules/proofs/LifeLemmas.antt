@@ -1,7 +1,7 @@
 -- What a table's life says of the events so far, and how it goes on.
 use Rattle.std.proofs.Common.{◌≡◌, ◌≢◌, ℕ, ◌<◌, ◌==◌, Bool, true, false, ◌&&◌, ◌||◌, cond, List, [], ◌∷◌, ◌++◌, length, set, slice_get, Some, None, refl, sym, ap, ap₂, ◌∙◌, eq-eqb, ne_eqb, inl, inr}
 use Rattle.std.specs.List.{list_any}
-use Rattle.std.proofs.Math.Bool.{or-false}
+use Rattle.std.proofs.Math.Bool.{or-false, or-true}
 use Rattle.rapid_text.specs.Operations.{is_fork, is_join}
 use Rattle.rapid_text.specs.declared.event.Event.{Event}
 use Rattle.rapid_text.specs.declared.event.Op.TheVariants.{Fork}
@@ -13,8 +13,7 @@ use Rattle.trace_rules.proofs.Counts.{list_any_push, list_any-or, slice_get-set}
 
 -- each part of a life goes on by its test
 pub IsLifeOf-push : (es : List Event) (t : ℕ) (e : Event) (s : Life) → IsLifeOf es t s → (after : Life)
-    → after.has_event ≡ (s.has_event || (e.thread == t))
-    → after.was_forked ≡ (s.was_forked || is_fork t e.op)
+    → after.has_event ≡ (s.has_event || (e.thread == t)) → after.was_forked ≡ (s.was_forked || is_fork t e.op)
     → after.was_joined ≡ (s.was_joined || is_join t e.op) → IsLifeOf (es ++ e ∷ []) t after
 IsLifeOf-push es t e s is after event forked joined =
     record {
@@ -38,6 +37,11 @@ pub record IsMarked (before : Life) (event forked joined : Bool) (after : Life) 
   pub was_forked : after.was_forked ≡ (before.was_forked || forked)
   pub was_joined : after.was_joined ≡ (before.was_joined || joined)
 
+-- a life with an event
+pub IsMarked-event : (x : Life) → IsMarked x true false false (record { has_event = true; was_forked = x.was_forked; was_joined = x.was_joined })
+IsMarked-event x =
+    record { has_event = sym (or-true x.has_event); was_forked = sym (or-false x.was_forked); was_joined = sym (or-false x.was_joined) }
+
 drop_false : (a b : Bool) → (a || (b && false)) ≡ a
 drop_false true b = refl
 drop_false false true = refl
@@ -60,12 +64,10 @@ life_before lives k x y within read t s at =
 
 module _ (es : List Event) (e : Event) (lives : List Life) (are : AreLivesOf es lives) (x y : Life) (within : e.thread < length lives) (read : slice_get lives e.thread ≡ Some x) (goes : IsMarked x true false false y) where
   -- past an event that forks and joins nobody
-  pub AreLivesOf-plain : ((t : ℕ) → (is_fork t e.op ≡ false) × (is_join t e.op ≡ false))
-      → AreLivesOf (es ++ e ∷ []) (set lives e.thread y)
+  pub AreLivesOf-plain : ((t : ℕ) → (is_fork t e.op ≡ false) × (is_join t e.op ≡ false)) → AreLivesOf (es ++ e ∷ []) (set lives e.thread y)
   AreLivesOf-plain none t s at =
       let was = life_before lives e.thread x y within read t s at in
-      IsLifeOf-push es t e was.0 (are t was.0 was.1) s
-      (was.2 (λ l. l.has_event) true goes.has_event ∙ keep_true was.0.has_event (e.thread == t))
+      IsLifeOf-push es t e was.0 (are t was.0 was.1) s (was.2 (λ l. l.has_event) true goes.has_event ∙ keep_true was.0.has_event (e.thread == t))
       (was.2 (λ l. l.was_forked) false goes.was_forked ∙ drop_false was.0.was_forked (e.thread == t) ∙ sym (or-false was.0.was_forked) ∙ ap (λ b. was.0.was_forked || b) (sym (none t).0))
       (was.2 (λ l. l.was_joined) false goes.was_joined ∙ drop_false was.0.was_joined (e.thread == t) ∙ sym (or-false was.0.was_joined) ∙ ap (λ b. was.0.was_joined || b) (sym (none t).1))
 

@@ -1,5 +1,5 @@
 -- The tables at an event, and past it.
-use Rattle.std.proofs.Common.{◌≡◌, ◌≢◌, ℕ, ◌+◌, ◌<◌, ◌==◌, Bool, true, false, ◌||◌, ◌⊎◌, cond, List, [], ◌∷◌, ◌++◌, length, take, get_or, set, slice_get, option_and_then, Option, Some, None, refl, sym, ap, ◌∙◌, subst, eq-eqb, ne_eqb, inl, inr}
+use Rattle.std.proofs.Common.{◌≡◌, ◌≢◌, ℕ, ◌+◌, ◌<◌, ◌==◌, Bool, true, false, ◌||◌, ◌⊎◌, cond, List, [], ◌∷◌, ◌++◌, length, take, get_or, set, slice_get, option_and_then, Option, Some, None, refl, sym, ap, ◌∙◌, eq-eqb, ne_eqb, inl, inr}
 use Rattle.std.proofs.lemmas.List.{take_more}
 use Rattle.std.proofs.lemmas.Option.{none-some, slice_get_read, slice_get_within, get_or_from_slice_get}
 use Rattle.std.specs.List.{list_any}
@@ -19,70 +19,63 @@ use Rattle.trace_rules.proofs.Counts.{slice_get-set}
 use Rattle.trace_rules.proofs.HoldLemmas.{IsHoldOf-other}
 
 -- the element read at a place is the one that stands there
-pub slice_get-read : {X : Type 0} (xs : List X) (n k : ℕ) (x : X) → length xs ≡ n → k < n
-    → x ≡ get_or xs k x → slice_get xs k ≡ Some x
+pub slice_get-read : {X : Type 0} (xs : List X) (n k : ℕ) (x : X) → length xs ≡ n → k < n → x ≡ get_or xs k x → slice_get xs k ≡ Some x
 slice_get-read xs n k x len within is = slice_get_read xs n k x (sym len) within is
 
 -- a test that succeeds decides
-pub cond-from_none : (b : Bool) (o : Option RuleCause) (why : RuleCause) → cond b (Some why) o ≡ None
-    → (b ≡ false) × (o ≡ None)
+pub cond-from_none : (b : Bool) (o : Option RuleCause) (why : RuleCause) → cond b (Some why) o ≡ None → (b ≡ false) × (o ≡ None)
 cond-from_none true o why is = absurd (none-some why (sym is))
 cond-from_none false o why is = (refl, is)
 
 module _ (T : List Event) (i : ℕ) (e : Event) (here : slice_get T i ≡ Some e) where
   -- the events up to this one and with it
   pub take-event : take (i + 1) T ≡ take i T ++ e ∷ []
-  take-event =
-      take_more T i e (slice_get_within T i e here) ∙ ap (λ x. take i T ++ x ∷ []) (get_or_from_slice_get T i e e here)
+  take-event = take_more T i e (slice_get_within T i e here) ∙ ap (λ x. take i T ++ x ∷ []) (get_or_from_slice_get T i e e here)
 
   pub breach_at-event : breach_at T i ≡ breach_of (take i T) e
   breach_at-event = ap (option_and_then (breach_of (take i T))) here
 
   module _ (life : Life) (is : IsLifeOf (take i T) e.thread life) where
-    -- an event of a joined thread
-    pub breach_at-after_join : life.was_joined ≡ true → breach_at T i ≡ Some AfterJoin
-    breach_at-after_join joined =
-        breach_at-event ∙ ap (λ b. cond b (Some AfterJoin) (breach_of_op (take i T) e.thread e.op)) (sym is.was_joined ∙ joined)
-
     -- an event of another thread is judged by its operation
     pub breach_at-op : life.was_joined ≡ false → breach_at T i ≡ breach_of_op (take i T) e.thread e.op
-    breach_at-op running =
-        breach_at-event ∙ ap (λ b. cond b (Some AfterJoin) (breach_of_op (take i T) e.thread e.op)) (sym is.was_joined ∙ running)
+    breach_at-op running = breach_at-event ∙ ap (λ b. cond b (Some AfterJoin) (breach_of_op (take i T) e.thread e.op)) (sym is.was_joined ∙ running)
 
   -- an event that breaks no rule
   pub breach_of_op-from_none : breach_at T i ≡ None → breach_of_op (take i T) e.thread e.op ≡ None
   breach_of_op-from_none kept =
       (cond-from_none (list_any (λ d. is_join e.thread d.op) (take i T)) (breach_of_op (take i T) e.thread e.op) AfterJoin (sym breach_at-event ∙ kept)).1
 
+  pub breach_of_op-kept : (op : Op) → e.op ≡ op → breach_at T i ≡ None → breach_of_op (take i T) e.thread op ≡ None
+  breach_of_op-kept op is kept = rw (← is) (breach_of_op-from_none kept)
+
   -- past an event that is no operation on a lock
-  pub AreHoldsOf-same : (holds : List Hold) → AreHoldsOf (take i T) holds
-      → ((l : ℕ) → (is_acquire l e.op ≡ false) × (is_release l e.op ≡ false))
+  pub AreHoldsOf-same : (holds : List Hold) → AreHoldsOf (take i T) holds → ((l : ℕ) → (is_acquire l e.op ≡ false) × (is_release l e.op ≡ false))
       → AreHoldsOf (take (i + 1) T) holds
-  AreHoldsOf-same holds are none l h at =
-      rw (take-event) (IsHoldOf-other (take i T) l e h (are l h at) (none l).0 (none l).1)
+  AreHoldsOf-same holds are none l h at = rw (take-event) (IsHoldOf-other (take i T) l e h (are l h at) (none l).0 (none l).1)
 
   -- past an operation on the lock m
-  pub AreHoldsOf-set : (holds : List Hold) (m : ℕ) (new : Hold) → m < length holds
-      → AreHoldsOf (take i T) holds → IsHoldOf (take i T ++ e ∷ []) m new
-      → ((l : ℕ) → l ≢ m → (is_acquire l e.op ≡ false) × (is_release l e.op ≡ false))
-      → AreHoldsOf (take (i + 1) T) (set holds m new)
+  pub AreHoldsOf-set : (holds : List Hold) (m : ℕ) (new : Hold) → m < length holds → AreHoldsOf (take i T) holds → IsHoldOf (take i T ++ e ∷ []) m new
+      → ((l : ℕ) → l ≢ m → (is_acquire l e.op ≡ false) × (is_release l e.op ≡ false)) → AreHoldsOf (take (i + 1) T) (set holds m new)
   AreHoldsOf-set holds m new within are is none l h at =
       rw (take-event)
       (elim (slice_get-set holds m l new h within at) [
-        | inl here ↦ subst (λ g. IsHoldOf (take i T ++ e ∷ []) l g) here.1 (subst (λ k. IsHoldOf (take i T ++ e ∷ []) k new) (sym here.0) is)
+        | inl here ↦ rw (← here.1) (rw here.0 is)
         | inr there ↦ IsHoldOf-other (take i T) l e h (are l h there.1) (none l there.0).0 (none l there.0).1
       ])
 
+-- the hold that is read in the table of a lock that the operation names
+pub hold_read : (r : Recording) (i l : ℕ) (holds : List Hold) (x : Hold) → AreHoldsOf (take i r.events) holds → length holds ≡ length r.locks
+    → l < length r.locks → x ≡ get_or holds l x → IsHoldOf (take i r.events) l x
+hold_read r i l holds x are len within read = are l x (slice_get-read holds (length r.locks) l x len within read)
+
 module _ (r : Recording) (i : ℕ) (s : State) (is : IsStateOf r i s) where
   -- the life that is read in the table
-  pub life_at : (t : ℕ) (x : Life) → t < length r.threads → x ≡ get_or s.lives.items t x
-      → IsLifeOf (take i r.events) t x
+  pub life_at : (t : ℕ) (x : Life) → t < length r.threads → x ≡ get_or s.lives.items t x → IsLifeOf (take i r.events) t x
   life_at t x within read = is.lives t x (slice_get-read s.lives.items (length r.threads) t x is.threads within read)
 
   -- the hold that is read in the table
-  pub hold_at : (l : ℕ) (x : Hold) → l < length r.locks → x ≡ get_or s.holds.items l x
-      → IsHoldOf (take i r.events) l x
-  hold_at l x within read = is.holds l x (slice_get-read s.holds.items (length r.locks) l x is.locks within read)
+  pub hold_at : (l : ℕ) (x : Hold) → l < length r.locks → x ≡ get_or s.holds.items l x → IsHoldOf (take i r.events) l x
+  hold_at l x within read = hold_read r i l s.holds.items x is.holds is.locks within read
 
   -- an event whose thread was not joined is judged by its operation
   pub breach_at-running : (e : Event) (op : Op) (x : Life) → slice_get r.events i ≡ Some e
@@ -107,16 +100,13 @@ abbrev pub IsApartFrom : ℕ → Op → Type 0
 IsApartFrom l op = (is_acquire l op ≡ false) × (is_release l op ≡ false)
 
 pub IsApartFrom-acquire : (op : Op) (m : ℕ) → op ≡ Acquire m → (l : ℕ) → l ≢ m → IsApartFrom l op
-IsApartFrom-acquire op m is l other =
-    (ap (is_acquire l) is ∙ ne_eqb m l (λ same. other (sym same)), ap (is_release l) is)
+IsApartFrom-acquire op m is l other = (ap (is_acquire l) is ∙ ne_eqb m l (λ same. other (sym same)), ap (is_release l) is)
 
 pub IsApartFrom-release : (op : Op) (m : ℕ) → op ≡ Release m → (l : ℕ) → l ≢ m → IsApartFrom l op
-IsApartFrom-release op m is l other =
-    (ap (is_acquire l) is, ap (is_release l) is ∙ ne_eqb m l (λ same. other (sym same)))
+IsApartFrom-release op m is l other = (ap (is_acquire l) is, ap (is_release l) is ∙ ne_eqb m l (λ same. other (sym same)))
 
 -- the other operations
-pub IsApartFrom-rest : (op : Op)
-    → (((x : ℕ) × (op ≡ Read x)) ⊎ (((x : ℕ) × (op ≡ Write x)) ⊎ (((x : ℕ) × (op ≡ Fork x)) ⊎ ((x : ℕ) × (op ≡ Join x)))))
+pub IsApartFrom-rest : (op : Op) → (((x : ℕ) × (op ≡ Read x)) ⊎ (((x : ℕ) × (op ≡ Write x)) ⊎ (((x : ℕ) × (op ≡ Fork x)) ⊎ ((x : ℕ) × (op ≡ Join x)))))
     → (l : ℕ) → IsApartFrom l op
 IsApartFrom-rest op (inl is) l = (ap (is_acquire l) is.1, ap (is_release l) is.1)
 IsApartFrom-rest op (inr (inl is)) l = (ap (is_acquire l) is.1, ap (is_release l) is.1)

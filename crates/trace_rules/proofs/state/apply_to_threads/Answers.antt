@@ -4,7 +4,7 @@ use Rattle.rapid_text.specs.Operations.{is_fork, is_join}
 use Rattle.rapid_text.specs.Recording.{IsNamedOp}
 use Rattle.trace_rules.specs.declared.life.Life.{Life}
 use Rattle.trace_rules.proofs.Counts.{and-true, and-false}
-use Rattle.trace_rules.proofs.LifeLemmas.{AreLivesOf-plain, AreLivesOf-marked}
+use Rattle.trace_rules.proofs.LifeLemmas.{IsMarked-event, AreLivesOf-plain, AreLivesOf-marked}
 use Rattle.trace_rules.proofs.TableLemmas.{slice_get-read, take-event, IsForkless-rest}
 use Rattle.trace_rules.proofs.state.apply_to_threads.Goals as goal
 
@@ -23,11 +23,10 @@ returns-in-Fork-clause-tables c =
     let within : thread < length r.threads = subst (IsNamedOp r) c.in-Fork.is named.1 in
     let same : length (set lives e.thread y) ≡ length r.threads = length-set lives e.thread y ∙ c.requires.threads in
     rw (take-event r.events c.args.at e c.event-event.ensures.found)
-    (AreLivesOf-marked _ e lives c.requires.tables x y own (slice_get-read lives (length r.threads) e.thread x c.requires.threads named.0 c.index_mut.ensures.value) (record {
-      has_event = sym (or-true x.has_event);
-      was_forked = sym (or-false x.was_forked);
-      was_joined = sym (or-false x.was_joined);
-    }) thread v w true false (omega (arith, same, within)) (slice_get-read (set lives e.thread y) (length r.threads) thread v same within c.index_mut-in-Fork.ensures.value) (record {
+    (AreLivesOf-marked _ e lives c.requires.tables x y own
+    (slice_get-read lives (length r.threads) e.thread x c.requires.threads named.0 c.index_mut.ensures.value)
+    (IsMarked-event x) thread v w true false (omega (arith, same, within))
+    (slice_get-read (set lives e.thread y) (length r.threads) thread v same within c.index_mut-in-Fork.ensures.value) (record {
       has_event = sym (or-false v.has_event);
       was_forked = sym (or-true v.was_forked);
       was_joined = sym (or-false v.was_joined);
@@ -48,11 +47,10 @@ returns-in-Join-clause-tables c =
     let within : thread < length r.threads = subst (IsNamedOp r) c.in-Join.is named.1 in
     let same : length (set lives e.thread y) ≡ length r.threads = length-set lives e.thread y ∙ c.requires.threads in
     rw (take-event r.events c.args.at e c.event-event.ensures.found)
-    (AreLivesOf-marked _ e lives c.requires.tables x y own (slice_get-read lives (length r.threads) e.thread x c.requires.threads named.0 c.index_mut.ensures.value) (record {
-      has_event = sym (or-true x.has_event);
-      was_forked = sym (or-false x.was_forked);
-      was_joined = sym (or-false x.was_joined);
-    }) thread v w false true (omega (arith, same, within)) (slice_get-read (set lives e.thread y) (length r.threads) thread v same within c.index_mut-in-Join.ensures.value) (record {
+    (AreLivesOf-marked _ e lives c.requires.tables x y own
+    (slice_get-read lives (length r.threads) e.thread x c.requires.threads named.0 c.index_mut.ensures.value)
+    (IsMarked-event x) thread v w false true (omega (arith, same, within))
+    (slice_get-read (set lives e.thread y) (length r.threads) thread v same within c.index_mut-in-Join.ensures.value) (record {
       has_event = sym (or-false v.has_event);
       was_forked = sym (or-false v.was_forked);
       was_joined = sym (or-true v.was_joined);
@@ -68,8 +66,6 @@ returns-in-Read-clause-tables c =
     let y : Life = record { has_event = true; was_forked = x.was_forked; was_joined = x.was_joined } in
     let own : e.thread < length lives = omega (arith, named.0, c.requires.threads) in
     rw (take-event r.events c.args.at e c.event-event.ensures.found)
-    (AreLivesOf-plain _ e lives c.requires.tables x y own (slice_get-read lives (length r.threads) e.thread x c.requires.threads named.0 c.index_mut.ensures.value) (record {
-      has_event = sym (or-true x.has_event);
-      was_forked = sym (or-false x.was_forked);
-      was_joined = sym (or-false x.was_joined);
-    }) (IsForkless-rest e.op c.in-Read.is))
+    (AreLivesOf-plain _ e lives c.requires.tables x y own
+    (slice_get-read lives (length r.threads) e.thread x c.requires.threads named.0 c.index_mut.ensures.value)
+    (IsMarked-event x) (IsForkless-rest e.op c.in-Read.is))

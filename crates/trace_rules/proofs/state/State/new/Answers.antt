@@ -1,6 +1,5 @@
-use Rattle.std.proofs.Common.{◌≡◌, [], length, replicate, slice_get, sym, ap, ◌∙◌, subst}
+use Rattle.std.proofs.Common.{◌≡◌, length, replicate, slice_get, sym, ap, ◌∙◌}
 use Rattle.std.proofs.Math.ListN.{length-replicate}
-use Rattle.trace_rules.specs.Tables.{IsHoldOf, IsLifeOf}
 use Rattle.trace_rules.proofs.Counts.{slice_get-replicate}
 use Rattle.trace_rules.proofs.state.State.new.Goals as goal
 
@@ -12,6 +11,6 @@ returns c =
     record {
       locks = ap length holds ∙ length-replicate c.locks.result c.free.result ∙ c.locks.ensures.len;
       threads = ap length lives ∙ length-replicate c.threads.result c.unborn.result ∙ c.threads.ensures.len;
-      holds = λ l h at. subst (λ x. IsHoldOf [] l x) (slice_get-replicate c.locks.result l c.free.result h (ap (λ xs. slice_get xs l) (sym holds) ∙ at)) (c.free.ensures l);
-      lives = λ t s at. subst (λ x. IsLifeOf [] t x) (slice_get-replicate c.threads.result t c.unborn.result s (ap (λ xs. slice_get xs t) (sym lives) ∙ at)) (c.unborn.ensures t);
+      holds = λ l h at. rw (← slice_get-replicate c.locks.result l c.free.result h (ap (λ xs. slice_get xs l) (sym holds) ∙ at)) (c.free.ensures l);
+      lives = λ t s at. rw (← slice_get-replicate c.threads.result t c.unborn.result s (ap (λ xs. slice_get xs t) (sym lives) ∙ at)) (c.unborn.ensures t);
     }
