@@ -73,9 +73,7 @@ or_else-some None p b h = inr (refl, h)
 or_else-some (Some e) p b h = inl h
 
 -- a base is the event of the thread before it, or else the fork of the thread
-pub base_by-some :
-    (T : List Event) (e b : ℕ) (o : Option Event)
-    → base_by T e o ≡ Some b
+pub base_by-some : (T : List Event) (e b : ℕ) (o : Option Event) → base_by T e o ≡ Some b
     → (v : Event) × (o ≡ Some v) × ((find (is_of_thread T v.thread) (reverse (before e)) ≡ Some b) ⊎ ((find (is_of_thread T v.thread) (reverse (before e)) ≡ None) × (fork_of T v.thread ≡ Some b)))
 base_by-some T e b None h = never b h
 base_by-some T e b (Some v) h = (v, refl, or_else-some (find (is_of_thread T v.thread) (reverse (before e))) (fork_of T v.thread) b h)
@@ -144,15 +142,7 @@ place_of-le T e within = place_by-le T e (slice_get T e) within
 -- the events of a thread are events of the trace
 pub events_of-within : (T : List Event) (t : ℕ) → All (λ e. e < length T) (events_of T t)
 events_of-within T t =
-    All-filter
-    (is_of_thread T t)
-    (λ e. e < length T)
-    (before (length T))
-    (All-from_get_or
-    (λ e. e < length T)
-    (before (length T))
-    0
-    (λ i lt.
+    All-filter (is_of_thread T t) (λ e. e < length T) (before (length T)) (All-from_get_or (λ e. e < length T) (before (length T)) 0 (λ i lt.
     let size = length-range_with_len 0 (length T) in
     let here = get_or-range_with_len 0 (length T) i 0 (omega (arith, size)) in
     omega (arith, here, size)))
@@ -160,11 +150,7 @@ events_of-within T t =
 -- and of the thread
 pub events_of-thread : (T : List Event) (t : ℕ) → All (λ e. thread_at T e ≡ Some t) (events_of T t)
 events_of-thread T t =
-    All-weaker
-    (λ e. is_of_thread T t e ≡ true)
-    (λ e. thread_at T e ≡ Some t)
-    (λ e h. is_of_thread-thread T t e h)
-    (events_of T t)
+    All-weaker (λ e. is_of_thread T t e ≡ true) (λ e. thread_at T e ≡ Some t) (λ e h. is_of_thread-thread T t e h) (events_of T t)
     (filter_passes (is_of_thread T t) (before (length T)))
 
 -- there are no more of them than events

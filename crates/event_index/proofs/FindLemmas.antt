@@ -1,5 +1,5 @@
 -- What a look for the first element that passes a test tells, of any list.
-use Rattle.std.proofs.Common.{◌≡◌, ℕ, zero, suc, ◌<◌, Bool, true, false, cond, List, [], ◌∷◌, find, All, Contains, length, Option, Some, None, sym, refl, ap, ◌∙◌, subst, arith, inl, inr}
+use Rattle.std.proofs.Common.{◌≡◌, zero, suc, Bool, true, false, cond, List, [], ◌∷◌, find, All, Contains, Some, None, sym, refl, ap, ◌∙◌, arith, inl, inr}
 use Rattle.std.proofs.lemmas.Bool.{cases_Bool, cond-true, cond-false}
 use Rattle.std.proofs.lemmas.List.Elements.{All-nil, All-cons, All-head, All-tail}
 use Rattle.std.proofs.lemmas.Option.{none-some, same_Some}
@@ -19,7 +19,7 @@ module _ {X : Type 0} (p : X → Bool) where
   pub find-passes : (xs : List X) (x : X) → find p xs ≡ Some x → p x ≡ true
   find-passes [] x is = absurd (none-some x is)
   find-passes (y ∷ xs) x is = elim (cases_Bool (p y)) [
-    | inl passes ↦ subst (λ (z : X). p z ≡ true) (same_Some y x (sym (cond-true (p y) (Some y) (find p xs) passes) ∙ is)) passes
+    | inl passes ↦ rw (← same_Some y x (sym (cond-true (p y) (Some y) (find p xs) passes) ∙ is)) passes
     | inr fails ↦ find-passes xs x (sym (cond-false (p y) (Some y) (find p xs) fails) ∙ is)
   ]
 
@@ -37,7 +37,7 @@ module _ {X : Type 0} (p : X → Bool) where
       cond-false (p y) (Some y) (find p xs) (All-head (λ x. p x ≡ false) y xs all) ∙ all_fail-find xs (All-tail (λ x. p x ≡ false) y xs all)
 
   pub find-fails : (xs : List X) (x : X) → find p xs ≡ None → Contains xs x → p x ≡ false
-  find-fails xs x none (k, lt, at) = subst (λ (z : X). p z ≡ false) at (find-all_fail xs none k x lt)
+  find-fails xs x none (k, lt, at) = rw (← at) (find-all_fail xs none k x lt)
 
 -- two tests that agree find the same
 pub find-same : {X : Type 0} (p r : X → Bool) → ((x : X) → p x ≡ r x) → (xs : List X) → find p xs ≡ find r xs

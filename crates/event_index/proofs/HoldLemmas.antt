@@ -1,5 +1,5 @@
 -- How often a thread holds a lock, event by event, in a trace that keeps the rules.
-use Rattle.std.proofs.Common.{◌≡◌, ◌≢◌, ℕ, ◌+◌, ◌<◌, ◌≤◌, ◌⊎◌, Bool, true, false, cond, eqb, ◌&&◌, List, Some, take, refl, ap, ◌∙◌, subst, arith, eq-eqb, inl, inr}
+use Rattle.std.proofs.Common.{◌≡◌, ◌≢◌, ℕ, ◌+◌, ◌<◌, ◌≤◌, ◌⊎◌, Bool, true, false, cond, eqb, ◌&&◌, List, Some, take, refl, ap, ◌∙◌, arith, eq-eqb, inl, inr}
 use Rattle.std.specs.List.{slice_get}
 use Rattle.std.proofs.lemmas.Bool.{eqb-true, ne_eqb, cases_Bool, and_parts, and_from, and_left, and_right}
 use Rattle.rapid_text.specs.Operations.{is_acquire, is_release}
@@ -66,13 +66,12 @@ freed_has : (T : List Event) → IsDisciplined T → (i t l : ℕ) (v : Event) �
 freed_has T rules i t l v at h =
     let is = frees_is v t l h in
     let held : 0 < hold_count (take i T) v.thread l = rules.releases_held i l v at is.1 in
-    let mine : 0 < hold_count (take i T) t l = subst (λ (u : ℕ). 0 < hold_count (take i T) u l) is.0 held in
+    let mine : 0 < hold_count (take i T) t l = rw (← is.0) held in
     omega (arith, mine)
 
 -- an event that neither takes nor frees the lock for the thread
 pub hold_same : (T : List Event) (i t l : ℕ) (v : Event) → slice_get T i ≡ Some v → takes v t l ≡ false → frees v t l ≡ false → hold_count (take (i + 1) T) t l ≡ hold_count (take i T) t l
-hold_same T i t l v at h k =
-    omega (arith, taken_more T i t l v at, freed_more T i t l v at, as_none (takes v t l) h, as_none (frees v t l) k)
+hold_same T i t l v at h k = omega (arith, taken_more T i t l v at, freed_more T i t l v at, as_none (takes v t l) h, as_none (frees v t l) k)
 
 -- one that takes it
 pub hold_taken : (T : List Event) → IsDisciplined T → (i t l : ℕ) (v : Event) → slice_get T i ≡ Some v → takes v t l ≡ true → frees v t l ≡ false → hold_count (take (i + 1) T) t l ≡ hold_count (take i T) t l + 1
@@ -99,10 +98,7 @@ hold_freed T rules i t l v at h k =
     )
 
 -- what an event does to a hold: it takes, it frees, or it leaves it
-pub hold_cases :
-    (T : List Event) → IsDisciplined T
-    → (i t l : ℕ) (v : Event)
-    → slice_get T i ≡ Some v
+pub hold_cases : (T : List Event) → IsDisciplined T → (i t l : ℕ) (v : Event) → slice_get T i ≡ Some v
     → (hold_count (take i T) t l ≤ hold_count (take (i + 1) T) t l)
     ⊎ ((frees v t l ≡ true) × (hold_count (take (i + 1) T) t l + 1 ≡ hold_count (take i T) t l))
 hold_cases T rules i t l v at =

@@ -1,8 +1,8 @@
 -- The place of an event and the list of its thread's events tell the same.
-use Rattle.std.proofs.Common.{◌≡◌, ℕ, zero, suc, ◌+◌, ◌-◌, ◌<◌, ◌≤◌, Bool, true, false, cond, eqb, List, [], ◌∷◌, ◌++◌, Some, length, get_or, refl, sym, ap, ◌∙◌, subst, arith, add-one, append-nil, inl, inr, le_refl}
+use Rattle.std.proofs.Common.{◌≡◌, ℕ, zero, suc, ◌+◌, ◌<◌, ◌≤◌, Bool, true, false, cond, eqb, List, [], ◌∷◌, ◌++◌, Some, length, get_or, refl, sym, ap, ◌∙◌, subst, arith, add-one, append-nil, inl, inr, le_refl}
 use Rattle.std.specs.List.{filter, slice_get}
 use Rattle.std.specs.Option.{option_map}
-use Rattle.std.proofs.lemmas.Bool.{eq-eqb, eqb-true, cases_Bool, cases_lt}
+use Rattle.std.proofs.lemmas.Bool.{eq-eqb, eqb-true, cases_Bool, cases_eq, cases_lt}
 use Rattle.std.proofs.lemmas.List.{length_push, get_or_append_left, get_or_push}
 use Rattle.std.proofs.lemmas.Option.{none-some, same_Some, slice_get-get_or, slice_get_within, get_or_from_slice_get}
 use Rattle.rapid_text.specs.declared.event.Event.{Event}
@@ -22,9 +22,7 @@ more_yes T t e h = filter_more_before (is_of_thread T t) e ∙ ap (λ b. events_
 
 more_no : (T : List Event) (t e : ℕ) → is_of_thread T t e ≡ false → events_before T t (e + 1) ≡ events_before T t e
 more_no T t e h =
-    filter_more_before (is_of_thread T t) e
-    ∙ ap (λ b. events_before T t e ++ cond b (e ∷ []) []) h
-    ∙ append-nil (events_before T t e)
+    filter_more_before (is_of_thread T t) e ∙ ap (λ b. events_before T t e ++ cond b (e ∷ []) []) h ∙ append-nil (events_before T t e)
 
 -- there are as many of them as the count says
 pub length-events_before : (T : List Event) (t e : ℕ) → e ≤ length T → length (events_before T t e) ≡ count_before T e t
@@ -36,9 +34,7 @@ length-events_before T t (suc e) within =
     let before_it : length (events_before T t e) ≡ count_before T e t = length-events_before T t e (omega arith) in
     let count : count_before T (e + 1) t ≡ count_before T e t + cond (eqb v.thread t) 1 0 = count_more (λ w. eqb w.thread t) T e v at in
     let test : is_of_thread T t e ≡ eqb v.thread t = passes_here (λ w. eqb w.thread t) T e v at in
-    subst
-    (λ (n : ℕ). length (events_before T t n) ≡ count_before T n t)
-    (add-one e)
+    subst (λ (n : ℕ). length (events_before T t n) ≡ count_before T n t) (add-one e)
     (elim (cases_Bool (eqb v.thread t)) [
       | inl passes ↦
           let one : ◌≡◌ {A = ℕ} (cond (eqb v.thread t) 1 0) 1 = ap (λ (b : Bool). cond b 1 0) passes in
@@ -57,45 +53,29 @@ kept xs y k e at =
 
 -- the last one
 at_end : (xs : List ℕ) (y k : ℕ) → length xs ≡ k → slice_get (xs ++ y ∷ []) k ≡ Some y
-at_end xs y k size =
-    slice_get-get_or (xs ++ y ∷ []) k y (omega (arith, size, length_push xs y)) ∙ ap Some (get_or_push xs y y k size)
+at_end xs y k size = slice_get-get_or (xs ++ y ∷ []) k y (omega (arith, size, length_push xs y)) ∙ ap Some (get_or_push xs y y k size)
 
-placed : (T : List Event) (e : ℕ) (v : Event) → slice_get T e ≡ Some v → (k : ℕ) → e + 1 + k ≤ length T → slice_get (events_before T v.thread (e + 1 + k)) (count_before T e v.thread) ≡ Some e
-placed T e v at zero within =
-    let size = length-events_before T v.thread e (omega arith) in
-    let test : is_of_thread T v.thread e ≡ true = passes_here (λ w. eqb w.thread v.thread) T e v at ∙ eq-eqb v.thread v.thread refl in
-    let here : e + 1 ≡ e + 1 + 0 = omega arith in
-    subst
-    (λ (n : ℕ). slice_get (events_before T v.thread n) (count_before T e v.thread) ≡ Some e)
-    here
-    (ap (λ (xs : List ℕ). slice_get xs (count_before T e v.thread)) (more_yes T v.thread e test)
-    ∙ at_end (events_before T v.thread e) e (count_before T e v.thread) size)
-placed T e v at (suc k) within =
-    let before_it = placed T e v at k (omega arith) in
-    let next : e + 1 + k + 1 ≡ e + 1 + suc k = omega arith in
-    subst
-    (λ (n : ℕ). slice_get (events_before T v.thread n) (count_before T e v.thread) ≡ Some e)
-    next
-    (elim (cases_Bool (is_of_thread T v.thread (e + 1 + k))) [
-      | inl passes ↦
-          ap (λ (xs : List ℕ). slice_get xs (count_before T e v.thread)) (more_yes T v.thread (e + 1 + k) passes)
-          ∙ kept (events_before T v.thread (e + 1 + k)) (e + 1 + k) (count_before T e v.thread) e before_it
-      | inr fails ↦
-          ap (λ (xs : List ℕ). slice_get xs (count_before T e v.thread)) (more_no T v.thread (e + 1 + k) fails) ∙ before_it
+placed : (T : List Event) (e : ℕ) (v : Event) → slice_get T e ≡ Some v → (n : ℕ) → e < n → n ≤ length T
+    → slice_get (events_before T v.thread n) (count_before T e v.thread) ≡ Some e
+placed T e v at zero low within = absurd (omega arith)
+placed T e v at (suc n) low within =
+    subst (λ (m : ℕ). slice_get (events_before T v.thread m) (count_before T e v.thread) ≡ Some e) (add-one n)
+    (elim (cases_eq e n) [
+      | inl here ↦
+          let test : is_of_thread T v.thread e ≡ true = passes_here (λ w. eqb w.thread v.thread) T e v at ∙ eq-eqb v.thread v.thread refl in
+          rw (← here) (rw (more_yes T v.thread e test)
+          (at_end (events_before T v.thread e) e (count_before T e v.thread) (length-events_before T v.thread e (omega arith))))
+      | inr other ↦
+          let before_it = placed T e v at n (omega arith) (omega arith) in
+          elim (cases_Bool (is_of_thread T v.thread n)) [
+            | inl passes ↦ rw (more_yes T v.thread n passes) (kept (events_before T v.thread n) n (count_before T e v.thread) e before_it)
+            | inr fails ↦ rw (more_no T v.thread n fails) before_it
+          ]
     ])
 
 -- an event stands at its place among the events of its thread
 pub events_of-place : (T : List Event) (e : ℕ) (v : Event) → slice_get T e ≡ Some v → slice_get (events_of T v.thread) (place_of T e) ≡ Some e
-events_of-place T e v at =
-    let within = slice_get_within T e v at in
-    let all : e + 1 + (length T - (e + 1)) ≡ length T = omega arith in
-    subst
-    (λ (k : ℕ). slice_get (events_of T v.thread) k ≡ Some e)
-    (sym (place_of-count T e v at))
-    (subst
-    (λ (n : ℕ). slice_get (events_before T v.thread n) (count_before T e v.thread) ≡ Some e)
-    all
-    (placed T e v at (length T - (e + 1)) (omega arith)))
+events_of-place T e v at = rw (place_of-count T e v at) (placed T e v at (length T) (slice_get_within T e v at) (le_refl (length T)))
 
 -- what is read from a list with one more at its end
 read_push : (xs : List ℕ) (y k e : ℕ) → slice_get (xs ++ y ∷ []) k ≡ Some e → length xs ≤ k → (length xs ≡ k) × (y ≡ e)
@@ -112,7 +92,7 @@ read_before xs y k e at early =
 found_at : (T : List Event) (t n k e : ℕ) → n ≤ length T → slice_get (events_before T t n) k ≡ Some e → (e < n) × (is_of_thread T t e ≡ true) × (count_before T e t ≡ k)
 found_at T t zero k e within at = absurd (none-some e at)
 found_at T t (suc n) k e within at =
-    let now : slice_get (events_before T t (n + 1)) k ≡ Some e = subst (λ (m : ℕ). slice_get (events_before T t m) k ≡ Some e) (sym (add-one n)) at in
+    let now : slice_get (events_before T t (n + 1)) k ≡ Some e = rw (add-one n) at in
     elim (cases_Bool (is_of_thread T t n)) [
       | inl passes ↦
           let pushed : slice_get (events_before T t n ++ n ∷ []) k ≡ Some e = ap (λ (xs : List ℕ). slice_get xs k) (sym (more_yes T t n passes)) ∙ now in
@@ -133,9 +113,7 @@ found_at T t (suc n) k e within at =
     ]
 
 -- what stands at place k among the events of a thread is an event of the thread, and k is its place
-pub place_of-events_of :
-    (T : List Event) (t k e : ℕ)
-    → slice_get (events_of T t) k ≡ Some e
+pub place_of-events_of : (T : List Event) (t k e : ℕ) → slice_get (events_of T t) k ≡ Some e
     → (e < length T) × (thread_at T e ≡ Some t) × (place_of T e ≡ k)
 place_of-events_of T t k e at =
     let found = found_at T t (length T) k e (le_refl (length T)) at in

@@ -1,5 +1,5 @@
 -- The tests of two events agree with the relations that they stand for.
-use Rattle.std.proofs.Common.{◌≡◌, ◌≢◌, ℕ, Bool, true, false, not, ◌&&◌, ◌||◌, eqb, List, Option, Some, None, Decides, refl, sym, ◌∙◌, subst, ⊎_elim, true≢false, eq-eqb}
+use Rattle.std.proofs.Common.{◌≡◌, ◌≢◌, ℕ, Bool, true, false, not, ◌&&◌, ◌||◌, eqb, List, Option, Some, None, Decides, refl, sym, ◌∙◌, ⊎_elim, true≢false, eq-eqb}
 use Rattle.std.proofs.Math.Bool.{or_comm}
 use Rattle.std.proofs.lemmas.Bool.{eqb-true, eqb-false, ne_eqb, and_parts, and_from, or_cases, or_left, or_right, not-true, not_from_false, false_from_ne_true}
 use Rattle.std.specs.List.{slice_get}
@@ -29,8 +29,8 @@ clash_found a b h = false_no h
 clash_shown : (a b : Op) (x : ℕ) → ClashOn a b x → is_clash_of_ops a b ≡ true
 clash_shown (Read y) b x h =
     let same_variable : y ≡ x = ⊎_elim (eqb-true y x) false_no (or_cases (eqb y x) false h.0) in
-    subst (λ (z : ℕ). is_write z b ≡ true) (sym same_variable) h.2
-clash_shown (Write y) b x h = subst (λ (z : ℕ). is_access z b ≡ true) (sym (eqb-true y x h.0)) h.1
+    rw same_variable h.2
+clash_shown (Write y) b x h = rw (eqb-true y x h.0) h.1
 clash_shown a b x h = false_no h.0
 
 pub Decides-is_clash : (v w : Event) → Decides (is_clash v w) (Clash v w)
@@ -45,11 +45,7 @@ Decides-is_clash v w = (
         second = found.1.1;
         writes = found.1.2;
       },
-  λ clash.
-      and_from
-      (not (eqb v.thread w.thread))
-      (is_clash_of_ops v.op w.op)
-      (not_from_false _ (ne_eqb v.thread w.thread clash.threads))
+  λ clash. and_from (not (eqb v.thread w.thread)) (is_clash_of_ops v.op w.op) (not_from_false _ (ne_eqb v.thread w.thread clash.threads))
       (clash_shown v.op w.op clash.variable (clash.first, clash.second, clash.writes)),
 )
 
@@ -63,8 +59,8 @@ tie_from_clash a b h = false_no h
 tie_from_lock : (a b : Op) (l : ℕ) → is_on_lock l a ≡ true → is_on_lock l b ≡ true → is_tie_of_ops a b ≡ true
 tie_from_lock (Acquire m) b l h k =
     let same_lock : m ≡ l = ⊎_elim (eqb-true m l) false_no (or_cases (eqb m l) false h) in
-    subst (λ (z : ℕ). is_on_lock z b ≡ true) (sym same_lock) k
-tie_from_lock (Release m) b l h k = subst (λ (z : ℕ). is_on_lock z b ≡ true) (sym (eqb-true m l h)) k
+    rw same_lock k
+tie_from_lock (Release m) b l h k = rw (eqb-true m l h) k
 tie_from_lock a b l h k = false_no h
 
 tie_from_fork : (a b : Op) (u : ℕ) → a ≡ Fork u → b ≡ Join u → is_tie_of_ops a b ≡ true
@@ -81,22 +77,14 @@ on_thread_join op u e = rw e (same u)
 
 not_on_thread : (u : ℕ) (op : Op) → op ≢ Fork u → op ≢ Join u → is_on_thread u op ≡ false
 not_on_thread u op f j =
-    false_from_ne_true
-    (is_on_thread u op)
+    false_from_ne_true (is_on_thread u op)
     (λ h. ⊎_elim (λ e. f (fork-from_test u op e)) (λ e. j (join-from_test u op e)) (or_cases (is_fork u op) (is_join u op) h))
 
 -- operations with none of the four ties are not tied
-no_tie :
-    (a b : Op)
-    → ((x : ℕ) → ¬ ClashOn a b x)
-    → ((l : ℕ) → is_on_lock l a ≡ true → is_on_lock l b ≢ true)
-    → ((u : ℕ) → a ≡ Fork u → b ≢ Join u)
-    → ((u : ℕ) → a ≡ Join u → b ≢ Fork u)
-    → is_tie_of_ops a b ≡ false
-no_tie (Read x) b c l f j =
-    false_from_ne_true (is_write x b) (λ h. let found = clash_found (Read x) b h in c found.0 found.1)
-no_tie (Write x) b c l f j =
-    false_from_ne_true (is_access x b) (λ h. let found = clash_found (Write x) b h in c found.0 found.1)
+no_tie : (a b : Op) → ((x : ℕ) → ¬ ClashOn a b x) → ((l : ℕ) → is_on_lock l a ≡ true → is_on_lock l b ≢ true) → ((u : ℕ) → a ≡ Fork u → b ≢ Join u)
+    → ((u : ℕ) → a ≡ Join u → b ≢ Fork u) → is_tie_of_ops a b ≡ false
+no_tie (Read x) b c l f j = false_from_ne_true (is_write x b) (λ h. let found = clash_found (Read x) b h in c found.0 found.1)
+no_tie (Write x) b c l f j = false_from_ne_true (is_access x b) (λ h. let found = clash_found (Write x) b h in c found.0 found.1)
 no_tie (Acquire m) b c l f j = false_from_ne_true (is_on_lock m b) (l m (or_left (eqb m m) false (same m)))
 no_tie (Release m) b c l f j = false_from_ne_true (is_on_lock m b) (l m (same m))
 no_tie (Fork u) b c l f j = false_from_ne_true (is_join u b) (λ h. f u refl (join-from_test u b h))
@@ -115,9 +103,7 @@ apart_from_test v w h =
     let second_off : (is_on_thread v.thread w.op ≡ true) → ⊥ = λ e. true≢false (sym e ∙ not-true _ more.1) in
     record {
       threads = eqb-false v.thread w.thread (not-true _ others.0);
-      no_clash = λ clash.
-          no_tie_here
-          (tie_from_clash v.op w.op (clash_shown v.op w.op clash.variable (clash.first, clash.second, clash.writes)));
+      no_clash = λ clash. no_tie_here (tie_from_clash v.op w.op (clash_shown v.op w.op clash.variable (clash.first, clash.second, clash.writes)));
       no_lock = λ l e k. no_tie_here (tie_from_lock v.op w.op l e k);
       first_no_fork = λ e. first_off (on_thread_fork v.op w.thread e);
       first_no_join = λ e. first_off (on_thread_join v.op w.thread e);
@@ -132,15 +118,8 @@ test_from_apart v w apart =
     let threads = not_from_false _ (ne_eqb v.thread w.thread apart.threads) in
     let first = not_from_false _ (not_on_thread w.thread v.op apart.first_no_fork apart.first_no_join) in
     let second = not_from_false _ (not_on_thread v.thread w.op apart.second_no_fork apart.second_no_join) in
-    let ops = not_from_false _
-    (no_tie
-    v.op
-    w.op
-    (λ x on.
-    apart.no_clash
-    (record { threads = apart.threads; variable = x; first = on.0; second = on.1; writes = on.2 }))
-    apart.no_lock
-    apart.no_fork_and_join
+    let ops = not_from_false _ (no_tie v.op w.op (λ x on. apart.no_clash
+    (record { threads = apart.threads; variable = x; first = on.0; second = on.1; writes = on.2 })) apart.no_lock apart.no_fork_and_join
     apart.no_join_and_fork) in
     and_from _ _ (and_from _ _ (and_from _ _ threads first) second) ops
 
@@ -148,16 +127,11 @@ pub Decides-is_apart : (v w : Event) → Decides (is_apart v w) (AreApart v w)
 Decides-is_apart v w = (apart_from_test v w, test_from_apart v w)
 
 -- a test of two events that are there
-both_there :
-    (test : Event → Event → Bool) (T : List Event) (a b : ℕ) (v w : Event)
-    → slice_get T a ≡ Some v
-    → slice_get T b ≡ Some w
+both_there : (test : Event → Event → Bool) (T : List Event) (a b : ℕ) (v w : Event) → slice_get T a ≡ Some v → slice_get T b ≡ Some w
     → pass_both test (slice_get T a) (slice_get T b) ≡ test v w
 both_there test T a b v w e f = rw (e, f)
 
-found_both :
-    (test : Event → Event → Bool) (a b : Option Event)
-    → pass_both test a b ≡ true
+found_both : (test : Event → Event → Bool) (a b : Option Event) → pass_both test a b ≡ true
     → (v : Event) × (w : Event) × (a ≡ Some v) × (b ≡ Some w) × (test v w ≡ true)
 found_both test None b h = false_no h
 found_both test (Some v) None h = false_no h
@@ -175,9 +149,7 @@ Decides-is_conflict T a b = (
         second = found.3;
         clash = (Decides-is_clash found.0 found.1).0 found.4;
       },
-  λ conflict.
-      both_there is_clash T a b conflict.v conflict.w conflict.first conflict.second
-      ∙ (Decides-is_clash conflict.v conflict.w).1 conflict.clash,
+  λ conflict. both_there is_clash T a b conflict.v conflict.w conflict.first conflict.second ∙ (Decides-is_clash conflict.v conflict.w).1 conflict.clash,
 )
 
 -- the test of independence tells the relation
@@ -192,8 +164,7 @@ Decides-is_independent T a b = (
         second = found.3;
         apart = (Decides-is_apart found.0 found.1).0 found.4;
       },
-  λ independent.
-      both_there is_apart T a b independent.v independent.w independent.first independent.second
+  λ independent. both_there is_apart T a b independent.v independent.w independent.first independent.second
       ∙ (Decides-is_apart independent.v independent.w).1 independent.apart,
 )
 
@@ -209,8 +180,7 @@ IsIndependent-sym T a b i =
       second = i.first;
       apart = record {
         threads = λ same. i.apart.threads (sym same);
-        no_clash = λ clash.
-            i.apart.no_clash
+        no_clash = λ clash. i.apart.no_clash
             (record {
               threads = i.apart.threads;
               variable = clash.variable;

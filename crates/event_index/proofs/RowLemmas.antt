@@ -1,7 +1,7 @@
 -- The row of all events, thread by thread: where the threads begin in it, and what one event more does to it.
-use Rattle.std.proofs.Common.{◌≡◌, ℕ, zero, suc, ◌+◌, ◌-◌, ◌<◌, ◌≤◌, ◌⊎◌, cond, eqb, ltb, List, [], ◌∷◌, ◌++◌, Some, length, set, take, drop, count_by, refl, sym, ap, ap₂, ◌∙◌, subst, arith, eq-eqb, inl, inr, length-set, length-drop, take_all, le_refl, append-nil}
+use Rattle.std.proofs.Common.{◌≡◌, ℕ, zero, suc, ◌+◌, ◌-◌, ◌<◌, ◌≤◌, ◌⊎◌, cond, eqb, ltb, List, [], ◌∷◌, ◌++◌, Some, length, set, take, drop, count_by, refl, sym, ap, ap₂, ◌∙◌, arith, eq-eqb, inl, inr, length-set, length-drop, add-one, take_all, le_refl, append-nil}
 use Rattle.std.specs.List.{filter, slice_get, slice_index}
-use Rattle.std.proofs.lemmas.Bool.{ne_eqb, cases_order}
+use Rattle.std.proofs.lemmas.Bool.{ne_eqb, cases_eq, cases_order}
 use Rattle.std.proofs.lemmas.Bool.Decides.{nat_tests}
 use Rattle.std.proofs.lemmas.List.{drop-set-lt, drop-set-add, take-set-le, take_more_set}
 use Rattle.std.proofs.lemmas.List.Sums.{sum_by-cons, sum_by-take-le, count_by-le-length}
@@ -30,19 +30,14 @@ start_of-more (v ∷ T) t =
     let here = sum_by-cons (λ (w : Event). cond (eqb w.thread t) 1 0) v T in
     omega (arith, one, rest, low, lower, here)
 
-the_sum : (t k : ℕ) → t + k + 1 ≡ t + suc k
-the_sum t k = omega arith
-
 -- threads begin in their order
-start_of-rises : (T : List Event) (t k : ℕ) → start_of T t ≤ start_of T (t + k)
-start_of-rises T t zero = subst (λ (u : ℕ). start_of T t ≤ start_of T u) (omega arith) (le_refl (start_of T t))
-start_of-rises T t (suc k) =
-    let less = start_of-rises T t k in
-    let more = start_of-more T (t + k) in
-    subst (λ (u : ℕ). start_of T t ≤ start_of T u) (the_sum t k) (omega (arith, less, more))
-
 pub start_of-le : (T : List Event) (t u : ℕ) → t ≤ u → start_of T t ≤ start_of T u
-start_of-le T t u h = subst (λ (w : ℕ). start_of T t ≤ start_of T w) (omega arith) (start_of-rises T t (u - t))
+start_of-le T t zero h = let none : t ≡ 0 = omega arith in rw none (le_refl (start_of T 0))
+start_of-le T t (suc u) h =
+    elim (cases_eq t (suc u)) [
+      | inl same ↦ rw same (le_refl (start_of T (suc u)))
+      | inr other ↦ rw (← add-one u) (omega (arith, start_of-le T t u (omega arith), start_of-more T u))
+    ]
 
 pub start_of-within : (T : List Event) (t : ℕ) → start_of T t ≤ length T
 start_of-within T t = count_by-le-length (λ (v : Event). ltb v.thread t) T
@@ -64,17 +59,14 @@ count_before-all T t = ap (count_by (λ (v : Event). eqb v.thread t)) (take_all 
 
 -- what comes before stays within the part of its thread
 pub count_before-within : (T : List Event) (e t : ℕ) → start_of T t + count_before T e t ≤ start_of T (t + 1)
-count_before-within T e t =
-    omega (arith, start_of-more T t, sum_by-take-le (λ (v : Event). cond (eqb v.thread t) 1 0) T e)
+count_before-within T e t = omega (arith, start_of-more T t, sum_by-take-le (λ (v : Event). cond (eqb v.thread t) 1 0) T e)
 
 -- a write behind a part of a list
 part_before : (xs : List ℕ) (s m p x : ℕ) → s + m ≤ p → take m (drop s (set xs p x)) ≡ take m (drop s xs)
 part_before xs s m p x h =
     let k = p - s in
     let at : p ≡ s + k = omega arith in
-    ap (λ (q : ℕ). take m (drop s (set xs q x))) at
-    ∙ ap (take m) (drop-set-add s xs k x)
-    ∙ take-set-le m (drop s xs) k x (omega arith)
+    ap (λ (q : ℕ). take m (drop s (set xs q x))) at ∙ ap (take m) (drop-set-add s xs k x) ∙ take-set-le m (drop s xs) k x (omega arith)
 
 -- a write before a part of a list
 part_after : (xs : List ℕ) (s m p x : ℕ) → p < s → take m (drop s (set xs p x)) ≡ take m (drop s xs)
@@ -83,8 +75,7 @@ part_after xs s m p x h = ap (take m) (drop-set-lt s xs p x h)
 -- a write right behind a part of a list lengthens it
 part_more : (xs : List ℕ) (s m x : ℕ) → s + m < length xs → take (m + 1) (drop s (set xs (s + m) x)) ≡ take m (drop s xs) ++ x ∷ []
 part_more xs s m x h =
-    ap (take (m + 1)) (drop-set-add s xs m x)
-    ∙ take_more_set (drop s xs) m x (omega (arith, length-drop s xs))
+    ap (take (m + 1)) (drop-set-add s xs m x) ∙ take_more_set (drop s xs) m x (omega (arith, length-drop s xs))
 
 -- the place where an event belongs is in the part of its thread
 place_ends : (T : List Event) (e : ℕ) (v : Event) → slice_get T e ≡ Some v → start_of T v.thread + count_before T e v.thread < start_of T (v.thread + 1)
@@ -99,11 +90,8 @@ pub within_row : (T : List Event) (e : ℕ) (v : Event) → slice_get T e ≡ So
 within_row T e v at = omega (arith, place_ends T e v at, start_of-within T (v.thread + 1))
 
 -- the part of thread t with one event more
-part_of :
-    (T : List Event) (threads e : ℕ) (v : Event) (row : List ℕ) (t : ℕ)
-    → IsFilled T threads e row
-    → start_of T v.thread + count_before T e v.thread < start_of T (v.thread + 1)
-    → (v.thread ≡ t) ⊎ ((v.thread < t) ⊎ (t < v.thread))
+part_of : (T : List Event) (threads e : ℕ) (v : Event) (row : List ℕ) (t : ℕ) → IsFilled T threads e row
+    → start_of T v.thread + count_before T e v.thread < start_of T (v.thread + 1) → (v.thread ≡ t) ⊎ ((v.thread < t) ⊎ (t < v.thread))
     → count_before T (e + 1) t ≡ count_before T e t + cond (eqb v.thread t) 1 0
     → filter (is_of_thread T t) (before (e + 1)) ≡ filter (is_of_thread T t) (before e) ++ cond (eqb v.thread t) (e ∷ []) []
     → take (count_before T e t) (drop (start_of T t) row) ≡ filter (is_of_thread T t) (before e)
@@ -119,8 +107,7 @@ part_of T threads e v row t filled ends which more passes part =
           ap (λ (n : ℕ). take n (drop (start_of T t) (set row (start_of T v.thread + count_before T e v.thread) e))) count
           ∙ ap (λ (p : ℕ). take (count_before T e t + 1) (drop (start_of T t) (set row p e))) here
           ∙ part_more row (start_of T t) (count_before T e t) e (omega (arith, filled.len, here, start_of-within T (v.thread + 1)))
-          ∙ ap (λ (xs : List ℕ). xs ++ e ∷ []) part
-          ∙ sym all
+          ∙ ap (λ (xs : List ℕ). xs ++ e ∷ []) part ∙ sym all
       | inr other ↦
           let ne : v.thread ≡ t → ⊥ = λ same. elim other [ inl lt ↦ absurd (omega arith) | inr lt ↦ absurd (omega arith) ] in
           let test = ne_eqb v.thread t ne in
@@ -137,17 +124,11 @@ part_of T threads e v row t filled ends which more passes part =
                 let order = start_of-le T (t + 1) v.thread (omega arith) in
                 part_before row (start_of T t) (count_before T e t) (start_of T v.thread + count_before T e v.thread) e (omega arith)
           ] in
-          ap (λ (n : ℕ). take n (drop (start_of T t) (set row (start_of T v.thread + count_before T e v.thread) e))) count
-          ∙ stays
-          ∙ part
-          ∙ sym all
+          ap (λ (n : ℕ). take n (drop (start_of T t) (set row (start_of T v.thread + count_before T e v.thread) e))) count ∙ stays ∙ part ∙ sym all
     ]
 
 -- one event more in the row
-pub IsFilled-more :
-    (T : List Event) (threads e : ℕ) (v : Event) (row : List ℕ)
-    → slice_get T e ≡ Some v
-    → IsFilled T threads e row
+pub IsFilled-more : (T : List Event) (threads e : ℕ) (v : Event) (row : List ℕ) → slice_get T e ≡ Some v → IsFilled T threads e row
     → IsFilled T threads (e + 1) (set row (start_of T v.thread + count_before T e v.thread) e)
 IsFilled-more T threads e v row at filled =
     let p = start_of T v.thread + count_before T e v.thread in
@@ -158,21 +139,12 @@ IsFilled-more T threads e v row at filled =
           let more : count_before T (e + 1) t ≡ count_before T e t + cond (eqb v.thread t) 1 0 = count_more (λ w. eqb w.thread t) T e v at in
           let passes : filter (is_of_thread T t) (before (e + 1)) ≡ filter (is_of_thread T t) (before e) ++ cond (eqb v.thread t) (e ∷ []) [] =
           filter_more_before (is_of_thread T t) e
-          ∙ ap
-          (λ b. filter (is_of_thread T t) (before e) ++ cond b (e ∷ []) [])
-          (passes_here (λ w. eqb w.thread t) T e v at) in
+          ∙ ap (λ b. filter (is_of_thread T t) (before e) ++ cond b (e ∷ []) []) (passes_here (λ w. eqb w.thread t) T e v at) in
           part_of T threads e v row t filled ends (cases_order v.thread t) more passes (filled.part t within);
     }
 
--- the row before the first event
-pub IsFilled-none : (T : List Event) (threads : ℕ) (row : List ℕ) → length row ≡ length T → IsFilled T threads 0 row
-IsFilled-none T threads row len = record { len = len; part = λ t within. refl }
-
 -- the row after the last event
-pub IsFilled-all :
-    (T : List Event) (threads : ℕ) (row starts : List ℕ)
-    → IsTable (start_of T) (threads + 1) starts
-    → IsFilled T threads (length T) row
+pub IsFilled-all : (T : List Event) (threads : ℕ) (row starts : List ℕ) → IsTable (start_of T) (threads + 1) starts → IsFilled T threads (length T) row
     → IsGrouped (events_of T) threads row starts
 IsFilled-all T threads row starts table filled =
     record {
@@ -185,33 +157,21 @@ IsFilled-all T threads row starts table filled =
           let start = get_or-IsTable (start_of T) (threads + 1) starts table t 0 (omega arith) in
           let end = get_or-IsTable (start_of T) (threads + 1) starts table (t + 1) 0 (omega arith) in
           let size : slice_index starts (t + 1) - slice_index starts t ≡ count_before T (length T) t = omega (arith, start, end, start_of-more T t, count_before-all T t) in
-          ap (λ (n : ℕ). take n (drop (slice_index starts t) row)) size
-          ∙ ap (λ (s : ℕ). take (count_before T (length T) t) (drop s row)) start
+          ap (λ (n : ℕ). take n (drop (slice_index starts t) row)) size ∙ ap (λ (s : ℕ). take (count_before T (length T) t) (drop s row)) start
           ∙ filled.part t within;
     }
 
 -- where the event belongs, as the tables tell it
-pub spot :
-    (T : List Event) (threads e : ℕ) (v : Event) (starts places : List ℕ)
-    → slice_get T e ≡ Some v
-    → v.thread < threads
-    → IsTable (start_of T) (threads + 1) starts
-    → IsTable (place_of T) (length T) places
+pub spot : (T : List Event) (threads e : ℕ) (v : Event) (starts places : List ℕ) → slice_get T e ≡ Some v → v.thread < threads
+    → IsTable (start_of T) (threads + 1) starts → IsTable (place_of T) (length T) places
     → slice_index starts v.thread + slice_index places e ≡ start_of T v.thread + count_before T e v.thread
 spot T threads e v starts places at named start place =
-    ap₂
-    ◌+◌
-    (get_or-IsTable (start_of T) (threads + 1) starts start v.thread 0 (omega arith))
+    ap₂ ◌+◌ (get_or-IsTable (start_of T) (threads + 1) starts start v.thread 0 (omega arith))
     (get_or-IsTable (place_of T) (length T) places place e 0 (slice_get_within T e v at) ∙ place_of-count T e v at)
 
 -- where the next thread begins, as the counts tell it
-pub next_start :
-    (T : List Event) (threads t : ℕ) (counts : List ℕ)
-    → IsTable (count_before T (length T)) threads counts
-    → t < threads
+pub next_start : (T : List Event) (threads t : ℕ) (counts : List ℕ) → IsTable (count_before T (length T)) threads counts → t < threads
     → start_of T (t + 1) ≡ start_of T t + slice_index counts t
 next_start T threads t counts table within =
     start_of-more T t
-    ∙ ap
-    (λ (n : ℕ). start_of T t + n)
-    (sym (get_or-IsTable (count_before T (length T)) threads counts table t 0 within ∙ count_before-all T t))
+    ∙ ap (λ (n : ℕ). start_of T t + n) (sym (get_or-IsTable (count_before T (length T)) threads counts table t 0 within ∙ count_before-all T t))

@@ -1,13 +1,15 @@
 -- A look for the first or the last event that passes a test, one event further.
-use Rattle.std.proofs.Common.{◌≡◌, ℕ, zero, suc, ◌+◌, ◌<◌, ◌≤◌, Bool, true, false, cond, List, [], ◌∷◌, ◌++◌, reverse, Some, None, refl, sym, ap, ◌∙◌, subst, arith, add-one, inl, inr, le_refl}
+use Rattle.std.proofs.Common.{◌≡◌, ℕ, zero, suc, ◌+◌, ◌-◌, ◌<◌, ◌≤◌, Bool, true, false, cond, List, [], ◌∷◌, ◌++◌, reverse, Some, None, refl, sym, ap, ◌∙◌, arith, add-one, inl, inr, le_refl}
 use Rattle.std.specs.List.{find, filter, range_with_len}
 use Rattle.std.specs.Option.{option_or}
 use Rattle.std.proofs.lemmas.List.{reverse-append}
 use Rattle.std.proofs.lemmas.List.Elements.{filter-append}
 use Rattle.std.proofs.lemmas.List.Folds.{find-append}
+use Rattle.std.proofs.lemmas.List.FromFn.{length-range_with_len, get_or-range_with_len}
 use Rattle.std.proofs.lemmas.Bool.{cond-true, cond-false, cases_Bool, cases_eq}
 use Rattle.std.proofs.lemmas.Option.{same_Some}
 use Rattle.event_index.specs.Lookups.{before}
+use Rattle.event_index.proofs.FindLemmas.{find-fails}
 
 range_suc : (a n : ℕ) → range_with_len a (suc n) ≡ range_with_len a n ++ (a + n) ∷ []
 range_suc a zero = ap (λ (k : ℕ). k ∷ []) (omega arith)
@@ -26,15 +28,13 @@ before_more e = range_more 0 e ∙ ap (λ (k : ℕ). before e ++ k ∷ []) (omeg
 -- the last one, where the newest passes
 pub find_last_yes : (test : ℕ → Bool) (e : ℕ) → test e ≡ true → find test (reverse (before (e + 1))) ≡ Some e
 find_last_yes test e passes =
-    ap (λ (xs : List ℕ). find test (reverse xs)) (before_more e)
-    ∙ ap (find test) (reverse-append (before e) (e ∷ []))
+    ap (λ (xs : List ℕ). find test (reverse xs)) (before_more e) ∙ ap (find test) (reverse-append (before e) (e ∷ []))
     ∙ cond-true (test e) (Some e) (find test (reverse (before e))) passes
 
 -- the last one, where the newest does not pass
 pub find_last_no : (test : ℕ → Bool) (e : ℕ) → test e ≡ false → find test (reverse (before (e + 1))) ≡ find test (reverse (before e))
 find_last_no test e fails =
-    ap (λ (xs : List ℕ). find test (reverse xs)) (before_more e)
-    ∙ ap (find test) (reverse-append (before e) (e ∷ []))
+    ap (λ (xs : List ℕ). find test (reverse xs)) (before_more e) ∙ ap (find test) (reverse-append (before e) (e ∷ []))
     ∙ cond-false (test e) (Some e) (find test (reverse (before e))) fails
 
 -- the first one, one event further
@@ -50,17 +50,10 @@ no_some a h = cc
 
 -- where none is found, none passes
 pub find_none : (test : ℕ → Bool) (a n : ℕ) → find test (range_with_len a n) ≡ None → (j : ℕ) → a ≤ j → j < a + n → test j ≡ false
-find_none test a zero h j low high = absurd (omega arith)
-find_none test a (suc n) h j low high =
-    let fails : test a ≡ false = elim (cases_Bool (test a)) [
-      | inl t ↦ absurd (no_some a (sym (cond-true (test a) (Some a) (find test (range_with_len (a + 1) n)) t) ∙ h))
-      | inr f ↦ f
-    ] in
-    elim (cases_eq j a) [
-      | inl same ↦ ap test same ∙ fails
-      | inr other ↦
-          find_none test (a + 1) n (sym (cond-false (test a) (Some a) (find test (range_with_len (a + 1) n)) fails) ∙ h) j (omega arith) (omega arith)
-    ]
+find_none test a n h j low high =
+    let within : j - a < n = omega arith in
+    find-fails test (range_with_len a n) j h
+    (j - a, omega (arith, within, length-range_with_len a n), get_or-range_with_len a n (j - a) j within ∙ omega arith)
 
 -- where none passes, none is found
 pub none_found : (test : ℕ → Bool) (a n : ℕ) → ((j : ℕ) → a ≤ j → j < a + n → test j ≡ false) → find test (range_with_len a n) ≡ None
@@ -70,9 +63,7 @@ none_found test a (suc n) h =
     ∙ none_found test (a + 1) n (λ j low high. h j (omega arith) (omega arith))
 
 -- the first one that passes
-pub find_first_is :
-    (test : ℕ → Bool) (a n j : ℕ)
-    → find test (range_with_len a n) ≡ Some j
+pub find_first_is : (test : ℕ → Bool) (a n j : ℕ) → find test (range_with_len a n) ≡ Some j
     → (a ≤ j) × (j < a + n) × (test j ≡ true) × ((k : ℕ) → a ≤ k → k < j → test k ≡ false)
 find_first_is test a zero j h = absurd (no_some j (sym h))
 find_first_is test a (suc n) j h =
@@ -94,13 +85,11 @@ find_first_is test a (suc n) j h =
     ]
 
 -- the last one that passes
-pub find_last_is :
-    (test : ℕ → Bool) (e j : ℕ)
-    → find test (reverse (before e)) ≡ Some j
+pub find_last_is : (test : ℕ → Bool) (e j : ℕ) → find test (reverse (before e)) ≡ Some j
     → (j < e) × (test j ≡ true) × ((k : ℕ) → j < k → k < e → test k ≡ false)
 find_last_is test zero j h = absurd (no_some j (sym h))
 find_last_is test (suc e) j h =
-    let now : find test (reverse (before (e + 1))) ≡ Some j = subst (λ (n : ℕ). find test (reverse (before n)) ≡ Some j) (sym (add-one e)) h in
+    let now : find test (reverse (before (e + 1))) ≡ Some j = rw (add-one e) h in
     elim (cases_Bool (test e)) [
       | inl passes ↦
           let here : e ≡ j = same_Some e j (sym (find_last_yes test e passes) ∙ now) in (
@@ -120,7 +109,7 @@ find_last_is test (suc e) j h =
 pub find_last_none : (test : ℕ → Bool) (e : ℕ) → find test (reverse (before e)) ≡ None → (k : ℕ) → k < e → test k ≡ false
 find_last_none test zero h k low = absurd (omega arith)
 find_last_none test (suc e) h k low =
-    let now : find test (reverse (before (e + 1))) ≡ None = subst (λ (n : ℕ). find test (reverse (before n)) ≡ None) (sym (add-one e)) h in
+    let now : find test (reverse (before (e + 1))) ≡ None = rw (add-one e) h in
     elim (cases_Bool (test e)) [
       | inl passes ↦ absurd (no_some e (sym (find_last_yes test e passes) ∙ now))
       | inr fails ↦

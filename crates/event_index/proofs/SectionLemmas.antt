@@ -12,6 +12,7 @@ use Rattle.rapid_text.specs.declared.event.Event.{Event}
 use Rattle.rapid_text.specs.declared.event.Op.{Op}
 use Rattle.rapid_text.specs.declared.event.Op.TheVariants.{Read, Write, Acquire, Release, Fork, Join}
 use Rattle.trace_rules.specs.Rules.{hold_count, IsDisciplined}
+use Rattle.trace_rules.proofs.TableLemmas.{IsApartFrom-rest}
 use Rattle.event_index.specs.Events.{passes_at}
 use Rattle.event_index.specs.Lookups.{is_end, section_by, section_of, end_before, section_end}
 use Rattle.event_index.specs.Layout.{IsTable}
@@ -28,12 +29,6 @@ use Rattle.event_index.proofs.HoldLemmas.{takes, frees, takes_from, frees_from, 
 stays : (o : Option ℕ) (i : ℕ) (b : Bool) → (o ≡ None → b ≡ false) → o ≡ option_or o (cond b (Some i) None)
 stays None i b h = sym (cond-false b (Some i) None (h refl))
 stays (Some e) i b h = refl
-
-the_start : (a : ℕ) → a + 1 ≡ a + 1 + 0
-the_start a = omega arith
-
-the_next : (a k : ℕ) → a + 1 + k + 1 ≡ a + 1 + suc k
-the_next a k = omega arith
 
 -- one event more to look at
 find_more : (test : ℕ → Bool) (e i : ℕ) → e < i → find test (range_with_len (e + 1) (i + 1 - (e + 1))) ≡ option_or (find test (range_with_len (e + 1) (i - (e + 1)))) (cond (test i) (Some i) None)
@@ -65,75 +60,45 @@ section_by-same : (T : List Event) (i e t : ℕ) (op : Op) → ((l : ℕ) → op
 section_by-same T i e t (Acquire l) h = not_later T i e t l (h l refl)
 section_by-same T i e t op h = refl
 
-section_of-same :
-    (T : List Event) (i e : ℕ) (o : Option Event)
-    → ((v : Event) (l : ℕ) → o ≡ Some v → v.op ≡ Acquire l → EndsNot T i e v.thread l)
+section_of-same : (T : List Event) (i e : ℕ) (o : Option Event) → ((v : Event) (l : ℕ) → o ≡ Some v → v.op ≡ Acquire l → EndsNot T i e v.thread l)
     → section_of T i e o ≡ section_of T (i + 1) e o
 section_of-same T i e None h = refl
 section_of-same T i e (Some v) h = section_by-same T i e v.thread v.op (λ l op. h v l refl op)
 
 -- event i ends no section of e
-end_before-same :
-    (T : List Event) (i e : ℕ)
-    → ((v : Event) (l : ℕ) → slice_get T e ≡ Some v → v.op ≡ Acquire l → EndsNot T i e v.thread l)
+end_before-same : (T : List Event) (i e : ℕ) → ((v : Event) (l : ℕ) → slice_get T e ≡ Some v → v.op ≡ Acquire l → EndsNot T i e v.thread l)
     → end_before T i e ≡ end_before T (i + 1) e
 end_before-same T i e h = section_of-same T i e (slice_get T e) h
 
 -- ---- when a section is open
 
--- an acquire that nothing ended: from it on its thread holds the lock more often than before it
-open_above :
-    (T : List Event) → IsDisciplined T
-    → (a t l i : ℕ) (v : Event)
-    → slice_get T a ≡ Some v
-    → takes v t l ≡ true
-    → frees v t l ≡ false
-    → ((j : ℕ) → a + 1 ≤ j → j < i → is_end T a t l j ≡ false)
-    → i ≤ length T
-    → (k : ℕ)
-    → a + 1 + k ≤ i
-    → hold_count (take a T) t l < hold_count (take (a + 1 + k) T) t l
-open_above T rules a t l i v at h f ends within zero low =
-    let more = hold_taken T rules a t l v at h f in
-    subst (λ (n : ℕ). hold_count (take a T) t l < hold_count (take n T) t l) (the_start a) (omega (arith, more))
-open_above T rules a t l i v at h f ends within (suc k) low =
-    let d : Event = record { thread = 0; op = Read 0 } in
-    let j = a + 1 + k in
-    let w : Event = get_or T j d in
-    let there : slice_get T j ≡ Some w = slice_get-get_or T j d (omega arith) in
-    let before : hold_count (take a T) t l < hold_count (take j T) t l = open_above T rules a t l i v at h f ends within k (omega arith) in
-    subst
-    (λ (n : ℕ). hold_count (take a T) t l < hold_count (take n T) t l)
-    (the_next a k)
-    (elim (hold_cases T rules j t l w there) [
-      | inl up ↦ omega arith
-      | inr down ↦
-          let no_end : hold_count (take (j + 1) T) t l ≡ hold_count (take a T) t l → ⊥ =
-          λ back. absurd (true≢false (sym (and_from _ _ (passes_here (λ u. frees u t l) T j w there ∙ down.0) (eq-eqb _ _ back)) ∙ ends j (omega arith) (omega arith))) in
-          omega (arith, no_end, down.1)
-    ])
-
--- the same at each event up to i
-pub held_above :
-    (T : List Event) → IsDisciplined T
-    → (a t l i : ℕ) (v : Event)
-    → slice_get T a ≡ Some v
-    → takes v t l ≡ true
-    → frees v t l ≡ false
-    → ((j : ℕ) → a + 1 ≤ j → j < i → is_end T a t l j ≡ false)
-    → i ≤ length T
+-- an acquire that nothing ended up to i: behind it its thread holds the lock more often than before it
+pub held_above : (T : List Event) → IsDisciplined T → (a t l i : ℕ) (v : Event) → slice_get T a ≡ Some v → takes v t l ≡ true → frees v t l ≡ false
+    → ((j : ℕ) → a + 1 ≤ j → j < i → is_end T a t l j ≡ false) → i ≤ length T
     → (j : ℕ) → a < j → j ≤ i → hold_count (take a T) t l < hold_count (take j T) t l
-held_above T rules a t l i v at h f ends within j low high =
-    let place : a + 1 + (j - (a + 1)) ≡ j = omega arith in
-    subst (λ (n : ℕ). hold_count (take a T) t l < hold_count (take n T) t l) place
-    (open_above T rules a t l i v at h f ends within (j - (a + 1)) (omega arith))
+held_above T rules a t l i v at h f ends within zero low high = absurd (omega arith)
+held_above T rules a t l i v at h f ends within (suc j) low high =
+    let d : Event = record { thread = 0; op = Read 0 } in
+    let there : slice_get T j ≡ Some (get_or T j d) = slice_get-get_or T j d (omega arith) in
+    rw (← add-one j)
+    (elim (cases_eq a j) [
+      | inl same ↦ rw (← same) (omega (arith, hold_taken T rules a t l v at h f))
+      | inr other ↦
+          let before = held_above T rules a t l i v at h f ends within j (omega arith) (omega arith) in
+          elim (hold_cases T rules j t l (get_or T j d) there) [
+            | inl up ↦ omega (arith, before)
+            | inr down ↦
+                let no_end : hold_count (take (j + 1) T) t l ≡ hold_count (take a T) t l → ⊥ =
+                λ back. absurd (true≢false (sym (and_from _ _ (passes_here (λ u. frees u t l) T j (get_or T j d) there ∙ down.0) (eq-eqb _ _ back))
+                ∙ ends j (omega arith) (omega arith))) in
+                omega (arith, before, no_end, down.1)
+          ]
+    ])
 
 -- an event that does not free the lock for the thread ends no section of it
 ends_not : (T : List Event) (i e t l : ℕ) (v : Event) → slice_get T i ≡ Some v → frees v t l ≡ false → is_end T e t l i ≡ false
 ends_not T i e t l v at h =
-    and_left
-    (passes_at (λ w. frees w t l) T i)
-    (eqb (hold_count (take (i + 1) T) t l) (hold_count (take e T) t l))
+    and_left (passes_at (λ w. frees w t l) T i) (eqb (hold_count (take (i + 1) T) t l) (hold_count (take e T) t l))
     (passes_here (λ w. frees w t l) T i v at ∙ h)
 
 -- an acquire stays open while its thread holds the lock more often than before it
@@ -146,66 +111,46 @@ IsOpen-more T i t l d a was more =
       depth = was.depth;
       above = λ j low high.
           elim (cases_eq j (i + 1)) [
-            | inl same ↦ subst (λ (n : ℕ). d < hold_count (take n T) t l) (sym same) more
+            | inl same ↦ rw same more
             | inr other ↦ was.above j low (omega arith)
           ];
     }
 
 -- and so does a stack of them
-stack_more :
-    (T : List Event) (outer later : List (Option ℕ)) (i t l d : ℕ) (top : Option ℕ)
-    → ((a : ℕ) → a < i → get_or outer a None ≡ get_or later a None)
-    → d ≤ hold_count (take (i + 1) T) t l
-    → IsStack T outer i t l d top
+stack_more : (T : List Event) (outer later : List (Option ℕ)) (i t l d : ℕ) (top : Option ℕ)
+    → ((a : ℕ) → a < i → get_or outer a None ≡ get_or later a None) → d ≤ hold_count (take (i + 1) T) t l → IsStack T outer i t l d top
     → IsStack T later (i + 1) t l d top
 stack_more T outer later i t l zero top same more stack = stack
 stack_more T outer later i t l (suc d) top same more stack = (
   stack.0,
   stack.1,
   IsOpen-more T i t l d stack.0 stack.2 (omega arith),
-  subst
-      (λ (o : Option ℕ). IsStack T later (i + 1) t l d o)
-      (same stack.0 stack.2.early)
-      (stack_more T outer later i t l d (get_or outer stack.0 None) same (omega arith) stack.3),
+  rw (← same stack.0 stack.2.early) (stack_more T outer later i t l d (get_or outer stack.0 None) same (omega arith) stack.3),
 )
 
 -- what holds of a lock that an event leaves alone
-held_same :
-    (T : List Event) (outer later : List (Option ℕ)) (i l : ℕ) (v : Event) (top : Option ℕ)
-    → slice_get T i ≡ Some v
-    → ((a : ℕ) → a < i → get_or outer a None ≡ get_or later a None)
-    → ((t : ℕ) → takes v t l ≡ false)
-    → ((t : ℕ) → frees v t l ≡ false)
-    → IsHeld T outer i l top
-    → IsHeld T later (i + 1) l top
+held_same : (T : List Event) (outer later : List (Option ℕ)) (i l : ℕ) (v : Event) (top : Option ℕ) → slice_get T i ≡ Some v
+    → ((a : ℕ) → a < i → get_or outer a None ≡ get_or later a None) → ((t : ℕ) → takes v t l ≡ false) → ((t : ℕ) → frees v t l ≡ false)
+    → IsHeld T outer i l top → IsHeld T later (i + 1) l top
 held_same T outer later i l v top at same takes_no frees_no held =
     let t = held.holder in
     let stays : hold_count (take (i + 1) T) t l ≡ hold_count (take i T) t l = hold_same T i t l v at (takes_no t) (frees_no t) in
     record {
       holder = t;
       others = λ u other. hold_same T i u l v at (takes_no u) (frees_no u) ∙ held.others u other;
-      stack = subst
-          (λ (d : ℕ). IsStack T later (i + 1) t l d top)
-          (sym stays)
-          (stack_more T outer later i t l (hold_count (take i T) t l) top same (omega (arith, stays)) held.stack);
+      stack = rw stays (stack_more T outer later i t l (hold_count (take i T) t l) top same (omega (arith, stays)) held.stack);
     }
 
 -- the stack of a lock that no other thread holds
-stack_of :
-    (T : List Event) (outer : List (Option ℕ)) (i t l : ℕ) (top : Option ℕ)
-    → ((u : ℕ) → u ≢ t → hold_count (take i T) u l ≡ 0)
-    → IsHeld T outer i l top
-    → IsStack T outer i t l (hold_count (take i T) t l) top
+stack_of : (T : List Event) (outer : List (Option ℕ)) (i t l : ℕ) (top : Option ℕ) → ((u : ℕ) → u ≢ t → hold_count (take i T) u l ≡ 0)
+    → IsHeld T outer i l top → IsStack T outer i t l (hold_count (take i T) t l) top
 stack_of T outer i t l top others held =
     elim (cases_eq held.holder t) [
-      | inl same ↦ subst (λ (u : ℕ). IsStack T outer i u l (hold_count (take i T) u l) top) same held.stack
+      | inl same ↦ rw (← same) held.stack
       | inr other ↦
           let empty : IsStack T outer i held.holder l 0 top =
           subst (λ (d : ℕ). IsStack T outer i held.holder l d top) (others held.holder other) held.stack in
-          subst
-          (λ (d : ℕ). IsStack T outer i t l d top)
-          (sym (held.others t (λ e. other (sym e))))
-          empty
+          rw (held.others t (λ e. other (sym e))) empty
     ]
 
 -- an event by its thread and what it does
@@ -213,14 +158,8 @@ by_op : (v : Event) (op : Op) → v.op ≡ op → v ≡ record { thread = v.thre
 by_op v op is = ap (λ (o : Op). (let w : Event = record { thread = v.thread; op = o } in w)) is
 
 -- a lock that an event takes
-held_taken :
-    (T : List Event) → IsDisciplined T
-    → (outer : List (Option ℕ)) (i l : ℕ) (v : Event) (top : Option ℕ)
-    → slice_get T i ≡ Some v
-    → v.op ≡ Acquire l
-    → i < length outer
-    → IsHeld T outer i l top
-    → IsHeld T (set outer i top) (i + 1) l (Some i)
+held_taken : (T : List Event) → IsDisciplined T → (outer : List (Option ℕ)) (i l : ℕ) (v : Event) (top : Option ℕ) → slice_get T i ≡ Some v
+    → v.op ≡ Acquire l → i < length outer → IsHeld T outer i l top → IsHeld T (set outer i top) (i + 1) l (Some i)
 held_taken T rules outer i l v top at op within held =
     let t = v.thread in
     let free : (u : ℕ) → u ≢ t → hold_count (take i T) u l ≡ 0 = λ u other. rules.acquires_free i l u v at op other in
@@ -239,79 +178,36 @@ held_taken T rules outer i l v top at op within held =
         depth = refl;
         above = λ j low high.
             let last : j ≡ i + 1 = omega arith in
-            subst (λ (n : ℕ). hold_count (take i T) t l < hold_count (take n T) t l) (sym last) (omega arith);
+            rw last (omega arith);
       },
-      subst
-          (λ (o : Option ℕ). IsStack T (set outer i top) (i + 1) t l (hold_count (take i T) t l) o)
-          (sym (get_or-set_same outer i top None within))
-          below,
+      rw (get_or-set_same outer i top None within) below,
     ) in
     record {
       holder = t;
       others = λ u other. hold_same T i u l v at (takes_not_thread v u l (λ e. other (sym e))) (frees_no u) ∙ free u other;
-      stack = subst (λ (d : ℕ). IsStack T (set outer i top) (i + 1) t l d (Some i)) (sym next) stack;
+      stack = rw next stack;
     }
 
 -- the locks after an acquire
-pub begun_held :
-    (T : List Event) → IsDisciplined T
-    → (outer top : List (Option ℕ)) (i lock : ℕ) (v : Event)
-    → slice_get T i ≡ Some v
-    → v.op ≡ Acquire lock
-    → i < length outer
-    → lock < length top
-    → (l : ℕ)
-    → IsHeld T outer i l (get_or top l None)
+pub begun_held : (T : List Event) → IsDisciplined T → (outer top : List (Option ℕ)) (i lock : ℕ) (v : Event) → slice_get T i ≡ Some v
+    → v.op ≡ Acquire lock → i < length outer → lock < length top → (l : ℕ) → IsHeld T outer i l (get_or top l None)
     → IsHeld T (set outer i (get_or top lock None)) (i + 1) l (get_or (set top lock (Some i)) l None)
 begun_held T rules outer top i lock v at op within known l held =
     elim (cases_eq l lock) [
       | inl same ↦
-          subst
-          (λ (o : Option ℕ). IsHeld T (set outer i (get_or top lock None)) (i + 1) l o)
-          (sym (ap (λ (m : ℕ). get_or (set top lock (Some i)) m None) same ∙ get_or-set_same top lock (Some i) None known))
-          (subst
-          (λ (m : ℕ). IsHeld T (set outer i (get_or top m None)) (i + 1) l (Some i))
-          same
+          rw (ap (λ (m : ℕ). get_or (set top lock (Some i)) m None) same ∙ get_or-set_same top lock (Some i) None known) (rw (← same)
           (held_taken T rules outer i l v (get_or top l None) at (op ∙ ap Acquire (sym same)) within held))
       | inr other ↦
-          subst
-          (λ (o : Option ℕ). IsHeld T (set outer i (get_or top lock None)) (i + 1) l o)
-          (sym (get_or-set_other top lock l (Some i) None other))
-          (held_same
-          T
-          outer
-          (set outer i (get_or top lock None))
-          i
-          l
-          v
-          (get_or top l None)
-          at
+          rw (get_or-set_other top lock l (Some i) None other) (held_same T outer (set outer i (get_or top lock None)) i l v (get_or top l None) at
           (λ a lt. sym (get_or-set_other outer i a (get_or top lock None) None (λ e. absurd (omega arith))))
-          (λ t. takes_not_lock v t l lock op (λ e. other (sym e)))
-          (λ t. acquire_frees_not v t l lock op)
-          held)
+          (λ t. takes_not_lock v t l lock op (λ e. other (sym e))) (λ t. acquire_frees_not v t l lock op) held)
     ]
 
 -- an acquire ends no section
-pub begun_ends :
-    (T : List Event) (i lock n : ℕ) (v : Event) (ends : List (Option ℕ))
-    → slice_get T i ≡ Some v
-    → v.op ≡ Acquire lock
-    → IsTable (end_before T i) n ends
-    → IsTable (end_before T (i + 1)) n ends
+pub begun_ends : (T : List Event) (i lock n : ℕ) (v : Event) (ends : List (Option ℕ)) → slice_get T i ≡ Some v → v.op ≡ Acquire lock
+    → IsTable (end_before T i) n ends → IsTable (end_before T (i + 1)) n ends
 begun_ends T i lock n v ends at op table =
-    IsTable-like
-    (end_before T i)
-    (end_before T (i + 1))
-    n
-    ends
-    table
-    (λ e within.
-    end_before-same
-    T
-    i
-    e
-    (λ w l there acquire early unended.
+    IsTable-like (end_before T i) (end_before T (i + 1)) n ends table (λ e within. end_before-same T i e (λ w l there acquire early unended.
     ends_not T i e w.thread l v at (acquire_frees_not v w.thread l lock op)))
 
 -- a release of l, and the acquire a whose section it ends
@@ -329,13 +225,8 @@ top_of T outer i t l zero top more stack = absurd (omega arith)
 top_of T outer i t l (suc d) top more stack = (d, sym (add-one d), stack)
 
 -- a release ends the section of the top of its lock's stack
-ending :
-    (T : List Event) → IsDisciplined T
-    → (outer : List (Option ℕ)) (i l : ℕ) (v : Event) (top : Option ℕ)
-    → slice_get T i ≡ Some v
-    → v.op ≡ Release l
-    → IsHeld T outer i l top
-    → (a : ℕ) × Ending T outer i l v top a
+ending : (T : List Event) → IsDisciplined T → (outer : List (Option ℕ)) (i l : ℕ) (v : Event) (top : Option ℕ) → slice_get T i ≡ Some v → v.op ≡ Release l
+    → IsHeld T outer i l top → (a : ℕ) × Ending T outer i l v top a
 ending T rules outer i l v top at op held =
     let t = v.thread in
     let has : 0 < hold_count (take i T) t l = rules.releases_held i l v at op in
@@ -344,8 +235,7 @@ ending T rules outer i l v top at op held =
       | inl same ↦ same
       | inr other ↦ absurd (omega (arith, held.others t (λ e. other (sym e))))
     ] in
-    let stack : IsStack T outer i t l (hold_count (take i T) t l) top =
-    subst (λ (u : ℕ). IsStack T outer i u l (hold_count (take i T) u l) top) mine held.stack in
+    let stack : IsStack T outer i t l (hold_count (take i T) t l) top = rw (← mine) held.stack in
     let found = top_of T outer i t l (hold_count (take i T) t l) top has stack in (
       found.2.0,
       record {
@@ -359,15 +249,8 @@ ending T rules outer i l v top at op held =
     )
 
 -- the locks after a release
-ended_held :
-    (T : List Event)
-    → (outer top : List (Option ℕ)) (i lock a : ℕ) (v : Event)
-    → slice_get T i ≡ Some v
-    → v.op ≡ Release lock
-    → lock < length top
-    → Ending T outer i lock v (get_or top lock None) a
-    → (l : ℕ)
-    → IsHeld T outer i l (get_or top l None)
+ended_held : (T : List Event) → (outer top : List (Option ℕ)) (i lock a : ℕ) (v : Event) → slice_get T i ≡ Some v → v.op ≡ Release lock
+    → lock < length top → Ending T outer i lock v (get_or top lock None) a → (l : ℕ) → IsHeld T outer i l (get_or top l None)
     → IsHeld T outer (i + 1) l (get_or (set top lock (get_or outer a None)) l None)
 ended_held T outer top i lock a v at op known end l held =
     elim (cases_eq l lock) [
@@ -376,52 +259,19 @@ ended_held T outer top i lock a v at op known end l held =
           let here : IsHeld T outer (i + 1) lock (get_or outer a None) =
           record {
             holder = t;
-            others = λ u other.
-                hold_same T i u lock v at (release_takes_not v u lock lock op) (frees_not_thread v u lock (λ e. other (sym e)))
+            others = λ u other. hold_same T i u lock v at (release_takes_not v u lock lock op) (frees_not_thread v u lock (λ e. other (sym e)))
                 ∙ end.others u other;
-            stack = subst
-                (λ (d : ℕ). IsStack T outer (i + 1) t lock d (get_or outer a None))
-                (sym end.after)
-                (stack_more T outer outer i t lock end.d (get_or outer a None) (λ b lt. refl) (omega (arith, end.after)) end.below);
+            stack = rw end.after (stack_more T outer outer i t lock end.d (get_or outer a None) (λ b lt. refl) (omega (arith, end.after)) end.below);
           } in
-          subst
-          (λ (m : ℕ). IsHeld T outer (i + 1) m (get_or (set top lock (get_or outer a None)) m None))
-          (sym same)
-          (subst
-          (λ (o : Option ℕ). IsHeld T outer (i + 1) lock o)
-          (sym (get_or-set_same top lock (get_or outer a None) None known))
-          here)
+          rw same (rw (get_or-set_same top lock (get_or outer a None) None known) here)
       | inr other ↦
-          subst
-          (λ (o : Option ℕ). IsHeld T outer (i + 1) l o)
-          (sym (get_or-set_other top lock l (get_or outer a None) None other))
-          (held_same
-          T
-          outer
-          outer
-          i
-          l
-          v
-          (get_or top l None)
-          at
-          (λ b lt. refl)
-          (λ t. release_takes_not v t l lock op)
-          (λ t. frees_not_lock v t l lock op (λ e. other (sym e)))
-          held)
+          rw (get_or-set_other top lock l (get_or outer a None) None other) (held_same T outer outer i l v (get_or top l None) at (λ b lt. refl)
+          (λ t. release_takes_not v t l lock op) (λ t. frees_not_lock v t l lock op (λ e. other (sym e))) held)
     ]
 
 -- two open acquires of one lock by one thread were made at different counts
-one_open :
-    (T : List Event) → IsDisciplined T
-    → (i t l d a e : ℕ) (w : Event)
-    → IsOpen T i t l d a
-    → slice_get T e ≡ Some w
-    → takes w t l ≡ true
-    → frees w t l ≡ false
-    → e ≢ a
-    → e < i
-    → i ≤ length T
-    → find (is_end T e t l) (range_with_len (e + 1) (i - (e + 1))) ≡ None
+one_open : (T : List Event) → IsDisciplined T → (i t l d a e : ℕ) (w : Event) → IsOpen T i t l d a → slice_get T e ≡ Some w → takes w t l ≡ true
+    → frees w t l ≡ false → e ≢ a → e < i → i ≤ length T → find (is_end T e t l) (range_with_len (e + 1) (i - (e + 1))) ≡ None
     → hold_count (take e T) t l ≢ d
 one_open T rules i t l d a e w was there h f other early within unended same =
     let ends : (j : ℕ) → e + 1 ≤ j → j < i → is_end T e t l j ≡ false =
@@ -440,59 +290,32 @@ one_open T rules i t l d a e w was there h f other early within unended same =
     ]
 
 -- the end of the section of a, once it is there
-end_found :
-    (T : List Event) (outer : List (Option ℕ)) (i l a : ℕ) (v : Event) (top : Option ℕ)
-    → slice_get T i ≡ Some v
-    → v.op ≡ Release l
-    → Ending T outer i l v top a
-    → end_before T (i + 1) a ≡ Some i
+end_found : (T : List Event) (outer : List (Option ℕ)) (i l a : ℕ) (v : Event) (top : Option ℕ) → slice_get T i ≡ Some v → v.op ≡ Release l
+    → Ending T outer i l v top a → end_before T (i + 1) a ≡ Some i
 end_found T outer i l a v top at op end =
     let t = v.thread in
     let was = end.is_open in
     let test = is_end T a t l in
     let none : find test (range_with_len (a + 1) (i - (a + 1))) ≡ None =
-    none_found
-    test
-    (a + 1)
-    (i - (a + 1))
-    (λ j low high.
+    none_found test (a + 1) (i - (a + 1)) (λ j low high.
     let more = was.above (j + 1) (omega arith) (omega (arith, was.early)) in
     let differ : hold_count (take (j + 1) T) t l ≡ hold_count (take a T) t l → ⊥ = λ e. absurd (omega (arith, more, was.depth)) in
     and_right (passes_at (λ w. frees w t l) T j) (eqb (hold_count (take (j + 1) T) t l) (hold_count (take a T) t l)) (ne_eqb _ _ differ)) in
     let now : test i ≡ true =
-    and_from
-    _
-    _
-    (passes_here (λ w. frees w t l) T i v at ∙ frees_from v t l refl op)
+    and_from _ _ (passes_here (λ w. frees w t l) T i v at ∙ frees_from v t l refl op)
     (eq-eqb (hold_count (take (i + 1) T) t l) (hold_count (take a T) t l) (end.after ∙ sym was.depth)) in
-    ap (section_of T (i + 1) a) was.acquire
-    ∙ find_more test a i was.early
-    ∙ ap (λ o. option_or o (cond (test i) (Some i) None)) none
+    ap (section_of T (i + 1) a) was.acquire ∙ find_more test a i was.early ∙ ap (λ o. option_or o (cond (test i) (Some i) None)) none
     ∙ cond-true (test i) (Some i) None now
 
 same_release : (m l : ℕ) → Release m ≡ Release l → m ≡ l
 same_release m l e = cc
 
 -- a release ends no other section
-ends_no_other :
-    (T : List Event) → IsDisciplined T
-    → (outer : List (Option ℕ)) (i l a : ℕ) (v : Event) (top : Option ℕ)
-    → slice_get T i ≡ Some v
-    → v.op ≡ Release l
-    → Ending T outer i l v top a
-    → (e : ℕ)
-    → e ≢ a
-    → end_before T i e ≡ end_before T (i + 1) e
+ends_no_other : (T : List Event) → IsDisciplined T → (outer : List (Option ℕ)) (i l a : ℕ) (v : Event) (top : Option ℕ) → slice_get T i ≡ Some v
+    → v.op ≡ Release l → Ending T outer i l v top a → (e : ℕ) → e ≢ a → end_before T i e ≡ end_before T (i + 1) e
 ends_no_other T rules outer i l a v top at op end e other =
     let within = slice_get_within T i v at in
-    end_before-same
-    T
-    i
-    e
-    (λ w m there acquire early unended.
-    false_from_ne_true
-    (is_end T e w.thread m i)
-    (λ h.
+    end_before-same T i e (λ w m there acquire early unended. false_from_ne_true (is_end T e w.thread m i) (λ h.
     let parts = and_parts (passes_at (λ u. frees u w.thread m) T i) (eqb (hold_count (take (i + 1) T) w.thread m) (hold_count (take e T) w.thread m)) h in
     let is = frees_is v w.thread m (sym (passes_here (λ u. frees u w.thread m) T i v at) ∙ parts.0) in
     let locks : m ≡ l = same_release m l (sym is.1 ∙ op) in
@@ -500,35 +323,13 @@ ends_no_other T rules outer i l a v top at op end e other =
     let back : hold_count (take (i + 1) T) w.thread m ≡ hold_count (take e T) w.thread m = eqb-true _ _ parts.1 in
     let mine : hold_count (take (i + 1) T) v.thread l ≡ hold_count (take e T) v.thread l =
     subst₂ (λ (u n : ℕ). hold_count (take (i + 1) T) u n ≡ hold_count (take e T) u n) threads locks back in
-    one_open
-    T
-    rules
-    i
-    v.thread
-    l
-    end.d
-    a
-    e
-    w
-    end.is_open
-    there
-    (takes_from w v.thread l threads (acquire ∙ ap Acquire locks))
-    (acquire_frees_not w v.thread l m acquire)
-    other
-    early
-    (omega arith)
-    (subst₂ (λ (u n : ℕ). find (is_end T e u n) (range_with_len (e + 1) (i - (e + 1))) ≡ None) threads locks unended)
-    (sym mine ∙ end.after)))
+    one_open T rules i v.thread l end.d a e w end.is_open there (takes_from w v.thread l threads (acquire ∙ ap Acquire locks))
+    (acquire_frees_not w v.thread l m acquire) other early (omega arith)
+    (subst₂ (λ (u n : ℕ). find (is_end T e u n) (range_with_len (e + 1) (i - (e + 1))) ≡ None) threads locks unended) (sym mine ∙ end.after)))
 
 -- what a release makes of what is known
-pub ended :
-    (T : List Event) → IsDisciplined T
-    → (ends outer top : List (Option ℕ)) (i lock n : ℕ) (v : Event)
-    → slice_get T i ≡ Some v
-    → v.op ≡ Release lock
-    → lock < length top
-    → IsTable (end_before T i) n ends
-    → IsHeld T outer i lock (get_or top lock None)
+pub ended : (T : List Event) → IsDisciplined T → (ends outer top : List (Option ℕ)) (i lock n : ℕ) (v : Event) → slice_get T i ≡ Some v
+    → v.op ≡ Release lock → lock < length top → IsTable (end_before T i) n ends → IsHeld T outer i lock (get_or top lock None)
     → (a : ℕ) × (get_or top lock None ≡ Some a) × (a < i) × IsTable (end_before T (i + 1)) n (set ends a (Some i)) × ((l : ℕ) → IsHeld T outer i l (get_or top l None) → IsHeld T outer (i + 1) l (get_or (set top lock (get_or outer a None)) l None))
 ended T rules ends outer top i lock n v at op known table held =
     let found = ending T rules outer i lock v (get_or top lock None) at op held in
@@ -537,15 +338,7 @@ ended T rules ends outer top i lock n v at op known table held =
       a,
       end.is_top,
       end.is_open.early,
-      IsTable-set
-          (end_before T i)
-          (end_before T (i + 1))
-          n
-          ends
-          a
-          (Some i)
-          table
-          (sym (end_found T outer i lock a v (get_or top lock None) at op end))
+      IsTable-set (end_before T i) (end_before T (i + 1)) n ends a (Some i) table (sym (end_found T outer i lock a v (get_or top lock None) at op end))
           (λ e within other. ends_no_other T rules outer i lock a v (get_or top lock None) at op end e other),
       ended_held T outer top i lock a v at op known end,
     )
@@ -554,55 +347,19 @@ ended T rules ends outer top i lock n v at op known table held =
 abbrev pub IsOffLocks : Op → Type 0
 IsOffLocks op = ((x : ℕ) × (op ≡ Read x)) ⊎ (((x : ℕ) × (op ≡ Write x)) ⊎ (((u : ℕ) × (op ≡ Fork u)) ⊎ ((u : ℕ) × (op ≡ Join u))))
 
-off_locks : (op : Op) → IsOffLocks op → (l : ℕ) → (is_acquire l op ≡ false) × (is_release l op ≡ false)
-off_locks op h l =
-    elim h [
-      | inl p ↦ (ap (is_acquire l) p.1, ap (is_release l) p.1)
-      | inr h' ↦
-          elim h' [
-            | inl p ↦ (ap (is_acquire l) p.1, ap (is_release l) p.1)
-            | inr h'' ↦
-                elim h'' [
-                  | inl p ↦ (ap (is_acquire l) p.1, ap (is_release l) p.1)
-                  | inr p ↦ (ap (is_acquire l) p.1, ap (is_release l) p.1)
-                ]
-          ]
-    ]
-
 -- what is known after an event that is off all locks
-pub passed_by :
-    (r : Recording) (i : ℕ) (v : Event) (known : Open)
-    → slice_get r.events i ≡ Some v
-    → IsOffLocks v.op
-    → AreOpen r i known
+pub passed_by : (r : Recording) (i : ℕ) (v : Event) (known : Open) → slice_get r.events i ≡ Some v → IsOffLocks v.op → AreOpen r i known
     → AreOpen r (i + 1) known
 passed_by r i v known at off was =
-    let takes_no : (t l : ℕ) → takes v t l ≡ false = λ t l. and_right (eqb v.thread t) (is_acquire l v.op) (off_locks v.op off l).0 in
-    let frees_no : (t l : ℕ) → frees v t l ≡ false = λ t l. and_right (eqb v.thread t) (is_release l v.op) (off_locks v.op off l).1 in
+    let takes_no : (t l : ℕ) → takes v t l ≡ false = λ t l. and_right (eqb v.thread t) (is_acquire l v.op) (IsApartFrom-rest v.op off l).0 in
+    let frees_no : (t l : ℕ) → frees v t l ≡ false = λ t l. and_right (eqb v.thread t) (is_release l v.op) (IsApartFrom-rest v.op off l).1 in
     record {
-      ends = IsTable-like
-          (end_before r.events i)
-          (end_before r.events (i + 1))
-          (length r.events)
-          known.ends.items
-          was.ends
+      ends = IsTable-like (end_before r.events i) (end_before r.events (i + 1)) (length r.events) known.ends.items was.ends
           (λ e within. end_before-same r.events i e (λ w l there acquire early unended. ends_not r.events i e w.thread l v at (frees_no w.thread l)));
       outer = was.outer;
       top = was.top;
-      held = λ l within.
-          held_same
-          r.events
-          known.outer.items
-          known.outer.items
-          i
-          l
-          v
-          (get_or known.top.items l None)
-          at
-          (λ a lt. refl)
-          (λ t. takes_no t l)
-          (λ t. frees_no t l)
-          (was.held l within);
+      held = λ l within. held_same r.events known.outer.items known.outer.items i l v (get_or known.top.items l None) at (λ a lt. refl)
+          (λ t. takes_no t l) (λ t. frees_no t l) (was.held l within);
     }
 
 section_by-none : (T : List Event) (e t : ℕ) (op : Op) → section_by T 0 e t op ≡ None
@@ -614,18 +371,11 @@ section_of-none T e None = refl
 section_of-none T e (Some v) = section_by-none T e v.thread v.op
 
 -- what is known before the first event
-pub nothing_known :
-    (r : Recording) (known : Open)
-    → known.ends.items ≡ replicate (length r.events) None
-    → known.top.items ≡ replicate (length r.locks) None
-    → known.outer.items ≡ replicate (length r.events) None
-    → AreOpen r 0 known
+pub nothing_known : (r : Recording) (known : Open) → known.ends.items ≡ replicate (length r.events) None
+    → known.top.items ≡ replicate (length r.locks) None → known.outer.items ≡ replicate (length r.events) None → AreOpen r 0 known
 nothing_known r known ends top outer =
     record {
-      ends = subst
-          (λ (xs : List (Option ℕ)). IsTable (end_before r.events 0) (length r.events) xs)
-          (sym ends)
-          (IsTable-replicate (end_before r.events 0) (length r.events) None (λ e within. section_of-none r.events e (slice_get r.events e)));
+      ends = rw ends (IsTable-replicate (end_before r.events 0) (length r.events) None (λ e within. section_of-none r.events e (slice_get r.events e)));
       outer = ap length outer ∙ length-replicate (length r.events) None;
       top = ap length top ∙ length-replicate (length r.locks) None;
       held = λ l within.
@@ -638,14 +388,8 @@ pub all_known : (r : Recording) (i : ℕ) (known : Open) → i ≡ length r.even
 all_known r i known all was = subst (λ (k : ℕ). IsTable (end_before r.events k) (length r.events) known.ends.items) all was.ends
 
 -- what a release makes of what is known, and the acquire whose section it ends
-pub top_found :
-    (r : Recording) → IsDisciplined r.events
-    → (i lock : ℕ) (known : Open)
-    → HasOp r.events i (Release lock)
-    → lock < length r.locks
-    → AreOpen r i known
-    → (x : Option ℕ)
-    → x ≡ get_or known.top.items lock x
+pub top_found : (r : Recording) → IsDisciplined r.events → (i lock : ℕ) (known : Open) → HasOp r.events i (Release lock) → lock < length r.locks
+    → AreOpen r i known → (x : Option ℕ) → x ≡ get_or known.top.items lock x
     → (a : ℕ) × (x ≡ Some a) × (a < i) × IsTable (end_before r.events (i + 1)) (length r.events) (set known.ends.items a (Some i)) × ((l : ℕ) → l < length r.locks → IsHeld r.events known.outer.items (i + 1) l (get_or (set known.top.items lock (get_or known.outer.items a None)) l None))
 top_found r rules i lock known release within was x is =
     let lock_within : lock < length known.top.items = omega (arith, was.top) in

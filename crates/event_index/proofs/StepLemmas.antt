@@ -40,13 +40,11 @@ passes_event test T i h = passing test (slice_get T i) h
 -- the events up to it
 pub take_event : (T : List Event) (i : ℕ) (v : Event) → slice_get T i ≡ Some v → take (i + 1) T ≡ take i T ++ v ∷ []
 take_event T i v at =
-    take_more T i v (slice_get_within T i v at)
-    ∙ ap (λ (w : Event). take i T ++ w ∷ []) (get_or_from_slice_get T i v v at)
+    take_more T i v (slice_get_within T i v at) ∙ ap (λ (w : Event). take i T ++ w ∷ []) (get_or_from_slice_get T i v v at)
 
 -- a count with one event more
 pub count_more : (test : Event → Bool) (T : List Event) (i : ℕ) (v : Event) → slice_get T i ≡ Some v → count_by test (take (i + 1) T) ≡ count_by test (take i T) + cond (test v) 1 0
-count_more test T i v at =
-    ap (count_by test) (take_event T i v at) ∙ sum_by_push (λ w. cond (test w) 1 0) (take i T) v
+count_more test T i v at = ap (count_by test) (take_event T i v at) ∙ sum_by_push (λ w. cond (test w) 1 0) (take i T) v
 
 pub count_before-le : (T : List Event) (i t : ℕ) → i ≤ length T → count_before T i t ≤ i
 count_before-le T i t within =
@@ -54,47 +52,20 @@ count_before-le T i t within =
     omega (arith, bound, length-take-le i T within)
 
 -- the last event of each thread
-pub last_before-more :
-    (T : List Event) (i n : ℕ) (v : Event) (xs : List (Option ℕ))
-    → slice_get T i ≡ Some v
-    → IsTable (last_before T i) n xs
+pub last_before-more : (T : List Event) (i n : ℕ) (v : Event) (xs : List (Option ℕ)) → slice_get T i ≡ Some v → IsTable (last_before T i) n xs
     → IsTable (last_before T (i + 1)) n (set xs v.thread (Some i))
 last_before-more T i n v xs at table =
-    IsTable-set
-    (last_before T i)
-    (last_before T (i + 1))
-    n
-    xs
-    v.thread
-    (Some i)
-    table
+    IsTable-set (last_before T i) (last_before T (i + 1)) n xs v.thread (Some i) table
     (sym (find_last_yes (is_of_thread T v.thread) i (passes_here (λ w. eqb w.thread v.thread) T i v at ∙ eq-eqb v.thread v.thread refl)))
-    (λ t within other.
-    sym
-    (find_last_no
-    (is_of_thread T t)
-    i
-    (passes_here (λ w. eqb w.thread t) T i v at ∙ ne_eqb v.thread t (λ e. other (sym e)))))
+    (λ t within other. sym (find_last_no (is_of_thread T t) i (passes_here (λ w. eqb w.thread t) T i v at ∙ ne_eqb v.thread t (λ e. other (sym e)))))
 
 -- how many events each thread has
-pub count_before-more :
-    (T : List Event) (i n : ℕ) (v : Event) (xs : List ℕ)
-    → slice_get T i ≡ Some v
-    → IsTable (count_before T i) n xs
+pub count_before-more : (T : List Event) (i n : ℕ) (v : Event) (xs : List ℕ) → slice_get T i ≡ Some v → IsTable (count_before T i) n xs
     → IsTable (count_before T (i + 1)) n (set xs v.thread (count_before T i v.thread + 1))
 count_before-more T i n v xs at table =
-    IsTable-set
-    (count_before T i)
-    (count_before T (i + 1))
-    n
-    xs
-    v.thread
-    (count_before T i v.thread + 1)
-    table
-    (sym
+    IsTable-set (count_before T i) (count_before T (i + 1)) n xs v.thread (count_before T i v.thread + 1) table (sym
     (count_more (λ w. eqb w.thread v.thread) T i v at
-    ∙ ap (λ b. count_before T i v.thread + cond b 1 0) (eq-eqb v.thread v.thread refl)))
-    (λ t within other.
+    ∙ ap (λ b. count_before T i v.thread + cond b 1 0) (eq-eqb v.thread v.thread refl))) (λ t within other.
     let fails : eqb v.thread t ≡ false = ne_eqb v.thread t (λ e. other (sym e)) in
     let more : count_before T (i + 1) t ≡ count_before T i t + cond (eqb v.thread t) 1 0 = count_more (λ w. eqb w.thread t) T i v at in
     sym (more ∙ ap (λ b. count_before T i t + cond b 1 0) fails ∙ omega arith))
@@ -104,86 +75,37 @@ pub place_of-count : (T : List Event) (i : ℕ) (v : Event) → slice_get T i �
 place_of-count T i v at = ap (place_by T i) at
 
 -- the last write of each variable, where the event writes one
-pub last_write-more :
-    (T : List Event) (i n y : ℕ) (v : Event) (xs : List (Option ℕ))
-    → slice_get T i ≡ Some v
-    → v.op ≡ Write y
-    → IsTable (λ x. last_write T x (before i)) n xs
-    → IsTable (λ x. last_write T x (before (i + 1))) n (set xs y (Some i))
+pub last_write-more : (T : List Event) (i n y : ℕ) (v : Event) (xs : List (Option ℕ)) → slice_get T i ≡ Some v → v.op ≡ Write y
+    → IsTable (λ x. last_write T x (before i)) n xs → IsTable (λ x. last_write T x (before (i + 1))) n (set xs y (Some i))
 last_write-more T i n y v xs at op table =
     let test : (x : ℕ) → is_write_at T x i ≡ eqb y x = λ x. passes_here (λ w. is_write x w.op) T i v at ∙ ap (is_write x) op in
-    IsTable-set
-    (λ x. last_write T x (before i))
-    (λ x. last_write T x (before (i + 1)))
-    n
-    xs
-    y
-    (Some i)
-    table
+    IsTable-set (λ x. last_write T x (before i)) (λ x. last_write T x (before (i + 1))) n xs y (Some i) table
     (sym (find_last_yes (is_write_at T y) i (test y ∙ eq-eqb y y refl)))
     (λ x within other. sym (find_last_no (is_write_at T x) i (test x ∙ ne_eqb y x (λ e. other (sym e)))))
 
 -- the last write of each variable, where the event writes none
-pub last_write-same :
-    (T : List Event) (i n : ℕ) (v : Event) (xs : List (Option ℕ))
-    → slice_get T i ≡ Some v
-    → ((x : ℕ) → is_write x v.op ≡ false)
-    → IsTable (λ x. last_write T x (before i)) n xs
-    → IsTable (λ x. last_write T x (before (i + 1))) n xs
+pub last_write-same : (T : List Event) (i n : ℕ) (v : Event) (xs : List (Option ℕ)) → slice_get T i ≡ Some v → ((x : ℕ) → is_write x v.op ≡ false)
+    → IsTable (λ x. last_write T x (before i)) n xs → IsTable (λ x. last_write T x (before (i + 1))) n xs
 last_write-same T i n v xs at none table =
-    IsTable-like
-    (λ x. last_write T x (before i))
-    (λ x. last_write T x (before (i + 1)))
-    n
-    xs
-    table
+    IsTable-like (λ x. last_write T x (before i)) (λ x. last_write T x (before (i + 1))) n xs table
     (λ x within. sym (find_last_no (is_write_at T x) i (passes_here (λ w. is_write x w.op) T i v at ∙ none x)))
 
 -- the first fork of each thread, where the event forks one
-pub fork_before-more :
-    (T : List Event) (i n u : ℕ) (v : Event) (xs : List (Option ℕ))
-    → slice_get T i ≡ Some v
-    → v.op ≡ Fork u
-    → IsTable (fork_before T i) n xs
-    → IsTable (fork_before T (i + 1)) n (set xs u (option_or (fork_before T i u) (Some i)))
+pub fork_before-more : (T : List Event) (i n u : ℕ) (v : Event) (xs : List (Option ℕ)) → slice_get T i ≡ Some v → v.op ≡ Fork u
+    → IsTable (fork_before T i) n xs → IsTable (fork_before T (i + 1)) n (set xs u (option_or (fork_before T i u) (Some i)))
 fork_before-more T i n u v xs at op table =
     let test : (t : ℕ) → is_fork_at T t i ≡ eqb u t = λ t. passes_here (λ w. is_fork t w.op) T i v at ∙ ap (is_fork t) op in
     let more : (t : ℕ) → fork_before T (i + 1) t ≡ option_or (fork_before T i t) (cond (is_fork_at T t i) (Some i) None) = λ t. find_first_more (is_fork_at T t) i in
-    IsTable-set
-    (fork_before T i)
-    (fork_before T (i + 1))
-    n
-    xs
-    u
-    (option_or (fork_before T i u) (Some i))
-    table
-    (sym (more u ∙ ap (option_or (fork_before T i u)) (cond-true _ (Some i) None (test u ∙ eq-eqb u u refl))))
-    (λ t within other.
-    sym
-    (more t
-    ∙ ap (option_or (fork_before T i t)) (cond-false _ (Some i) None (test t ∙ ne_eqb u t (λ e. other (sym e))))
-    ∙ option_or-None (fork_before T i t)))
+    IsTable-set (fork_before T i) (fork_before T (i + 1)) n xs u (option_or (fork_before T i u) (Some i)) table
+    (sym (more u ∙ ap (option_or (fork_before T i u)) (cond-true _ (Some i) None (test u ∙ eq-eqb u u refl)))) (λ t within other. sym (more t
+    ∙ ap (option_or (fork_before T i t)) (cond-false _ (Some i) None (test t ∙ ne_eqb u t (λ e. other (sym e)))) ∙ option_or-None (fork_before T i t)))
 
 -- the first fork of each thread, where the event forks none
-pub fork_before-same :
-    (T : List Event) (i n : ℕ) (v : Event) (xs : List (Option ℕ))
-    → slice_get T i ≡ Some v
-    → ((u : ℕ) → v.op ≢ Fork u)
-    → IsTable (fork_before T i) n xs
-    → IsTable (fork_before T (i + 1)) n xs
+pub fork_before-same : (T : List Event) (i n : ℕ) (v : Event) (xs : List (Option ℕ)) → slice_get T i ≡ Some v → ((u : ℕ) → v.op ≢ Fork u)
+    → IsTable (fork_before T i) n xs → IsTable (fork_before T (i + 1)) n xs
 fork_before-same T i n v xs at none table =
-    IsTable-like
-    (fork_before T i)
-    (fork_before T (i + 1))
-    n
-    xs
-    table
-    (λ u within.
-    sym
-    (find_first_more (is_fork_at T u) i
-    ∙ ap
-    (option_or (fork_before T i u))
-    (cond-false _ (Some i) None (passes_here (λ w. is_fork u w.op) T i v at ∙ no_fork u v.op (none u)))
+    IsTable-like (fork_before T i) (fork_before T (i + 1)) n xs table (λ u within. sym (find_first_more (is_fork_at T u) i
+    ∙ ap (option_or (fork_before T i u)) (cond-false _ (Some i) None (passes_here (λ w. is_fork u w.op) T i v at ∙ no_fork u v.op (none u)))
     ∙ option_or-None (fork_before T i u)))
 
 -- neither a read nor a write
@@ -191,38 +113,20 @@ abbrev pub IsNoAccess : Op → Type 0
 IsNoAccess op = ((l : ℕ) × (op ≡ Acquire l)) ⊎ (((l : ℕ) × (op ≡ Release l)) ⊎ (((u : ℕ) × (op ≡ Fork u)) ⊎ ((u : ℕ) × (op ≡ Join u))))
 
 no_write : (op : Op) → IsNoAccess op → (x : ℕ) → is_write x op ≡ false
-no_write op h x =
-    elim h [
-      | inl p ↦ ap (is_write x) p.1
-      | inr h' ↦
-          elim h' [
-            | inl p ↦ ap (is_write x) p.1
-            | inr h'' ↦ elim h'' [ inl p ↦ ap (is_write x) p.1 | inr p ↦ ap (is_write x) p.1 ]
-          ]
-    ]
+no_write op (inl p) x = ap (is_write x) p.1
+no_write op (inr (inl p)) x = ap (is_write x) p.1
+no_write op (inr (inr (inl p))) x = ap (is_write x) p.1
+no_write op (inr (inr (inr p))) x = ap (is_write x) p.1
 
 no_read : (T : List Event) (i : ℕ) (op : Op) → IsNoAccess op → last_writer_by T i (Some op) ≡ None
-no_read T i op h =
-    elim h [
-      | inl p ↦ ap (λ (o : Op). last_writer_by T i (Some o)) p.1
-      | inr h' ↦
-          elim h' [
-            | inl p ↦ ap (λ (o : Op). last_writer_by T i (Some o)) p.1
-            | inr h'' ↦
-                elim h'' [
-                  | inl p ↦ ap (λ (o : Op). last_writer_by T i (Some o)) p.1
-                  | inr p ↦ ap (λ (o : Op). last_writer_by T i (Some o)) p.1
-                ]
-          ]
-    ]
+no_read T i op (inl p) = ap (λ (o : Op). last_writer_by T i (Some o)) p.1
+no_read T i op (inr (inl p)) = ap (λ (o : Op). last_writer_by T i (Some o)) p.1
+no_read T i op (inr (inr (inl p))) = ap (λ (o : Op). last_writer_by T i (Some o)) p.1
+no_read T i op (inr (inr (inr p))) = ap (λ (o : Op). last_writer_by T i (Some o)) p.1
 
 -- an event that accesses no variable sees no write, and changes no last write
-pub no_access :
-    (T : List Event) (i n : ℕ) (v : Event) (xs : List (Option ℕ))
-    → slice_get T i ≡ Some v
-    → IsNoAccess v.op
-    → IsTable (λ x. last_write T x (before i)) n xs
-    → (None ≡ last_writer T i) × IsTable (λ x. last_write T x (before (i + 1))) n xs
+pub no_access : (T : List Event) (i n : ℕ) (v : Event) (xs : List (Option ℕ)) → slice_get T i ≡ Some v → IsNoAccess v.op
+    → IsTable (λ x. last_write T x (before i)) n xs → (None ≡ last_writer T i) × IsTable (λ x. last_write T x (before (i + 1))) n xs
 no_access T i n v xs at none table = (
   sym (ap (λ o. last_writer_by T i (option_map (λ (w : Event). w.op) o)) at ∙ no_read T i v.op none),
   last_write-same T i n v xs at (no_write v.op none) table,

@@ -1,5 +1,5 @@
 -- Lists that hold what a function gives for each number: begun, lengthened, written to, read.
-use Rattle.std.proofs.Common.{◌≡◌, ◌≢◌, ℕ, ◌+◌, ◌<◌, List, [], ◌∷◌, ◌++◌, Some, length, get_or, set, replicate, refl, sym, ap, ◌∙◌, subst, arith, inl, inr, get_or-set_same, get_or-set_other, length-set}
+use Rattle.std.proofs.Common.{◌≡◌, ◌≢◌, ℕ, ◌+◌, ◌<◌, List, [], ◌∷◌, ◌++◌, Some, length, get_or, set, replicate, refl, sym, ap, ◌∙◌, arith, inl, inr, get_or-set_same, get_or-set_other, length-set}
 use Rattle.std.proofs.lemmas.Bool.{cases_eq}
 use Rattle.std.proofs.lemmas.List.{length-replicate, length_push, get_or-replicate, get_or_append_left, get_or_push}
 use Rattle.std.proofs.lemmas.Option.{slice_get-get_or, get_or_from_slice_get}
@@ -26,12 +26,7 @@ IsTable-replicate f n x all =
 
 pub IsTable-push : {X : Type 0} (f : ℕ → X) (n : ℕ) (xs : List X) (x : X) → IsTable f n xs → x ≡ f n → IsTable f (n + 1) (xs ++ x ∷ [])
 IsTable-push f n xs x table is =
-    IsTable-from_get_or
-    f
-    (n + 1)
-    (xs ++ x ∷ [])
-    (length_push xs x ∙ ap (λ (k : ℕ). k + 1) table.len)
-    (λ i within.
+    IsTable-from_get_or f (n + 1) (xs ++ x ∷ []) (length_push xs x ∙ ap (λ (k : ℕ). k + 1) table.len) (λ i within.
     elim (cases_eq i n) [
       | inl same ↦ get_or_push xs x (f i) i (table.len ∙ sym same) ∙ is ∙ ap f (sym same)
       | inr other ↦
@@ -40,22 +35,13 @@ IsTable-push f n xs x table is =
     ])
 
 -- a write that makes it the table of another function
-pub IsTable-set :
-    {X : Type 0} (f g : ℕ → X) (n : ℕ) (xs : List X) (j : ℕ) (x : X)
-    → IsTable f n xs
-    → x ≡ g j
-    → ((i : ℕ) → i < n → i ≢ j → f i ≡ g i)
+pub IsTable-set : {X : Type 0} (f g : ℕ → X) (n : ℕ) (xs : List X) (j : ℕ) (x : X) → IsTable f n xs → x ≡ g j → ((i : ℕ) → i < n → i ≢ j → f i ≡ g i)
     → IsTable g n (set xs j x)
 IsTable-set f g n xs j x table is others =
-    IsTable-from_get_or
-    g
-    n
-    (set xs j x)
-    (length-set xs j x ∙ table.len)
-    (λ i within.
+    IsTable-from_get_or g n (set xs j x) (length-set xs j x ∙ table.len) (λ i within.
     elim (cases_eq i j) [
       | inl same ↦
-          subst (λ (k : ℕ). get_or (set xs j x) k (g k) ≡ g k) (sym same) (get_or-set_same xs j x (g j) (omega (arith, table.len)) ∙ is)
+          rw same (get_or-set_same xs j x (g j) (omega (arith, table.len)) ∙ is)
       | inr other ↦ get_or-set_other xs j i x (g i) other ∙ get_or-IsTable f n xs table i (g i) within ∙ others i within other
     ])
 

@@ -1,6 +1,6 @@
 -- What two events have to do with each other: whether they conflict, and whether they are independent.
 -- A conflict is that of Mathur, Kini and Viswanathan (OOPSLA 2018); independence is this project's own.
-use Rattle.std.specs.Prelude.{◌≡◌, ◌≢◌, ℕ, ◌==◌, Bool, true, false, not, ◌&&◌, ◌||◌, List, slice_get, Option, Some, None}
+use Rattle.std.specs.Prelude.{◌≡◌, ◌≢◌, ℕ, ◌==◌, Bool, true, false, not, ◌&&◌, ◌||◌, List, slice_get, Option, Some}
 use Rattle.rapid_text.specs.Operations.{is_read, is_write, is_acquire, is_release, is_fork, is_join}
 use Rattle.rapid_text.specs.declared.event.Event.{Event}
 use Rattle.rapid_text.specs.declared.event.Op.{Op}

@@ -1,8 +1,5 @@
-use Rattle.std.proofs.Common.{◌≡◌, ◌<◌, ◌+◌, ℕ, Some, None, get_or, set, length, ◌∙◌, ap, arith, length-set, subst, sym}
+use Rattle.std.proofs.Common.{◌≡◌, ◌<◌, ℕ, Some, None, get_or, length, ◌∙◌, ap, arith, length-set, sym}
 use Rattle.std.proofs.lemmas.List.{get_or_default}
-use Rattle.event_index.specs.Layout.{IsTable}
-use Rattle.event_index.specs.Lookups.{end_before}
-use Rattle.event_index.specs.Open.{IsHeld}
 use Rattle.event_index.proofs.SectionLemmas.{top_found}
 use Rattle.event_index.proofs.sections.end.Goals as goal
 
@@ -31,17 +28,10 @@ returns-in-Some c =
     ap (λ (a : ℕ). get_or known.outer.items a None) here
     ∙ sym (c.index-in-Some.ensures ∙ get_or_default known.outer.items c.in-Some.acquire c.index-in-Some.result.now None within) in
     record {
-      ends = subst
-          (λ (a : ℕ). IsTable (end_before c.args.raw.now.events (c.args.event + 1)) (length c.args.raw.now.events) (set known.ends.items a (Some c.args.event)))
-          here
-          found.3;
+      ends = rw (← here) found.3;
       outer = c.requires.known.outer;
       top = length-set known.top.items c.args.lock c.index-in-Some.result.now ∙ c.requires.known.top;
-      held = λ l inside.
-          subst
-          (λ o. IsHeld c.args.raw.now.events known.outer.items (c.args.event + 1) l (get_or (set known.top.items c.args.lock o) l None))
-          below
-          (found.4 l inside);
+      held = λ l inside. rw (← below) (found.4 l inside);
     }
 
 pub returns-in_default : goal.returns-in_default
