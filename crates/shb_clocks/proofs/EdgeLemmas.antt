@@ -1,6 +1,6 @@
 -- What an edge says of two events in a trace that keeps the rules: the first stands before the
 -- second.
-use Rattle.std.proofs.Common.{◌≡◌, ℕ, ◌<◌, ◌≤◌, List, Some, sym, ap, ◌∙◌, subst, arith, inl, inr}
+use Rattle.std.proofs.Common.{◌≡◌, ℕ, ◌<◌, ◌≤◌, List, Some, sym, ap, ◌∙◌, arith, inl, inr}
 use Rattle.std.specs.List.{slice_get}
 use Rattle.std.proofs.lemmas.Bool.{cases_order}
 use Rattle.rapid_text.specs.declared.event.Event.{Event}
@@ -70,14 +70,13 @@ Edge-earlier T rules a b (by_writer is) = last_writer-earlier T b a is
 -- SHB never leads back
 pub IsShbBefore-le : (T : List Event) → IsDisciplined T → (a b : ℕ) → IsShbBefore T a b → a ≤ b
 IsShbBefore-le T rules a b (same _ is) = omega arith
-IsShbBefore-le T rules a b (chain m _ before edge) =
-    omega (arith, IsShbBefore-le T rules a m before, Edge-earlier T rules m b edge)
+IsShbBefore-le T rules a b (chain m _ before edge) = omega (arith, IsShbBefore-le T rules a m before, Edge-earlier T rules m b edge)
 
 -- along a thread
 pub along_thread : (T : List Event) (a m b t : ℕ) → IsShbBefore T a m → thread_at T m ≡ Some t → thread_at T b ≡ Some t → m ≤ b → IsShbBefore T a b
 along_thread T a m b t before of also le =
     elim (cases_order m b) [
-      | inl is ↦ subst (IsShbBefore T a) is before
+      | inl is ↦ rw (← is) before
       | inr apart ↦ elim apart [
         | inl early ↦ chain m b before (in_thread t early of also)
         | inr late ↦ absurd (omega arith)

@@ -37,8 +37,7 @@ count-cons : (test : ℕ → Bool) (x : ℕ) (xs : List ℕ) (b : Bool) → test
 count-cons test x xs b is = sum_by-cons (λ y. cond (test y) 1 0) x xs ∙ ap (λ c. cond c 1 0 + count_by test xs) is
 
 -- where the first passes
-passed :
-    (test : ℕ → Bool) (x : ℕ) (xs : List ℕ) (k : ℕ) → k < length (x ∷ xs) → test x ≡ true
+passed : (test : ℕ → Bool) (x : ℕ) (xs : List ℕ) (k : ℕ) → k < length (x ∷ xs) → test x ≡ true
     → ((j : ℕ) → j < length xs → (test (get_or xs j 0) ≡ true) ↔ (j < count_by test xs))
     → (test (get_or (x ∷ xs) k 0) ≡ true) ↔ (k < count_by test (x ∷ xs))
 passed test x xs zero lt passes rest =
@@ -63,8 +62,7 @@ first_part test (x ∷ xs) part k lt =
                 let here : test (get_or xs 0 0) ≡ true = (first_part test xs rest 0 low).1 some in
                 absurd (false≢true (sym fails ∙ part 0 1 (omega arith) (omega arith) here))
             | inr no_more ↦ omega arith
-          ]
-          in
+          ] in
           let counted : count_by test (x ∷ xs) ≡ 0 + count_by test xs = count-cons test x xs false fails in
           let all : count_by test (x ∷ xs) ≡ 0 = omega (arith, counted, none) in (
             λ h. absurd (false≢true (sym fails ∙ part 0 k (omega arith) lt h)),
@@ -76,7 +74,7 @@ first_part test (x ∷ xs) part k lt =
 at_place : (T : List Event) (a t : ℕ) → thread_at T a ≡ Some t → slice_get (events_of T t) (place_of T a) ≡ Some a
 at_place T a t of =
     let v = thread_event T a t of in
-    subst (λ (u : ℕ). slice_get (events_of T u) (place_of T a) ≡ Some a) v.2 (events_of-place T a v.0 v.1)
+    rw (← v.2) (events_of-place T a v.0 v.1)
 
 -- the event at a place of a thread
 abbrev pub EventAt : List Event → ℕ → ℕ → Type 0
@@ -89,8 +87,7 @@ event_at T t k low =
     (a, is.0, is.1, is.2)
 
 -- who knows more counts more
-count-le :
-    (T : List Event) (a e t n m : ℕ) → ((x : ℕ) → IsShbBefore T x a → IsShbBefore T x e) → IsCount T a t n → IsCount T e t m → n ≤ m
+count-le : (T : List Event) (a e t n m : ℕ) → ((x : ℕ) → IsShbBefore T x a → IsShbBefore T x e) → IsCount T a t n → IsCount T e t m → n ≤ m
 count-le T a e t n m more of_a of_e =
     elim (cases_lt m n) [
       | inl over ↦
@@ -133,8 +130,7 @@ module _ (T : List Event) (rules : IsDisciplined T) where
         | inr sources ↦ elim sources [
           | inl leads ↦
               let low : leads.0 ≤ n = omega (arith, base_of-earlier T rules e leads.0 leads.1) in
-              or_right (a == e) _
-              (or_left _ _ (step-to (λ s. leads_within T n a s) (base_of T e) leads.0 leads.1 (leads-from n a leads.0 low leads.2)))
+              or_right (a == e) _ (or_left _ _ (step-to (λ s. leads_within T n a s) (base_of T e) leads.0 leads.1 (leads-from n a leads.0 low leads.2)))
           | inr leads ↦
               let low : leads.0 ≤ n = omega (arith, Edge-earlier T rules leads.0 e (Edge-counterpart T e leads.0 leads.1)) in
               or_right (a == e) _
@@ -154,8 +150,7 @@ module _ (T : List Event) (rules : IsDisciplined T) where
       let y = event_at T t j low in
       let known : IsShbBefore T y.0 e = (is_shb_before-tells y.0 e).0 h in
       let along : IsShbBefore T x.0 y.0 =
-      along_thread T x.0 x.0 y.0 t (same x.0 refl) x.2 y.2 (le-from_place_of T x.0 y.0 t x.2 y.2 (omega (arith, x.3, y.3)))
-      in
+      along_thread T x.0 x.0 y.0 t (same x.0 refl) x.2 y.2 (le-from_place_of T x.0 y.0 t x.2 y.2 (omega (arith, x.3, y.3))) in
       (is_shb_before-tells x.0 e).1 (IsShbBefore-trans T x.0 y.0 e along known)
 
   -- the number counts
@@ -168,7 +163,7 @@ module _ (T : List Event) (rules : IsDisciplined T) where
       let here : get_or xs (place_of T a) 0 ≡ a = get_or_from_slice_get xs (place_of T a) a 0 at in
       let part = first_part (λ b. is_shb_before T b e) xs (known_first e t) (place_of T a) (slice_get_within xs (place_of T a) a at) in (
         λ before. part.0 (rw here ((is_shb_before-tells a e).1 before)),
-        λ low. (is_shb_before-tells a e).0 (subst (λ (b : ℕ). is_shb_before T b e ≡ true) here (part.1 low)),
+        λ low. (is_shb_before-tells a e).0 (rw (← here) (part.1 low)),
       )
       in record {
         reached = λ a of low. (tells a of).1 low;
@@ -201,8 +196,7 @@ module _ (T : List Event) (rules : IsDisciplined T) where
             let v = thread_event T x.0 t x.2 in
             let place : place_of T x.0 ≡ count_before T x.0 t = place_of-count T x.0 v.0 v.1 ∙ ap (count_before T x.0) v.2 in
             let more : count_before T (x.0 + 1) t ≡ count_before T x.0 t + 1 =
-            count_more (λ w. w.thread == t) T x.0 v.0 v.1 ∙ ap (λ c. count_before T x.0 t + cond c 1 0) (eq-eqb v.0.thread t v.2)
-            in
+            count_more (λ w. w.thread == t) T x.0 v.0 v.1 ∙ ap (λ c. count_before T x.0 t + cond c 1 0) (eq-eqb v.0.thread t v.2) in
             let grown : count_before T (x.0 + 1) t ≤ count_before T (x.0 + 1 + (e - x.0)) t = counts_grow T (x.0 + 1) (e - x.0) t (omega arith) in
             let end : x.0 + 1 + (e - x.0) ≡ e + 1 = omega arith in
             let reached : count_before T (x.0 + 1) t ≤ count_before T (e + 1) t = subst (λ (n : ℕ). count_before T (x.0 + 1) t ≤ count_before T n t) end grown in
@@ -242,7 +236,7 @@ module _ (T : List Event) (rules : IsDisciplined T) where
                 | inr sources ↦ elim sources [
                   | inl leads ↦
                       let one : leads.0 ≡ b = same_Some leads.0 b (sym leads.1 ∙ base) in
-                      of_b.counted a of (subst (IsShbBefore T a) one leads.2)
+                      of_b.counted a of (rw (← one) leads.2)
                   | inr leads ↦ of_b.counted a of (IsShbBefore-trans T a leads.0 b leads.2 (knows leads.0 leads.1))
                 ]
               ];

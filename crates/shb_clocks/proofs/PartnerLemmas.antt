@@ -1,5 +1,5 @@
 -- The partners of an event in a thread are a beginning of the accesses that follow it there.
-use Rattle.std.proofs.Common.{◌≡◌, ◌≢◌, ℕ, ◌+◌, ◌<◌, ◌≤◌, ◌⊎◌, Bool, true, false, ◌||◌, eqb, List, Some, length, get_or, set, refl, sym, ap, ◌∙◌, subst, arith, inl, inr, true≢false, eq-eqb, length-set, get_or-set_same, get_or-set_other}
+use Rattle.std.proofs.Common.{◌≡◌, ◌≢◌, ℕ, ◌+◌, ◌<◌, ◌≤◌, ◌⊎◌, Bool, true, false, ◌||◌, eqb, List, Some, length, get_or, set, refl, sym, ap, ◌∙◌, arith, inl, inr, true≢false, eq-eqb, length-set, get_or-set_same, get_or-set_other}
 use Rattle.std.specs.List.{slice_get}
 use Rattle.std.proofs.lemmas.Bool.{cases_eq, cases_lt, or_cases, eqb-true}
 use Rattle.std.proofs.lemmas.Option.{none-some, same_Some, slice_get_within}
@@ -23,15 +23,11 @@ one_variable x y z h k = eqb-true z y k ∙ sym (eqb-true x y h)
 read_is : (x y : ℕ) → is_access y (Read x) ≡ true → eqb x y ≡ true
 read_is x y h = elim (or_cases (eqb x y) false h) [ inl is ↦ is | inr wrong ↦ absurd (true≢false (sym wrong)) ]
 
-write_is : (x y : ℕ) → is_access y (Write x) ≡ true → eqb x y ≡ true
-write_is x y h = h
-
 no_access : (h : false ≡ true) → ⊥
 no_access h = true≢false (sym h)
 
 -- what clashes with an event that is sought stands in a chain
-access_linked :
-    (w : Bool) (x y : ℕ) (op : Op) → is_access y (sought_by w x) ≡ true → is_access y op ≡ true
+access_linked : (w : Bool) (x y : ℕ) (op : Op) → is_access y (sought_by w x) ≡ true → is_access y op ≡ true
     → (is_write y (sought_by w x) || is_write y op) ≡ true → linked_variable w op ≡ Some x
 access_linked true x y (Read z) h k wr = absurd (no_access wr)
 access_linked true x y (Write z) h k wr = ap Some (one_variable x y z (read_is x y h) k)
@@ -114,7 +110,7 @@ linked_thread T w spots x i e l = thread_here T e l.v l.found
 pub IsApart-earlier : (T : List Event) (a h b u : ℕ) → thread_at T h ≡ Some u → thread_at T b ≡ Some u → h ≤ b → IsApart T a b → IsApart T a h
 IsApart-earlier T a h b u of also le apart =
     elim (cases_eq h b) [
-      | inl is ↦ subst (IsApart T a) (sym is) apart
+      | inl is ↦ rw is apart
       | inr other ↦
           λ c base before.
           let v = thread_event T b u also in
@@ -130,11 +126,9 @@ own_apart T a h u of also early apart =
     apart next.0 next.1 (along_thread T a a next.0 v.0.thread (same a refl) (of ∙ ap Some (sym v.2)) next.2 next.3)
 
 -- the head of a chain, kept or not, tells the first partner in its chain
-pub IsFirstFrom-kept :
-    (T : List Event) (w : Bool) (spots : List ℕ) (a x i from head n : ℕ) → op_at T a ≡ Some (sought_by w x) → a < from
+pub IsFirstFrom-kept : (T : List Event) (w : Bool) (spots : List ℕ) (a x i from head n : ℕ) → op_at T a ≡ Some (sought_by w x) → a < from
     → ((e f : ℕ) (l : IsLinked T w spots x i e) (m : IsLinked T w spots x i f) → l.v.thread ≡ m.v.thread)
-    → IsFirstFrom (IsLinked T w spots x i) (length T) from head → IsKept T a head n
-    → IsFirstFrom (IsPartner T spots a i) (length T) from n
+    → IsFirstFrom (IsLinked T w spots x i) (length T) from head → IsKept T a head n → IsFirstFrom (IsPartner T spots a i) (length T) from n
 IsFirstFrom-kept T w spots a x i from head n op early alone first (inl kept) =
     let linked = first.here kept.1 in
     let of = linked_thread T w spots x i head linked in
@@ -172,10 +166,8 @@ IsFirstFrom-kept T w spots a x i from head n op early alone first (inr none) =
 
 module _ (T : List Event) (spots : List ℕ) (a from : ℕ) (partners : List ℕ) (are : ArePartners T spots a from partners) (inside : from ≤ length T) where
   -- the least of the first partners is the first partner of all
-  pub IsFirstFrom-least :
-      (m : ℕ) → ((i : ℕ) → i < length partners → m ≤ get_or partners i 0)
-      → (m ≡ length T) ⊎ ((i : ℕ) × (i < length partners) × (get_or partners i 0 ≡ m))
-      → IsFirstFrom (IsCandidate T a) (length T) from m
+  pub IsFirstFrom-least : (m : ℕ) → ((i : ℕ) → i < length partners → m ≤ get_or partners i 0)
+      → (m ≡ length T) ⊎ ((i : ℕ) × (i < length partners) × (get_or partners i 0 ≡ m)) → IsFirstFrom (IsCandidate T a) (length T) from m
   IsFirstFrom-least m lowest found =
       let bounds : (from ≤ m) × (m ≤ length T) × (m < length T → IsCandidate T a m) =
       elim found [
@@ -184,10 +176,9 @@ module _ (T : List Event) (spots : List ℕ) (a from : ℕ) (partners : List ℕ
             let first = are.at at.0 at.1 in (
               omega (arith, first.low, at.2),
               omega (arith, first.high, at.2),
-              λ lt. subst (IsCandidate T a) at.2 (first.here (omega (arith, at.2))).0,
+              λ lt. rw (← at.2) (first.here (omega (arith, at.2))).0,
             )
-      ]
-      in
+      ] in
       record {
         low = bounds.0;
         high = bounds.1;
@@ -200,8 +191,7 @@ module _ (T : List Event) (spots : List ℕ) (a from : ℕ) (partners : List ℕ
       }
 
   -- once it is listed, the next partner of its chain takes its place
-  pub ArePartners-next :
-      (b i n : ℕ) → IsFirstFrom (IsCandidate T a) (length T) from b → b < length T → get_or spots b 0 ≡ i
+  pub ArePartners-next : (b i n : ℕ) → IsFirstFrom (IsCandidate T a) (length T) from b → b < length T → get_or spots b 0 ≡ i
       → IsFirstFrom (IsPartner T spots a i) (length T) (b + 1) n → ArePartners T spots a (b + 1) (set partners i n)
   ArePartners-next b i n first below of next =
       record {
@@ -221,8 +211,7 @@ module _ (T : List Event) (spots : List ℕ) (a from : ℕ) (partners : List ℕ
                           | inl one ↦ absurd (other (sym p.1 ∙ ap (λ (e : ℕ). get_or spots e 0) one ∙ of))
                           | inr less ↦ absurd (first.skipped (get_or partners j 0) f.low (omega arith) p.0)
                         ]
-                  ]
-                  in
+                  ] in
                   rw (get_or-set_other partners i j n 0 other) (record {
                     low = omega arith;
                     high = f.high;

@@ -1,5 +1,5 @@
 -- The place of an event in its thread grows along the thread.
-use Rattle.std.proofs.Common.{◌≡◌, ℕ, zero, suc, ◌+◌, ◌-◌, ◌<◌, ◌≤◌, cond, eqb, List, Some, length, get_or, ap, ◌∙◌, subst, arith, eq-eqb, inl, inr, le_refl}
+use Rattle.std.proofs.Common.{◌≡◌, ℕ, zero, suc, ◌+◌, ◌-◌, ◌<◌, ◌≤◌, cond, eqb, List, Some, length, get_or, ap, ◌∙◌, arith, eq-eqb, inl, inr, le_refl}
 use Rattle.std.specs.List.{slice_get}
 use Rattle.std.proofs.lemmas.Bool.{cases_lt}
 use Rattle.std.proofs.lemmas.Option.{slice_get-get_or, slice_get_within}
@@ -13,14 +13,14 @@ use Rattle.event_index.proofs.CallerLemmas.{count_more, place_of-count, thread_e
 pub counts_grow : (T : List Event) (i k t : ℕ) → i + k ≤ length T → count_before T i t ≤ count_before T (i + k) t
 counts_grow T i zero t within =
     let here : i ≡ i + 0 = omega arith in
-    subst (λ (n : ℕ). count_before T i t ≤ count_before T n t) here (le_refl (count_before T i t))
+    rw (← here) (le_refl (count_before T i t))
 counts_grow T i (suc k) t within =
     let v : Event = get_or T (i + k) (record { thread = 0; op = Read 0 }) in
     let at : slice_get T (i + k) ≡ Some v = slice_get-get_or T (i + k) _ (omega arith) in
     let rest : count_before T i t ≤ count_before T (i + k) t = counts_grow T i k t (omega arith) in
     let more : count_before T (i + k + 1) t ≡ count_before T (i + k) t + cond (eqb v.thread t) 1 0 = count_more (λ w. eqb w.thread t) T (i + k) v at in
     let next : i + k + 1 ≡ i + suc k = omega arith in
-    subst (λ (n : ℕ). count_before T i t ≤ count_before T n t) next (omega arith)
+    rw (← next) (omega arith)
 
 module _ (T : List Event) (a b t : ℕ) (of : thread_at T a ≡ Some t) (also : thread_at T b ≡ Some t) where
   count_here : place_of T b ≡ count_before T b t
@@ -36,7 +36,7 @@ module _ (T : List Event) (a b t : ℕ) (of : thread_at T a ≡ Some t) (also : 
       let within : b < length T = slice_get_within T b w.0 w.1 in
       let rest : count_before T (a + 1) t ≤ count_before T (a + 1 + (b - (a + 1))) t = counts_grow T (a + 1) (b - (a + 1)) t (omega arith) in
       let here : a + 1 + (b - (a + 1)) ≡ b = omega arith in
-      let reached : count_before T (a + 1) t ≤ count_before T b t = subst (λ (n : ℕ). count_before T (a + 1) t ≤ count_before T n t) here rest in
+      let reached : count_before T (a + 1) t ≤ count_before T b t = rw (← here) rest in
       omega (arith, count_here)
 
 -- events of one thread stand as their places do

@@ -1,6 +1,6 @@
 -- The base and the counterpart of an event: edges lead from them to it, and of all that has an edge to it
 -- they are the last. `T` is the events of a trace that keeps the rules.
-use Rattle.std.proofs.Common.{◌≡◌, ℕ, zero, suc, ◌+◌, ◌-◌, ◌<◌, ◌≤◌, ◌⊎◌, true, List, reverse, Option, Some, None, length, get_or, take, refl, sym, ap, ◌∙◌, subst, arith, eq-eqb, inl, inr, true≢false}
+use Rattle.std.proofs.Common.{◌≡◌, ℕ, zero, suc, ◌+◌, ◌-◌, ◌<◌, ◌≤◌, ◌⊎◌, true, List, reverse, Option, Some, None, length, get_or, take, refl, sym, ap, ◌∙◌, arith, eq-eqb, inl, inr, true≢false}
 use Rattle.std.specs.List.{find, slice_get}
 use Rattle.std.proofs.lemmas.Bool.{cases_Bool, cases_eq, cases_lt, cases_order}
 use Rattle.std.proofs.lemmas.Option.{none-some, same_Some, slice_get_within, slice_get-get_or}
@@ -56,16 +56,12 @@ pub fork_of-is : (T : List Event) → IsDisciplined T → (m u : ℕ) → op_at 
 fork_of-is T rules m u op = fork_of-cases T rules m u op (fork_of T u) refl
 
 module _ (T : List Event) (e : ℕ) (v : Event) (at : slice_get T e ≡ Some v) where
-  last_of_thread : Option ℕ
-  last_of_thread = find (is_of_thread T v.thread) (reverse (before e))
-
   base_is : (o : Option ℕ) → find (is_of_thread T v.thread) (reverse (before e)) ≡ o → base_of T e ≡ or_else o (fork_of T v.thread)
   base_is o is = ap (base_by T e) at ∙ ap (λ p. or_else p (fork_of T v.thread)) is
 
   after_cases : (m : ℕ) → m < e → thread_at T m ≡ Some v.thread → (o : Option ℕ) → find (is_of_thread T v.thread) (reverse (before e)) ≡ o
       → (b : ℕ) × (base_of T e ≡ Some b) × (thread_at T b ≡ Some v.thread) × (m ≤ b)
-  after_cases m early of None is =
-      absurd (true≢false (sym (is_of_thread-from T m v.thread of) ∙ find_last_none (is_of_thread T v.thread) e is m early))
+  after_cases m early of None is = absurd (true≢false (sym (is_of_thread-from T m v.thread of) ∙ find_last_none (is_of_thread T v.thread) e is m early))
   after_cases m early of (Some b) is =
       let last = find_last_is (is_of_thread T v.thread) e b is in (
         b,
@@ -78,15 +74,13 @@ module _ (T : List Event) (e : ℕ) (v : Event) (at : slice_get T e ≡ Some v) 
       )
 
   -- no earlier event of its thread stands after the base
-  pub base-after : (m : ℕ) → m < e → thread_at T m ≡ Some v.thread
-      → (b : ℕ) × (base_of T e ≡ Some b) × (thread_at T b ≡ Some v.thread) × (m ≤ b)
+  pub base-after : (m : ℕ) → m < e → thread_at T m ≡ Some v.thread → (b : ℕ) × (base_of T e ≡ Some b) × (thread_at T b ≡ Some v.thread) × (m ≤ b)
   base-after m early of = after_cases m early of (find (is_of_thread T v.thread) (reverse (before e))) refl
 
   fork_cases : IsDisciplined T → (m : ℕ) → op_at T m ≡ Some (Fork v.thread) → (o : Option ℕ) → find (is_of_thread T v.thread) (reverse (before e)) ≡ o
       → (b : ℕ) × (base_of T e ≡ Some b) × ((thread_at T b ≡ Some v.thread) ⊎ (m ≡ b))
   fork_cases rules m op None is = (m, base_is None is ∙ fork_of-is T rules m v.thread op, inr refl)
-  fork_cases rules m op (Some b) is =
-      (b, base_is (Some b) is, inl (is_of_thread-thread T v.thread b (find_last_is (is_of_thread T v.thread) e b is).1))
+  fork_cases rules m op (Some b) is = (b, base_is (Some b) is, inl (is_of_thread-thread T v.thread b (find_last_is (is_of_thread T v.thread) e b is).1))
 
   -- the base of an event of a forked thread is that fork or an event of the thread
   pub base-after_fork : IsDisciplined T → (m : ℕ) → op_at T m ≡ Some (Fork v.thread)
@@ -106,17 +100,16 @@ Edge-base T e b is =
     ]
 
 -- the last event of a thread
-end_cases :
-    (T : List Event) (u m : ℕ) → thread_at T m ≡ Some u → (o : Option ℕ) → slice_get (events_of T u) (length (events_of T u) - 1) ≡ o
+end_cases : (T : List Event) (u m : ℕ) → thread_at T m ≡ Some u → (o : Option ℕ) → slice_get (events_of T u) (length (events_of T u) - 1) ≡ o
     → (s : ℕ) × (end_of_thread T u ≡ Some s) × (thread_at T s ≡ Some u) × (m ≤ s)
 end_cases T u m of None is =
     let v = thread_event T m u of in
-    let at : slice_get (events_of T u) (place_of T m) ≡ Some m = subst (λ (t : ℕ). slice_get (events_of T t) (place_of T m) ≡ Some m) v.2 (events_of-place T m v.0 v.1) in
+    let at : slice_get (events_of T u) (place_of T m) ≡ Some m = rw (← v.2) (events_of-place T m v.0 v.1) in
     let within = slice_get_within (events_of T u) (place_of T m) m at in
     absurd (none-some _ (sym is ∙ slice_get-get_or (events_of T u) (length (events_of T u) - 1) 0 (omega arith)))
 end_cases T u m of (Some s) is =
     let v = thread_event T m u of in
-    let at : slice_get (events_of T u) (place_of T m) ≡ Some m = subst (λ (t : ℕ). slice_get (events_of T t) (place_of T m) ≡ Some m) v.2 (events_of-place T m v.0 v.1) in
+    let at : slice_get (events_of T u) (place_of T m) ≡ Some m = rw (← v.2) (events_of-place T m v.0 v.1) in
     let within = slice_get_within (events_of T u) (place_of T m) m at in
     let last = place_of-events_of T u (length (events_of T u) - 1) s is in
     (s, ap (λ o. or_else o (fork_of T u)) is, last.1, le-from_place_of T m s u of last.1 (omega arith))
@@ -142,7 +135,7 @@ end_is : (T : List Event) (u s : ℕ) (o : Option ℕ) → slice_get (events_of 
 end_is T u s None at is = inr (is_fork_at-op T u s (fork_of-some T u s is).1)
 end_is T u s (Some k) at is =
     let one : k ≡ s = same_Some k s is in
-    inl (subst (λ (j : ℕ). thread_at T j ≡ Some u) one (place_of-events_of T u (length (events_of T u) - 1) k at).1)
+    inl (rw (← one) (place_of-events_of T u (length (events_of T u) - 1) k at).1)
 
 Edge-by : (T : List Event) (e s : ℕ) (o : Option Op) → op_at T e ≡ o → counterpart_by T e o ≡ Some s → Edge T s e
 Edge-by T e s (Some (Read x)) op is = by_writer is
@@ -163,11 +156,9 @@ Edge-counterpart T e s is = Edge-by T e s (op_at T e) refl is
 pub counterpart_of-op : (T : List Event) (e : ℕ) (op : Op) → op_at T e ≡ Some op → counterpart_of T e ≡ counterpart_by T e (Some op)
 counterpart_of-op T e op is = ap (counterpart_by T e) is
 
-release_cases :
-    (T : List Event) (e l m : ℕ) → m < e → op_at T m ≡ Some (Release l) → (o : Option ℕ) → last_release T e l ≡ o
+release_cases : (T : List Event) (e l m : ℕ) → m < e → op_at T m ≡ Some (Release l) → (o : Option ℕ) → last_release T e l ≡ o
     → (r : ℕ) × (o ≡ Some r) × (op_at T r ≡ Some (Release l)) × (m ≤ r)
-release_cases T e l m early op None is =
-    absurd (true≢false (sym (is_release_at-from T l m op) ∙ find_last_none (is_release_at T l) e is m early))
+release_cases T e l m early op None is = absurd (true≢false (sym (is_release_at-from T l m op) ∙ find_last_none (is_release_at T l) e is m early))
 release_cases T e l m early op (Some r) is =
     let last = find_last_is (is_release_at T l) e r is in (
       r,
@@ -180,8 +171,7 @@ release_cases T e l m early op (Some r) is =
     )
 
 -- no release of the lock stands after the last one
-pub last_release-after :
-    (T : List Event) (e l m : ℕ) → m < e → op_at T m ≡ Some (Release l)
+pub last_release-after : (T : List Event) (e l m : ℕ) → m < e → op_at T m ≡ Some (Release l)
     → (r : ℕ) × (last_release T e l ≡ Some r) × (op_at T r ≡ Some (Release l)) × (m ≤ r)
 last_release-after T e l m early op = release_cases T e l m early op (last_release T e l) refl
 
@@ -191,13 +181,13 @@ pub taken_between :
     → (j : ℕ) × (i ≤ j) × (j < i + k) × (thread_at T j ≡ Some t) × (op_at T j ≡ Some (Acquire l))
 taken_between T rules i zero t l within none held =
     let here : i + 0 ≡ i = omega arith in
-    let now : 0 < hold_count (take i T) t l = subst (λ (n : ℕ). 0 < hold_count (take n T) t l) here held in
+    let now : 0 < hold_count (take i T) t l = rw (← here) held in
     absurd (omega arith)
 taken_between T rules i (suc k) t l within none held =
     let v : Event = get_or T (i + k) (record { thread = 0; op = Read 0 }) in
     let at : slice_get T (i + k) ≡ Some v = slice_get-get_or T (i + k) _ (omega arith) in
     let next : i + suc k ≡ i + k + 1 = omega arith in
-    let now : 0 < hold_count (take (i + k + 1) T) t l = subst (λ (n : ℕ). 0 < hold_count (take n T) t l) next held in
+    let now : 0 < hold_count (take (i + k + 1) T) t l = rw (← next) held in
     elim (cases_lt 0 (hold_count (take (i + k) T) t l)) [
       | inl already ↦
           let rest = taken_between T rules i k t l (omega arith) none already in
@@ -215,8 +205,7 @@ taken_between T rules i (suc k) t l within none held =
     ]
 
 -- An earlier release of a lock is SHB-before a later one: between them the second's thread takes the lock.
-pub release_to_release :
-    (T : List Event) → IsDisciplined T → (a m r l : ℕ) → IsShbBefore T a m → m ≤ r
+pub release_to_release : (T : List Event) → IsDisciplined T → (a m r l : ℕ) → IsShbBefore T a m → m ≤ r
     → op_at T m ≡ Some (Release l) → op_at T r ≡ Some (Release l) → IsShbBefore T a r
 release_to_release T rules a m r l before le op also =
     let v = op_event T m (Release l) op in
@@ -232,11 +221,9 @@ release_to_release T rules a m r l before le op also =
           elim (cases_lt 0 (hold_count (take m T) w.0.thread l)) [
             | inl its ↦ absurd (other (one_holder T rules m v.0.thread l w.0.thread held_m its))
             | inr none ↦ omega arith
-          ]
-          in
+          ] in
           let after : hold_count (take (m + 1) T) w.0.thread l ≡ 0 =
-          hold_same T m w.0.thread l v.0 v.1 (takes_not_thread v.0 w.0.thread l other) (frees_not_thread v.0 w.0.thread l other) ∙ free
-          in
+          hold_same T m w.0.thread l v.0 v.1 (takes_not_thread v.0 w.0.thread l other) (frees_not_thread v.0 w.0.thread l other) ∙ free in
           let apart : m < r =
           elim (cases_lt m r) [
             | inl early ↦ early
@@ -245,11 +232,10 @@ release_to_release T rules a m r l before le op also =
                 let one : Some v.0 ≡ Some w.0 = sym v.1 ∙ ap (slice_get T) is ∙ w.1 in
                 let event : v.0 ≡ w.0 = cc in
                 absurd (other (ap (λ (e : Event). e.thread) event))
-          ]
-          in
+          ] in
           let within : r < length T = slice_get_within T r w.0 w.1 in
           let here : r ≡ m + 1 + (r - (m + 1)) = omega arith in
-          let taken = taken_between T rules (m + 1) (r - (m + 1)) w.0.thread l (omega arith) after (subst (λ (n : ℕ). 0 < hold_count (take n T) w.0.thread l) here held_r) in
+          let taken = taken_between T rules (m + 1) (r - (m + 1)) w.0.thread l (omega arith) after (rw (← here) held_r) in
           let k = taken.0 in
           along_thread T a k r w.0.thread (chain m k before (by_lock l (omega (arith, taken.1)) op taken.4)) taken.3 of_w (omega (arith, taken.2))
     ]

@@ -9,11 +9,11 @@ use Rattle.shb_clocks.proofs.candidates.list.Goals as goal
 
 -- what the least of a list is, told of a list that is the same
 lowest_of : (xs ys : List ℕ) (m : ℕ) → xs ≡ ys → ((u : ℕ) → u < length xs → m ≤ get_or xs u 0) → (u : ℕ) → u < length ys → m ≤ get_or ys u 0
-lowest_of xs ys m is h = subst (λ (zs : List ℕ). (u : ℕ) → u < length zs → m ≤ get_or zs u 0) is h
+lowest_of xs ys m is h = rw (← is) h
 
 found_of : (xs ys : List ℕ) (m e n : ℕ) → xs ≡ ys → e ≡ n → (m ≡ e) ⊎ ((u : ℕ) × (u < length xs) × (get_or xs u 0 ≡ m)) → (m ≡ n) ⊎ ((u : ℕ) × (u < length ys) × (get_or ys u 0 ≡ m))
 found_of xs ys m e n is end (inl at_end) = inl (at_end ∙ end)
-found_of xs ys m e n is end (inr h) = inr (subst (λ (zs : List ℕ). (u : ℕ) × (u < length zs) × (get_or zs u 0 ≡ m)) is h)
+found_of xs ys m e n is end (inr h) = inr (rw (← is) h)
 
 pub returns-then-second-end : goal.returns-then-second-end
 returns-then-second-end c =

@@ -15,8 +15,7 @@ pub returns-in-Acquire-clause-counterpart : goal.returns-in-Acquire-clause-count
 returns-in-Acquire-clause-counterpart c =
     let T = c.args.indexed.now.events in
     let named = rw c.in-Acquire.is at c.event.ensures.named.1 in
-    c.index.ensures
-    ∙ get_or-IsTable (last_release T c.args.event) _ _ c.requires.table c.in-Acquire.lock c.index.result.now named
+    c.index.ensures ∙ get_or-IsTable (last_release T c.args.event) _ _ c.requires.table c.in-Acquire.lock c.index.result.now named
     ∙ sym (counterpart_of-op T c.args.event (Acquire c.in-Acquire.lock) (op_here T c.args.event c.event.result c.event.ensures.found ∙ ap Some c.in-Acquire.is))
 
 pub returns-in-Acquire-clause-table : goal.returns-in-Acquire-clause-table

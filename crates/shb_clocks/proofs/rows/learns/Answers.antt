@@ -1,6 +1,5 @@
-use Rattle.std.proofs.Common.{ℕ, ◌<◌, length, Some, sym, ap, ◌∙◌, subst, arith}
+use Rattle.std.proofs.Common.{◌<◌, length, Some, sym, ap, ◌∙◌, arith}
 use Rattle.std.proofs.lemmas.Option.{same_Some}
-use Rattle.shb_clocks.specs.HappensBefore.{IsShbBefore}
 use Rattle.shb_clocks.proofs.EdgeLemmas.{Edge-earlier}
 use Rattle.shb_clocks.proofs.ReadLemmas.{thread_low, knows_by}
 use Rattle.shb_clocks.proofs.SourceLemmas.{Edge-counterpart}
@@ -43,9 +42,8 @@ returns-in-Some-clause-known c =
     let is =
     knows_by T are.disciplined s c.args.before c.thread-thread.result c.count.result c.count-in-Some.result (are.thread s early ∙ ap Some (sym c.thread-thread.ensures))
     (c.count.ensures ∙ are.counts c.args.before c.thread-thread.result c.requires.before low)
-    (c.count-in-Some.ensures ∙ are.counts s c.thread-thread.result early low)
-    in
-    λ known d here. subst (λ (k : ℕ). IsShbBefore T k c.args.before) (same_Some s d (sym c.in-Some.is ∙ here)) (is.0 known)
+    (c.count-in-Some.ensures ∙ are.counts s c.thread-thread.result early low) in
+    λ known d here. rw (← same_Some s d (sym c.in-Some.is ∙ here)) (is.0 known)
 
 pub returns-in-Some-clause-learns : goal.returns-in-Some-clause-learns
 returns-in-Some-clause-learns c =
@@ -58,6 +56,5 @@ returns-in-Some-clause-learns c =
     let is =
     knows_by T are.disciplined s c.args.before c.thread-thread.result c.count.result c.count-in-Some.result (are.thread s early ∙ ap Some (sym c.thread-thread.ensures))
     (c.count.ensures ∙ are.counts c.args.before c.thread-thread.result c.requires.before low)
-    (c.count-in-Some.ensures ∙ are.counts s c.thread-thread.result early low)
-    in
+    (c.count-in-Some.ensures ∙ are.counts s c.thread-thread.result early low) in
     λ news. (s, c.in-Some.is, is.1 news)
