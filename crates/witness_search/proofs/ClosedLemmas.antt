@@ -71,8 +71,7 @@ module _ (T : List Event) (rules : IsDisciplined T) (test : ℕ → Bool) (close
         count_by-events_at T frees (kept test e)
         ∙ count_by-kept (passes_at frees T) test e (λ d early passes. closed d e (by_lock l early (released_by T u l d passes) takes) so)
         ∙ count_by-before T frees e (omega arith) in
-        let taken : acquire_count (events_at T (kept test e)) u l ≡ count_by (passes_at gets T) (kept test e) =
-        count_by-events_at T gets (kept test e) in
+        let taken : acquire_count (events_at T (kept test e)) u l ≡ count_by (passes_at gets T) (kept test e) = count_by-events_at T gets (kept test e) in
         let in_trace : count_by (passes_at gets T) (before e) ≡ acquire_count (take e T) u l = count_by-before T gets e (omega arith) in
         omega (
           arith,
@@ -104,8 +103,8 @@ module _ (T : List Event) (rules : IsDisciplined T) (test : ℕ → Bool) (close
       let found : slice_get T n ≡ Some v = slice_get-get_or T n _ (omega arith) in
       subst (λ (k : ℕ). IsCorrectReordering T (kept test k)) (add-one n)
       (elim (cases_Bool (test n)) [
-        | inl so ↦ subst (IsCorrectReordering T) (sym (kept_yes test n so)) (IsEnabled-allowed T (kept test n) n rest (allowed n v found so rest))
-        | inr fails ↦ subst (IsCorrectReordering T) (sym (kept_no test n fails)) rest
+        | inl so ↦ rw (kept_yes test n so) (IsEnabled-allowed T (kept test n) n rest (allowed n v found so rest))
+        | inr fails ↦ rw (kept_no test n fails) rest
       ])
 
   -- All events that pass are one.

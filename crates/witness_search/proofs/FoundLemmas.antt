@@ -1,17 +1,16 @@
 -- Lists of numbers that grow, each number taken in once, with marks that tell which are there.
-use Rattle.std.proofs.Common.{◌≡◌, ◌≢◌, ℕ, ◌<◌, ◌≤◌, ◌⊎◌, ◌||◌, Bool, true, false, eqb, List, [], ◌∷◌, ◌++◌, length, take, get_or, set, replicate, Contains, Option, Some, sym, refl, ap, ◌∙◌, subst, arith, inl, inr, get_or-set_other}
+use Rattle.std.proofs.Common.{◌≡◌, ◌≢◌, ℕ, ◌<◌, ◌≤◌, ◌⊎◌, ◌||◌, Bool, true, false, eqb, List, [], ◌∷◌, ◌++◌, length, take, get_or, set, Contains, Option, Some, sym, refl, ap, ◌∙◌, arith, inl, inr, get_or-set_other}
 use Rattle.std.specs.List.{list_any}
 use Rattle.std.proofs.Math.Bool.{or-false}
 use Rattle.std.proofs.lemmas.Bool.{cases_eq, cases_lt, eqb-true, ne_eqb, true≢false}
 use Rattle.std.proofs.lemmas.Bool.Decides.{Decides-eqb}
 use Rattle.std.proofs.lemmas.Grind.{get_or-set_at}
-use Rattle.std.proofs.lemmas.List.{get_or_default, take_all, take_at, take-take, get_or-take, get_or-replicate, get_or_past, length-replicate, length-set}
+use Rattle.std.proofs.lemmas.List.{get_or_default, take_all, take_at, take-take, get_or-take, length-set}
 use Rattle.std.proofs.lemmas.List.Elements.{Contains-append_right, Contains-append_cases, Contains-get_or}
 use Rattle.std.proofs.lemmas.List.Folds.{Any-from_list_any, list_any-append}
 use Rattle.std.proofs.lemmas.List.Quantifiers.{all_pairs_push}
 use Rattle.std.proofs.lemmas.Map.Made.{IsDistinct-from_AllPairs}
 use Rattle.std.proofs.lemmas.Map.Steps.{length-le_from_distinct_below}
-use Rattle.std.proofs.lemmas.Option.{same_Some}
 use Rattle.schedule.specs.Refusals.{is_in}
 use Rattle.schedule.specs.Reordering.{IsPrefix}
 use Rattle.schedule.proofs.CallerLemmas.{Contains-here, is_in-member}
@@ -44,8 +43,7 @@ IsPrefix-le xs ys is =
     ]
 
 pub IsPrefix-trans : (xs ys zs : List ℕ) → IsPrefix xs ys → IsPrefix ys zs → IsPrefix xs zs
-IsPrefix-trans xs ys zs first second =
-    sym (take-take (length xs) (length ys) zs (IsPrefix-le xs ys first)) ∙ ap (take (length xs)) second ∙ first
+IsPrefix-trans xs ys zs first second = sym (take-take (length xs) (length ys) zs (IsPrefix-le xs ys first)) ∙ ap (take (length xs)) second ∙ first
 
 -- nothing is added where all of it is there
 pub Adds-none : (Q : ℕ → Type 0) (xs : List ℕ) → ((e : ℕ) → Q e → Contains xs e) → Adds Q xs xs
@@ -53,17 +51,6 @@ Adds-none Q xs all = record { begins = IsPrefix-self xs; has = all; only = λ e 
 
 pub last_is : (n e : ℕ) → Contains (n ∷ []) e → n ≡ e
 last_is n e m = elim (member_cases n [] e m) [ inl is ↦ is | inr none ↦ absurd (no_member e none) ]
-
--- one number is added
-pub Adds-one : (xs : List ℕ) (x : ℕ) → Adds (λ e. Some x ≡ Some e) xs (xs ++ x ∷ [])
-Adds-one xs x = record {
-  begins = IsPrefix-push xs x;
-  has = λ e is. Contains-append_right xs (x ∷ []) e (Contains-here x e [] (same_Some x e is));
-  only = λ e m. elim (Contains-append_cases xs (x ∷ []) e m) [
-    | inl earlier ↦ inl earlier
-    | inr last ↦ inr (ap Some (last_is x e last))
-  ];
-}
 
 -- and then more
 pub Adds-then : (Q R : ℕ → Type 0) (xs ys zs : List ℕ) → Adds Q xs ys → Adds R ys zs → Adds (λ e. Q e ⊎ R e) xs zs
@@ -79,22 +66,9 @@ Adds-then Q R xs ys zs first second = record {
   ];
 }
 
--- no number is there, and none is marked
-pub AreFound-nil : (n : ℕ) → AreFound [] (replicate n false)
-AreFound-nil n = record {
-  marked = λ e. elim (cases_lt e n) [
-    | inl within ↦ get_or-replicate n e false false within
-    | inr past ↦ get_or_past (replicate n false) e false (omega (arith, length-replicate n false, past))
-  ];
-  within = λ e m. absurd (no_member e m);
-  distinct = λ i j d ij jn. absurd (omega arith);
-}
-
 is_in-push_other : (P : List ℕ) (x e : ℕ) → (x ≡ e → ⊥) → is_in (P ++ x ∷ []) e ≡ is_in P e
 is_in-push_other P x e other =
-    list_any-append (λ d. eqb d e) P (x ∷ [])
-    ∙ ap (λ b. list_any (λ d. eqb d e) P || (b || false)) (ne_eqb x e other)
-    ∙ or-false (is_in P e)
+    list_any-append (λ d. eqb d e) P (x ∷ []) ∙ ap (λ b. list_any (λ d. eqb d e) P || (b || false)) (ne_eqb x e other) ∙ or-false (is_in P e)
 
 -- a number that is not marked is taken in
 pub AreFound-push : (P : List ℕ) (marks : List Bool) (x : ℕ) → AreFound P marks → x < length marks → is_marked marks x ≡ false → AreFound (P ++ x ∷ []) (set marks x true)
@@ -104,32 +78,24 @@ AreFound-push P marks x found lt fresh = record {
         get_or-set_at marks x e true false same lt
         ∙ sym (is_in-member (P ++ x ∷ []) e (Contains-append_right P (x ∷ []) e (Contains-here x e [] (sym same))))
     | inr other ↦
-        get_or-set_other marks x e true false other
-        ∙ found.marked e
-        ∙ sym (is_in-push_other P x e (λ is. other (sym is)))
+        get_or-set_other marks x e true false other ∙ found.marked e ∙ sym (is_in-push_other P x e (λ is. other (sym is)))
   ];
   within = λ e m. elim (Contains-append_cases P (x ∷ []) e m) [
     | inl earlier ↦ omega (arith, found.within e earlier, length-set marks x true)
     | inr last ↦ omega (arith, last_is x e last, lt, length-set marks x true)
   ];
-  distinct = all_pairs_push (λ a b. a ≢ b) P x found.distinct
-      (λ k d low same.
-      let within : Contains P x = subst (Contains P) same (Contains-get_or P k d low) in
+  distinct = all_pairs_push (λ a b. a ≢ b) P x found.distinct (λ k d low same.
+      let within : Contains P x = rw (← same) (Contains-get_or P k d low) in
       true≢false (sym (is_in-member P x within) ∙ sym (found.marked x) ∙ fresh));
 }
-
--- a number that is marked is there
-pub Contains-marked : (P : List ℕ) (marks : List Bool) → AreFound P marks → (e : ℕ) → is_in P e ≡ true → is_marked marks e ≡ true
-Contains-marked P marks found e within = found.marked e ∙ within
 
 -- they are at most as many as the marks
 pub AreFound-length : (P : List ℕ) (marks : List Bool) → AreFound P marks → length P ≤ length marks
 AreFound-length P marks found =
-    length-le_from_distinct_below P (length marks) (IsDistinct-from_AllPairs Decides-eqb P found.distinct)
-    (λ q there.
+    length-le_from_distinct_below P (length marks) (IsDistinct-from_AllPairs Decides-eqb P found.distinct) (λ q there.
     let (k, x, lt, at, same) = Any-from_list_any (eqb q) P there in
     found.within q (k, lt, get_or_default P k q x lt ∙ at ∙ sym (eqb-true q x same)))
 
 -- what is added, under another name
 pub Adds-same : (o p : Option ℕ) (xs ys : List ℕ) → p ≡ o → Adds (λ e. p ≡ Some e) xs ys → Adds (λ e. o ≡ Some e) xs ys
-Adds-same o p xs ys same adds = subst (λ (q : Option ℕ). Adds (λ e. q ≡ Some e) xs ys) same adds
+Adds-same o p xs ys same adds = rw (← same) adds

@@ -42,7 +42,7 @@ pub kept_below : (test : ℕ → Bool) (n d : ℕ) → Contains (kept test n) d 
 kept_below test n d within = before_below n d (Contains-from_filter test (before n) d within)
 
 pub kept_passes : (test : ℕ → Bool) (n d : ℕ) → Contains (kept test n) d → test d ≡ true
-kept_passes test n d (k, lt, at) = subst (λ (x : ℕ). test x ≡ true) at (filter_passes test (before n) k d lt)
+kept_passes test n d (k, lt, at) = rw (← at) (filter_passes test (before n) k d lt)
 
 before-rises : (n : ℕ) → AllPairs (λ x y. x < y) (before n)
 before-rises n i j d ij jn =
@@ -97,20 +97,15 @@ find_last-kept p test (suc n) passes =
     subst (λ (k : ℕ). find p (reverse (kept test k)) ≡ find p (reverse (before k))) (add-one n)
     (elim (cases_Bool (p n)) [
       | inl last ↦
-          ap (λ xs. find p (reverse xs)) (kept_yes test n (now n (find_last_yes p n last)))
-          ∙ find-reverse_push p (kept test n) n
-          ∙ cond-true (p n) (Some n) (find p (reverse (kept test n))) last
-          ∙ sym (find_last_yes p n last)
+          ap (λ xs. find p (reverse xs)) (kept_yes test n (now n (find_last_yes p n last))) ∙ find-reverse_push p (kept test n) n
+          ∙ cond-true (p n) (Some n) (find p (reverse (kept test n))) last ∙ sym (find_last_yes p n last)
       | inr other ↦
           let rest : find p (reverse (kept test n)) ≡ find p (reverse (before n)) =
           find_last-kept p test n (λ w is. now w (find_last_no p n other ∙ is)) in
           elim (cases_Bool (test n)) [
             | inl so ↦
-                ap (λ xs. find p (reverse xs)) (kept_yes test n so)
-                ∙ find-reverse_push p (kept test n) n
-                ∙ cond-false (p n) (Some n) (find p (reverse (kept test n))) other
-                ∙ rest
-                ∙ sym (find_last_no p n other)
+                ap (λ xs. find p (reverse xs)) (kept_yes test n so) ∙ find-reverse_push p (kept test n) n
+                ∙ cond-false (p n) (Some n) (find p (reverse (kept test n))) other ∙ rest ∙ sym (find_last_no p n other)
             | inr fails ↦ ap (λ xs. find p (reverse xs)) (kept_no test n fails) ∙ rest ∙ sym (find_last_no p n other)
           ]
     ])
@@ -122,8 +117,6 @@ count_by-before T test (suc n) fits =
     let v : Event = get_or T n (record { thread = 0; op = Read 0 }) in
     let at : slice_get T n ≡ Some v = slice_get-get_or T n _ (omega arith) in
     let rest : count_by (passes_at test T) (before n) ≡ count_by test (take n T) = count_by-before T test n (omega arith) in
-    subst (λ (k : ℕ). count_by (passes_at test T) (before k) ≡ count_by test (take k T)) (add-one n)
-    (more (passes_at test T) n
-    ∙ ap (λ b. count_by (passes_at test T) (before n) + cond b 1 0) (passes_here test T n v at)
-    ∙ ap (λ k. k + cond (test v) 1 0) rest
+    subst (λ (k : ℕ). count_by (passes_at test T) (before k) ≡ count_by test (take k T)) (add-one n) (more (passes_at test T) n
+    ∙ ap (λ b. count_by (passes_at test T) (before n) + cond b 1 0) (passes_here test T n v at) ∙ ap (λ k. k + cond (test v) 1 0) rest
     ∙ sym (count_more test T n v at))

@@ -1,5 +1,5 @@
 -- The least number of which something holds.
-use Rattle.std.proofs.Common.{◌≡◌, ℕ, ◌<◌, ◌≤◌, ◌⊎◌, ◌&&◌, cond, Bool, true, List, [], ◌∷◌, find, filter, Option, Some, None, sym, refl, ap, ◌∙◌, subst, arith, inl, inr}
+use Rattle.std.proofs.Common.{◌≡◌, ℕ, ◌<◌, ◌≤◌, ◌⊎◌, ◌&&◌, cond, Bool, true, List, [], ◌∷◌, find, filter, Option, Some, None, sym, refl, ap, ◌∙◌, arith, inl, inr}
 use Rattle.std.proofs.lemmas.Bool.{cases_Bool, cases_lt, cond-true, cond-false, cond_below, cond_above}
 use Rattle.event_index.specs.Lookups.{before}
 use Rattle.event_index.specs.Least.{IsLeastOf}
@@ -22,11 +22,9 @@ IsLeastOf-lesser Q R (Some x) None q r = (inl q.0, λ e h. elim h [ inl here ↦
 IsLeastOf-lesser Q R (Some x) (Some y) q r =
     elim (lesser-cases x y) [
       | inl first ↦
-          subst (IsLeastOf (λ e. Q e ⊎ R e)) (sym first.0)
-          (inl q.0, λ e h. elim h [ inl here ↦ q.1 e here | inr there ↦ omega (arith, r.1 e there, first.1) ])
+          rw first.0 (inl q.0, λ e h. elim h [ inl here ↦ q.1 e here | inr there ↦ omega (arith, r.1 e there, first.1) ])
       | inr second ↦
-          subst (IsLeastOf (λ e. Q e ⊎ R e)) (sym second.0)
-          (inr r.0, λ e h. elim h [ inl here ↦ omega (arith, q.1 e here, second.1) | inr there ↦ r.1 e there ])
+          rw second.0 (inr r.0, λ e h. elim h [ inl here ↦ omega (arith, q.1 e here, second.1) | inr there ↦ r.1 e there ])
     ]
 
 -- a look among those that pass a test is a look for both
@@ -36,14 +34,11 @@ find-filter p test (x ∷ xs) =
     elim (cases_Bool (test x)) [
       | inl passes ↦
           let here : filter test (x ∷ xs) ≡ x ∷ filter test xs = cond-true (test x) (x ∷ filter test xs) (filter test xs) passes in
-          ap (find p) here
-          ∙ ap (λ o. cond (p x) (Some x) o) (find-filter p test xs)
+          ap (find p) here ∙ ap (λ o. cond (p x) (Some x) o) (find-filter p test xs)
           ∙ ap (λ b. cond (b && p x) (Some x) (find (λ e. test e && p e) xs)) (sym passes)
       | inr fails ↦
           let here : filter test (x ∷ xs) ≡ filter test xs = cond-false (test x) (x ∷ filter test xs) (filter test xs) fails in
-          ap (find p) here
-          ∙ find-filter p test xs
-          ∙ ap (λ b. cond (b && p x) (Some x) (find (λ e. test e && p e) xs)) (sym fails)
+          ap (find p) here ∙ find-filter p test xs ∙ ap (λ b. cond (b && p x) (Some x) (find (λ e. test e && p e) xs)) (sym fails)
     ]
 
 pub find-kept : (p test : ℕ → Bool) (n : ℕ) (r : Option ℕ) → IsLeastOf (λ e. (e < n) × ((test e && p e) ≡ true)) r → find p (kept test n) ≡ r

@@ -1,5 +1,5 @@
 -- A slice is listed event by event.
-use Rattle.std.proofs.Common.{◌≡◌, ℕ, ◌+◌, ◌<◌, List, [], ◌∷◌, ◌++◌, length, get_or, Contains, subst, arith, inl, inr}
+use Rattle.std.proofs.Common.{◌≡◌, ℕ, ◌+◌, ◌<◌, List, [], ◌∷◌, ◌++◌, length, get_or, Contains, arith, inl, inr}
 use Rattle.std.proofs.lemmas.Bool.{cases_lt}
 use Rattle.std.proofs.lemmas.List.Elements.{Contains-append_left, Contains-append_right, Contains-append_cases, Contains-get_or}
 use Rattle.std.proofs.lemmas.List.Quantifiers.{all_pairs_push}
@@ -12,12 +12,6 @@ use Rattle.witness_search.proofs.RisingLemmas.{no_member, member_cases}
 use Rattle.witness_search.proofs.SliceLemmas.{IsBelowPair-within}
 
 module _ (T : List Event) (a b : ℕ) where
-  pub IsSliceUpTo-start : IsSliceUpTo T a b 0 []
-  IsSliceUpTo-start = record {
-    rising = λ i j d ij jn. absurd (omega arith);
-    members = λ e. (λ m. absurd (no_member e m), λ h. absurd (omega (arith, h.0)));
-  }
-
   last_is : (n e : ℕ) → Contains (n ∷ []) e → n ≡ e
   last_is n e m = elim (member_cases n [] e m) [ inl is ↦ is | inr none ↦ absurd (no_member e none) ]
 
@@ -29,7 +23,7 @@ module _ (T : List Event) (a b : ℕ) where
       members = λ e. (
         λ m. elim (Contains-append_cases P (n ∷ []) e m) [
           | inl earlier ↦ let h = (is.members e).0 earlier in (omega (arith, h.0), h.1)
-          | inr last ↦ let same = last_is n e last in (omega arith, subst (IsBelowPair T a b) same below)
+          | inr last ↦ let same = last_is n e last in (omega arith, rw (← same) below)
         ],
         λ h. elim (cases_lt e n) [
           | inl earlier ↦ Contains-append_left P (n ∷ []) e ((is.members e).1 (earlier, h.1))
@@ -48,7 +42,7 @@ module _ (T : List Event) (a b : ℕ) where
           | inl earlier ↦ (is.members e).1 (earlier, h.1)
           | inr late ↦
               let same : e ≡ n = omega (arith, h.0) in
-              absurd (other (subst (IsBelowPair T a b) same h.1))
+              absurd (other (rw (← same) h.1))
         ],
       );
     }

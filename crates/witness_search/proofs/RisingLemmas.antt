@@ -41,23 +41,17 @@ first_le x y P Q rising m =
     ]
 
 -- two rising lists with the same members are one
-pub rising-unique :
-    (P Q : List ℕ) → IsRising P → IsRising Q
-    → ((e : ℕ) → Contains P e → Contains Q e)
-    → ((e : ℕ) → Contains Q e → Contains P e)
-    → P ≡ Q
+pub rising-unique : (P Q : List ℕ) → IsRising P → IsRising Q → ((e : ℕ) → Contains P e → Contains Q e) → ((e : ℕ) → Contains Q e → Contains P e) → P ≡ Q
 rising-unique [] [] rp rq pq qp = refl
 rising-unique [] (y ∷ Q) rp rq pq qp = absurd (no_member y (qp y (Contains-here y y Q refl)))
 rising-unique (x ∷ P) [] rp rq pq qp = absurd (no_member x (pq x (Contains-here x x P refl)))
 rising-unique (x ∷ P) (y ∷ Q) rp rq pq qp =
-    let one : x ≡ y =
-    omega (arith, first_le x y P Q rq (pq x (Contains-here x x P refl)), first_le y x Q P rp (qp y (Contains-here y y Q refl))) in
+    let one : x ≡ y = omega (arith, first_le x y P Q rq (pq x (Contains-here x x P refl)), first_le y x Q P rp (qp y (Contains-here y y Q refl))) in
     ap₂ (λ z R. z ∷ R) one
     (rising-unique P Q (rest_rises x P rp) (rest_rises y Q rq) (inside_rest x y P Q one rp pq) (inside_rest y x Q P (sym one) rq qp))
 
 -- a rising list of numbers below n is the filter of these by membership
 pub rising-kept : (P : List ℕ) (n : ℕ) → IsRising P → ((e : ℕ) → Contains P e → e < n) → P ≡ kept (is_in P) n
 rising-kept P n rising below =
-    rising-unique P (kept (is_in P) n) rising (kept-rises (is_in P) n)
-    (λ e m. kept_member (is_in P) n e (below e m) (is_in-member P e m))
+    rising-unique P (kept (is_in P) n) rising (kept-rises (is_in P) n) (λ e m. kept_member (is_in P) n e (below e m) (is_in-member P e m))
     (λ e m. is_in-true P e (kept_passes (is_in P) n e m))

@@ -1,5 +1,5 @@
 -- The slice of a candidate is a correct reordering, and shows the pair.
-use Rattle.std.proofs.Common.{◌≡◌, ◌≢◌, ℕ, ◌<◌, ◌≤◌, List, length, get_or, Contains, Some, slice_get, sym, refl, ap, ◌∙◌, subst, arith, inl, inr}
+use Rattle.std.proofs.Common.{◌≡◌, ◌≢◌, ℕ, ◌<◌, ◌≤◌, List, length, get_or, Contains, Some, slice_get, sym, refl, ap, ◌∙◌, arith, inl, inr}
 use Rattle.std.proofs.lemmas.Bool.{cases_order}
 use Rattle.std.proofs.lemmas.List.Elements.{All-contains, Contains-get_or}
 use Rattle.std.proofs.lemmas.Option.{same_Some, slice_get_within}
@@ -33,8 +33,7 @@ IsBelowPair-edge T a b d e edge (inl first) = inl (IsBelowBase-edge T a d e edge
 IsBelowPair-edge T a b d e edge (inr second) = inr (IsBelowBase-edge T b d e edge second)
 
 IsBelowBase-within : (T : List Event) → IsDisciplined T → (a e : ℕ) → IsBelowBase T a e → e < length T
-IsBelowBase-within T rules a e (c, base, before) =
-    omega (arith, base_of-within T rules a c base, IsShbBefore-le T rules e c before)
+IsBelowBase-within T rules a e (c, base, before) = omega (arith, base_of-within T rules a c base, IsShbBefore-le T rules e c before)
 
 pub IsBelowPair-within : (T : List Event) → IsDisciplined T → (a b e : ℕ) → IsBelowPair T a b e → e < length T
 IsBelowPair-within T rules a b e (inl first) = IsBelowBase-within T rules a e first
@@ -60,8 +59,7 @@ IsBelowBase-fork T rules a v at f forks =
 
 -- an event is not below its own base
 not_below_own : (T : List Event) → IsDisciplined T → (a e : ℕ) → a ≤ e → IsBelowBase T a e → ⊥
-not_below_own T rules a e le (c, base, before) =
-    omega (arith, base_of-earlier T rules a c base, IsShbBefore-le T rules e c before)
+not_below_own T rules a e le (c, base, before) = omega (arith, base_of-earlier T rules a c base, IsShbBefore-le T rules e c before)
 
 -- an event is ready after a list that has what is below its base, and not itself
 IsReady-below : (T : List Event) → IsDisciplined T → (P : List ℕ) (a : ℕ) (v : Event) → slice_get T a ≡ Some v → ((d : ℕ) → IsBelowBase T a d → Contains P d) → (Contains P a → ⊥) → IsReady T P a
@@ -86,14 +84,13 @@ IsSlice-sym T a b P is = record {
 -- A list that is closed downwards under SHB is a correct reordering.
 pub IsCorrectReordering-closed : (T : List Event) → IsDisciplined T → (P : List ℕ) → IsClosedBelow T P → IsCorrectReordering T P
 IsCorrectReordering-closed T rules P is =
-    subst (IsCorrectReordering T)
-    (sym (rising-kept P (length T) is.rising (λ e m. All-contains (λ (d : ℕ). d < length T) P e is.in_trace m)))
+    rw (rising-kept P (length T) is.rising (λ e m. All-contains (λ (d : ℕ). d < length T) P e is.in_trace m))
     (IsCorrectReordering-kept T rules (is_in P) (λ d e edge within. is_in-member P d (is.closed d e edge (is_in-true P e within))))
 
 -- A list that is closed along edges is closed under the order; a conflicting pair that it shows is a candidate.
 module _ (T : List Event) (P : List ℕ) (is : IsClosed T P) where
   pub IsShbClosed-closed : IsShbClosed T P
-  IsShbClosed-closed d e (same _ one) m = subst (Contains P) (sym one) m
+  IsShbClosed-closed d e (same _ one) m = rw one m
   IsShbClosed-closed d e (chain k _ before edge) m = IsShbClosed-closed d k before (is k e edge m)
 
   -- what is below the base of a ready event is in the list
@@ -180,9 +177,7 @@ Shows-slice T rules a b P is (inr cand) = Shows-sym T P b a (Shows-candidate T r
 -- the slice of a pair is one list
 pub IsSlice-unique : (T : List Event) (a b : ℕ) (P Q : List ℕ) → IsSlice T a b P → IsSlice T a b Q → P ≡ Q
 IsSlice-unique T a b P Q is also =
-    rising-unique P Q is.rising also.rising
-    (λ e m. (also.members e).1 ((is.members e).0 m))
-    (λ e m. (is.members e).1 ((also.members e).0 m))
+    rising-unique P Q is.rising also.rising (λ e m. (also.members e).1 ((is.members e).0 m)) (λ e m. (is.members e).1 ((also.members e).0 m))
 
 -- a cause other than want of memory tells that nothing shows the pair
 pub IsNeverShown-refused : (T : List Event) (a b : ℕ) (why : SliceRefusal) → IsRefusalOf T a b why → why ≢ OutOfMemory → IsNeverShown T a b

@@ -1,9 +1,9 @@
 -- The steps of the greedy search. `T` is the events of a trace that keeps the rules, `P` a correct
 -- reordering of it.
-use Rattle.std.proofs.Common.{◌≡◌, ℕ, zero, suc, ◌+◌, ◌-◌, ◌<◌, ◌≤◌, ◌⊎◌, ◌&&◌, ◌==◌, not, Bool, true, false, List, [], ◌∷◌, ◌++◌, length, get_or, find, option_map, Option, Some, None, Result, Ok, slice_get, sym, refl, ap, ◌∙◌, subst, arith, add-one, inl, inr}
+use Rattle.std.proofs.Common.{◌≡◌, ℕ, zero, suc, ◌+◌, ◌-◌, ◌<◌, ◌≤◌, ◌⊎◌, ◌&&◌, ◌==◌, not, Bool, true, false, List, [], ◌∷◌, ◌++◌, length, get_or, find, option_map, Option, Some, None, Result, Ok, slice_get, sym, refl, ap, ◌∙◌, arith, add-one, inl, inr}
 use Rattle.std.specs.Option.{is_none}
 use Rattle.std.proofs.lemmas.Bool.{cases_eq, cases_lt, and_parts, true≢false}
-use Rattle.std.proofs.lemmas.List.{length_push, get_or_past}
+use Rattle.std.proofs.lemmas.List.{length_push}
 use Rattle.std.proofs.lemmas.List.Elements.{All-get_or}
 use Rattle.std.proofs.lemmas.Option.{same_Some, none-some, slice_get-get_or, get_or_from_slice_get}
 use Rattle.rapid_text.specs.Recording.{Recording, IsNamed, IsWellFormed}
@@ -46,7 +46,7 @@ module _ (T : List Event) (rules : IsDisciplined T) (a b : ℕ) (marks : List Bo
       let enabled : IsEnabled T P e = IsEnabled-none T P e rules is (refusal_of-step e step.step) in
       let allows : Allows T P e = Allows-enabled T P e enabled in
       let same : allows.v.thread ≡ t = one_thread T e allows.v.thread t (thread_here T e allows.v allows.found) step.of_thread in
-      subst (λ (u : ℕ). next_of T P u ≡ Some e) same allows.next
+      rw (← same) allows.next
 
   pub IsStepOf-none : (t : ℕ) → next_of T P t ≡ None → IsLeastOf (IsStepOf T a b marks P t) None
   IsStepOf-none t none e step = none-some e (sym none ∙ next_of-step e t step)
@@ -63,10 +63,6 @@ module _ (T : List Event) (rules : IsDisciplined T) (a b : ℕ) (marks : List Bo
       true≢false (sym step.step ∙ ap (is_step T a b marks P) (sym same) ∙ fails)
 
 module _ (T : List Event) (a b : ℕ) (marks : List Bool) (P : List ℕ) where
-  -- of no threads there is no step
-  pub IsStepBelow-start : IsLeastOf (IsStepBelow T a b marks P 0) None
-  IsStepBelow-start e step = omega (arith, step.below)
-
   -- one thread more
   pub IsStepBelow-more : (n : ℕ) (r s : Option ℕ) → IsLeastOf (IsStepBelow T a b marks P n) r → IsLeastOf (IsStepOf T a b marks P n) s
       → IsLeastOf (IsStepBelow T a b marks P (n + 1)) (lesser r s)
@@ -81,16 +77,7 @@ module _ (T : List Event) (a b : ℕ) (marks : List Bool) (P : List ℕ) where
         | inr late ↦
             let same : below.thread ≡ n = omega (arith, below.below) in
             inr (record { step = below.step; of_thread = below.of_thread ∙ ap Some same })
-      ])
-      (lesser r s)
-      (IsLeastOf-lesser (IsStepBelow T a b marks P n) (IsStepOf T a b marks P n) r s is one)
-
-is_marked-within : (marks : List Bool) (e : ℕ) → is_marked marks e ≡ true → e < length marks
-is_marked-within marks e marked =
-    elim (cases_lt e (length marks)) [
-      | inl within ↦ within
-      | inr past ↦ absurd (true≢false (sym marked ∙ get_or_past marks e false past))
-    ]
+      ]) (lesser r s) (IsLeastOf-lesser (IsStepBelow T a b marks P n) (IsStepOf T a b marks P n) r s is one)
 
 event_of : (T : List Event) (e : ℕ) → e < length T → (v : Event) × (slice_get T e ≡ Some v)
 event_of T e within =
@@ -104,12 +91,10 @@ next_step-least r well a b n marks P least len all is =
     let T = r.events in
     find-kept (may_take T a b P) (is_marked marks) (length T) least
     (IsLeastOf-same (IsStepBelow T a b marks P n) (λ e. (e < length T) × (is_step T a b marks P e ≡ true))
-    (λ e step. (thread_within T e step.thread step.of_thread, step.step))
-    (λ e step.
+    (λ e step. (thread_within T e step.thread step.of_thread, step.step)) (λ e step.
     let v = event_of T e step.0 in
-    let named : IsNamed r v.0 = subst (IsNamed r) (get_or_from_slice_get T e v.0 v.0 v.1) (All-get_or (IsNamed r) T e v.0 step.0 well.named) in
-    record { step = step.1; thread = v.0.thread; of_thread = thread_here T e v.0 v.1; below = omega (arith, named.0, all) })
-    least is)
+    let named : IsNamed r v.0 = rw (← get_or_from_slice_get T e v.0 v.0 v.1) (All-get_or (IsNamed r) T e v.0 step.0 well.named) in
+    record { step = step.1; thread = v.0.thread; of_thread = thread_here T e v.0 v.1; below = omega (arith, named.0, all) }) least is)
 
 module _ (T : List Event) (a b : ℕ) (N P : List ℕ) where
   -- the lists of the search begin with its start, and grow by one event a step
@@ -137,9 +122,7 @@ module _ (T : List Event) (a b : ℕ) (N P : List ℕ) where
   pub after_steps-more : (j e : ℕ) (Q : List ℕ) → after_steps T a b N P j ≡ Q → next_step T a b N Q ≡ Some e → after_steps T a b N P (j + 1) ≡ Q ++ e ∷ []
   unfolding after_steps
   after_steps-more j e Q here next =
-      ap (after_steps T a b N P) (add-one j)
-      ∙ ap (λ R. followed_by R (next_step T a b N R)) here
-      ∙ ap (followed_by Q) next
+      ap (after_steps T a b N P) (add-one j) ∙ ap (λ R. followed_by R (next_step T a b N R)) here ∙ ap (followed_by Q) next
 
   -- where there is no step the list stays
   stays : (j k : ℕ) → next_step T a b N (after_steps T a b N P j) ≡ None → after_steps T a b N P (j + k) ≡ after_steps T a b N P j
@@ -148,9 +131,7 @@ module _ (T : List Event) (a b : ℕ) (N P : List ℕ) where
   stays j (suc k) none =
       let before_it : after_steps T a b N P (j + k) ≡ after_steps T a b N P j = stays j k none in
       let one : j + suc k ≡ suc (j + k) = omega arith in
-      ap (after_steps T a b N P) one
-      ∙ ap (λ R. followed_by R (next_step T a b N R)) before_it
-      ∙ ap (followed_by (after_steps T a b N P j)) none
+      ap (after_steps T a b N P) one ∙ ap (λ R. followed_by R (next_step T a b N R)) before_it ∙ ap (followed_by (after_steps T a b N P j)) none
 
   abbrev shown_at : ℕ → Bool
   shown_at j = does_show T (after_steps T a b N P j) a b
@@ -161,8 +142,7 @@ module _ (T : List Event) (a b : ℕ) (N P : List ℕ) where
 
   pub first_shown-here : (budget k : ℕ) → k ≤ budget → IsHidden k → shown_at k ≡ true → first_shown T a b N P budget ≡ Some (after_steps T a b N P k)
   first_shown-here budget k fits hidden shown =
-      ap (option_map (after_steps T a b N P))
-      (find-least shown_at (budget + 1) (Some k) (
+      ap (option_map (after_steps T a b N P)) (find-least shown_at (budget + 1) (Some k) (
         (omega (arith, fits), shown),
         λ e h. elim (cases_lt e k) [
           | inl early ↦ absurd (true≢false (sym h.1 ∙ hidden e early))
@@ -202,8 +182,7 @@ refusal_of-next T a b N P e next =
 module _ (T : List Event) (a b : ℕ) (N P Q : List ℕ) (k : ℕ) (here : after_steps T a b N P k ≡ Q) (hidden : IsHidden T a b N P k) where
   -- Q shows it
   pub first_shown-at : (budget : ℕ) → k ≤ budget → does_show T Q a b ≡ true → first_shown T a b N P budget ≡ Some Q
-  first_shown-at budget fits shown =
-      first_shown-here T a b N P budget k fits hidden (ap (λ R. does_show T R a b) here ∙ shown) ∙ ap Some here
+  first_shown-at budget fits shown = first_shown-here T a b N P budget k fits hidden (ap (λ R. does_show T R a b) here ∙ shown) ∙ ap Some here
 
   -- Q does not
   pub IsHidden-at : does_show T Q a b ≡ false → IsHidden T a b N P (k + 1)
@@ -248,7 +227,7 @@ module _ (T : List Event) (a b : ℕ) (N P : List ℕ) (budget : ℕ) where
 
   module _ (L : List ℕ) (is : first_shown T a b N P budget ≡ Some L) where
     pub first_shown-begins : IsPrefix P L
-    first_shown-begins = let found = first_shown-some L is in subst (IsPrefix P) found.2 (after_steps-begins T a b N P found.0)
+    first_shown-begins = let found = first_shown-some L is in rw (← found.2) (after_steps-begins T a b N P found.0)
 
     pub first_shown-length : length L ≤ length P + budget
     first_shown-length = let found = first_shown-some L is in omega (arith, found.1, ap length found.2, after_steps-length T a b N P found.0)

@@ -1,6 +1,6 @@
 -- The wanted events: what is looked for at each of them leads to all of them. `T` is the events of an
 -- trace that keeps the rules.
-use Rattle.std.proofs.Common.{◌≡◌, ℕ, zero, suc, ◌+◌, ◌-◌, ◌<◌, ◌≤◌, Bool, List, [], length, get_or, Contains, Option, Some, None, option_map, slice_get, sym, refl, ap, ◌∙◌, subst, arith, inl, inr}
+use Rattle.std.proofs.Common.{◌≡◌, ℕ, zero, suc, ◌+◌, ◌-◌, ◌<◌, ◌≤◌, Bool, List, [], length, get_or, Contains, Option, Some, None, option_map, slice_get, sym, refl, ap, ◌∙◌, arith, inl, inr}
 use Rattle.std.proofs.lemmas.Bool.{cases_eq}
 use Rattle.std.proofs.lemmas.List.Elements.{All-get_or, Contains-get_or}
 use Rattle.std.proofs.lemmas.List.{get_or_default}
@@ -28,7 +28,7 @@ end_asks T e u d joins (Some x) at is =
     let here : get_or (events_of T u) (length (events_of T u) - 1) 0 ≡ x = get_or_from_slice_get (events_of T u) (length (events_of T u) - 1) x 0 at in
     let of : thread_at T (get_or (events_of T u) (length (events_of T u) - 1) 0) ≡ Some u =
     All-get_or (λ m. thread_at T m ≡ Some u) (events_of T u) (length (events_of T u) - 1) 0 within (events_of-thread T u) in
-    for_thread u joins (subst (λ (m : ℕ). thread_at T m ≡ Some u) (here ∙ same_Some x d is) of)
+    for_thread u joins (rw (← here ∙ same_Some x d is) of)
 
 by_op : (T : List Event) (e d : ℕ) (o : Option Op) → op_at T e ≡ o → partner_by T e o ≡ Some d → Asks T e d
 by_op T e d None at is = absurd (none-some d is)
@@ -70,7 +70,7 @@ module _ (T : List Event) (rules : IsDisciplined T) (P : List ℕ) (closed : (e 
   earlier_within zero s m u below has of also le = absurd (omega (arith, below))
   earlier_within (suc n) s m u below has of also le =
       elim (cases_eq m s) [
-        | inl same ↦ subst (Contains P) (sym same) has
+        | inl same ↦ rw same has
         | inr other ↦
             let v = thread_event T s u of in
             let found = base-after T s v.0 v.1 m (omega (arith, le, other)) (also ∙ ap Some (sym v.2)) in
@@ -90,7 +90,7 @@ module _ (T : List Event) (rules : IsDisciplined T) (P : List ℕ) (closed : (e 
       let there : Contains P c = closed s c has (inl base) in
       elim found.2 [
         | inl of_thread ↦ fork_within n c f u (omega (arith, below, base_of-earlier T rules s c base)) there (of_thread ∙ ap Some v.2) forks
-        | inr is ↦ subst (Contains P) (sym is) there
+        | inr is ↦ rw is there
       ]
 
   joined_within : (e u s : ℕ) → Contains P e → op_at T e ≡ Some (Join u) → end_of T u ≡ Some s → Contains P s
@@ -100,8 +100,7 @@ module _ (T : List Event) (rules : IsDisciplined T) (P : List ℕ) (closed : (e 
   Contains-asked : (e d : ℕ) → Contains P e → Asks T e d → Contains P d
   Contains-asked e d has (for_base base) = closed e d has (inl base)
   Contains-asked e d has (for_writer writer) = closed e d has (inr (ap (partner_by T e) (last_writer-some T e d writer).1 ∙ writer))
-  Contains-asked e d has (for_release release) =
-      closed e d has (inr (ap (partner_by T e) (section_acquires T e d (slice_get T e) release).1 ∙ release))
+  Contains-asked e d has (for_release release) = closed e d has (inr (ap (partner_by T e) (section_acquires T e d (slice_get T e) release).1 ∙ release))
   Contains-asked e d has (for_thread u joins of) =
       let end = end_of_thread-event T u d of in
       earlier_within (end.0 + 1) end.0 d u (omega arith) (joined_within e u end.0 has joins end.1) end.2 of end.3
@@ -111,7 +110,7 @@ module _ (T : List Event) (rules : IsDisciplined T) (P : List ℕ) (closed : (e 
       let there : Contains P end.0 = joined_within e u end.0 has joins end.1 in
       elim end.2 [
         | inl of ↦ fork_within (end.0 + 1) end.0 d u (omega arith) there of op
-        | inr is ↦ subst (Contains P) (sym is) there
+        | inr is ↦ rw is there
       ]
 
   -- so with the two bases it has all that is wanted
@@ -137,11 +136,11 @@ module _ (T : List Event) (a b at : ℕ) (P Q : List ℕ) (lt : at < length P) (
       elim (cases_eq i at) [
         | inl same ↦
             let here : get_or Q i 0 ≡ get_or P at 0 = ap (λ k. get_or Q k 0) same ∙ get_or-prefix P Q adds.begins at 0 lt in
-            adds.has d (subst (λ (x : ℕ). IsSought T x d) here sought)
+            adds.has d (rw (← here) sought)
         | inr other ↦
             let early : i < at = omega (arith, below, other) in
             let here : get_or Q i 0 ≡ get_or P i 0 = get_or-prefix P Q adds.begins i 0 (omega (arith, early, lt)) in
-            Contains-prefix P Q adds.begins d (closed i d early (subst (λ (x : ℕ). IsSought T x d) here sought))
+            Contains-prefix P Q adds.begins d (closed i d early (rw (← here) sought))
       ]
 
 -- what was looked for at all events is closed, so the marks are those of the wanted events
@@ -158,7 +157,7 @@ TellWanted-end T rules a b at P marks all len found begun closed = record {
     whole : (e d : ℕ) → Contains P e → IsSought T e d → Contains P d
     whole e d (k, lt, is) sought =
         let here : get_or P k 0 ≡ e = get_or_default P k 0 e lt ∙ is in
-        closed k d (omega (arith, lt, all)) (subst (λ (x : ℕ). IsSought T x d) (sym here) sought)
+        closed k d (omega (arith, lt, all)) (rw here sought)
 
 -- the two bases are taken in first
 pub IsBegun-bases : (T : List Event) (a b : ℕ) (P Q : List ℕ) → Adds (λ e. base_of T a ≡ Some e) [] P → Adds (λ e. base_of T b ≡ Some e) P Q → IsBegun T a b Q

@@ -1,5 +1,5 @@
-use Rattle.std.proofs.Common.{rules, ◌≡◌, ℕ, List, Some, None, Ok, true, false, length, sym, ◌∙◌, ap, subst, arith}
-use Rattle.schedule.specs.Reordering.{IsCorrectReordering, IsPrefix}
+use Rattle.std.proofs.Common.{rules, ◌≡◌, Some, None, Ok, true, false, length, sym, ◌∙◌, ap, arith}
+use Rattle.schedule.specs.Reordering.{IsCorrectReordering}
 use Rattle.witness_search.specs.Greedy.{first_shown}
 use Rattle.witness_search.specs.Searches.{marked_events}
 use Rattle.witness_search.proofs.StepLemmas.{AreWanted-marked, first_shown-begins, first_shown-length, first_shown-shows}
@@ -55,7 +55,7 @@ returns-clause-begins c =
     let shown : c.in_ok-search.field-0 ≡ true = search rules in
     let some : first_shown T a b N c.in_ok-schedule.schedule.events c.args.budget ≡ Some c.search.new.schedule.events = c.in_ok-search.ensures.shown (ap Ok shown) in
     let list : c.from.result ≡ c.search.new.schedule.events = c.from.ensures ∙ c.in_ok-events.ensures.items ∙ c.events.ensures.same in
-    subst (λ (P : List ℕ). IsPrefix P c.from.result) c.in_ok-schedule.ensures.events
+    rw (← c.in_ok-schedule.ensures.events)
     (first_shown-begins T a b N c.in_ok-schedule.schedule.events c.args.budget c.from.result (some ∙ ap Some (sym list)))
 
 pub returns-clause-budget : goal.returns-clause-budget

@@ -1,6 +1,4 @@
-use Rattle.std.proofs.Common.{sym, subst, arith}
-use Rattle.event_index.specs.Least.{IsLeastOf}
-use Rattle.witness_search.specs.Searches.{IsStepBelow}
+use Rattle.std.proofs.Common.{sym, arith}
 use Rattle.witness_search.proofs.StepLemmas.{IsStepBelow-more, next_step-least}
 use Rattle.witness_search.proofs.searching.next_step.Goals as goal
 
@@ -11,7 +9,7 @@ loop-thread-preserved c =
     let b = c.args.aim.now.second in
     let marks = c.args.aim.now.wanted.items in
     let P = c.args.schedule.now.events in
-    subst (IsLeastOf (IsStepBelow T a b marks P _)) (sym c.lesser-least.ensures)
+    rw c.lesser-least.ensures
     (IsStepBelow-more T a b marks P c.loop-thread.thread c.loop-thread.least c.step_of.result c.loop-thread.invariant c.step_of.ensures)
 
 pub returns : goal.returns

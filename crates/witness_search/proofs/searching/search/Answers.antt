@@ -1,7 +1,7 @@
-use Rattle.std.proofs.Common.{◌≡◌, ◌+◌, ℕ, true, false, sym, ◌∙◌, ap, subst, arith}
+use Rattle.std.proofs.Common.{◌≡◌, true, false, sym, ◌∙◌, ap, arith}
 use Rattle.schedule.specs.Shows.{does_show}
 use Rattle.witness_search.specs.Searches.{marked_events}
-use Rattle.witness_search.proofs.StepLemmas.{IsHidden, after_steps-start, after_steps-more, refusal_of-next, first_shown-at, first_shown-none, first_shown-stuck, IsHidden-at, same_Ok}
+use Rattle.witness_search.proofs.StepLemmas.{after_steps-start, after_steps-more, refusal_of-next, first_shown-at, first_shown-none, first_shown-stuck, IsHidden-at, same_Ok}
 use Rattle.witness_search.proofs.searching.search.Goals as goal
 
 pub loop-step-init : goal.loop-step-init
@@ -78,5 +78,4 @@ returns-clause-none c =
     let end : c.loop-step._step ≡ c.args.budget = omega (arith, c.loop-step-test.false, c.loop-step.auto._step-end) in
     λ is.
     let hidden : does_show T P a b ≡ false = ap (λ r. does_show r.events P a b) (sym inv.trace) ∙ sym c.shows-2.ensures.test ∙ same_Ok c.shows-2.result false is in
-    first_shown-none T a b N start c.args.budget
-    (subst (λ (k : ℕ). IsHidden T a b N start (k + 1)) end (IsHidden-at T a b N start P c.loop-step._step inv.events inv.hidden hidden))
+    first_shown-none T a b N start c.args.budget (rw (← end) (IsHidden-at T a b N start P c.loop-step._step inv.events inv.hidden hidden))

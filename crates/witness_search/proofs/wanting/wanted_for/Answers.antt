@@ -1,4 +1,4 @@
-use Rattle.std.proofs.Common.{rules, ◌≡◌, ◌<◌, ℕ, [], Some, get_or, length, ◌∙◌, subst, arith}
+use Rattle.std.proofs.Common.{rules, ◌≡◌, ◌<◌, [], get_or, length, ◌∙◌, arith}
 use Rattle.std.proofs.lemmas.List.{get_or_default}
 use Rattle.std.proofs.lemmas.List.Elements.{Contains-get_or}
 use Rattle.event_index.specs.Lookups.{base_of}
@@ -16,7 +16,7 @@ loop-at-init c =
       len = c.in_ok-take_in-2.ensures.len ∙ c.in_ok-take_in.ensures.len ∙ search rules;
       found = c.in_ok-take_in-2.ensures.found;
       begun = IsBegun-bases T c.args.first c.args.second one two
-          (Adds-same (base_of T c.args.first) c.base.result [] one c.base.ensures.base (subst (λ xs. Adds (λ e. c.base.result ≡ Some e) xs one) c.new.ensures.items c.in_ok-take_in.ensures.adds))
+          (Adds-same (base_of T c.args.first) c.base.result [] one c.base.ensures.base (rw (← c.new.ensures.items) c.in_ok-take_in.ensures.adds))
           (Adds-same (base_of T c.args.second) c.base-2.result one two c.base-2.ensures.base c.in_ok-take_in-2.ensures.adds);
       closed = λ i d low. absurd (omega arith);
     }
@@ -42,7 +42,7 @@ loop-at-preserved c =
     let at = c.loop-at.at in
     let lt : at < length P = omega (arith, c.loop-at-test.true, c.len-in-loop-at.ensures) in
     let same : c.index-event.result.now ≡ get_or P at 0 = c.index-event.ensures ∙ get_or_default P at _ 0 lt in
-    let adds : Adds (IsSought T (get_or P at 0)) P Q = subst (λ (e : ℕ). Adds (IsSought T e) P Q) same c.in_ok-take_in_sought.ensures.adds in
+    let adds : Adds (IsSought T (get_or P at 0)) P Q = rw (← same) c.in_ok-take_in_sought.ensures.adds in
     record {
       len = c.in_ok-take_in_sought.ensures.len ∙ c.loop-at.invariant.len;
       found = c.in_ok-take_in_sought.ensures.found;
