@@ -76,7 +76,7 @@ counts_one test (y ∷ xs) x (suc k, lt, at) so =
     omega (arith, parts, rest)
 
 -- what is counted as none holds of no element
-none_counted : {X : Type 0} (P : X → Type 0) (xs : List X) (n : ℕ) (x : X) → IsCountOf P xs n → n ≡ 0 → Contains xs x → ¬ P x
+pub none_counted : {X : Type 0} (P : X → Type 0) (xs : List X) (n : ℕ) (x : X) → IsCountOf P xs n → n ≡ 0 → Contains xs x → ¬ P x
 none_counted P xs n x counted none there holds =
     let told = All-contains (λ y. IsTrue (counted.test y) ↔ P y) xs x counted.tells there in
     let some = counts_one counted.test xs x there (told.1 holds) in

@@ -30,7 +30,7 @@ use Rattle.race_groups.specs.Kinds.{is_kind, kind_count, IsRowAt, IsDifference}
 use Rattle.race_groups.specs.Rows.{Part, of_all, of_known, of_known_shared, of_forced, of_forced_shared, part, count_at, same_places}
 use Rattle.race_groups.specs.declared.rows.Sums.{Sums}
 use Rattle.race_groups.specs.declared.kinds.Counts.{Counts}
-use Rattle.race_groups.specs.Shared.{is_sharing, is_sharing_by, is_meeting}
+use Rattle.race_groups.specs.Shared.{keeps_shared, is_sharing, is_sharing_by, is_meeting}
 use Rattle.race_groups.specs.declared.class.Class.{Class}
 use Rattle.race_groups.proofs.CutLemmas.{cut_off_is}
 use Rattle.race_groups.proofs.HeldLemmas.{meeting_has, has_meeting}
@@ -41,12 +41,9 @@ use Rattle.race_groups.proofs.ThreadLemmas.{All-before}
 use Rattle.race_groups.proofs.PartLemmas.{forced_is_known}
 use Rattle.race_groups.proofs.RowLemmas.{count_at-there}
 
--- all pairs of classes are kept, or those whose lists have a lock in common
+-- all pairs of classes are kept
 abbrev keeps_all : Class → Class → Bool
 keeps_all i j = true
-
-abbrev keeps_shared : List (Vec ℕ Global) → Class → Class → Bool
-keeps_shared lists i j = is_sharing lists i.held j.held
 
 -- from the three tests of a pair to its kind
 module _ (C F G L : Type 0) where

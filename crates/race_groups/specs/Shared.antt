@@ -2,6 +2,7 @@
 use Rattle.std.specs.Prelude.{ℕ, ◌==◌, Bool, false, List, Option, Some, Vec, slice_get}
 use Rattle.std.specs.List.{list_any}
 use Rattle.std.specs.declared.alloc.Global.{Global}
+use Rattle.race_groups.specs.declared.class.Class.{Class}
 
 -- whether the two lists have an element in common
 abbrev pub is_meeting : List ℕ → List ℕ → Bool
@@ -14,3 +15,7 @@ is_sharing_by v w = false
 -- whether the lists of these numbers have one
 abbrev pub is_sharing : List (Vec ℕ Global) → ℕ → ℕ → Bool
 is_sharing lists i j = is_sharing_by (slice_get lists i) (slice_get lists j)
+
+-- whether the lists of two classes have one
+abbrev pub keeps_shared : List (Vec ℕ Global) → Class → Class → Bool
+keeps_shared lists i j = is_sharing lists i.held j.held

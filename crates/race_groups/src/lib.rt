@@ -25,3 +25,4 @@ pub use class::Class;
 pub use classes::Classes;
 pub use kinds::{Counts, Groups, Row, groups_of};
 pub use rows::RowsRefusal;
+pub use sharing::are_sharing;

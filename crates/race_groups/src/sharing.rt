@@ -5,7 +5,7 @@ ghost use Rattle.race_groups.specs.Shared.{is_meeting, is_sharing};
 use indexmap::IndexSet;
 
 /// Whether the lists of locks with these numbers have one in common.
-pub(crate) fn are_sharing(lists: &IndexSet<Vec<u32>>, first: u32, second: u32) -> bool
+pub fn are_sharing(lists: &IndexSet<Vec<u32>>, first: u32, second: u32) -> bool
     ensures { result ≡ is_sharing lists.now.keys first second }
 {
     let Some(mine) = lists.get_index(first as usize) else {

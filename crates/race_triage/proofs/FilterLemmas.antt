@@ -1,5 +1,5 @@
 -- Texts that stand in lines.
-use Rattle.std.proofs.Common.{◌≡◌, ℕ, ◌+◌, ◌<◌, ◌-◌, ◌==◌, ◌&&◌, ◌||◌, not, ◌++◌, [], ◌∷◌, nat_eq, Bool, true, false, List, length, drop, take, get_or, map, take_all, refl, sym, ap, ◌∙◌, subst, arith}
+use Rattle.std.proofs.Common.{◌≡◌, ℕ, ◌+◌, ◌<◌, ◌-◌, ◌==◌, ◌&&◌, ◌||◌, not, [], ◌∷◌, nat_eq, Bool, true, false, List, length, drop, take, get_or, map, take_all, refl, ap, ◌∙◌, arith}
 use Rattle.std.specs.List.{list_any, starts_with}
 use Rattle.std.proofs.lemmas.List.{length-drop}
 use Rattle.std.proofs.lemmas.List.Folds.{list_any-append, list_any_at}

@@ -1,5 +1,5 @@
 -- The locks that an event's thread holds, as a list.
-use Rattle.std.proofs.Common.{◌≡◌, ℕ, ◌<◌, Bool, true, List, length, take, Some, Option, None, Contains, ap, sym, ◌∙◌, refl, arith, true≢false}
+use Rattle.std.proofs.Common.{◌≡◌, ℕ, ◌<◌, Bool, true, List, length, take, Some, Option, None, ap, sym, ◌∙◌, refl, true≢false}
 use Rattle.std.proofs.lemmas.Bool.{lt-ltb, ltb-true}
 use Rattle.std.proofs.lemmas.List.Elements.{All-contains}
 use Rattle.rapid_text.specs.Recording.{Recording}

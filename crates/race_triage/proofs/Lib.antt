@@ -2,6 +2,7 @@ mod ChosenLemmas
 mod FilterLemmas
 pub mod HeldLemmas
 mod MarkLemmas
+mod OpenLemmas
 mod OutcomeLemmas
 mod PieceLemmas
 mod PlaceLemmas

@@ -1,5 +1,5 @@
 -- Rows, and the pairs that fit them.
-use Rattle.std.proofs.Common.{◌≡◌, ℕ, ◌↔◌, Bool, cond, IsTrue, List, [], ◌∷◌, All, count_by, refl, ap, ◌∙◌, arith, inl, inr}
+use Rattle.std.proofs.Common.{◌≡◌, ℕ, ◌↔◌, Bool, cond, IsTrue, List, [], ◌∷◌, All, count_by, Option, Some, None, refl, ap, ◌∙◌, arith, inl, inr}
 use Rattle.std.proofs.lemmas.Bool.{cases_Bool}
 use Rattle.std.proofs.lemmas.List.Elements.{All-weaker, All-head, All-tail, filter_passes}
 use Rattle.std.proofs.lemmas.List.Sums.{sum_by-cons}
@@ -10,8 +10,9 @@ use Rattle.race_groups.specs.Groups.{conflicts, group_of, is_between, IsCountOf}
 use Rattle.race_groups.specs.Kinds.{IsRow}
 use Rattle.race_groups.specs.declared.kinds.Row.{Row}
 use Rattle.race_groups.proofs.TellLemmas.{All-both, group_pairs, IsPair as IsGroupPair}
-use Rattle.race_triage.specs.Pairs.{IsPair, AreAt, IsFit}
-use Rattle.race_triage.specs.declared.pairs.Wanted.TheVariants.{Candidate, Open}
+use Rattle.race_groups.proofs.ApartLemmas.{in_group, none_counted}
+use Rattle.least_pairs.specs.Pairs.{IsPair, AreAt, IsFit, IsLeastPair}
+use Rattle.least_pairs.specs.declared.wanted.Wanted.TheVariants.{Candidate, Open}
 
 none_passes : {X : Type 0} (P : X → Type 0) (test : X → Bool) (xs : List X) → All (λ x. IsTrue (test x) ↔ P x) xs → All (λ x. ¬ P x) xs → ◌≡◌ {A = ℕ} (count_by test xs) 0
 none_passes P test [] tells none = refl
@@ -52,3 +53,11 @@ module _ (r : Recording) (place : ℕ → ℕ) (row : Row) (is : IsRow r place r
       counted_none (λ e. IsKind r e.0 e.1 OpenKind) group row.counts.open_pairs is.open_pairs
       (All-weaker (λ e. IsPair r.events e.0 e.1 × AreAt place row.places e.0 e.1) (λ e. ¬ IsKind r e.0 e.1 OpenKind)
       (λ e h kind. none e.0 e.1 (record { pair = h.0; at = h.1; kind = kind })) group here)
+
+  -- where no candidate is counted, none is the least
+  pub none_is_least : row.counts.candidates ≡ 0 → (found : Option (ℕ × ℕ)) → IsLeastPair r place row.places Candidate found → found ≡ None
+  none_is_least none None least = refl
+  none_is_least none (Some p) least =
+      let fit = least.0 in
+      let there = in_group r.events place row.places.0 row.places.1 p.1 p.0 fit.pair.earlier fit.pair.conflict fit.at in
+      absurd (none_counted (λ e. IsKind r e.0 e.1 CandidateKind) group row.counts.candidates (p.1, p.0) is.candidates none there fit.kind)

@@ -1,29 +1,33 @@
 -- What a finding and an order tell of a verdict.
-use Rattle.std.proofs.Common.{◌≡◌, ◌≢◌, ℕ, ◌+◌, ◌*◌, ◌<◌, ◌≤◌, Bool, List, length, All, slice_index_or, sym, subst, ◌∙◌, arith, inl, inr}
+use Rattle.std.proofs.Common.{◌≡◌, ◌≢◌, ℕ, ◌+◌, ◌*◌, ◌<◌, ◌≤◌, Bool, List, length, All, Option, Some, None, IfSome, slice_index_or, sym, subst, ◌∙◌, arith, inl, inr}
 use Rattle.std.specs.List.Sorted.{IsNonDecreasingBy}
 use Rattle.std.proofs.lemmas.Bool.{cases_order}
 use Rattle.std.proofs.lemmas.List.Elements.{All-get_or, All-weaker}
 use Rattle.rapid_text.specs.Recording.{Recording}
 use Rattle.explain_report.specs.declared.verdict.How.{How}
 use Rattle.explain_report.specs.declared.verdict.How.TheVariants.{Candidate, Beyond, Turned}
+use Rattle.event_index.specs.Lookups.{before}
+use Rattle.race_groups.specs.Groups.{IsCountOf}
 use Rattle.race_groups.specs.Kinds.{IsRow, IsNeverShownBetween}
 use Rattle.race_groups.specs.declared.kinds.Counts.{Counts}
 use Rattle.race_groups.specs.declared.kinds.Row.{Row}
-use Rattle.race_triage.specs.Pairs.{IsPair, AreAt}
-use Rattle.race_triage.specs.Verdicts.{IsOutcome, IsOutcomeFor, IsRaceOf, IsOpenRace, HasOpen, IsTold, IsVerdictOn, IsNoLater, AreRising}
+use Rattle.least_pairs.specs.Pairs.{IsPair, AreAt, HasPair, IsLeastPair}
+use Rattle.least_pairs.specs.declared.wanted.Wanted.TheVariants.{Candidate as CandidatePair}
+use Rattle.race_triage.specs.Verdicts.{IsOutcome, IsOutcomeFor, IsRaceOf, IsOpenRace, HasOpen, IsTold, IsPairFor, IsFirstOfTried, IsVerdictOn, IsNoLater, AreRising}
 use Rattle.race_triage.specs.declared.verdicts.Outcome.{Outcome}
-use Rattle.race_triage.specs.declared.verdicts.Outcome.TheVariants.{Race, Apart}
+use Rattle.race_triage.specs.declared.verdicts.Outcome.TheVariants.{Race, Undecided, Apart}
 use Rattle.race_triage.specs.declared.verdicts.Verdict.{Verdict}
 
 -- a verdict of these parts
 module _
-    (r : Recording) (place : ℕ → ℕ) (apart : Bool) (row : Row) (a b : ℕ) (o : Outcome) (v : Verdict) (at_first : v.first ≡ a) (at_second : v.second ≡ b)
-    (at_row : v.row ≡ row) (at_outcome : v.outcome ≡ o) where
+    (r : Recording) (place : ℕ → ℕ) (tries : ℕ) (apart : Bool) (row : Row) (a b n : ℕ) (o : Outcome) (v : Verdict) (at_first : v.first ≡ a)
+    (at_second : v.second ≡ b) (at_row : v.row ≡ row) (at_variables : v.variables ≡ n) (at_outcome : v.outcome ≡ o) where
   pub IsVerdict-made :
       a < length r.events → b < length r.events → IsRow r place row → (IsTold apart o → IsPair r.events a b × AreAt place row.places a b)
       → IsOutcome r a b o → IsOutcomeFor row.counts o → (o ≡ Apart → IsNeverShownBetween r.events place row.places.0 row.places.1)
-      → IsVerdictOn r place apart row v
-  IsVerdict-made first second counted pair shown counts never = (
+      → IsCountOf (HasPair r place row.places) (before (length r.variables)) n → IsPairFor r place tries apart row.places (b, a) o
+      → IsVerdictOn r place tries apart row v
+  IsVerdict-made first second counted pair shown counts never variables least = (
     record {
       first = subst (λ (k : ℕ). k < length r.events) (sym at_first) first;
       second = subst (λ (k : ℕ). k < length r.events) (sym at_second) second;
@@ -38,12 +42,25 @@ module _
           (subst (λ (k : ℕ). IsOutcome r k v.second o) (sym at_first) (subst (λ (k : ℕ). IsOutcome r a k o) (sym at_second) shown));
       counts = subst (IsOutcomeFor v.row.counts) (sym at_outcome) (subst (λ (w : Row). IsOutcomeFor w.counts o) (sym at_row) counts);
       never = λ is. subst (λ (w : Row). IsNeverShownBetween r.events place w.places.0 w.places.1) (sym at_row) (never (sym at_outcome ∙ is));
+      variables = subst (IsCountOf (HasPair r place v.row.places) (before (length r.variables))) (sym at_variables)
+          (subst (λ (w : Row). IsCountOf (HasPair r place w.places) (before (length r.variables)) n) (sym at_row) variables);
+      least = subst (IsPairFor r place tries apart v.row.places (v.second, v.first)) (sym at_outcome)
+          (subst (λ (w : Row). IsPairFor r place tries apart w.places (v.second, v.first) o) (sym at_row)
+          (subst (λ (k : ℕ). IsPairFor r place tries apart row.places (v.second, k) o) (sym at_first)
+          (subst (λ (k : ℕ). IsPairFor r place tries apart row.places (k, a) o) (sym at_second) least)));
     },
     at_row,
   )
 
 race_apart : (how : How) (n k : ℕ) → Race how n k ≢ Apart
 race_apart how n k same = cc
+
+pub undecided_apart : (n : ℕ) → Undecided n ≢ Apart
+undecided_apart n same = cc
+
+pub turned_open : (r : Recording) (a b : ℕ) (found : Option Outcome) → IfSome found (IsRaceOf r a b Turned) → IfSome found (IsOpenRace r a b)
+turned_open r a b None is = is
+turned_open r a b (Some o) is = inr is
 
 -- what a race of a kind is told as
 module _ (r : Recording) (a b : ℕ) (c : Counts) where
@@ -61,6 +78,17 @@ module _ (r : Recording) (a b : ℕ) (c : Counts) where
 
   pub race_is_not_apart : (how : How) (o : Outcome) → IsRaceOf r a b how o → o ≢ Apart
   race_is_not_apart how o is same = race_apart how is.0 is.1 (sym is.2 ∙ same)
+
+  -- the pair that is told of it
+  module _ (place : ℕ → ℕ) (tries : ℕ) (apart : Bool) (places : ℕ × ℕ) where
+    pub candidate_pair : (o : Outcome) → IsRaceOf r a b Candidate o → IsLeastPair r place places CandidatePair (Some (b, a)) → IsPairFor r place tries apart places (b, a) o
+    candidate_pair o is least = subst (IsPairFor r place tries apart places (b, a)) (sym is.2) least
+
+    pub open_pair : (o : Outcome) → IsOpenRace r a b o → IsFirstOfTried r place tries places (b, a) → IsPairFor r place tries apart places (b, a) o
+    open_pair o is first = elim is [
+      | inl beyond ↦ subst (IsPairFor r place tries apart places (b, a)) (sym beyond.2) first
+      | inr turned ↦ subst (IsPairFor r place tries apart places (b, a)) (sym turned.2) first
+    ]
 
   pub open_is_not_apart : (o : Outcome) → IsOpenRace r a b o → o ≢ Apart
   open_is_not_apart o is = elim is [ inl beyond ↦ race_is_not_apart Beyond o beyond | inr turned ↦ race_is_not_apart Turned o turned ]

@@ -5,7 +5,7 @@ use Rattle.std.proofs.lemmas.Option.{slice_get_within, get_or_from_slice_get}
 use Rattle.rapid_text.specs.Recording.{Recording}
 use Rattle.race_groups.specs.Found.{AreComplete}
 use Rattle.race_groups.specs.declared.kinds.Row.{Row}
-use Rattle.race_triage.specs.Pairs.{AreAt}
+use Rattle.least_pairs.specs.Pairs.{AreAt}
 use Rattle.race_triage.specs.Verdicts.{IsVerdict, IsAnswered, AreAllTold, ArePart, AreWhole}
 use Rattle.race_triage.specs.declared.verdicts.Verdict.{Verdict}
 
@@ -17,11 +17,11 @@ module _ (r : Recording) (place : ℕ → ℕ) where
   ]
 
   -- a part behind what there is
-  module _ (apart : Bool) (rows : List Row) (from every : ℕ) (old part new : List Verdict) (is : new ≡ old ++ part) where
-    pub all_added : All (IsVerdict r place apart) old → ArePart r place apart rows from every part → All (IsVerdict r place apart) new
-    all_added all some = subst (All (IsVerdict r place apart)) (sym is) (All-append (IsVerdict r place apart) old part all some.verdicts)
+  module _ (tries : ℕ) (apart : Bool) (rows : List Row) (from every : ℕ) (old part new : List Verdict) (is : new ≡ old ++ part) where
+    pub all_added : All (IsVerdict r place tries apart) old → ArePart r place tries apart rows from every part → All (IsVerdict r place tries apart) new
+    all_added all some = subst (All (IsVerdict r place tries apart)) (sym is) (All-append (IsVerdict r place tries apart) old part all some.verdicts)
 
-    pub part_answered : ArePart r place apart rows from every part → (k : ℕ) (d : Row) → k < length rows → k % every ≡ from → IsAnswered r place new (slice_index_or rows k d)
+    pub part_answered : ArePart r place tries apart rows from every part → (k : ℕ) (d : Row) → k < length rows → k % every ≡ from → IsAnswered r place new (slice_index_or rows k d)
     part_answered some k d lt own =
         IsAnswered-weaker part new (slice_index_or rows k d)
         (λ v there. subst (λ (vs : List Verdict). Contains vs v) (sym is) (Contains-append_right old part v there))
@@ -31,8 +31,8 @@ module _ (r : Recording) (place : ℕ → ℕ) where
     all_kept v there = subst (λ (vs : List Verdict). Contains vs v) (sym is) (Contains-append_left old part v there)
 
   -- where each row is answered, and each conflicting pair has a row, each conflicting pair has its verdict
-  pub AreAllTold-from : (apart : Bool) (rows : List Row) (vs : List Verdict) → AreComplete r.events place rows → AreWhole r place apart rows vs → AreAllTold r.events place vs
-  AreAllTold-from apart rows vs counted whole a b pair =
+  pub AreAllTold-from : (tries : ℕ) (apart : Bool) (rows : List Row) (vs : List Verdict) → AreComplete r.events place rows → AreWhole r place tries apart rows vs → AreAllTold r.events place vs
+  AreAllTold-from tries apart rows vs counted whole a b pair =
       let found = counted a b pair.earlier pair.conflict in
       let row : Row = found.row in
       let lt = slice_get_within rows found.at row found.is in

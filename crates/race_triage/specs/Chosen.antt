@@ -1,5 +1,5 @@
 -- Which verdicts are told. All notions here are this project's own.
-use Rattle.std.specs.Prelude.{◌≡◌, ℕ, ◌+◌, ◌-◌, ◌^◌, ◌==◌, ◌&&◌, ◌||◌, nat_eq, not, Bool, true, false, cond, max, min, List, [], ◌++◌, drop, filter, length, map, count_by, is_some, option_map, Option, Some, None}
+use Rattle.std.specs.Prelude.{◌≡◌, ℕ, ◌+◌, ◌-◌, ◌^◌, ◌==◌, ◌&&◌, ◌||◌, nat_eq, not, Bool, true, false, cond, max, min, List, [], ◌++◌, drop, filter, length, count_by, is_some, option_map, Option, Some, None}
 use Rattle.std.specs.List.{list_any, starts_with}
 use Rattle.indexmap.specs.IndexSet.{IndexSet, keys}
 use Rattle.rapid_text.specs.Recording.{Recording}

@@ -1,5 +1,4 @@
 pub mod Chosen
-pub mod Pairs
 pub mod Pieces
 pub mod Places
 pub mod Texts

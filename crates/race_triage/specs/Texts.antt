@@ -1,5 +1,5 @@
 -- The text that lists the verdicts of a trace. `r` is the trace's recording. All notions here are this project's own.
-use Rattle.std.specs.Prelude.{◌≡◌, ℕ, ◌+◌, nat_lt, Bool, true, false, cond, List, [], ◌++◌, length, take, filter, flat_map, sum_by, count_by, slice_get, Option, Some, None, codes}
+use Rattle.std.specs.Prelude.{◌≡◌, ℕ, ◌+◌, nat_lt, Bool, false, cond, List, [], ◌++◌, length, take, filter, flat_map, sum_by, count_by, slice_get, Option, Some, None, codes}
 use Rattle.rapid_text.specs.Canonical.{name_at}
 use Rattle.rapid_text.specs.Recording.{Recording}
 use Rattle.rapid_text.specs.declared.event.Event.{Event}

@@ -1,19 +1,29 @@
 -- What is said of a pair of places, and of the pair of events that is told of it. `T` is the events of a trace, `r` its recording, `place`
 -- tells the place of each event. All notions here are this project's own.
-use Rattle.std.specs.Prelude.{◌≡◌, ◌⊎◌, ℕ, ◌<◌, ◌≤◌, ◌%◌, Bool, true, List, All, Contains, length, slice_index_or, ⊤}
+use Rattle.std.specs.Prelude.{◌≡◌, ◌⊎◌, ℕ, ◌<◌, ◌≤◌, ◌%◌, max, Bool, true, List, All, Contains, length, take, slice_get, slice_index_or, Option, Some, None, ⊤}
 use Rattle.rapid_text.specs.Recording.{Recording}
 use Rattle.rapid_text.specs.declared.event.Event.{Event}
+use Rattle.event_index.specs.Lookups.{before}
 use Rattle.schedule.specs.Reordering.{IsCorrectReordering}
 use Rattle.schedule.specs.Shows.{Shows}
+use Rattle.in_order.specs.Orders.{IsTurned}
+use Rattle.in_order.specs.Refusals.{IsNeverShownInOrder}
 use Rattle.in_order.specs.Sizes.{HasSize}
 use Rattle.explain_report.specs.declared.verdict.How.{How}
 use Rattle.explain_report.specs.declared.verdict.How.TheVariants.{Candidate, Beyond, Turned}
+use Rattle.must_order.specs.Kinds.{IsKind}
+use Rattle.must_order.specs.declared.kind.Kind.TheVariants.{Open as OpenKind}
 use Rattle.pair_findings.specs.Findings.{IsShownAs}
+use Rattle.pair_findings.specs.declared.searching.TheConstants.{BUDGET}
+use Rattle.race_groups.specs.Groups.{IsCountOf}
 use Rattle.race_groups.specs.Kinds.{IsRow, IsNeverShownBetween}
 use Rattle.race_groups.specs.declared.kinds.Counts.{Counts}
 use Rattle.race_groups.specs.declared.kinds.Row.{Row}
-use Rattle.race_triage.specs.Pairs.{IsPair, AreAt, IsFit}
-use Rattle.race_triage.specs.declared.pairs.Wanted.TheVariants.{Any, Open}
+use Rattle.least_pairs.specs.Pairs.{AreAt, AreFirstTries, AreLeasts, HasPair, IsFit, IsLeastPair, IsPair}
+use Rattle.least_pairs.specs.declared.least.Least.{Least}
+use Rattle.least_pairs.specs.declared.tries.Try.{Try}
+use Rattle.least_pairs.specs.declared.wanted.Wanted.TheVariants.{Candidate as CandidatePair, Open as OpenPair, Any as AnyPair}
+use Rattle.race_triage.specs.declared.found.Found.{Found}
 use Rattle.race_triage.specs.declared.verdicts.Outcome.{Outcome}
 use Rattle.race_triage.specs.declared.verdicts.Outcome.TheVariants.{Race, Undecided, Apart}
 use Rattle.race_triage.specs.declared.verdicts.Verdict.{Verdict}
@@ -57,8 +67,47 @@ IsTold apart (Race how events threads) = ⊤
 IsTold apart (Undecided tried) = ⊤
 IsTold apart Apart = apart ≡ true
 
--- What holds of each verdict.
-pub record IsVerdict (r : Recording) (place : ℕ → ℕ) (apart : Bool) (v : Verdict) : Type 0 where
+-- No schedule of the pair was found: no list in the order of the trace shows it, and the search from there found nothing.
+abbrev pub IsNotFound : List Event → ℕ → ℕ → Type 0
+IsNotFound T a b = IsNeverShownInOrder T a b × IsTurned T a b BUDGET None
+
+-- none of these pairs was found, which are given by their later event and then by their earlier one
+abbrev pub AreNotFound : List Event → List Try → Type 0
+AreNotFound T tried = All (λ (t : Try). IsNotFound T t.pair.1 t.pair.0) tried
+
+-- The pair is one of these, and none before it was found.
+pub record IsFirstFound (T : List Event) (tried : List Try) (pair : ℕ × ℕ) : Type 0 where
+  pub at : ℕ
+  pub one : Try
+  pub one_is : slice_get tried at ≡ Some one
+  pub told : one.pair ≡ pair
+  pub earlier : AreNotFound T (take at tried)
+
+-- The pair is the first that was found of those that are tried: of the least open pairs of the two places, one for each variable and two
+-- threads, the first `tries`.
+pub record IsFirstOfTried (r : Recording) (place : ℕ → ℕ) (tries : ℕ) (places pair : ℕ × ℕ) : Type 0 where
+  pub tried : List Try
+  pub first : AreFirstTries r place places tries tried
+  pub found : IsFirstFound r.events tried pair
+
+-- Of those that are tried, and there are `count`, none was found.
+pub record AreTriedInVain (r : Recording) (place : ℕ → ℕ) (tries : ℕ) (places : ℕ × ℕ) (count : ℕ) : Type 0 where
+  pub tried : List Try
+  pub first : AreFirstTries r place places tries tried
+  pub len : length tried ≡ count
+  pub none : AreNotFound r.events tried
+
+-- Which pair is told, by its later event and then by its earlier one: of a race with a candidate the least candidate, of another race the first
+-- that was found of those that were tried, of what is undecided the least open pair, and of what is apart, where it is told, the least of all.
+abbrev pub IsPairFor : Recording → (ℕ → ℕ) → ℕ → Bool → ℕ × ℕ → ℕ × ℕ → Outcome → Type 0
+IsPairFor r place tries apart places pair (Race Candidate events threads) = IsLeastPair r place places CandidatePair (Some pair)
+IsPairFor r place tries apart places pair (Race how events threads) = IsFirstOfTried r place tries places pair
+IsPairFor r place tries apart places pair (Undecided tried) =
+    IsLeastPair r place places OpenPair (Some pair) × AreTriedInVain r place tries places tried
+IsPairFor r place tries apart places pair Apart = apart ≡ true → IsLeastPair r place places AnyPair (Some pair)
+
+-- What holds of each verdict, where the first `tries` open pairs of two places are tried.
+pub record IsVerdict (r : Recording) (place : ℕ → ℕ) (tries : ℕ) (apart : Bool) (v : Verdict) : Type 0 where
   pub first : v.first < length r.events
   pub second : v.second < length r.events
   -- The counts are those of all conflicting pairs of the two places.
@@ -68,14 +117,32 @@ pub record IsVerdict (r : Recording) (place : ℕ → ℕ) (apart : Bool) (v : V
   pub counts : IsOutcomeFor v.row.counts v.outcome
   -- No correct reordering shows two events of places that are apart.
   pub never : v.outcome ≡ Apart → IsNeverShownBetween r.events place v.row.places.0 v.row.places.1
+  -- So many variables have a candidate or an open pair of the two places.
+  pub variables : IsCountOf (HasPair r place v.row.places) (before (length r.variables)) v.variables
+  pub least : IsPairFor r place tries apart v.row.places (v.second, v.first) v.outcome
 
 -- what holds of the verdict on a row
-abbrev pub IsVerdictOn : Recording → (ℕ → ℕ) → Bool → Row → Verdict → Type 0
-IsVerdictOn r place apart row v = IsVerdict r place apart v × (v.row ≡ row)
+abbrev pub IsVerdictOn : Recording → (ℕ → ℕ) → ℕ → Bool → Row → Verdict → Type 0
+IsVerdictOn r place tries apart row v = IsVerdict r place tries apart v × (v.row ≡ row)
 
--- an open pair of these places, given by its later event and then by its earlier one, that a schedule shows
-abbrev pub IsOpenRaceAt : Recording → (ℕ → ℕ) → ℕ × ℕ → ℕ × ℕ → Outcome → Type 0
-IsOpenRaceAt r place places pair o = IsFit r place places Open pair.1 pair.0 × IsOpenRace r pair.1 pair.0 o
+-- these pairs are open
+abbrev pub AreOpenPairs : Recording → List Try → Type 0
+AreOpenPairs r tried = All (λ (t : Try). IsPair r.events t.pair.1 t.pair.0 × IsKind r t.pair.1 t.pair.0 OpenKind) tried
+
+-- The first of these pairs that was found, and the race that is told of it.
+pub record IsShownFirst (r : Recording) (tried : List Try) (pair : ℕ × ℕ) (o : Outcome) : Type 0 where
+  pub found : IsFirstFound r.events tried pair
+  pub race : IsOpenRace r pair.1 pair.0 o
+
+-- What was found of all rows: of each its least pairs; and where `apart` is true its least conflicting pair.
+pub record IsFound (r : Recording) (place : ℕ → ℕ) (tries : ℕ) (apart : Bool) (found : Found) : Type 0 where
+  pub rows : All (IsRow r place) found.groups.rows.items
+  pub leasts_len : length found.leasts.items ≡ length found.groups.rows.items
+  pub leasts : (at : ℕ) (row : Row) (l : Least) → slice_get found.groups.rows.items at ≡ Some row → slice_get found.leasts.items at ≡ Some l
+      → AreLeasts r place row.places (max tries 1) l
+  pub firsts_len : apart ≡ true → length found.firsts.items ≡ length found.groups.rows.items
+  pub firsts : apart ≡ true → (at : ℕ) (row : Row) (first : Option (ℕ × ℕ)) → slice_get found.groups.rows.items at ≡ Some row
+      → slice_get found.firsts.items at ≡ Some first → IsLeastPair r place row.places AnyPair first
 
 -- There is a verdict for the two places of each conflicting pair.
 abbrev pub AreAllTold : List Event → (ℕ → ℕ) → List Verdict → Type 0
@@ -85,16 +152,16 @@ AreAllTold T place vs =
 -- the row has a verdict, or there is no conflicting pair of its places
 abbrev pub IsAnswered : Recording → (ℕ → ℕ) → List Verdict → Row → Type 0
 IsAnswered r place vs row =
-    ((v : Verdict) × Contains vs v × (v.row ≡ row)) ⊎ ((a b : ℕ) → ¬ IsFit r place row.places Any a b)
+    ((v : Verdict) × Contains vs v × (v.row ≡ row)) ⊎ ((a b : ℕ) → ¬ IsFit r place row.places AnyPair a b)
 
 -- The verdicts on every so many rows, from one of them on: each of these rows is answered.
-pub record ArePart (r : Recording) (place : ℕ → ℕ) (apart : Bool) (rows : List Row) (from every : ℕ) (vs : List Verdict) : Type 0 where
-  pub verdicts : All (IsVerdict r place apart) vs
+pub record ArePart (r : Recording) (place : ℕ → ℕ) (tries : ℕ) (apart : Bool) (rows : List Row) (from every : ℕ) (vs : List Verdict) : Type 0 where
+  pub verdicts : All (IsVerdict r place tries apart) vs
   pub answered : (at : ℕ) (d : Row) → at < length rows → at % every ≡ from → IsAnswered r place vs (slice_index_or rows at d)
 
 -- The verdicts on all rows.
-pub record AreWhole (r : Recording) (place : ℕ → ℕ) (apart : Bool) (rows : List Row) (vs : List Verdict) : Type 0 where
-  pub verdicts : All (IsVerdict r place apart) vs
+pub record AreWhole (r : Recording) (place : ℕ → ℕ) (tries : ℕ) (apart : Bool) (rows : List Row) (vs : List Verdict) : Type 0 where
+  pub verdicts : All (IsVerdict r place tries apart) vs
   pub answered : (at : ℕ) (d : Row) → at < length rows → IsAnswered r place vs (slice_index_or rows at d)
 
 -- v does not stand behind w: by the later event, and then by the earlier

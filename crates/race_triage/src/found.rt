@@ -1,15 +1,13 @@
-//! What is counted of each pair of places, and the pairs of events that are proposed for it.
-ghost use Rattle.std.specs.Prelude.{◌≡◌, ◌≤◌, All, Err, IfOk, length, slice_index};
+//! What is counted of each pair of places, and its least pairs of events.
+ghost use Rattle.std.specs.Prelude.{◌≡◌, ◌<◌, ◌≤◌, All, Err, IfOk, Some, length, slice_get, slice_index};
 ghost use Rattle.race_groups.specs.Classes.{AreClasses, AreLocks, AreMembers};
+ghost use Rattle.race_groups.specs.Found.{AreComplete, AreOnce, AreTooMany};
 ghost use Rattle.race_groups.specs.Kinds.{IsRow};
-ghost use Rattle.race_groups.specs.Found.{AreComplete, AreTooMany};
+ghost use Rattle.race_triage.specs.Verdicts.{IsFound};
 
-use crate::firsts::firsts_of;
-use crate::judging::Proposed;
-use crate::leasts::{Least, leasts_of};
-use crate::pairs::Tables;
-use crate::tries::{Pair, Try};
+use crate::tables::Tables;
 use crate::verdicts::{MAX_PLACES, TriageRefusal};
+use least_pairs::{Least, Pair, firsts_of, leasts_of};
 use race_groups::{Classes, Groups, RowsRefusal, groups_of};
 use std::alloc::Global;
 
@@ -17,38 +15,22 @@ use std::alloc::Global;
 #[derive(Drop)]
 pub(crate) struct Found {
     pub(crate) groups: Groups,
-    leasts: Vec<Least>,
+    pub(crate) leasts: Vec<Least>,
+    // The least conflicting pairs; none where they are not asked for.
     firsts: Vec<Option<Pair>>,
-    // How many open pairs of a row are tried.
-    tries: u32,
 }
 
 impl Found {
-    /// What is proposed for the row at a place.
-    pub(crate) fn proposed(&self, at: usize) -> Proposed<'_> {
-        let first = self.firsts.get(at).copied().flatten();
-        match self.leasts.get(at) {
-            Some(least) => Proposed {
-                variables: least.variables,
-                candidate: least.candidate,
-                open: least.tries.first().map(|one| one.pair),
-                tries: beginning(least.tries.as_slice(), self.tries as usize),
-                first,
-            },
-            None => Proposed {
-                variables: 0,
-                candidate: None,
-                open: None,
-                tries: &[],
-                first,
-            },
+    /// The least conflicting pair of the row at a place, where it was asked for.
+    pub(crate) fn first(&self, at: usize) -> Option<Pair>
+        ensures { at < length self.now.firsts.items → slice_get self.now.firsts.items at ≡ Some result }
+    {
+        if at < self.firsts.len() {
+            self.firsts[at]
+        } else {
+            None
         }
     }
-}
-
-// At most so many of the first.
-fn beginning(tries: &[Try], most: usize) -> &[Try] {
-    &tries[..most.min(tries.len())]
 }
 
 /// The rows, their least pairs, and where `apart` is true their least conflicting pairs.
@@ -61,17 +43,19 @@ pub(crate) fn found_of(
     requires clocks { tables.clocks.now ≡ tables.indexed.now }
     requires must { tables.must.now ≡ tables.indexed.now }
     requires places { length tables.places.now ≡ length tables.indexed.now.events }
-    ensures rows { IfOk result (λ found. All (IsRow tables.entry.indexed.now (slice_index tables.entry.places.now)) found.groups.rows.items) }
+    ensures found { IfOk result (IsFound tables.entry.indexed.now (slice_index tables.entry.places.now) tries apart) }
     ensures complete { IfOk result (λ found. AreComplete tables.entry.indexed.now.events (slice_index tables.entry.places.now) found.groups.rows.items) }
     ensures too_many { result ≡ Err TriageRefusal.TooMany
         → AreTooMany tables.entry.indexed.now.events (slice_index tables.entry.places.now) MAX_PLACES }
 {
     let classes = Classes::of(alloc, tables.indexed, tables.places)?;
     let groups = counted(alloc, tables, &classes)?;
-    let most = (tries.max(1)) as usize;
+    // One at least, so that the least open pair is among them.
+    let most = tries.max(1) as usize;
     let leasts = leasts_of(
         alloc,
         tables.indexed,
+        tables.places,
         tables.clocks,
         tables.must,
         &classes,
@@ -79,7 +63,7 @@ pub(crate) fn found_of(
         most,
     )?;
     let firsts = if apart {
-        firsts_of(alloc, tables.indexed, tables.places, &groups)?
+        firsts_of(alloc, tables.indexed, tables.places, &classes, &groups)?
     } else {
         Vec::new(alloc)
     };
@@ -87,7 +71,6 @@ pub(crate) fn found_of(
         groups,
         leasts,
         firsts,
-        tries,
     })
 }
 
@@ -101,6 +84,7 @@ fn counted(alloc: Global, tables: Tables<'_>, classes: &Classes) -> Result<Group
     requires locks { AreLocks tables.indexed.now.events classes.now.lists.keys classes.now.numbers.items classes.now.infos.items }
     ensures rows { IfOk result (λ groups. All (IsRow tables.entry.indexed.now (slice_index tables.entry.places.now)) groups.rows.items) }
     ensures complete { IfOk result (λ groups. AreComplete tables.entry.indexed.now.events (slice_index tables.entry.places.now) groups.rows.items) }
+    ensures once { IfOk result (λ groups. AreOnce groups.rows.items) }
     ensures too_many { result ≡ Err TriageRefusal.TooMany
         → AreTooMany tables.entry.indexed.now.events (slice_index tables.entry.places.now) MAX_PLACES }
 {

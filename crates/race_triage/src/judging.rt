@@ -1,40 +1,29 @@
 //! The verdict on a row.
-ghost use Rattle.std.specs.Prelude.{◌≡◌, ◌<◌, ℕ, All, IfOk, IfSome, Ok, None, length, slice_index};
+ghost use Rattle.std.specs.Prelude.{◌≡◌, ◌<◌, ℕ, IfOk, IfSome, Ok, None, length, max, slice_index, take, true};
 ghost use Rattle.race_groups.specs.Kinds.{IsRow};
-ghost use Rattle.race_triage.specs.Pairs.{IsFit};
-ghost use Rattle.race_triage.specs.Verdicts.{IsVerdict, IsOpenRaceAt, IsVerdictOn};
-ghost use Rattle.race_triage.specs.declared.pairs.Wanted.TheVariants.{Any, Open as OpenPair};
+ghost use Rattle.least_pairs.specs.Pairs.{AreLeasts, IsFit, IsLeastPair};
+ghost use Rattle.least_pairs.specs.declared.wanted.Wanted.TheVariants.{Any as AnyPair};
+ghost use Rattle.race_triage.specs.Verdicts.{AreNotFound, AreOpenPairs, IsShownFirst, IsVerdictOn};
 
-use crate::pairs::{Tables, Wanted};
 use crate::places::small;
-use crate::tries::{Pair, Try};
+use crate::tables::Tables;
 use crate::verdicts::{Outcome, Verdict};
+use least_pairs::{Least, Pair, Try};
 use must_order::apart_is_never_shown;
 use race_groups::Row;
 use rapid_text::OutOfMemory;
 use std::alloc::Global;
 
-/// The pairs that are proposed for a row, and how many of its variables have a candidate or an open pair.
-#[derive(Clone, Copy)]
-pub(crate) struct Proposed<'a> {
-    pub(crate) variables: u32,
-    /// The least candidate.
-    pub(crate) candidate: Option<Pair>,
-    /// The least open pair, where there is no candidate.
-    pub(crate) open: Option<Pair>,
-    /// The open pairs that are tried.
-    pub(crate) tries: &'a [Try],
-    /// The least conflicting pair.
-    pub(crate) first: Option<Pair>,
-}
-
 impl Tables<'_> {
-    /// The verdict on a row; the pair of events of what is apart is told where `apart` is true. None where no two events of the row's places conflict.
+    /// The verdict on a row, of which these are the least pairs; `first` is its least conflicting pair, where `apart` is true: then the pair of events
+    /// of what is apart is told. The first `tries` open pairs are tried. None where no two events of the row's places conflict.
     pub(crate) fn verdict(
         &self,
         alloc: Global,
         row: Row,
-        proposed: Proposed<'_>,
+        least: &Least,
+        first: Option<Pair>,
+        tries: u32,
         apart: bool,
     ) -> Result<Option<Verdict>, OutOfMemory>
         requires clocks { self.now.clocks.now ≡ self.now.indexed.now }
@@ -43,16 +32,18 @@ impl Tables<'_> {
         requires places { length self.now.places.now ≡ length self.now.indexed.now.events }
         requires some { 0 < length self.now.indexed.now.events }
         requires row { IsRow self.now.indexed.now (slice_index self.now.places.now) row }
-        ensures verdict { IfOk result (λ found. IfSome found (IsVerdictOn self.now.indexed.now (slice_index self.now.places.now) apart row)) }
-        ensures none { result ≡ Ok None → (a b : ℕ) → ¬ IsFit self.now.indexed.now (slice_index self.now.places.now) row.places Any a b }
+        requires least { AreLeasts self.now.indexed.now (slice_index self.now.places.now) row.places (max tries 1) least.now }
+        requires first { apart ≡ true → IsLeastPair self.now.indexed.now (slice_index self.now.places.now) row.places AnyPair first }
+        ensures verdict { IfOk result (λ found. IfSome found (IsVerdictOn self.now.indexed.now (slice_index self.now.places.now) tries apart row)) }
+        ensures none { result ≡ Ok None → (a b : ℕ) → ¬ IsFit self.now.indexed.now (slice_index self.now.places.now) row.places AnyPair a b }
     {
         if row.counts.candidates > 0 {
-            return self.candidate_row(alloc, row, proposed, apart);
+            return self.candidate_row(alloc, row, least, tries, apart);
         }
         if row.counts.open_pairs > 0 {
-            return self.open_row(alloc, row, proposed, apart);
+            return self.open_row(alloc, row, least, tries, apart);
         }
-        Ok(self.apart_row(row, proposed, apart))
+        Ok(self.apart_row(row, least, first, tries, apart))
     }
 
     // The verdict on a row with candidates.
@@ -60,7 +51,8 @@ impl Tables<'_> {
         &self,
         alloc: Global,
         row: Row,
-        proposed: Proposed<'_>,
+        least: &Least,
+        _tries: u32,
         _apart: bool,
     ) -> Result<Option<Verdict>, OutOfMemory>
         requires clocks { self.now.clocks.now ≡ self.now.indexed.now }
@@ -68,15 +60,16 @@ impl Tables<'_> {
         requires acquires { self.now.acquires.now ≡ self.now.indexed.now }
         requires places { length self.now.places.now ≡ length self.now.indexed.now.events }
         requires row { IsRow self.now.indexed.now (slice_index self.now.places.now) row }
+        requires least { AreLeasts self.now.indexed.now (slice_index self.now.places.now) row.places (max _tries 1) least.now }
         requires candidates { 0 < row.counts.candidates }
-        ensures verdict { IfOk result (λ found. IfSome found (IsVerdictOn self.now.indexed.now (slice_index self.now.places.now) _apart row)) }
-        ensures none { result ≡ Ok None → (a b : ℕ) → ¬ IsFit self.now.indexed.now (slice_index self.now.places.now) row.places Any a b }
+        ensures verdict { IfOk result (λ found. IfSome found (IsVerdictOn self.now.indexed.now (slice_index self.now.places.now) _tries _apart row)) }
+        ensures none { result ≡ Ok None → (a b : ℕ) → ¬ IsFit self.now.indexed.now (slice_index self.now.places.now) row.places AnyPair a b }
     {
-        let Some(pair) = self.pair_of(row.places, Wanted::Candidate, proposed.candidate) else {
+        let Some(pair) = least.candidate else {
             return Ok(None);
         };
         let outcome = self.race_of_candidate(alloc, pair.1, pair.0)?;
-        Ok(Some(of_pair(row, proposed.variables, pair, outcome)))
+        Ok(Some(of_pair(row, least.variables, pair, outcome)))
     }
 
     // The verdict on a row without candidates that has open pairs.
@@ -84,7 +77,8 @@ impl Tables<'_> {
         &self,
         alloc: Global,
         row: Row,
-        proposed: Proposed<'_>,
+        least: &Least,
+        tries: u32,
         _apart: bool,
     ) -> Result<Option<Verdict>, OutOfMemory>
         requires clocks { self.now.clocks.now ≡ self.now.indexed.now }
@@ -92,94 +86,90 @@ impl Tables<'_> {
         requires acquires { self.now.acquires.now ≡ self.now.indexed.now }
         requires places { length self.now.places.now ≡ length self.now.indexed.now.events }
         requires row { IsRow self.now.indexed.now (slice_index self.now.places.now) row }
+        requires least { AreLeasts self.now.indexed.now (slice_index self.now.places.now) row.places (max tries 1) least.now }
         requires candidates { row.counts.candidates ≡ 0 }
         requires open_pairs { 0 < row.counts.open_pairs }
-        ensures verdict { IfOk result (λ found. IfSome found (IsVerdictOn self.now.indexed.now (slice_index self.now.places.now) _apart row)) }
-        ensures none { result ≡ Ok None → (a b : ℕ) → ¬ IsFit self.now.indexed.now (slice_index self.now.places.now) row.places Any a b }
+        ensures verdict { IfOk result (λ found. IfSome found (IsVerdictOn self.now.indexed.now (slice_index self.now.places.now) tries _apart row)) }
+        ensures none { result ≡ Ok None → (a b : ℕ) → ¬ IsFit self.now.indexed.now (slice_index self.now.places.now) row.places AnyPair a b }
     {
-        let Some(pair) = self.pair_of(row.places, Wanted::Open, proposed.open) else {
+        let all = least.tries.as_slice();
+        if all.is_empty() {
             return Ok(None);
-        };
-        match self.first_shown(alloc, row.places, proposed.tries)? {
-            Some((other, outcome)) => Ok(Some(of_pair(row, proposed.variables, other, outcome))),
+        }
+        let tried = beginning(all, tries as usize);
+        match self.first_shown(alloc, tried)? {
+            Some((pair, outcome)) => Ok(Some(of_pair(row, least.variables, pair, outcome))),
             None => {
-                let tried = small(proposed.tries.len())?;
-                Ok(Some(of_pair(row, proposed.variables, pair, Outcome::Undecided { tried })))
+                let pair = all[0].pair;
+                let tried = small(tried.len())?;
+                Ok(Some(of_pair(row, least.variables, pair, Outcome::Undecided { tried })))
             }
         }
     }
 
-    // The first of the open pairs that a schedule shows.
+    // The first of the open pairs that a schedule is found of.
     fn first_shown(
         &self,
         alloc: Global,
-        places: (u32, u32),
-        tries: &[Try],
+        tried: &[Try],
     ) -> Result<Option<(Pair, Outcome)>, OutOfMemory>
-        requires clocks { self.now.clocks.now ≡ self.now.indexed.now }
         requires must { self.now.must.now ≡ self.now.indexed.now }
         requires acquires { self.now.acquires.now ≡ self.now.indexed.now }
-        requires places { length self.now.places.now ≡ length self.now.indexed.now.events }
-        ensures { IfOk result (λ found. IfSome found (λ shown. IsOpenRaceAt self.now.indexed.now (slice_index self.now.places.now) places shown.0 shown.1)) }
+        requires opens { AreOpenPairs self.now.indexed.now tried.now }
+        ensures shown { IfOk result (λ found. IfSome found (λ shown. IsShownFirst self.now.indexed.now tried.now shown.0 shown.1)) }
+        ensures none { IfOk result (λ found. found ≡ None → AreNotFound self.now.indexed.now.events tried.now) }
     {
-        for at in 0..tries.len() {
-            let pair = tries[at].pair;
-            if let Some(outcome) = self.shown(alloc, places, pair)? {
+        for at in 0..tried.len() {
+            let pair = tried[at].pair;
+            if let Some(outcome) = self.race_of_open(alloc, pair.1, pair.0)? {
                 return Ok(Some((pair, outcome)));
             }
         }
         Ok(None)
     }
 
-    // A race, where this is an open pair of these places and a schedule that shows it is found.
-    fn shown(
-        &self,
-        alloc: Global,
-        places: (u32, u32),
-        pair: Pair,
-    ) -> Result<Option<Outcome>, OutOfMemory>
-        requires clocks { self.now.clocks.now ≡ self.now.indexed.now }
-        requires must { self.now.must.now ≡ self.now.indexed.now }
-        requires acquires { self.now.acquires.now ≡ self.now.indexed.now }
-        requires places { length self.now.places.now ≡ length self.now.indexed.now.events }
-        ensures { IfOk result (λ found. IfSome found (IsOpenRaceAt self.now.indexed.now (slice_index self.now.places.now) places pair)) }
-    {
-        if !self.is_fit(places, Wanted::Open, pair.1, pair.0) {
-            return Ok(None);
-        }
-        let found = self.race_of_open(alloc, pair.1, pair.0)?;
-        Ok(found)
-    }
-
     // The verdict on a row all of whose pairs are forced or guarded.
-    fn apart_row(&self, row: Row, proposed: Proposed<'_>, apart: bool) -> Option<Verdict>
-        requires clocks { self.now.clocks.now ≡ self.now.indexed.now }
-        requires must { self.now.must.now ≡ self.now.indexed.now }
-        requires acquires { self.now.acquires.now ≡ self.now.indexed.now }
-        requires places { length self.now.places.now ≡ length self.now.indexed.now.events }
+    fn apart_row(
+        &self,
+        row: Row,
+        least: &Least,
+        first: Option<Pair>,
+        _tries: u32,
+        apart: bool,
+    ) -> Option<Verdict>
         requires some { 0 < length self.now.indexed.now.events }
         requires row { IsRow self.now.indexed.now (slice_index self.now.places.now) row }
+        requires least { AreLeasts self.now.indexed.now (slice_index self.now.places.now) row.places (max _tries 1) least.now }
+        requires first { apart ≡ true → IsLeastPair self.now.indexed.now (slice_index self.now.places.now) row.places AnyPair first }
         requires candidates { row.counts.candidates ≡ 0 }
         requires open_pairs { row.counts.open_pairs ≡ 0 }
-        ensures verdict { IfSome result (IsVerdictOn self.now.indexed.now (slice_index self.now.places.now) apart row) }
-        ensures none { result ≡ None → (a b : ℕ) → ¬ IsFit self.now.indexed.now (slice_index self.now.places.now) row.places Any a b }
+        ensures verdict { IfSome result (IsVerdictOn self.now.indexed.now (slice_index self.now.places.now) _tries apart row) }
+        ensures none { result ≡ None → (a b : ℕ) → ¬ IsFit self.now.indexed.now (slice_index self.now.places.now) row.places AnyPair a b }
     {
         apart_is_never_shown();
         let _len = self.indexed.len();
         if !apart {
-            return Some(of_pair(row, 0, (0, 0), Outcome::Apart));
+            return Some(of_pair(row, least.variables, (0, 0), Outcome::Apart));
         }
-        match self.pair_of(row.places, Wanted::Any, proposed.first) {
-            Some(pair) => Some(of_pair(row, 0, pair, Outcome::Apart)),
+        match first {
+            Some(pair) => Some(of_pair(row, least.variables, pair, Outcome::Apart)),
             None => None,
         }
     }
+}
+
+// At most so many of the first.
+fn beginning(tries: &[Try], most: usize) -> &[Try]
+    ensures { result.now ≡ take most tries.now }
+{
+    &tries[..most.min(tries.len())]
 }
 
 fn of_pair(row: Row, variables: u32, pair: Pair, outcome: Outcome) -> Verdict
     ensures first { result.first ≡ pair.1 }
     ensures second { result.second ≡ pair.0 }
     ensures row { result.row ≡ row }
+    ensures variables { result.variables ≡ variables }
     ensures outcome { result.outcome ≡ outcome }
 {
     Verdict {

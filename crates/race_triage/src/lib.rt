@@ -5,22 +5,17 @@
 mod blocks;
 mod chosen;
 mod filters;
-mod firsts;
 mod found;
 mod judging;
 mod known;
-mod lanes;
-mod leasts;
 mod outcomes;
-mod pairs;
 mod pieces;
 mod places;
+mod tables;
 mod text;
 mod totals;
-mod tries;
 mod verdicts;
 mod watch;
-mod windows;
 mod workers;
 
 pub use chosen::{Chosen, chosen_of, is_kept, is_known};

@@ -9,11 +9,11 @@ ghost use Rattle.in_order.specs.Layout.{IsThreadCount};
 ghost use Rattle.in_order.specs.Sizes.{IsSizeInOrder, HasSize, HasThread};
 ghost use Rattle.in_order.specs.declared.refusal.InOrderRefusal.TheVariants.{OutOfMemory as NoMemory};
 ghost use Rattle.explain_report.specs.declared.verdict.How.TheVariants.{Candidate, Turned};
-ghost use Rattle.race_triage.specs.Verdicts.{IsRaceOf, IsOpenRace};
+ghost use Rattle.race_triage.specs.Verdicts.{IsNotFound, IsOpenRace, IsRaceOf};
 ghost use Rattle.race_triage.specs.declared.verdicts.Outcome.TheVariants.{Race};
 
-use crate::pairs::Tables;
 use crate::places::small;
+use crate::tables::Tables;
 use crate::verdicts::Outcome;
 use event_index::Indexed;
 use explain_report::How;
@@ -59,7 +59,8 @@ impl Tables<'_> {
         requires first { first < length self.now.indexed.now.events }
         requires second { second < length self.now.indexed.now.events }
         requires kind { IsKind self.now.indexed.now first second OpenKind }
-        ensures { IfOk result (λ found. IfSome found (IsOpenRace self.now.indexed.now first second)) }
+        ensures race { IfOk result (λ found. IfSome found (IsOpenRace self.now.indexed.now first second)) }
+        ensures none { IfOk result (λ found. found ≡ None → IsNotFound self.now.indexed.now.events first second) }
     {
         in_order_is_sound();
         let _len = self.indexed.len();
@@ -78,7 +79,8 @@ impl Tables<'_> {
     ) -> Result<Option<Outcome>, OutOfMemory>
         requires kind { IsKind self.now.indexed.now first second OpenKind }
         requires never { IsNeverShownInOrder self.now.indexed.now.events first second }
-        ensures { IfOk result (λ found. IfSome found (IsRaceOf self.now.indexed.now first second Turned)) }
+        ensures race { IfOk result (λ found. IfSome found (IsRaceOf self.now.indexed.now first second Turned)) }
+        ensures none { IfOk result (λ found. found ≡ None → IsNotFound self.now.indexed.now.events first second) }
     {
         match turned(alloc, self.indexed, first, second, BUDGET)? {
             Some(list) => {

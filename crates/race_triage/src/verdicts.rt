@@ -5,8 +5,8 @@ ghost use Rattle.race_triage.specs.Places.{AreNumbers};
 ghost use Rattle.race_triage.specs.Verdicts.{IsVerdict, AreAllTold, AreRising};
 
 use crate::found::found_of;
-use crate::pairs::Tables;
 use crate::places::Places;
+use crate::tables::Tables;
 use crate::watch::Watch;
 use crate::workers::all_verdicts;
 use event_index::Indexed;
@@ -131,8 +131,9 @@ pub fn triage<R: Threads + Sync, W: Watch + Sync>(
     // Two events have one number exactly where their locations are one.
     ensures places { IfOk result (λ found. AreNumbers indexed.now found.places.numbers.items) }
     // The counts are exact; the two events conflict, and are told with the earlier first; a schedule shows those of a race; none shows
-    // two events of places that are apart.
-    ensures verdicts { IfOk result (λ found. All (IsVerdict indexed.now (slice_index found.places.numbers.items) apart) found.verdicts.items) }
+    // two events of places that are apart. The two are the least pair of their kind; of open pairs, the first that was found of those that
+    // were tried, which are the first `tries`.
+    ensures verdicts { IfOk result (λ found. All (IsVerdict indexed.now (slice_index found.places.numbers.items) tries apart) found.verdicts.items) }
     // Each conflicting pair has its places' verdict.
     ensures complete { IfOk result (λ found. AreAllTold indexed.now.events (slice_index found.places.numbers.items) found.verdicts.items) }
     ensures rising { IfOk result (λ found. AreRising found.verdicts.items) }
@@ -150,16 +151,16 @@ pub fn triage<R: Threads + Sync, W: Watch + Sync>(
         places: places.numbers.as_slice(),
     };
     let found = found_of(alloc, tables, tries, apart)?;
-    let mut verdicts = all_verdicts(rt, alloc, tables, &found, apart, workers, watch)?;
-    sort(tables, &mut verdicts, apart);
+    let mut verdicts = all_verdicts(rt, alloc, tables, &found, tries, apart, workers, watch)?;
+    sort(tables, &mut verdicts, tries, apart);
     Ok(Verdicts { verdicts, places })
 }
 
 // In rising order of the later event, and then of the earlier.
-fn sort(tables: Tables<'_>, verdicts: &mut Vec<Verdict>, _apart: bool)
-    requires verdicts { All (IsVerdict tables.indexed.now (slice_index tables.places.now) _apart) verdicts.old.items }
+fn sort(tables: Tables<'_>, verdicts: &mut Vec<Verdict>, _tries: u32, _apart: bool)
+    requires verdicts { All (IsVerdict tables.indexed.now (slice_index tables.places.now) _tries _apart) verdicts.old.items }
     requires complete { AreAllTold tables.indexed.now.events (slice_index tables.places.now) verdicts.old.items }
-    ensures verdicts { All (IsVerdict tables.entry.indexed.now (slice_index tables.entry.places.now) _apart) verdicts.new.items }
+    ensures verdicts { All (IsVerdict tables.entry.indexed.now (slice_index tables.entry.places.now) _tries _apart) verdicts.new.items }
     ensures complete { AreAllTold tables.entry.indexed.now.events (slice_index tables.entry.places.now) verdicts.new.items }
     ensures rising { AreRising verdicts.new.items }
 {

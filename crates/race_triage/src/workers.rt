@@ -1,16 +1,18 @@
 //! The verdicts on all rows, by one thread or by several.
-ghost use Rattle.std.specs.Prelude.{◌≡◌, ℕ, ◌<◌, ◌%◌, All, Contains, IfOk, OnOk, Result, Vec, length, slice_index, slice_index_or};
+ghost use Rattle.std.specs.Prelude.{◌≡◌, ℕ, ◌<◌, ◌%◌, All, Contains, IfOk, OnOk, Result, Vec, length, max, slice_index, slice_index_or, true};
 ghost use Rattle.std.specs.declared.alloc.Global.{Global};
 ghost use Rattle.race_groups.specs.Kinds.{IsRow};
 ghost use Rattle.race_groups.specs.declared.kinds.Row.{Row as Counted};
-ghost use Rattle.race_triage.specs.Verdicts.{IsVerdict, IsAnswered, ArePart, AreWhole};
+ghost use Rattle.least_pairs.specs.Pairs.{AreLeasts, IsLeastPair};
+ghost use Rattle.least_pairs.specs.declared.wanted.Wanted.TheVariants.{Any as AnyPair};
+ghost use Rattle.race_triage.specs.Verdicts.{ArePart, AreWhole, IsAnswered, IsFound, IsVerdict};
 ghost use Rattle.race_triage.specs.declared.verdicts.Verdict.{Verdict as Told};
 
 use crate::found::Found;
-use crate::judging::Proposed;
-use crate::pairs::Tables;
+use crate::tables::Tables;
 use crate::verdicts::Verdict;
 use crate::watch::Watch;
+use least_pairs::{Least, Pair};
 use race_groups::Row;
 use rapid_text::OutOfMemory;
 use std::alloc::Global;
@@ -23,6 +25,7 @@ pub(crate) fn all_verdicts<R: Threads + Sync, W: Watch + Sync>(
     alloc: Global,
     tables: Tables<'_>,
     found: &Found,
+    tries: u32,
     apart: bool,
     workers: u32,
     watch: &W,
@@ -31,14 +34,14 @@ pub(crate) fn all_verdicts<R: Threads + Sync, W: Watch + Sync>(
     requires must { tables.must.now ≡ tables.indexed.now }
     requires acquires { tables.acquires.now ≡ tables.indexed.now }
     requires places { length tables.places.now ≡ length tables.indexed.now.events }
-    requires rows { All (IsRow tables.indexed.now (slice_index tables.places.now)) found.now.groups.rows.items }
-    ensures { IfOk result (λ vs. AreWhole tables.entry.indexed.now (slice_index tables.entry.places.now) apart found.now.groups.rows.items vs.items) }
+    requires found { IsFound tables.indexed.now (slice_index tables.places.now) tries apart found.now }
+    ensures { IfOk result (λ vs. AreWhole tables.entry.indexed.now (slice_index tables.entry.places.now) tries apart found.now.groups.rows.items vs.items) }
 {
     if workers == 0 {
-        let part = part_of(alloc, tables, found, apart, 0, 1, watch)?;
+        let part = part_of(alloc, tables, found, tries, apart, 0, 1, watch)?;
         return Ok(part);
     }
-    by_workers(rt, alloc, tables, found, apart, workers, watch)
+    by_workers(rt, alloc, tables, found, tries, apart, workers, watch)
 }
 
 // The verdicts, found by several threads: each takes as many of the rows as the others.
@@ -47,6 +50,7 @@ fn by_workers<R: Threads + Sync, W: Watch + Sync>(
     alloc: Global,
     tables: Tables<'_>,
     found: &Found,
+    tries: u32,
     apart: bool,
     workers: u32,
     watch: &W,
@@ -55,9 +59,9 @@ fn by_workers<R: Threads + Sync, W: Watch + Sync>(
     requires must { tables.must.now ≡ tables.indexed.now }
     requires acquires { tables.acquires.now ≡ tables.indexed.now }
     requires places { length tables.places.now ≡ length tables.indexed.now.events }
-    requires rows { All (IsRow tables.indexed.now (slice_index tables.places.now)) found.now.groups.rows.items }
+    requires found { IsFound tables.indexed.now (slice_index tables.places.now) tries apart found.now }
     requires workers { 0 < workers }
-    ensures { IfOk result (λ vs. AreWhole tables.entry.indexed.now (slice_index tables.entry.places.now) apart found.now.groups.rows.items vs.items) }
+    ensures { IfOk result (λ vs. AreWhole tables.entry.indexed.now (slice_index tables.entry.places.now) tries apart found.now.groups.rows.items vs.items) }
 {
     let every = workers as usize;
     let find_some = |worker: usize| -> Result<Vec<Verdict>, OutOfMemory>
@@ -65,12 +69,13 @@ fn by_workers<R: Threads + Sync, W: Watch + Sync>(
         requires must { tables.must.now ≡ tables.indexed.now }
         requires acquires { tables.acquires.now ≡ tables.indexed.now }
         requires places { length tables.places.now ≡ length tables.indexed.now.events }
-        requires rows { All (IsRow tables.indexed.now (slice_index tables.places.now)) found.now.groups.rows.items }
+        requires found { IsFound tables.indexed.now (slice_index tables.places.now) tries apart found.now }
         requires every { 0 < every }
-        ensures { IfOk result (λ vs. ArePart tables.entry.indexed.now (slice_index tables.entry.places.now) apart found.entry.now.groups.rows.items worker every vs.items) }
-    { part_of(alloc, tables, found, apart, worker, every, watch) };
+        ensures { IfOk result
+            (λ vs. ArePart tables.entry.indexed.now (slice_index tables.entry.places.now) tries apart found.entry.now.groups.rows.items worker every vs.items) }
+    { part_of(alloc, tables, found, tries, apart, worker, every, watch) };
     let parts = thread::map_indices(rt, alloc, every, &find_some)?;
-    joined(alloc, tables, found, parts.as_slice(), apart, every)
+    joined(alloc, tables, found, parts.as_slice(), tries, apart, every)
 }
 
 // The verdicts on every so many rows, from one of them on.
@@ -78,6 +83,7 @@ fn part_of<W: Watch>(
     alloc: Global,
     tables: Tables<'_>,
     found: &Found,
+    tries: u32,
     apart: bool,
     from: usize,
     every: usize,
@@ -87,9 +93,10 @@ fn part_of<W: Watch>(
     requires must { tables.must.now ≡ tables.indexed.now }
     requires acquires { tables.acquires.now ≡ tables.indexed.now }
     requires places { length tables.places.now ≡ length tables.indexed.now.events }
-    requires rows { All (IsRow tables.indexed.now (slice_index tables.places.now)) found.now.groups.rows.items }
+    requires found { IsFound tables.indexed.now (slice_index tables.places.now) tries apart found.now }
     requires every { 0 < every }
-    ensures { IfOk result (λ vs. ArePart tables.entry.indexed.now (slice_index tables.entry.places.now) apart found.now.groups.rows.items from every vs.items) }
+    ensures { IfOk result
+        (λ vs. ArePart tables.entry.indexed.now (slice_index tables.entry.places.now) tries apart found.now.groups.rows.items from every vs.items) }
 {
     let mut verdicts = Vec::new(alloc);
     if tables.indexed.len() == 0 {
@@ -101,6 +108,7 @@ fn part_of<W: Watch>(
             tables,
             found,
             &mut verdicts,
+            tries,
             apart,
             at,
             from,
@@ -117,6 +125,7 @@ fn add_own<W: Watch>(
     tables: Tables<'_>,
     found: &Found,
     verdicts: &mut Vec<Verdict>,
+    tries: u32,
     apart: bool,
     at: usize,
     from: usize,
@@ -128,11 +137,11 @@ fn add_own<W: Watch>(
     requires acquires { tables.acquires.now ≡ tables.indexed.now }
     requires places { length tables.places.now ≡ length tables.indexed.now.events }
     requires some { 0 < length tables.indexed.now.events }
-    requires rows { All (IsRow tables.indexed.now (slice_index tables.places.now)) found.now.groups.rows.items }
+    requires found { IsFound tables.indexed.now (slice_index tables.places.now) tries apart found.now }
     requires at { at < length found.now.groups.rows.items }
     requires every { 0 < every }
-    requires verdicts { All (IsVerdict tables.indexed.now (slice_index tables.places.now) apart) verdicts.old.items }
-    ensures verdicts { OnOk result (All (IsVerdict tables.entry.indexed.now (slice_index tables.entry.places.now) apart) verdicts.new.items) }
+    requires verdicts { All (IsVerdict tables.indexed.now (slice_index tables.places.now) tries apart) verdicts.old.items }
+    ensures verdicts { OnOk result (All (IsVerdict tables.entry.indexed.now (slice_index tables.entry.places.now) tries apart) verdicts.new.items) }
     ensures answered { OnOk result (at % every ≡ from → (d : Counted)
         → IsAnswered tables.entry.indexed.now (slice_index tables.entry.places.now) verdicts.new.items (slice_index_or found.now.groups.rows.items at d)) }
     ensures kept { OnOk result ((v : Told) → Contains verdicts.old.items v → Contains verdicts.new.items v) }
@@ -141,7 +150,17 @@ fn add_own<W: Watch>(
         return Ok(());
     }
     let row = found.groups.rows[at];
-    add(alloc, tables, verdicts, row, found.proposed(at), apart)?;
+    let first = found.first(at);
+    add(
+        alloc,
+        tables,
+        verdicts,
+        row,
+        &found.leasts[at],
+        first,
+        tries,
+        apart,
+    )?;
     watch.judged(found.groups.rows.len());
     Ok(())
 }
@@ -152,7 +171,9 @@ fn add(
     tables: Tables<'_>,
     verdicts: &mut Vec<Verdict>,
     row: Row,
-    proposed: Proposed<'_>,
+    least: &Least,
+    first: Option<Pair>,
+    tries: u32,
     apart: bool,
 ) -> Result<(), OutOfMemory>
     requires clocks { tables.clocks.now ≡ tables.indexed.now }
@@ -161,12 +182,14 @@ fn add(
     requires places { length tables.places.now ≡ length tables.indexed.now.events }
     requires some { 0 < length tables.indexed.now.events }
     requires row { IsRow tables.indexed.now (slice_index tables.places.now) row }
-    requires verdicts { All (IsVerdict tables.indexed.now (slice_index tables.places.now) apart) verdicts.old.items }
-    ensures verdicts { OnOk result (All (IsVerdict tables.entry.indexed.now (slice_index tables.entry.places.now) apart) verdicts.new.items) }
+    requires least { AreLeasts tables.indexed.now (slice_index tables.places.now) row.places (max tries 1) least.now }
+    requires first { apart ≡ true → IsLeastPair tables.indexed.now (slice_index tables.places.now) row.places AnyPair first }
+    requires verdicts { All (IsVerdict tables.indexed.now (slice_index tables.places.now) tries apart) verdicts.old.items }
+    ensures verdicts { OnOk result (All (IsVerdict tables.entry.indexed.now (slice_index tables.entry.places.now) tries apart) verdicts.new.items) }
     ensures answered { OnOk result (IsAnswered tables.entry.indexed.now (slice_index tables.entry.places.now) verdicts.new.items row) }
     ensures kept { OnOk result ((v : Told) → Contains verdicts.old.items v → Contains verdicts.new.items v) }
 {
-    if let Some(verdict) = tables.verdict(alloc, row, proposed, apart)? {
+    if let Some(verdict) = tables.verdict(alloc, row, least, first, tries, apart)? {
         verdicts.push(verdict)?;
     }
     Ok(())
@@ -178,18 +201,19 @@ fn joined(
     tables: Tables<'_>,
     found: &Found,
     parts: &[Result<Vec<Verdict>, OutOfMemory>],
+    tries: u32,
     apart: bool,
     every: usize,
 ) -> Result<Vec<Verdict>, OutOfMemory>
     requires every { 0 < every }
     requires len { length parts.now ≡ every }
     requires parts { (i : ℕ) (d : Result (Vec Told Global) OutOfMemory) → i < length parts.now → IfOk (slice_index_or parts.now i d)
-        (λ vs. ArePart tables.indexed.now (slice_index tables.places.now) apart found.now.groups.rows.items i every vs.items) }
-    ensures { IfOk result (λ vs. AreWhole tables.entry.indexed.now (slice_index tables.entry.places.now) apart found.now.groups.rows.items vs.items) }
+        (λ vs. ArePart tables.indexed.now (slice_index tables.places.now) tries apart found.now.groups.rows.items i every vs.items) }
+    ensures { IfOk result (λ vs. AreWhole tables.entry.indexed.now (slice_index tables.entry.places.now) tries apart found.now.groups.rows.items vs.items) }
 {
     let mut all = Vec::new(alloc);
     for at in 0..parts.len() {
-        add_part(tables, found, &mut all, &parts[at], apart, at, every)?;
+        add_part(tables, found, &mut all, &parts[at], tries, apart, at, every)?;
     }
     Ok(all)
 }
@@ -200,13 +224,15 @@ fn add_part(
     _found: &Found,
     all: &mut Vec<Verdict>,
     part: &Result<Vec<Verdict>, OutOfMemory>,
+    _tries: u32,
     _apart: bool,
     _from: usize,
     _every: usize,
 ) -> Result<(), OutOfMemory>
-    requires all { All (IsVerdict _tables.indexed.now (slice_index _tables.places.now) _apart) all.old.items }
-    requires part { IfOk part.now (λ vs. ArePart _tables.indexed.now (slice_index _tables.places.now) _apart _found.now.groups.rows.items _from _every vs.items) }
-    ensures all { OnOk result (All (IsVerdict _tables.entry.indexed.now (slice_index _tables.entry.places.now) _apart) all.new.items) }
+    requires all { All (IsVerdict _tables.indexed.now (slice_index _tables.places.now) _tries _apart) all.old.items }
+    requires part { IfOk part.now
+        (λ vs. ArePart _tables.indexed.now (slice_index _tables.places.now) _tries _apart _found.now.groups.rows.items _from _every vs.items) }
+    ensures all { OnOk result (All (IsVerdict _tables.entry.indexed.now (slice_index _tables.entry.places.now) _tries _apart) all.new.items) }
     ensures answered { OnOk result ((k : ℕ) (d : Counted) → k < length _found.now.groups.rows.items → k % _every ≡ _from
         → IsAnswered _tables.entry.indexed.now (slice_index _tables.entry.places.now) all.new.items (slice_index_or _found.now.groups.rows.items k d)) }
     ensures kept { OnOk result ((v : Told) → Contains all.old.items v → Contains all.new.items v) }

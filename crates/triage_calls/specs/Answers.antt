@@ -24,10 +24,10 @@ use Rattle.triage_calls.specs.declared.listing.Asked.{Asked}
 use Rattle.triage_calls.specs.declared.listing.Form.{Form}
 use Rattle.triage_calls.specs.declared.listing.Form.TheVariants.{Text, Json, Page}
 
--- The verdicts on a trace, whose events have these numbers of places.
-pub record AreVerdicts (r : Recording) (numbers : List ℕ) (apart : Bool) (vs : List Verdict) : Type 0 where
+-- The verdicts on a trace, whose events have these numbers of places, where so many open pairs of two places are tried.
+pub record AreVerdicts (r : Recording) (numbers : List ℕ) (tries : ℕ) (apart : Bool) (vs : List Verdict) : Type 0 where
   pub places : AreNumbers r numbers
-  pub verdicts : All (IsVerdict r (slice_index numbers) apart) vs
+  pub verdicts : All (IsVerdict r (slice_index numbers) tries apart) vs
   pub complete : AreAllTold r.events (slice_index numbers) vs
   pub rising : AreRising vs
 
@@ -51,7 +51,7 @@ IsToldIn (Page name) r known asked vs races text =
 pub record IsListing (r : Recording) (known : Option (List (ℕ × ℕ))) (asked : Asked) (races : ℕ) (text : List ℕ) : Type 0 where
   pub numbers : List ℕ
   pub verdicts : List Verdict
-  pub found : AreVerdicts r numbers asked.apart verdicts
+  pub found : AreVerdicts r numbers asked.tries asked.apart verdicts
   pub told : IsToldIn asked.form r known asked verdicts races text
 
 -- more pairs of places than there may be have a conflicting pair of events

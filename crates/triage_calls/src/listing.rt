@@ -178,7 +178,7 @@ fn told(
 ) -> Result<(Vec<u8>, u64), OutOfMemory>
     requires clocks { clocks.now ≡ indexed.now }
     requires must { must.now ≡ indexed.now }
-    requires found { AreVerdicts indexed.now found.now.places.numbers.items asked.apart found.now.verdicts.items }
+    requires found { AreVerdicts indexed.now found.now.places.numbers.items asked.tries asked.apart found.now.verdicts.items }
     ensures { IfOk result (λ made. (known : Option (List (ℕ × ℕ))) × IsGiven listed.now known
         × IsListing indexed.now known asked.entry made.1 made.0.items) }
 {
@@ -261,7 +261,7 @@ fn found_of<R: Threads + Sync, W: Watch + Sync>(
 ) -> Result<Verdicts, TriageFault>
     requires clocks { clocks.now ≡ indexed.now }
     requires must { must.now ≡ indexed.now }
-    ensures found { IfOk result (λ found. AreVerdicts indexed.now found.places.numbers.items asked.entry.apart found.verdicts.items) }
+    ensures found { IfOk result (λ found. AreVerdicts indexed.now found.places.numbers.items asked.entry.tries asked.entry.apart found.verdicts.items) }
     ensures fault { IfErr result (IsUntold indexed.now) }
 {
     match verdicts_of(

@@ -1,4 +1,4 @@
-use Rattle.std.proofs.Common.{◌≡◌, ◌++◌, [], List, ℕ, Some, None, is_some, length, map, filter, cond, subst, sym, ap, ◌∙◌}
+use Rattle.std.proofs.Common.{◌≡◌, ◌++◌, [], List, Some, None, map, filter, cond, subst, sym, ap, ◌∙◌}
 use Rattle.race_triage.specs.Chosen.{is_of, known_places, AreConsidered}
 use Rattle.race_triage.specs.declared.chosen.Part.TheVariants.{Races, Open, Never}
 use Rattle.race_triage.specs.declared.verdicts.Verdict.{Verdict}

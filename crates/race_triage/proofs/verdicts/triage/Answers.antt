@@ -5,7 +5,7 @@ use Rattle.race_triage.proofs.verdicts.triage.Goals as goal
 
 pub sort-requires-clause-complete : goal.sort-requires-clause-complete
 sort-requires-clause-complete g c =
-    AreAllTold-from c.args.indexed.now (slice_index c.as_slice.result.now) c.args.apart c.in_ok-found.found.groups.rows.items c.in_ok-verdicts.verdicts.items
+    AreAllTold-from c.args.indexed.now (slice_index c.as_slice.result.now) c.args.tries c.args.apart c.in_ok-found.found.groups.rows.items c.in_ok-verdicts.verdicts.items
     c.in_ok-found.ensures.complete c.in_ok-verdicts.ensures
 
 pub returns-clause-complete : goal.returns-clause-complete

@@ -8,6 +8,6 @@ pub returns-in_ok-push-clause-verdicts : goal.returns-in_ok-push-clause-verdicts
 returns-in_ok-push-clause-verdicts c =
     let r = c.args.tables.indexed.now in
     let place = slice_index c.args.tables.places.now in
-    let holds = subst (λ (o : Option Verdict). IfSome o (IsVerdictOn r place c.args.apart c.args.row)) c.in-Some.is c.in_ok-verdict.ensures.verdict in
-    subst (All (IsVerdict r place c.args.apart)) (sym c.in_ok-push.ensures.items)
-    (All-push (IsVerdict r place c.args.apart) c.args.verdicts.now.items c.in-Some.verdict c.requires.verdicts holds.0)
+    let holds = subst (λ (o : Option Verdict). IfSome o (IsVerdictOn r place c.args.tries c.args.apart c.args.row)) c.in-Some.is c.in_ok-verdict.ensures.verdict in
+    subst (All (IsVerdict r place c.args.tries c.args.apart)) (sym c.in_ok-push.ensures.items)
+    (All-push (IsVerdict r place c.args.tries c.args.apart) c.args.verdicts.now.items c.in-Some.verdict c.requires.verdicts holds.0)

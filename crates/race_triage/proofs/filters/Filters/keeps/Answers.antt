@@ -1,6 +1,5 @@
-use Rattle.std.proofs.Common.{◌≡◌, ◌==◌, ℕ, List, true, false, length, map, ap, sym, ◌∙◌}
+use Rattle.std.proofs.Common.{◌≡◌, ◌==◌, ℕ, true, false, length, map, ap, sym, ◌∙◌}
 use Rattle.std.proofs.lemmas.List.{length-map}
-use Rattle.std.specs.List.{list_any}
 use Rattle.race_triage.specs.Chosen.{is_in}
 use Rattle.race_triage.proofs.FilterLemmas.{is_shown-all, is_shown-hidden, is_shown-some, list_any-map}
 use Rattle.race_triage.proofs.filters.Filters.keeps.Goals as goal

@@ -1,4 +1,4 @@
-use Rattle.std.proofs.Common.{ℕ, cond, refl}
+use Rattle.std.proofs.Common.{cond, refl}
 use Rattle.race_triage.specs.Chosen.{is_of}
 use Rattle.race_triage.specs.Texts.{all_in}
 use Rattle.race_triage.specs.declared.chosen.Part.TheVariants.{Races, Open, Never}

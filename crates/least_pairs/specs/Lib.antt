@@ -1,0 +1,6 @@
+pub mod Pairs
+pub mod Lanes
+pub mod Making
+pub mod Noting
+pub mod Going
+pub mod Uses

@@ -1,0 +1,17 @@
+//! For each pair of places the least of its conflicting pairs of events: the least candidate, the least open pairs, and the least of all.
+#![tactic(auto)]
+
+mod firsts;
+mod lanes;
+mod least;
+mod leasts;
+mod stretches;
+mod tries;
+mod uses;
+mod wanted;
+
+pub use firsts::firsts_of;
+pub use least::Least;
+pub use leasts::leasts_of;
+pub use tries::{Between, Pair, Try};
+pub use wanted::Wanted;

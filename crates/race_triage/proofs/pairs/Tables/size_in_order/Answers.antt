@@ -1,9 +1,0 @@
-use Rattle.pair_findings.proofs.FindingLemmas.{has_no_list}
-use Rattle.race_triage.proofs.pairs.Tables.size_in_order.Goals as goal
-
-pub returns-else-wants_memory-clause-never : goal.returns-else-wants_memory-clause-never
-returns-else-wants_memory-clause-never c _ = c.in-Err.ensures.never_shown (c.wants_memory.ensures c.if-wants_memory.false)
-
-pub returns-else-wants_memory-clause-none : goal.returns-else-wants_memory-clause-none
-returns-else-wants_memory-clause-none c _ =
-    has_no_list c.args.self.now.indexed.now.events c.args.first c.args.second c.in-Err.refusal c.in-Err.ensures.refused (c.wants_memory.ensures c.if-wants_memory.false)

@@ -1,0 +1,15 @@
+//! The tables of a trace.
+use event_index::Indexed;
+use in_order::Acquires;
+use must_order::Must;
+use shb_clocks::Clocks;
+
+/// The tables of a trace, and for each event the number of its place.
+#[derive(Clone, Copy)]
+pub(crate) struct Tables<'a> {
+    pub(crate) indexed: &'a Indexed,
+    pub(crate) clocks: &'a Clocks,
+    pub(crate) must: &'a Must,
+    pub(crate) acquires: &'a Acquires,
+    pub(crate) places: &'a [u32],
+}
