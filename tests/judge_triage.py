@@ -8,6 +8,7 @@ Says what is wrong, if something is, and ends with status 1 then, also where som
 """
 
 import collections
+import concurrent.futures
 import json
 import os
 import random
@@ -19,7 +20,7 @@ import by_chance
 import plain
 import running
 
-TRACES = 240
+TRACES = 3_000
 MOST_EVENTS = [8, 16, 28, 40]
 TRIES = [0, 1, 2, 16, 16, 16]
 # What JSON tells by number, in the order of the text.
@@ -208,21 +209,34 @@ MADE = [
 ]
 
 
-def main():
-    judge = Judge(os.path.abspath(sys.argv[1]))
-    traces = int(sys.argv[2]) if sys.argv[2:] else TRACES
-    first = int(sys.argv[3]) if sys.argv[3:] else 0
+def judge_some(program, first, numbers):
+    """Judges the traces of these numbers in a folder of its own; what was seen, or what is wrong."""
+    judge = Judge(program)
     with tempfile.TemporaryDirectory() as folder:
         os.chdir(folder)
-        for number in range(-len(MADE), traces):
+        for number in numbers:
             chance = random.Random(first + number)
             draw = chance.choice([by_chance.trace, by_chance.locked_trace])
             located = Located(MADE[number] if number < 0 else draw(chance, chance.choice(MOST_EVENTS)), chance)
             try:
                 judge.judge_trace(located, chance)
             except (Wrong, plain.Contradiction) as what:
-                sys.exit(f"triage, seed {first + number}: {what}{running.given(['', 'trace'])}")
-    tally = judge.tally
+                return f"triage, seed {first + number}: {what}{running.given(['', 'trace'])}"
+    return judge.tally
+
+
+def main():
+    program = os.path.abspath(sys.argv[1])
+    traces = int(sys.argv[2]) if sys.argv[2:] else TRACES
+    first = int(sys.argv[3]) if sys.argv[3:] else 0
+    processors = len(os.sched_getaffinity(0))
+    shares = [range(-len(MADE) + share, traces, processors) for share in range(processors)]
+    tally = collections.Counter()
+    with concurrent.futures.ProcessPoolExecutor(processors) as pool:
+        for told in pool.map(judge_some, [program] * processors, [first] * processors, shares):
+            if isinstance(told, str):
+                sys.exit(told)
+            tally += told
     missing = [kind for kind in REACHED if not tally[kind]]
     if missing:
         sys.exit(f"triage: never reached: {missing}")
@@ -230,4 +244,5 @@ def main():
     print(f"triage: {tally['traces']} traces with {tally['pairs']} pairs, seeds {first} to {first + traces - 1}, are listed as the definitions say ({kinds})")
 
 
-main()
+if __name__ == "__main__":
+    main()
