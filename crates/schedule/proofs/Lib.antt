@@ -14,3 +14,4 @@ pub mod TableLemmas
 pub mod TableReads
 pub mod TestLemmas
 pub mod ThreadLemmas
+pub mod ThreadCounts

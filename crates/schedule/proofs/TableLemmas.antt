@@ -1,15 +1,16 @@
 -- What one event more, or one less, makes of the tables.
-use Rattle.std.proofs.Common.{◌≡◌, ◌≢◌, ℕ, ◌+◌, ◌-◌, ◌<◌, ◌≤◌, ◌==◌, cond, List, [], ◌∷◌, ◌++◌, length, take, get_or, slice_index, slice_index_or, slice_set, replicate, count_by, Option, Some, slice_get, sym, refl, ap, ◌∙◌, subst, arith, inl, inr, get_or-set_same, get_or-set_other}
+use Rattle.std.proofs.Common.{◌≡◌, ◌≢◌, ℕ, ◌+◌, ◌-◌, ◌<◌, ◌≤◌, ◌==◌, cond, List, [], ◌∷◌, ◌++◌, length, take, get_or, slice_index, count_by, Option, Some, None, slice_get, sym, refl, ap, ◌∙◌, subst, arith, inl, inr}
 use Rattle.std.specs.HashMap.{get}
-use Rattle.std.proofs.lemmas.Bool.{cases_eq, cases_lt, eq-eqb, ne_eqb}
-use Rattle.std.proofs.lemmas.List.{length_push, length-replicate, get_or-replicate, get_or_past, get_or-append_right, take_all, take_at, take-append-le, get_or_append_left, get_or_push}
+use Rattle.std.proofs.lemmas.Bool.{cases_eq, eq-eqb, ne_eqb}
+use Rattle.std.proofs.lemmas.List.{length_push, take_at, take-append-le, get_or_append_left, get_or_push}
 use Rattle.std.proofs.lemmas.List.Sums.{count_by-le-length}
 use Rattle.rapid_text.specs.declared.event.Event.{Event}
 use Rattle.trace_rules.specs.Rules.{IsDisciplined}
 use Rattle.event_index.specs.Events.{passes_by, is_of_thread}
 use Rattle.event_index.specs.Tables.{IsTable}
-use Rattle.event_index.proofs.CallerLemmas.{get_or-IsTable, IsTable-from_get_or, IsTable-push, IsTable-like}
+use Rattle.event_index.proofs.CallerLemmas.{get_or-IsTable, IsTable-from_get_or, IsTable-nil, IsTable-push, IsTable-like}
 use Rattle.schedule.specs.Reordering.{IsCorrectReordering, IsEnabled}
+use Rattle.schedule.specs.Counts.{count_in, AreByThread}
 use Rattle.schedule.specs.Keys.{key_eq}
 use Rattle.schedule.specs.Tables.{AreTables, latest_of, last_set, shadow_of, shadow_at, shadow_of_op, event_of, depth_of, stepped, stepped_back, sets, frees}
 use Rattle.schedule.specs.declared.latest.Key.{Key}
@@ -18,6 +19,7 @@ use Rattle.schedule.specs.declared.tables.Tables.{Tables}
 use Rattle.schedule.proofs.DepthLemmas.{frees_within}
 use Rattle.schedule.proofs.LatestLemmas.{latest_of-push, latest_of-back, shadow_at-op, shadow_of_op-own, event_of-latest, depth-within}
 use Rattle.schedule.proofs.LockLemmas.{counts_push}
+use Rattle.schedule.proofs.ThreadCounts.{AreByThread-nil}
 
 -- a table without its last place
 IsTable-pop : {X : Type 0} (f : ℕ → X) (n : ℕ) (xs ys : List X) (x : X) → IsTable f (n + 1) xs → xs ≡ ys ++ x ∷ [] → IsTable f n ys × (x ≡ f n)
@@ -59,57 +61,58 @@ module _ (T : List Event) (P : List ℕ) (e : ℕ) (v : Event) (found : slice_ge
       ∙ ap (λ b. count_of T P t + cond b 1 0) (ap (passes_by (λ w. w.thread == t)) found ∙ ne_eqb v.thread t (λ h. other (sym h)))
       ∙ omega arith
 
-  counts-push : (xs ys : List ℕ) → v.thread < length ys → ((t : ℕ) → slice_index_or ys t 0 ≡ slice_index_or xs t 0) → ((t : ℕ) → slice_index_or xs t 0 ≡ count_of T P t) → (t : ℕ) → slice_index_or (slice_set ys v.thread (slice_index_or ys v.thread 0 + 1)) t 0 ≡ count_of T (P ++ e ∷ []) t
-  counts-push xs ys lt same table t =
-      elim (cases_eq t v.thread) [
+  counts-push :
+      (before after : ℕ → ℕ) → ((t : ℕ) → before t ≡ count_of T P t)
+      → ((t : ℕ) → after t ≡ cond (v.thread == t) (before v.thread + 1) (before t))
+      → (t : ℕ) → after t ≡ count_of T (P ++ e ∷ []) t
+  counts-push before after table more t =
+      elim (cases_eq v.thread t) [
         | inl mine ↦
-            ap (λ u. slice_index_or (slice_set ys v.thread (slice_index_or ys v.thread 0 + 1)) u 0) mine
-            ∙ get_or-set_same ys v.thread (slice_index_or ys v.thread 0 + 1) 0 lt
-            ∙ ap (λ n. n + 1) (same v.thread ∙ table v.thread)
+            more t
+            ∙ ap (λ b. cond b (before v.thread + 1) (before t)) (eq-eqb v.thread t mine)
+            ∙ ap (λ n. n + 1) (table v.thread)
             ∙ sym own_count
-            ∙ ap (count_of T (P ++ e ∷ [])) (sym mine)
+            ∙ ap (count_of T (P ++ e ∷ [])) mine
         | inr other ↦
-            get_or-set_other ys v.thread t (slice_index_or ys v.thread 0 + 1) 0 other ∙ same t ∙ table t ∙ sym (other_count t other)
+            more t
+            ∙ ap (λ b. cond b (before v.thread + 1) (before t)) (ne_eqb v.thread t other)
+            ∙ table t
+            ∙ sym (other_count t (λ h. other (sym h)))
       ]
 
-  -- a count that is taken back was there
-  pub counted : (s : Tables) → AreTables T (P ++ e ∷ []) s → 1 ≤ slice_index_or s.counts.items v.thread 0
-  counted s tables = omega (arith, tables.counts v.thread, own_count)
-
-  pub counted_there : (s : Tables) → AreTables T (P ++ e ∷ []) s → v.thread < length s.counts.items
-  counted_there s tables =
-      let one = counted s tables in
-      elim (cases_lt v.thread (length s.counts.items)) [
-        | inl lt ↦ lt
-        | inr past ↦ absurd (omega (arith, one, get_or_past s.counts.items v.thread 0 past))
-      ]
-
-  counts-pop : (s : Tables) → AreTables T (P ++ e ∷ []) s → (t : ℕ) → slice_index_or (slice_set s.counts.items v.thread (slice_index_or s.counts.items v.thread 0 - 1)) t 0 ≡ count_of T P t
-  counts-pop s tables t =
-      let xs : List ℕ = s.counts.items in
-      elim (cases_eq t v.thread) [
+  counts-pop :
+      (before after : ℕ → ℕ) → ((t : ℕ) → before t ≡ count_of T (P ++ e ∷ []) t)
+      → ((t : ℕ) → after t ≡ cond (v.thread == t) (before v.thread - 1) (before t))
+      → (t : ℕ) → after t ≡ count_of T P t
+  counts-pop before after table fewer t =
+      elim (cases_eq v.thread t) [
         | inl mine ↦
-            let less : slice_index_or xs v.thread 0 - 1 ≡ count_of T P v.thread = omega (arith, tables.counts v.thread, own_count) in
-            ap (λ u. slice_index_or (slice_set xs v.thread (slice_index_or xs v.thread 0 - 1)) u 0) mine
-            ∙ get_or-set_same xs v.thread (slice_index_or xs v.thread 0 - 1) 0 (counted_there s tables)
+            let less : before v.thread - 1 ≡ count_of T P v.thread = omega (arith, table v.thread, own_count) in
+            fewer t
+            ∙ ap (λ b. cond b (before v.thread - 1) (before t)) (eq-eqb v.thread t mine)
             ∙ less
-            ∙ ap (count_of T P) (sym mine)
+            ∙ ap (count_of T P) mine
         | inr other ↦
-            get_or-set_other xs v.thread t (slice_index_or xs v.thread 0 - 1) 0 other ∙ tables.counts t ∙ other_count t other
+            fewer t
+            ∙ ap (λ b. cond b (before v.thread - 1) (before t)) (ne_eqb v.thread t other)
+            ∙ table t
+            ∙ other_count t (λ h. other (sym h))
       ]
 
   module _ (d : IsDisciplined T) (is : IsCorrectReordering T P) (s after : Tables) where
     -- the tables of a list with one event more
     pub AreTables-push :
         AreTables T P s
-        → (ys : List ℕ) → v.thread < length ys → ((t : ℕ) → slice_index_or ys t 0 ≡ slice_index_or s.counts.items t 0)
-        → after.counts.items ≡ slice_set ys v.thread (slice_index_or ys v.thread 0 + 1)
+        → AreByThread after.counts.items
+        → (room : ℕ → ℕ) → ((t : ℕ) → room t ≡ count_in s.counts.items t)
+        → ((t : ℕ) → count_in after.counts.items t ≡ cond (v.thread == t) (room v.thread + 1) (room t))
         → ((q : Key) → get key_eq after.latest q ≡ stepped v.op e q (get key_eq s.latest q))
         → (shadow : Option ℕ) → shadow ≡ shadow_of_op (λ q. event_of (get key_eq s.latest q)) v.op
         → after.shadows.items ≡ s.shadows.items ++ shadow ∷ []
         → AreTables T (P ++ e ∷ []) after
-    AreTables-push tables ys lt same counts latest shadow is_last shadows = record {
-      counts = λ t. ap (λ l. slice_index_or l t 0) counts ∙ counts-push s.counts.items ys lt same tables.counts t;
+    AreTables-push tables order room same counts latest shadow is_last shadows = record {
+      order = order;
+      counts = counts-push room (count_in after.counts.items) (λ t. same t ∙ tables.counts t) counts;
       latest = λ q.
           latest q
           ∙ ap (stepped v.op e q) (tables.latest q)
@@ -132,18 +135,20 @@ module _ (T : List Event) (P : List ℕ) (e : ℕ) (v : Event) (found : slice_ge
     pub AreTables-pop :
         IsEnabled T P e
         → AreTables T (P ++ e ∷ []) s
-        → after.counts.items ≡ slice_set s.counts.items v.thread (slice_index_or s.counts.items v.thread 0 - 1)
+        → AreByThread after.counts.items
+        → ((t : ℕ) → count_in after.counts.items t ≡ cond (v.thread == t) (count_in s.counts.items v.thread - 1) (count_in s.counts.items t))
         → (shadow : Option ℕ)
         → ((q : Key) → get key_eq after.latest q ≡ stepped_back v.op shadow q (get key_eq s.latest q))
         → s.shadows.items ≡ after.shadows.items ++ shadow ∷ []
         → AreTables T P after
-    AreTables-pop more tables counts shadow latest shadows =
+    AreTables-pop more tables order counts shadow latest shadows =
         let long : IsTable (shadow_of T (P ++ e ∷ [])) (length P + 1) s.shadows.items =
         subst (λ (n : ℕ). IsTable (shadow_of T (P ++ e ∷ [])) n s.shadows.items) (length_push P e) tables.shadows in
         let popped = IsTable-pop (shadow_of T (P ++ e ∷ [])) (length P) s.shadows.items after.shadows.items shadow long shadows in
         let hidden : shadow ≡ shadow_at T P e = popped.1 ∙ shadow_of-last T P e in
         record {
-          counts = λ t. ap (λ l. slice_index_or l t 0) counts ∙ counts-pop s tables t;
+          order = order;
+          counts = counts-pop (count_in s.counts.items) (count_in after.counts.items) tables.counts counts;
           latest = λ q.
               latest q
               ∙ ap (stepped_back v.op shadow q) (tables.latest q)
@@ -152,30 +157,20 @@ module _ (T : List Event) (P : List ℕ) (e : ℕ) (v : Event) (found : slice_ge
           shadows = IsTable-like (shadow_of T (P ++ e ∷ [])) (shadow_of T P) (length P) after.shadows.items popped.0 (λ i within. shadow_of-earlier T P e i within);
         }
 
+-- the tables of the empty list
+pub AreTables-nil : (T : List Event) (s : Tables) → s.counts.items ≡ [] → ((q : Key) → get key_eq s.latest q ≡ None) → s.shadows.items ≡ [] → AreTables T [] s
+AreTables-nil T s counts latest shadows = record {
+  order = subst AreByThread (sym counts) AreByThread-nil;
+  counts = λ t. ap (λ l. count_in l t) counts;
+  latest = latest;
+  shadows = subst (IsTable (shadow_of T []) 0) (sym shadows) (IsTable-nil (shadow_of T []));
+}
+
 -- the numbers in the tables are small
 pub depth_of-small : (T : List Event) (P : List ℕ) (s : Tables) (n : ℕ) → length P ≤ n → AreTables T P s → (q : Key) → depth_of (get key_eq s.latest q) ≤ n
 depth_of-small T P s n few tables q =
     omega (arith, few, ap depth_of (tables.latest q), depth-within T P q)
 
-pub count_of-small : (T : List Event) (P : List ℕ) (s : Tables) (n t : ℕ) → length P ≤ n → AreTables T P s → slice_index_or s.counts.items t 0 ≤ n
+pub count_of-small : (T : List Event) (P : List ℕ) (s : Tables) (n t : ℕ) → length P ≤ n → AreTables T P s → count_in s.counts.items t ≤ n
 count_of-small T P s n t few tables =
     omega (arith, few, tables.counts t, count_by-le-length (is_of_thread T t) P)
-
--- room for more counts changes none
-zeros : (k i d : ℕ) → slice_index_or (replicate k d) i d ≡ d
-zeros k i d =
-    elim (cases_lt i k) [
-      | inl lt ↦ get_or-replicate k i d d lt
-      | inr past ↦ get_or_past (replicate k d) i d (omega (arith, past, length-replicate k d))
-    ]
-
-pub count_in_room : (xs : List ℕ) (n k t : ℕ) → length xs ≤ n → slice_index_or (take n xs ++ replicate k 0) t 0 ≡ slice_index_or xs t 0
-count_in_room xs n k t le =
-    ap (λ l. slice_index_or (l ++ replicate k 0) t 0) (take_all n xs le)
-    ∙ elim (cases_lt t (length xs)) [
-      | inl lt ↦ get_or_append_left xs (replicate k 0) 0 t lt
-      | inr past ↦
-          get_or-append_right xs (replicate k 0) (length xs) t 0 refl past
-          ∙ zeros k (t - length xs) 0
-          ∙ sym (get_or_past xs t 0 past)
-    ]

@@ -1,3 +1,4 @@
+pub mod Counts
 pub mod Faults
 pub mod Keys
 pub mod Locks

@@ -1,6 +1,7 @@
 //! One correct reordering of a trace, which grows event by event.
 #![tactic(auto)]
 
+mod counts;
 mod latest;
 mod reads;
 mod refusal;

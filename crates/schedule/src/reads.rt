@@ -7,8 +7,9 @@ ghost use Rattle.schedule.specs.Reordering.{IsCorrectReordering};
 ghost use Rattle.schedule.specs.Tables.{AreTables};
 ghost use Rattle.trace_rules.specs.Rules.{IsDisciplined};
 
+use crate::counts::count_at;
 use crate::latest::{Key, latest_event};
-use crate::tables::{Tables, count_at};
+use crate::tables::Tables;
 use event_index::Indexed;
 
 /// Whether the event is in the list.

@@ -12,11 +12,12 @@ ghost use Rattle.schedule.specs.Swaps.{exchanged, swap_refusal, MayExchange};
 ghost use Rattle.schedule.specs.declared.refusal.PrefixRefusal.TheVariants.{TooShort};
 ghost use Rattle.schedule.specs.declared.refusal.SwapRefusal.TheVariants.{NoSuchPair};
 
+use crate::counts::count_at;
 use crate::refusal::{Disabled, ExtendRefusal, ListRefusal, PrefixRefusal, SwapRefusal};
 use crate::refusing::refusal_of;
 use crate::showing::is_ready;
 use crate::swapping::swap_refusal;
-use crate::tables::{Tables, count_at, forget, no_tables, note, tables_of};
+use crate::tables::{Tables, forget, note, tables_of, tables_with_room, trim};
 use event_index::Indexed;
 use rapid_text::OutOfMemory;
 use std::alloc::Global;
@@ -70,13 +71,27 @@ impl Schedule {
         ensures trace { IfOk result (λ s. s.trace ≡ indexed.now) }
         ensures events { IfOk result (λ s. s.events ≡ []) }
     {
+        Schedule::with_room(alloc, indexed, 0)
+    }
+
+    /// The schedule with no events, where this many fit in before its list needs memory again.
+    fn with_room(alloc: Global, indexed: &Indexed, len: usize) -> Result<Schedule, OutOfMemory>
+        ensures trace { IfOk result (λ s. s.trace ≡ indexed.now) }
+        ensures events { IfOk result (λ s. s.events ≡ []) }
+    {
         let _len = indexed.len();
-        let Ok(tables) = Box::new(alloc, no_tables(alloc, indexed)) else {
+        let Ok(events) = Vec::with_capacity(alloc, len) else {
+            return Err(OutOfMemory);
+        };
+        let Ok(tables) = tables_with_room(alloc, indexed, len) else {
+            return Err(OutOfMemory);
+        };
+        let Ok(tables) = Box::new(alloc, tables) else {
             return Err(OutOfMemory);
         };
         Ok(Schedule {
             trace: Snapshot::of(indexed),
-            events: Vec::new(alloc),
+            events,
             tables,
         })
     }
@@ -94,7 +109,9 @@ impl Schedule {
         ensures reordering { OnOk result (IsCorrectReordering indexed.now.events events.now) }
         ensures refused { IfErr result (IsListRefusal indexed.now.events events.now) }
     {
-        let Ok(mut schedule) = Schedule::empty(alloc, indexed) else {
+        // A correct reordering has at most the events of the trace.
+        let most = events.len().min(indexed.len() as usize);
+        let Ok(mut schedule) = Schedule::with_room(alloc, indexed, most) else {
             return Err(ListRefusal::OutOfMemory);
         };
         for event in events {
@@ -107,6 +124,7 @@ impl Schedule {
                 Err(ExtendRefusal::OutOfMemory) => return Err(ListRefusal::OutOfMemory),
             }
         }
+        trim(&mut schedule.tables);
         Ok(schedule)
     }
 

@@ -2,6 +2,7 @@ use Rattle.std.proofs.Common.{◌≡◌, ◌≤◌, ◌++◌, ◌∷◌, [], ◌
 use Rattle.std.proofs.lemmas.List.{length_push, take_at}
 use Rattle.event_index.specs.Tables.{IsTable}
 use Rattle.rapid_text.specs.Limits.{event_limit}
+use Rattle.schedule.specs.Counts.{count_in}
 use Rattle.schedule.specs.Reordering.{IsCorrectReordering}
 use Rattle.schedule.specs.Tables.{shadow_of}
 use Rattle.schedule.proofs.CallerLemmas.{IsCorrectReordering-length}
@@ -33,7 +34,7 @@ returns-clause-ok c =
     let v = c.event-found.result in
     let is : IsCorrectReordering T P = front_is T P (c.args.event ∷ []) c.requires.enabled in
     AreTables-push T P c.args.event v c.event-found.ensures.found c.event-found.ensures.disciplined is c.args.tables.now _ c.requires.tables
-    c.make_room.new.counts.items (search rules) c.make_room.ensures.same c.count_up.ensures c.in-Ok-step.ensures.ok c.shadow_of-shadow.result c.shadow_of-shadow.ensures (search rules)
+    c.count_up.ensures.order (count_in c.make_room.new.counts.items) c.make_room.ensures.same c.count_up.ensures.count c.in-Ok-step.ensures.ok c.shadow_of-shadow.result c.shadow_of-shadow.ensures (search rules)
 
 pub returns-in_default-step-clause-err : goal.returns-in_default-step-clause-err
 returns-in_default-step-clause-err c =
@@ -47,6 +48,7 @@ returns-in_default-step-clause-err c =
     let same : c.pop.new.self.items ≡ S =
     popped ∙ ap (λ n. take n c.push.new.self.items) short ∙ ap (take (length S)) pushed ∙ take_at S (c.shadow_of-shadow.result ∷ []) (length S) refl in
     record {
+      order = c.make_room.ensures.order;
       counts = λ t. c.make_room.ensures.same t ∙ tables.counts t;
       latest = λ q. c.in_default-step.ensures.err q ∙ tables.latest q;
       shadows = subst (IsTable (shadow_of T P) (length P)) (sym same) tables.shadows;

@@ -3,6 +3,7 @@ use Rattle.std.proofs.lemmas.List.{take_all}
 use Rattle.schedule.specs.Faults.{IsFirstFault, refusal_at}
 use Rattle.schedule.specs.Refusals.{refusal_of}
 use Rattle.schedule.specs.Reordering.{IsCorrectReordering}
+use Rattle.schedule.specs.Tables.{AreTables}
 use Rattle.schedule.proofs.FaultLemmas.{IsFirstFault-refused}
 use Rattle.schedule.proofs.schedule.Schedule.from_list.Goals as goal
 
@@ -30,3 +31,14 @@ returns-clause-reordering c =
     let P = c.args.events.now in
     let all : take c.loop-event.event-index P ≡ P = take_all c.loop-event.event-index P (search (rules, arith)) in
     subst (IsCorrectReordering T) all c.loop-event.invariant.2
+
+pub invariant_of-schedule : goal.invariant_of-schedule
+invariant_of-schedule c =
+    let T = c.schedule-2.inside.trace.value.events in
+    let P = c.schedule-2.inside.events.items in
+    let same : c.deref_mut.result.now ≡ c.schedule-2.inside.tables.value = search rules in (
+      c.schedule-2.invariant.0,
+      c.schedule-2.invariant.1,
+      c.schedule-2.invariant.2,
+      c.trim.ensures T P (subst (AreTables T P) (sym same) c.schedule-2.invariant.3),
+    )
