@@ -2,32 +2,29 @@
 use Rattle.std.proofs.Common.{◌≡◌, ◌≢◌, ℕ, ◌<◌, ◌≤◌, ◌⊎◌, ◌||◌, Bool, true, false, eqb, List, [], ◌∷◌, ◌++◌, length, take, get_or, set, Contains, Option, Some, sym, refl, ap, ◌∙◌, arith, inl, inr, get_or-set_other}
 use Rattle.std.specs.List.{list_any}
 use Rattle.std.proofs.Math.Bool.{or-false}
-use Rattle.std.proofs.lemmas.Bool.{cases_eq, cases_lt, eqb-true, ne_eqb, true≢false}
+use Rattle.std.proofs.lemmas.Bool.{cases_eq, eqb-true, ne_eqb, true≢false}
 use Rattle.std.proofs.lemmas.Bool.Decides.{Decides-eqb}
 use Rattle.std.proofs.lemmas.Grind.{get_or-set_at}
-use Rattle.std.proofs.lemmas.List.{get_or_default, take_all, take_at, take-take, get_or-take, length-set}
-use Rattle.std.proofs.lemmas.List.Elements.{Contains-append_right, Contains-append_cases, Contains-get_or}
+use Rattle.std.proofs.lemmas.List.{get_or_default, take_all, take_at, take-take, get_or-take, length-take, length-set}
+use Rattle.std.proofs.lemmas.List.Elements.{Contains-push, Contains-push_cases, Contains-get_or}
 use Rattle.std.proofs.lemmas.List.Folds.{Any-from_list_any, list_any-append}
 use Rattle.std.proofs.lemmas.List.Quantifiers.{all_pairs_push}
 use Rattle.std.proofs.lemmas.Map.Made.{IsDistinct-from_AllPairs}
 use Rattle.std.proofs.lemmas.Map.Steps.{length-le_from_distinct_below}
 use Rattle.schedule.specs.Refusals.{is_in}
 use Rattle.schedule.specs.Reordering.{IsPrefix}
-use Rattle.schedule.proofs.CallerLemmas.{Contains-here, is_in-member}
+use Rattle.schedule.proofs.CallerLemmas.{is_in-member}
 use Rattle.witness_search.specs.Searches.{is_marked, AreFound, Adds}
-use Rattle.witness_search.proofs.RisingLemmas.{member_cases, no_member}
-
--- what is in a beginning of a list is in the list, at its place
-pub Contains-prefix : (xs ys : List ℕ) → IsPrefix xs ys → (e : ℕ) → Contains xs e → Contains ys e
-Contains-prefix xs ys begins e (k, lt, at) =
-    let same : get_or ys k e ≡ get_or xs k e = sym (get_or-take (length xs) ys k e lt) ∙ ap (λ zs. get_or zs k e) begins in
-    elim (cases_lt k (length ys)) [
-      | inl within ↦ (k, within, same ∙ at)
-      | inr past ↦ absurd (omega (arith, ap length (sym (take_all (length xs) ys (omega (arith, lt, past))) ∙ begins)))
-    ]
 
 pub get_or-prefix : (xs ys : List ℕ) → IsPrefix xs ys → (k d : ℕ) → k < length xs → get_or ys k d ≡ get_or xs k d
 get_or-prefix xs ys begins k d lt = sym (get_or-take (length xs) ys k d lt) ∙ ap (λ zs. get_or zs k d) begins
+
+IsPrefix-le : (xs ys : List ℕ) → IsPrefix xs ys → length xs ≤ length ys
+IsPrefix-le xs ys is = omega (arith, ap length is, length-take (length xs) ys)
+
+-- what is in a beginning of a list is in the list, at its place
+pub Contains-prefix : (xs ys : List ℕ) → IsPrefix xs ys → (e : ℕ) → Contains xs e → Contains ys e
+Contains-prefix xs ys begins e (k, lt, at) = (k, omega (arith, lt, IsPrefix-le xs ys begins), get_or-prefix xs ys begins k e lt ∙ at)
 
 pub IsPrefix-self : (xs : List ℕ) → IsPrefix xs xs
 IsPrefix-self xs = take_all (length xs) xs (omega arith)
@@ -35,22 +32,12 @@ IsPrefix-self xs = take_all (length xs) xs (omega arith)
 pub IsPrefix-push : (xs : List ℕ) (e : ℕ) → IsPrefix xs (xs ++ e ∷ [])
 IsPrefix-push xs e = take_at xs (e ∷ []) (length xs) refl
 
-IsPrefix-le : (xs ys : List ℕ) → IsPrefix xs ys → length xs ≤ length ys
-IsPrefix-le xs ys is =
-    elim (cases_lt (length ys) (length xs)) [
-      | inl longer ↦ omega (arith, ap length (sym (take_all (length xs) ys (omega arith)) ∙ is))
-      | inr fits ↦ fits
-    ]
-
 pub IsPrefix-trans : (xs ys zs : List ℕ) → IsPrefix xs ys → IsPrefix ys zs → IsPrefix xs zs
 IsPrefix-trans xs ys zs first second = sym (take-take (length xs) (length ys) zs (IsPrefix-le xs ys first)) ∙ ap (take (length xs)) second ∙ first
 
 -- nothing is added where all of it is there
 pub Adds-none : (Q : ℕ → Type 0) (xs : List ℕ) → ((e : ℕ) → Q e → Contains xs e) → Adds Q xs xs
 Adds-none Q xs all = record { begins = IsPrefix-self xs; has = all; only = λ e m. inl m }
-
-pub last_is : (n e : ℕ) → Contains (n ∷ []) e → n ≡ e
-last_is n e m = elim (member_cases n [] e m) [ inl is ↦ is | inr none ↦ absurd (no_member e none) ]
 
 -- and then more
 pub Adds-then : (Q R : ℕ → Type 0) (xs ys zs : List ℕ) → Adds Q xs ys → Adds R ys zs → Adds (λ e. Q e ⊎ R e) xs zs
@@ -76,13 +63,13 @@ AreFound-push P marks x found lt fresh = record {
   marked = λ e. elim (cases_eq e x) [
     | inl same ↦
         get_or-set_at marks x e true false same lt
-        ∙ sym (is_in-member (P ++ x ∷ []) e (Contains-append_right P (x ∷ []) e (Contains-here x e [] (sym same))))
+        ∙ sym (is_in-member (P ++ x ∷ []) e (rw same (Contains-push P x)))
     | inr other ↦
         get_or-set_other marks x e true false other ∙ found.marked e ∙ sym (is_in-push_other P x e (λ is. other (sym is)))
   ];
-  within = λ e m. elim (Contains-append_cases P (x ∷ []) e m) [
+  within = λ e m. elim (Contains-push_cases P x e m) [
     | inl earlier ↦ omega (arith, found.within e earlier, length-set marks x true)
-    | inr last ↦ omega (arith, last_is x e last, lt, length-set marks x true)
+    | inr last ↦ omega (arith, last, lt, length-set marks x true)
   ];
   distinct = all_pairs_push (λ a b. a ≢ b) P x found.distinct (λ k d low same.
       let within : Contains P x = rw (← same) (Contains-get_or P k d low) in
@@ -97,5 +84,5 @@ AreFound-length P marks found =
     found.within q (k, lt, get_or_default P k q x lt ∙ at ∙ sym (eqb-true q x same)))
 
 -- what is added, under another name
-pub Adds-same : (o p : Option ℕ) (xs ys : List ℕ) → p ≡ o → Adds (λ e. p ≡ Some e) xs ys → Adds (λ e. o ≡ Some e) xs ys
-Adds-same o p xs ys same adds = rw (← same) adds
+pub Adds-same : {o p : Option ℕ} {xs ys : List ℕ} → p ≡ o → Adds (λ e. p ≡ Some e) xs ys → Adds (λ e. o ≡ Some e) xs ys
+Adds-same same adds = rw (← same) adds

@@ -2,7 +2,7 @@
 -- the last of these.
 use Rattle.std.proofs.Common.{◌≡◌, ℕ, zero, suc, ◌+◌, ◌<◌, ◌≤◌, Bool, true, false, cond, List, [], ◌∷◌, ◌++◌, length, take, reverse, get_or, find, count_by, Contains, Some, slice_get, sym, refl, ap, ◌∙◌, subst, arith, add-one, append-nil, inl, inr}
 use Rattle.std.specs.List.{AllPairs}
-use Rattle.std.proofs.lemmas.Bool.{cases_Bool, cond-true, cond-false, true≢false}
+use Rattle.std.proofs.lemmas.Bool.{cases_Bool, true≢false}
 use Rattle.std.proofs.lemmas.List.FromFn.{length-range_with_len, get_or-range_with_len}
 use Rattle.std.proofs.lemmas.List.Elements.{filter_passes}
 use Rattle.std.proofs.lemmas.List.Sums.{sum_by_push}
@@ -22,17 +22,19 @@ kept_yes test n so = filter_more_before test n ∙ ap (λ b. kept test n ++ cond
 pub kept_no : (test : ℕ → Bool) (n : ℕ) → test n ≡ false → kept test (n + 1) ≡ kept test n
 kept_no test n fails = filter_more_before test n ∙ ap (λ b. kept test n ++ cond b (n ∷ []) []) fails ∙ append-nil (kept test n)
 
--- each number below n is one of the first n
+-- the first n numbers are those below n, and rise
 before_has : (n d : ℕ) → d < n → Contains (before n) d
-before_has n d lt =
-    let long : length (before n) ≡ n = length-range_with_len 0 n in
-    (d, omega arith, get_or-range_with_len 0 n d d lt ∙ omega arith)
+before_has n d lt = (d, omega (arith, length-range_with_len 0 n), get_or-range_with_len 0 n d d lt ∙ omega arith)
 
 before_below : (n d : ℕ) → Contains (before n) d → d < n
 before_below n d (k, lt, at) =
-    let long : length (before n) ≡ n = length-range_with_len 0 n in
-    let here = get_or-range_with_len 0 n k d (omega arith) in
-    omega (arith, here, at)
+    let low : k < n = omega (arith, length-range_with_len 0 n) in
+    omega (arith, get_or-range_with_len 0 n k d low)
+
+before-rises : (n : ℕ) → AllPairs (λ x y. x < y) (before n)
+before-rises n i j d ij jn =
+    let low : j < n = omega (arith, length-range_with_len 0 n) in
+    omega (arith, get_or-range_with_len 0 n i d (omega arith), get_or-range_with_len 0 n j d low)
 
 -- the members are those that pass
 pub kept_member : (test : ℕ → Bool) (n d : ℕ) → d < n → test d ≡ true → Contains (kept test n) d
@@ -43,13 +45,6 @@ kept_below test n d within = before_below n d (Contains-from_filter test (before
 
 pub kept_passes : (test : ℕ → Bool) (n d : ℕ) → Contains (kept test n) d → test d ≡ true
 kept_passes test n d (k, lt, at) = rw (← at) (filter_passes test (before n) k d lt)
-
-before-rises : (n : ℕ) → AllPairs (λ x y. x < y) (before n)
-before-rises n i j d ij jn =
-    let long = length-range_with_len 0 n in
-    let ei = get_or-range_with_len 0 n i d (omega arith) in
-    let ej = get_or-range_with_len 0 n j d (omega arith) in
-    omega (arith, ei, ej)
 
 -- they rise
 pub kept-rises : (test : ℕ → Bool) (n : ℕ) → AllPairs (λ x y. x < y) (kept test n)
@@ -83,9 +78,7 @@ count_by-kept p test (suc n) all =
       | inl so ↦ more_kept p test n so ∙ ap (λ k. k + cond (p n) 1 0) rest ∙ sym (more p n)
       | inr fails ↦ elim (cases_Bool (p n)) [
         | inl passes ↦ absurd (true≢false (sym (all n (omega arith) passes) ∙ fails))
-        | inr not_either ↦
-            let none : ◌≡◌ {A = ℕ} (cond (p n) 1 0) 0 = ap (λ (b : Bool). cond b 1 0) not_either in
-            ap (count_by p) (kept_no test n fails) ∙ rest ∙ omega (arith, more p n, none)
+        | inr not_either ↦ rw (kept_no test n fails, more p n, not_either) (omega (arith, rest))
       ]
     ])
 
@@ -96,26 +89,24 @@ find_last-kept p test (suc n) passes =
     let now : (w : ℕ) → find p (reverse (before (n + 1))) ≡ Some w → test w ≡ true = rw add-one passes in
     subst (λ (k : ℕ). find p (reverse (kept test k)) ≡ find p (reverse (before k))) (add-one n)
     (elim (cases_Bool (p n)) [
-      | inl last ↦
-          ap (λ xs. find p (reverse xs)) (kept_yes test n (now n (find_last_yes p n last))) ∙ find-reverse_push p (kept test n) n
-          ∙ cond-true (p n) (Some n) (find p (reverse (kept test n))) last ∙ sym (find_last_yes p n last)
+      | inl last ↦ rw (kept_yes test n (now n (find_last_yes p n last)), find-reverse_push p (kept test n) n, last, find_last_yes p n last) refl
       | inr other ↦
-          let rest : find p (reverse (kept test n)) ≡ find p (reverse (before n)) =
-          find_last-kept p test n (λ w is. now w (find_last_no p n other ∙ is)) in
+          let rest = find_last-kept p test n (λ w is. now w (find_last_no p n other ∙ is)) in
           elim (cases_Bool (test n)) [
-            | inl so ↦
-                ap (λ xs. find p (reverse xs)) (kept_yes test n so) ∙ find-reverse_push p (kept test n) n
-                ∙ cond-false (p n) (Some n) (find p (reverse (kept test n))) other ∙ rest ∙ sym (find_last_no p n other)
-            | inr fails ↦ ap (λ xs. find p (reverse xs)) (kept_no test n fails) ∙ rest ∙ sym (find_last_no p n other)
+            | inl so ↦ rw (kept_yes test n so, find-reverse_push p (kept test n) n, other, find_last_no p n other) rest
+            | inr fails ↦ rw (kept_no test n fails, find_last_no p n other) rest
           ]
     ])
+
+-- an event of the trace
+pub event_there : (T : List Event) (e : ℕ) → e < length T → (v : Event) × (slice_get T e ≡ Some v)
+event_there T e within = (get_or T e (record { thread = 0; op = Read 0 }), slice_get-get_or T e _ within)
 
 -- counting the first numbers is counting the first events
 pub count_by-before : (T : List Event) (test : Event → Bool) (n : ℕ) → n ≤ length T → count_by (passes_at test T) (before n) ≡ count_by test (take n T)
 count_by-before T test zero fits = refl
 count_by-before T test (suc n) fits =
-    let v : Event = get_or T n (record { thread = 0; op = Read 0 }) in
-    let at : slice_get T n ≡ Some v = slice_get-get_or T n _ (omega arith) in
+    let (v, at) = event_there T n (omega arith) in
     let rest : count_by (passes_at test T) (before n) ≡ count_by test (take n T) = count_by-before T test n (omega arith) in
     subst (λ (k : ℕ). count_by (passes_at test T) (before k) ≡ count_by test (take k T)) (add-one n) (more (passes_at test T) n
     ∙ ap (λ b. count_by (passes_at test T) (before n) + cond b 1 0) (passes_here test T n v at) ∙ ap (λ k. k + cond (test v) 1 0) rest

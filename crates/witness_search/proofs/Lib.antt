@@ -1,7 +1,5 @@
-pub mod AnswerLemmas
 pub mod CallerLemmas
 pub mod ClosedLemmas
-pub mod EndLemmas
 pub mod FoundLemmas
 pub mod KeptLemmas
 pub mod LeastLemmas

@@ -1,33 +1,32 @@
--- A slice is listed event by event.
-use Rattle.std.proofs.Common.{◌≡◌, ℕ, ◌+◌, ◌<◌, List, [], ◌∷◌, ◌++◌, length, get_or, Contains, arith, inl, inr}
+-- A slice is listed event by event. An event is in it where its place is below its thread's end.
+use Rattle.std.proofs.Common.{◌≡◌, ℕ, ◌+◌, ◌<◌, ◌↔◌, List, [], ◌∷◌, ◌++◌, length, get_or, arith, inl, inr}
 use Rattle.std.proofs.lemmas.Bool.{cases_lt}
-use Rattle.std.proofs.lemmas.List.Elements.{Contains-append_left, Contains-append_right, Contains-append_cases, Contains-get_or}
+use Rattle.std.proofs.lemmas.List.Elements.{Contains-append_left, Contains-push, Contains-push_cases, Contains-get_or}
 use Rattle.std.proofs.lemmas.List.Quantifiers.{all_pairs_push}
+use Rattle.rapid_text.specs.Recording.{Recording, IsWellFormed}
 use Rattle.rapid_text.specs.declared.event.Event.{Event}
 use Rattle.trace_rules.specs.Rules.{IsDisciplined}
-use Rattle.schedule.proofs.CallerLemmas.{Contains-here}
-use Rattle.witness_search.specs.Layout.{IsSliceUpTo}
+use Rattle.shb_clocks.proofs.CallerLemmas.{thread_here}
+use Rattle.shb_clocks.proofs.ReadLemmas.{thread_named}
+use Rattle.witness_search.specs.Layout.{IsSliceUpTo, AreEnds, IsWithin}
 use Rattle.witness_search.specs.Slices.{IsBelowPair, IsSlice}
-use Rattle.witness_search.proofs.RisingLemmas.{no_member, member_cases}
+use Rattle.witness_search.proofs.KeptLemmas.{event_there}
 use Rattle.witness_search.proofs.SliceLemmas.{IsBelowPair-within}
 
 module _ (T : List Event) (a b : ℕ) where
-  last_is : (n e : ℕ) → Contains (n ∷ []) e → n ≡ e
-  last_is n e m = elim (member_cases n [] e m) [ inl is ↦ is | inr none ↦ absurd (no_member e none) ]
-
   module _ (n : ℕ) (P : List ℕ) (is : IsSliceUpTo T a b n P) where
     -- an event of the slice is appended
     pub IsSliceUpTo-push : IsBelowPair T a b n → IsSliceUpTo T a b (n + 1) (P ++ n ∷ [])
     IsSliceUpTo-push below = record {
       rising = all_pairs_push (λ x y. x < y) P n is.rising (λ k d low. ((is.members (get_or P k d)).0 (Contains-get_or P k d low)).0);
       members = λ e. (
-        λ m. elim (Contains-append_cases P (n ∷ []) e m) [
+        λ m. elim (Contains-push_cases P n e m) [
           | inl earlier ↦ let h = (is.members e).0 earlier in (omega (arith, h.0), h.1)
-          | inr last ↦ let same = last_is n e last in (omega arith, rw (← same) below)
+          | inr last ↦ (omega arith, rw (← last) below)
         ],
         λ h. elim (cases_lt e n) [
           | inl earlier ↦ Contains-append_left P (n ∷ []) e ((is.members e).1 (earlier, h.1))
-          | inr late ↦ Contains-append_right P (n ∷ []) e (Contains-here n e [] (omega (arith, h.0)))
+          | inr late ↦ let same : e ≡ n = omega (arith, h.0) in rw same (Contains-push P n)
         ],
       );
     }
@@ -40,9 +39,7 @@ module _ (T : List Event) (a b : ℕ) where
         λ m. let h = (is.members e).0 m in (omega (arith, h.0), h.1),
         λ h. elim (cases_lt e n) [
           | inl earlier ↦ (is.members e).1 (earlier, h.1)
-          | inr late ↦
-              let same : e ≡ n = omega (arith, h.0) in
-              absurd (other (rw (← same) h.1))
+          | inr late ↦ let same : e ≡ n = omega (arith, h.0) in absurd (other (rw (← same) h.1))
         ],
       );
     }
@@ -56,3 +53,13 @@ module _ (T : List Event) (a b : ℕ) where
       λ below. (is.members e).1 (omega (arith, IsBelowPair-within T rules a b e below), below),
     );
   }
+
+-- an event is in the slice where its place is below its thread's end
+pub IsWithin-below : (r : Recording) → IsWellFormed r → (a b : ℕ) (ends : List ℕ) → AreEnds r.events a b (length r.threads) ends
+    → (e : ℕ) → e < length r.events → IsWithin r.events ends e ↔ IsBelowPair r.events a b e
+IsWithin-below r well a b ends are e low =
+    let (v, found) = event_there r.events e low in
+    let of = thread_here r.events e v found in (
+      λ within. (are.at within.0 (thread_named r well e within.0 within.1) e within.1).0 within.2,
+      λ below. (v.thread, of, (are.at v.thread (thread_named r well e v.thread of) e of).1 below),
+    )

@@ -33,12 +33,8 @@ inside_rest x y P Q same rising inside e m =
       | inr rest ↦ rest
     ]
 
-first_le : (x y : ℕ) (P Q : List ℕ) → IsRising (y ∷ Q) → Contains (y ∷ Q) x → y ≤ x
-first_le x y P Q rising m =
-    elim (member_cases y Q x m) [
-      | inl is ↦ omega arith
-      | inr rest ↦ omega (arith, below_rest y Q rising x rest)
-    ]
+first_le : (y : ℕ) (Q : List ℕ) → IsRising (y ∷ Q) → (e : ℕ) → Contains (y ∷ Q) e → y ≤ e
+first_le y Q rising e m = elim (member_cases y Q e m) [ inl is ↦ omega arith | inr rest ↦ omega (arith, below_rest y Q rising e rest) ]
 
 -- two rising lists with the same members are one
 pub rising-unique : (P Q : List ℕ) → IsRising P → IsRising Q → ((e : ℕ) → Contains P e → Contains Q e) → ((e : ℕ) → Contains Q e → Contains P e) → P ≡ Q
@@ -46,7 +42,7 @@ rising-unique [] [] rp rq pq qp = refl
 rising-unique [] (y ∷ Q) rp rq pq qp = absurd (no_member y (qp y (Contains-here y y Q refl)))
 rising-unique (x ∷ P) [] rp rq pq qp = absurd (no_member x (pq x (Contains-here x x P refl)))
 rising-unique (x ∷ P) (y ∷ Q) rp rq pq qp =
-    let one : x ≡ y = omega (arith, first_le x y P Q rq (pq x (Contains-here x x P refl)), first_le y x Q P rp (qp y (Contains-here y y Q refl))) in
+    let one : x ≡ y = omega (arith, first_le y Q rq x (pq x (Contains-here x x P refl)), first_le x P rp y (qp y (Contains-here y y Q refl))) in
     ap₂ (λ z R. z ∷ R) one
     (rising-unique P Q (rest_rises x P rp) (rest_rises y Q rq) (inside_rest x y P Q one rp pq) (inside_rest y x Q P (sym one) rq qp))
 

@@ -4,9 +4,8 @@ use Rattle.std.proofs.lemmas.Bool.{cases_order}
 use Rattle.std.proofs.lemmas.List.Elements.{All-contains, Contains-get_or}
 use Rattle.std.proofs.lemmas.Option.{same_Some, slice_get_within}
 use Rattle.rapid_text.specs.declared.event.Event.{Event}
-use Rattle.rapid_text.specs.declared.event.Op.TheVariants.{Fork}
 use Rattle.trace_rules.specs.Rules.{IsDisciplined}
-use Rattle.event_index.specs.Events.{op_at, thread_at, is_of_thread}
+use Rattle.event_index.specs.Events.{is_of_thread}
 use Rattle.event_index.specs.Lookups.{base_of, fork_of}
 use Rattle.event_index.specs.Relations.{IsConflicting}
 use Rattle.event_index.proofs.CallerLemmas.{base_by-some, base_of-earlier, base_of-within, fork_of-op, find_last_is, IsConflicting-sym}
@@ -39,24 +38,6 @@ pub IsBelowPair-within : (T : List Event) → IsDisciplined T → (a b e : ℕ) 
 IsBelowPair-within T rules a b e (inl first) = IsBelowBase-within T rules a e first
 IsBelowPair-within T rules a b e (inr second) = IsBelowBase-within T rules b e second
 
--- an event of a thread, earlier than a, is below the base of a; so is the fork of the thread
-IsBelowBase-thread : (T : List Event) (a : ℕ) (v : Event) → slice_get T a ≡ Some v → (d : ℕ) → d < a → thread_at T d ≡ Some v.thread → IsBelowBase T a d
-IsBelowBase-thread T a v at d early of =
-    let b = base-after T a v at d early of in
-    (b.0, b.1, along_thread T d d b.0 v.thread (same d refl) of b.2 b.3)
-
-IsBelowBase-fork : (T : List Event) → IsDisciplined T → (a : ℕ) (v : Event) → slice_get T a ≡ Some v → (f : ℕ) → fork_of T v.thread ≡ Some f → IsBelowBase T a f
-IsBelowBase-fork T rules a v at f forks =
-    let op : op_at T f ≡ Some (Fork v.thread) = fork_of-op T v.thread f forks in
-    let b = base-after_fork T a v at rules f op in (
-      b.0,
-      b.1,
-      elim b.2 [
-        | inl of ↦ chain f b.0 (same f refl) (by_fork v.thread op of)
-        | inr is ↦ same b.0 is
-      ],
-    )
-
 -- an event is not below its own base
 not_below_own : (T : List Event) → IsDisciplined T → (a e : ℕ) → a ≤ e → IsBelowBase T a e → ⊥
 not_below_own T rules a e le (c, base, before) = omega (arith, base_of-earlier T rules a c base, IsShbBefore-le T rules e c before)
@@ -67,8 +48,13 @@ IsReady-below T rules P a v at has fresh = record {
   thread = v.thread;
   of_thread = thread_here T a v at;
   fresh = fresh;
-  earlier = λ d early of. has d (IsBelowBase-thread T a v at d early of);
-  fork = λ f forks. has f (IsBelowBase-fork T rules a v at f forks);
+  earlier = λ d early of.
+      let (b, base, also, low) = base-after T a v at d early of in
+      has d (b, base, along_thread T d d b v.thread (same d refl) of also low);
+  fork = λ f forks.
+      let op = fork_of-op T v.thread f forks in
+      let (b, base, either) = base-after_fork T a v at rules f op in
+      has f (b, base, elim either [ inl of ↦ chain f b (same f refl) (by_fork v.thread op of) | inr is ↦ same b is ]);
 }
 
 IsBelowPair-sym : (T : List Event) (a b e : ℕ) → IsBelowPair T a b e → IsBelowPair T b a e
@@ -96,12 +82,12 @@ module _ (T : List Event) (P : List ℕ) (is : IsClosed T P) where
   -- what is below the base of a ready event is in the list
   ready_has_base : (a : ℕ) → IsReady T P a → (c : ℕ) → base_of T a ≡ Some c → Contains P c
   ready_has_base a ready c base =
-      let found = base_by-some T a c (slice_get T a) base in
-      let thread : found.0.thread ≡ ready.thread = same_Some found.0.thread ready.thread (sym (thread_here T a found.0 found.1) ∙ ready.of_thread) in
-      elim found.2 [
+      let (v, found, either) = base_by-some T a c (slice_get T a) base in
+      let thread : v.thread ≡ ready.thread = same_Some v.thread ready.thread (sym (thread_here T a v found) ∙ ready.of_thread) in
+      elim either [
         | inl before_it ↦
-            let last = find_last_is (is_of_thread T found.0.thread) a c before_it in
-            ready.earlier c last.0 (is_of_thread-thread T found.0.thread c last.1 ∙ ap Some thread)
+            let last = find_last_is (is_of_thread T v.thread) a c before_it in
+            ready.earlier c last.0 (is_of_thread-thread T v.thread c last.1 ∙ ap Some thread)
         | inr first ↦ ready.fork c (ap (fork_of T) (sym thread) ∙ first.1)
       ]
 
@@ -179,20 +165,18 @@ pub IsSlice-unique : (T : List Event) (a b : ℕ) (P Q : List ℕ) → IsSlice T
 IsSlice-unique T a b P Q is also =
     rising-unique P Q is.rising also.rising (λ e m. (also.members e).1 ((is.members e).0 m)) (λ e m. (is.members e).1 ((also.members e).0 m))
 
+IsConflicting-there : (T : List Event) (a b : ℕ) → IsConflicting T a b → AreThere T a b
+IsConflicting-there T a b f = (slice_get_within T a f.v f.first, slice_get_within T b f.w f.second)
+
 -- a cause other than want of memory tells that nothing shows the pair
 pub IsNeverShown-refused : (T : List Event) (a b : ℕ) (why : SliceRefusal) → IsRefusalOf T a b why → why ≢ OutOfMemory → IsNeverShown T a b
-IsNeverShown-refused T a b NoSuchEvent is other Q closed shows =
-    let f = shows.conflict in
-    is (slice_get_within T a f.v f.first, slice_get_within T b f.w f.second)
+IsNeverShown-refused T a b NoSuchEvent is other Q closed shows = is (IsConflicting-there T a b shows.conflict)
 IsNeverShown-refused T a b NotConflicting is other Q closed shows = is.1 shows.conflict
 IsNeverShown-refused T a b NotCandidate is other Q closed shows = is.1 (IsCandidatePair-shown T Q closed a b shows)
 IsNeverShown-refused T a b OutOfMemory is other Q closed shows = other refl
 
 pub IsLeast-slice : (T : List Event) (a b : ℕ) (P : List ℕ) → IsSlice T a b P → IsLeast T a b P
 IsLeast-slice T a b P is Q closed shows e m = slice-least T Q closed a b e shows ((is.members e).0 m)
-
-IsConflicting-there : (T : List Event) (a b : ℕ) → IsConflicting T a b → AreThere T a b
-IsConflicting-there T a b f = (slice_get_within T a f.v f.first, slice_get_within T b f.w f.second)
 
 IsCandidatePair-conflict : (T : List Event) (a b : ℕ) → IsCandidatePair T a b → IsConflicting T a b
 IsCandidatePair-conflict T a b (inl cand) = cand.conflict

@@ -24,18 +24,16 @@ end_asks : (T : List Event) (e u d : ℕ) → op_at T e ≡ Some (Join u) → (o
     → or_else o (fork_of T u) ≡ Some d → Asks T e d
 end_asks T e u d joins None at is = for_fork u joins is
 end_asks T e u d joins (Some x) at is =
-    let within = slice_get_within (events_of T u) (length (events_of T u) - 1) x at in
-    let here : get_or (events_of T u) (length (events_of T u) - 1) 0 ≡ x = get_or_from_slice_get (events_of T u) (length (events_of T u) - 1) x 0 at in
-    let of : thread_at T (get_or (events_of T u) (length (events_of T u) - 1) 0) ≡ Some u =
-    All-get_or (λ m. thread_at T m ≡ Some u) (events_of T u) (length (events_of T u) - 1) 0 within (events_of-thread T u) in
-    for_thread u joins (rw (← here ∙ same_Some x d is) of)
+    let last = length (events_of T u) - 1 in
+    let here : get_or (events_of T u) last 0 ≡ x = get_or_from_slice_get (events_of T u) last x 0 at in
+    let within = slice_get_within (events_of T u) last x at in
+    for_thread u joins (rw (← here ∙ same_Some x d is) (All-get_or (λ m. thread_at T m ≡ Some u) (events_of T u) last 0 within (events_of-thread T u)))
 
 by_op : (T : List Event) (e d : ℕ) (o : Option Op) → op_at T e ≡ o → partner_by T e o ≡ Some d → Asks T e d
-by_op T e d None at is = absurd (none-some d is)
 by_op T e d (Some (Read x)) at is = for_writer is
 by_op T e d (Some (Acquire l)) at is = for_release is
 by_op T e d (Some (Join u)) at is = end_asks T e u d at (slice_get (events_of T u) (length (events_of T u) - 1)) refl is
-by_op T e d (Some op) at is = absurd (none-some d is)
+by_op T e d o at is = absurd (none-some d is)
 
 -- what is looked for is asked for
 pub Asks-sought : (T : List Event) (e d : ℕ) → IsSought T e d → Asks T e d
@@ -73,10 +71,8 @@ module _ (T : List Event) (rules : IsDisciplined T) (P : List ℕ) (closed : (e 
         | inl same ↦ rw same has
         | inr other ↦
             let v = thread_event T s u of in
-            let found = base-after T s v.0 v.1 m (omega (arith, le, other)) (also ∙ ap Some (sym v.2)) in
-            let c = found.0 in
-            let base : base_of T s ≡ Some c = found.1 in
-            earlier_within n c m u (omega (arith, below, base_of-earlier T rules s c base)) (closed s c has (inl base)) (found.2 ∙ ap Some v.2) also found.3
+            let (c, base, same, low) = base-after T s v.0 v.1 m (omega (arith, le, other)) (also ∙ ap Some (sym v.2)) in
+            earlier_within n c m u (omega (arith, below, base_of-earlier T rules s c base)) (closed s c has (inl base)) (same ∙ ap Some v.2) also low
       ]
 
   -- and the fork of the thread
@@ -84,11 +80,9 @@ module _ (T : List Event) (rules : IsDisciplined T) (P : List ℕ) (closed : (e 
   fork_within zero s f u below has of forks = absurd (omega (arith, below))
   fork_within (suc n) s f u below has of forks =
       let v = thread_event T s u of in
-      let found = base-after_fork T s v.0 v.1 rules f (forks ∙ ap (λ t. Some (Fork t)) (sym v.2)) in
-      let c = found.0 in
-      let base : base_of T s ≡ Some c = found.1 in
-      let there : Contains P c = closed s c has (inl base) in
-      elim found.2 [
+      let (c, base, either) = base-after_fork T s v.0 v.1 rules f (forks ∙ ap (λ t. Some (Fork t)) (sym v.2)) in
+      let there = closed s c has (inl base) in
+      elim either [
         | inl of_thread ↦ fork_within n c f u (omega (arith, below, base_of-earlier T rules s c base)) there (of_thread ∙ ap Some v.2) forks
         | inr is ↦ rw is there
       ]

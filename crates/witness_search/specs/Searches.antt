@@ -73,14 +73,11 @@ lesser None other = other
 lesser (Some x) None = Some x
 lesser (Some x) (Some y) = if nat_lt y x then Some y else Some x
 
--- a step by an event of a thread below n
-pub record IsStepBelow (T : List Event) (a b : ℕ) (marks : List Bool) (P : List ℕ) (n e : ℕ) : Type 0 where
-  pub step : is_step T a b marks P e ≡ true
-  pub thread : ℕ
-  pub of_thread : thread_at T e ≡ Some thread
-  pub below : thread < n
-
 -- a step by an event of the thread
 pub record IsStepOf (T : List Event) (a b : ℕ) (marks : List Bool) (P : List ℕ) (t e : ℕ) : Type 0 where
   pub step : is_step T a b marks P e ≡ true
   pub of_thread : thread_at T e ≡ Some t
+
+-- a step by an event of a thread below n
+abbrev pub IsStepBelow : List Event → ℕ → ℕ → List Bool → List ℕ → ℕ → ℕ → Type 0
+IsStepBelow T a b marks P n e = (t : ℕ) × (t < n) × IsStepOf T a b marks P t e
