@@ -1,15 +1,16 @@
 -- What the rules say of a list of events, for the crates above: a list that keeps them has no first
 -- breach and the other way round; what a first breach says; and who holds a lock.
-use Rattle.std.proofs.Common.{◌≡◌, ◌≢◌, ℕ, zero, suc, ◌+◌, ◌-◌, ◌<◌, ◌≤◌, ◌==◌, Bool, true, false, ◌||◌, cond, List, [], ◌∷◌, ◌++◌, length, take, slice_get, option_and_then, Option, Some, None, refl, sym, ap, ◌∙◌, arith, add-one, lt_irrefl, eq-eqb, ne_eqb, inl, inr}
+use Rattle.std.proofs.Common.{◌≡◌, ◌≢◌, ℕ, zero, suc, ◌+◌, ◌-◌, ◌<◌, ◌≤◌, ◌==◌, Bool, true, false, ◌||◌, cond, List, [], ◌∷◌, ◌++◌, length, take, slice_get, option_and_then, Option, Some, None, refl, sym, ap, ◌∙◌, arith, add-one, eq-eqb, ne_eqb, inl, inr}
 use Rattle.std.specs.List.{list_any}
-use Rattle.std.proofs.lemmas.Bool.{cases_Bool, cases_eq, cases_lt, or_left, or_right, or_from, true≢false, false_from_ne_true, eqb-false}
-use Rattle.std.proofs.lemmas.Option.{none-some, same_Some, slice_get_within}
+use Rattle.std.proofs.lemmas.Bool.{cases_Bool, cases_lt, or_left, or_right, or_from, true≢false, false_from_ne_true, eqb-false}
+use Rattle.std.proofs.lemmas.Option.{none-some, same_Some, slice_get_within, slice_get-get_or}
+use Rattle.std.proofs.lemmas.List.{take_all}
 use Rattle.rapid_text.specs.Operations.{is_acquire, is_release, is_fork, is_join}
 use Rattle.rapid_text.specs.declared.event.Event.{Event}
 use Rattle.rapid_text.specs.declared.event.Op.{Op}
 use Rattle.rapid_text.specs.declared.event.Op.TheVariants.{Read, Write, Acquire, Release, Fork, Join}
 use Rattle.trace_rules.specs.Rules.{IsDisciplined, IsFirstBreach, acquire_count, release_count, hold_count, breach_of_op, breach_of, breach_at, first_breach}
-use Rattle.trace_rules.specs.Tables.{depth_for, IsHoldOf}
+use Rattle.trace_rules.specs.Tables.{IsHoldOf}
 use Rattle.trace_rules.specs.declared.hold.Hold.{Hold}
 use Rattle.trace_rules.specs.declared.refusal.RuleCause.{RuleCause}
 use Rattle.trace_rules.specs.declared.refusal.RuleCause.TheVariants.{ReleaseNotHeld, AcquireHeld, ForkTwice, ForkLate, OwnThread, AfterJoin}
@@ -18,7 +19,7 @@ use Rattle.trace_rules.specs.declared.refusal.RuleRefusal.{RuleRefusal}
 pub use Rattle.rapid_text.proofs.CallerLemmas.{read-from_test, write-from_test, acquire-from_test, release-from_test, fork-from_test, join-from_test}
 use Rattle.trace_rules.proofs.Counts.{is_held_by_another, is_held_by_another-false, hold_count-other}
 use Rattle.trace_rules.proofs.FirstBreach.{HasNoBreach, first_breach-from_first, first_breach-from_none, none-from_first_breach, first-from_first_breach}
-use Rattle.trace_rules.proofs.HoldLemmas.{depth_for-other, hold_count-IsHoldOf, depth-above, IsHoldOf-acquire, IsHoldOf-release, IsHoldOf-last, IsHoldOf-other, IsOpenFor-from_none, owner-from_none}
+use Rattle.trace_rules.proofs.HoldLemmas.{hold_count-IsHoldOf, owner-from_depth, depth-above, IsHoldOf-acquire, IsHoldOf-release, IsHoldOf-last, IsHoldOf-other, IsOpenFor-from_none, owner-from_none}
 use Rattle.trace_rules.proofs.TableLemmas.{take-event, cond-from_none, breach_at-event, breach_of_op-own_fork, breach_of_op-own_join}
 
 module _ (p : Event → Bool) where
@@ -52,66 +53,38 @@ module _ (T : List Event) (none : HasNoBreach T) (j : ℕ) (e : Event) (here : s
   op_breach : (op : Op) → e.op ≡ op → breach_of_op (take j T) e.thread op ≡ None
   op_breach op is = ap (breach_of_op (take j T) e.thread) (sym is) ∙ event_parts.1
 
-  not_own_fork : e.op ≢ Fork e.thread
-  not_own_fork is = absurd (none-some OwnThread (sym (op_breach (Fork e.thread) is) ∙ breach_of_op-own_fork (take j T) e.thread e.thread refl))
-
-  not_own_join : e.op ≢ Join e.thread
-  not_own_join is = absurd (none-some OwnThread (sym (op_breach (Join e.thread) is) ∙ breach_of_op-own_join (take j T) e.thread e.thread refl))
-
-  lock_is_free : (l u : ℕ) → e.op ≡ Acquire l → u ≢ e.thread → hold_count (take j T) u l ≡ 0
-  lock_is_free l u is other =
-      let free = cond-from_none (is_held_by_another (take j T) e.thread l) None AcquireHeld (op_breach (Acquire l) is) in
-      hold_count-other (take j T) e.thread l u free.0 other
-
-  lock_is_held : (l : ℕ) → e.op ≡ Release l → 0 < hold_count (take j T) e.thread l
-  lock_is_held l is =
-      let held = cond-from_none (hold_count (take j T) e.thread l == 0) None ReleaseNotHeld (op_breach (Release l) is) in
-      let above : hold_count (take j T) e.thread l ≢ 0 = eqb-false (hold_count (take j T) e.thread l) 0 held.0 in
-      omega arith
-
-  module _ (i : ℕ) (d : Event) (less : i < j) (there : slice_get T i ≡ Some d) where
-    not_joined : d.op ≢ Join e.thread
-    not_joined is = true≢false (sym (list_any_before (λ d. is_join e.thread d.op) T i j d less there (ap (is_join e.thread) is ∙ eq-eqb e.thread e.thread refl)) ∙ event_parts.0)
-
-    module _ (u : ℕ) (fork : e.op ≡ Fork u) where
-      parts : (u ≢ e.thread) × (list_any (λ e. is_fork u e.op) (take j T) ≡ false) × (list_any (λ e. e.thread == u || is_join u e.op) (take j T) ≡ false)
-      parts = fork_parts (take j T) e.thread u (op_breach (Fork u) fork)
-
-      not_forked : d.op ≢ Fork u
-      not_forked is = true≢false (sym (list_any_before (λ e. is_fork u e.op) T i j d less there (ap (is_fork u) is ∙ eq-eqb u u refl)) ∙ parts.1)
-
-      has_no_event : d.thread ≢ u
-      has_no_event is = true≢false (sym (list_any_before (λ e. e.thread == u || is_join u e.op) T i j d less there (or_left (d.thread == u) (is_join u d.op) (eq-eqb d.thread u is))) ∙ parts.2)
-
-      was_not_joined : d.op ≢ Join u
-      was_not_joined is = true≢false (sym (list_any_before (λ e. e.thread == u || is_join u e.op) T i j d less there (or_right (d.thread == u) (is_join u d.op) (ap (is_join u) is ∙ eq-eqb u u refl))) ∙ parts.2)
-
 -- where no event breaks a rule, the list keeps the rules
 pub IsDisciplined-from_none : (T : List Event) → HasNoBreach T → IsDisciplined T
 IsDisciplined-from_none T none =
+    let kept = λ (j : ℕ) (e : Event) (here : slice_get T j ≡ Some e) (op : Op) (does : e.op ≡ op). op_breach T none j e here op does in
+    let parts = λ (j u : ℕ) (e : Event) (here : slice_get T j ≡ Some e) (fork : e.op ≡ Fork u). fork_parts (take j T) e.thread u (kept j e here (Fork u) fork) in
     record {
-      no_event_after_join = λ i j d e less there here. not_joined T none j e here i d less there;
-      no_own_fork = λ j e here. not_own_fork T none j e here;
-      no_own_join = λ j e here. not_own_join T none j e here;
-      no_second_fork = λ i j u d e less there here fork. not_forked T none j e here i d less there u fork;
-      no_event_before_fork = λ i j u d e less there here fork. has_no_event T none j e here i d less there u fork;
-      no_join_before_fork = λ i j u d e less there here fork. was_not_joined T none j e here i d less there u fork;
-      acquires_free = λ j l u e here is other. lock_is_free T none j e here l u is other;
-      releases_held = λ j l e here is. lock_is_held T none j e here l is;
+      no_event_after_join = λ i j d e less there here is.
+          let joined = list_any_before (λ d. is_join e.thread d.op) T i j d less there (ap (is_join e.thread) is ∙ eq-eqb e.thread e.thread refl) in
+          true≢false (sym joined ∙ (event_parts T none j e here).0);
+      no_own_fork = λ j e here is. none-some OwnThread (sym (kept j e here (Fork e.thread) is) ∙ breach_of_op-own_fork (take j T) e.thread e.thread refl);
+      no_own_join = λ j e here is. none-some OwnThread (sym (kept j e here (Join e.thread) is) ∙ breach_of_op-own_join (take j T) e.thread e.thread refl);
+      no_second_fork = λ i j u d e less there here fork is.
+          let forked = list_any_before (λ e. is_fork u e.op) T i j d less there (ap (is_fork u) is ∙ eq-eqb u u refl) in
+          true≢false (sym forked ∙ (parts j u e here fork).1);
+      no_event_before_fork = λ i j u d e less there here fork is.
+          let ran = or_left (d.thread == u) (is_join u d.op) (eq-eqb d.thread u is) in
+          true≢false (sym (list_any_before (λ e. e.thread == u || is_join u e.op) T i j d less there ran) ∙ (parts j u e here fork).2);
+      no_join_before_fork = λ i j u d e less there here fork is.
+          let joined = or_right (d.thread == u) (is_join u d.op) (ap (is_join u) is ∙ eq-eqb u u refl) in
+          true≢false (sym (list_any_before (λ e. e.thread == u || is_join u e.op) T i j d less there joined) ∙ (parts j u e here fork).2);
+      acquires_free = λ j l u e here is other.
+          let free = cond-from_none (is_held_by_another (take j T) e.thread l) None AcquireHeld (kept j e here (Acquire l) is) in
+          hold_count-other (take j T) e.thread l u free.0 other;
+      releases_held = λ j l e here is.
+          let held = cond-from_none (hold_count (take j T) e.thread l == 0) None ReleaseNotHeld (kept j e here (Release l) is) in
+          let above : hold_count (take j T) e.thread l ≢ 0 = eqb-false (hold_count (take j T) e.thread l) 0 held.0 in
+          omega arith;
     }
 
 module _ (T : List Event) (is : IsDisciplined T) (j : ℕ) (e : Event) (here : slice_get T j ≡ Some e) where
   running : list_any (λ d. is_join e.thread d.op) (take j T) ≡ false
   running = none_before (λ d. is_join e.thread d.op) T j (λ i d less there. false_from_ne_true (is_join e.thread d.op) (λ passes. is.no_event_after_join i j d e less there here (join-from_test e.thread d.op passes)))
-
-  unforked : (u : ℕ) → e.op ≡ Fork u → list_any (λ d. is_fork u d.op) (take j T) ≡ false
-  unforked u fork = none_before (λ d. is_fork u d.op) T j (λ i d less there. false_from_ne_true (is_fork u d.op) (λ passes. is.no_second_fork i j u d e less there here fork (fork-from_test u d.op passes)))
-
-  early : (u : ℕ) → e.op ≡ Fork u → list_any (λ d. d.thread == u || is_join u d.op) (take j T) ≡ false
-  early u fork =
-      none_before (λ d. d.thread == u || is_join u d.op) T j (λ i d less there. or_from (d.thread == u) (is_join u d.op)
-      (ne_eqb d.thread u (is.no_event_before_fork i j u d e less there here fork))
-      (false_from_ne_true (is_join u d.op) (λ passes. is.no_join_before_fork i j u d e less there here fork (join-from_test u d.op passes))))
 
   op_keeps : (op : Op) → e.op ≡ op → breach_of_op (take j T) e.thread op ≡ None
   op_keeps (Read x) does = refl
@@ -121,9 +94,14 @@ module _ (T : List Event) (is : IsDisciplined T) (j : ℕ) (e : Event) (here : s
       let held : 0 < hold_count (take j T) e.thread l = is.releases_held j l e here does in
       ap (λ b. cond b (Some ReleaseNotHeld) None) (ne_eqb (hold_count (take j T) e.thread l) 0 (λ gone. omega arith))
   op_keeps (Fork u) does =
-      ap (λ b. cond b (Some OwnThread) (cond (list_any (λ e. is_fork u e.op) (take j T)) (Some ForkTwice) (cond (list_any (λ e. e.thread == u || is_join u e.op) (take j T)) (Some ForkLate) None))) (ne_eqb u e.thread (λ own. is.no_own_fork j e here (does ∙ ap Fork own)))
-      ∙ ap (λ b. cond b (Some ForkTwice) (cond (list_any (λ e. e.thread == u || is_join u e.op) (take j T)) (Some ForkLate) None)) (unforked u does)
-      ∙ ap (λ b. cond b (Some ForkLate) None) (early u does)
+      let own = ne_eqb u e.thread (λ own. is.no_own_fork j e here (does ∙ ap Fork own)) in
+      let twice =
+      none_before (λ d. is_fork u d.op) T j (λ i d less there. false_from_ne_true (is_fork u d.op) (λ passes. is.no_second_fork i j u d e less there here does (fork-from_test u d.op passes))) in
+      let late =
+      none_before (λ d. d.thread == u || is_join u d.op) T j (λ i d less there. or_from (d.thread == u) (is_join u d.op)
+      (ne_eqb d.thread u (is.no_event_before_fork i j u d e less there here does))
+      (false_from_ne_true (is_join u d.op) (λ passes. is.no_join_before_fork i j u d e less there here does (join-from_test u d.op passes)))) in
+      rw (own, twice, late) refl
   op_keeps (Join u) does = ap (λ b. cond b (Some OwnThread) None) (ne_eqb u e.thread (λ own. is.no_own_join j e here (does ∙ ap Join own)))
 
   event_keeps : breach_at T j ≡ None
@@ -157,14 +135,12 @@ pub is_first-first_breach : (T : List Event) (r : RuleRefusal) → IsFirstBreach
 is_first-first_breach T r is = first_breach-from_first T r is
 
 -- past the end nothing is added
-take-suc_past : (T : List Event) (j : ℕ) → slice_get T j ≡ None → take j T ≡ take (suc j) T
-take-suc_past [] zero past = refl
-take-suc_past [] (suc j) past = refl
-take-suc_past (x ∷ T) zero past = absurd (none-some x (sym past))
-take-suc_past (x ∷ T) (suc j) past = ap (λ es. x ∷ es) (take-suc_past T j past)
-
 take-past : (T : List Event) (j : ℕ) → slice_get T j ≡ None → take j T ≡ take (j + 1) T
-take-past T j past = take-suc_past T j past ∙ ap (λ k. take k T) (sym (add-one j))
+take-past T j past =
+    elim (cases_lt j (length T)) [
+      | inl low ↦ absurd (none-some _ (sym past ∙ slice_get-get_or T j (record { thread = 0; op = Read 0 }) low))
+      | inr long ↦ take_all j T long ∙ sym (take_all (j + 1) T (omega (arith, long)))
+    ]
 
 -- The holds of a lock after events that break no rule: some table's hold says them.
 module _ (T : List Event) (none : HasNoBreach T) (l : ℕ) where
@@ -173,8 +149,8 @@ module _ (T : List Event) (none : HasNoBreach T) (l : ℕ) where
   hold_after_release j e h is op owned =
       let above : 0 < h.depth = depth-above h.owner h.depth e.thread is.depth owned in
       elim (cases_lt 1 h.depth) [
-        | inl deep ↦ (record { owner = Some e.thread; depth = h.depth - 1 }, IsHoldOf-release (take j T) l e h is e.thread refl op owned deep)
-        | inr last ↦ (record { owner = None; depth = 0 }, IsHoldOf-last (take j T) l e h is e.thread (record { owner = None; depth = 0 }) refl op owned (omega arith) (record { counts = λ t. refl; depth = refl }))
+        | inl deep ↦ (record { owner = Some e.thread; depth = h.depth - 1 }, IsHoldOf-release (take j T) l e h is op owned deep)
+        | inr last ↦ (record { owner = None; depth = 0 }, IsHoldOf-last (take j T) l e h is op owned (record { owner = None; depth = 0 }) (omega arith) (record { counts = λ t. refl; depth = refl }))
       ]
 
   -- past an event e
@@ -183,7 +159,7 @@ module _ (T : List Event) (none : HasNoBreach T) (l : ℕ) where
       elim (cases_Bool (is_acquire l e.op)) [
         | inl takes ↦
             let op : e.op ≡ Acquire l = acquire-from_test l e.op takes in
-            (record { owner = Some e.thread; depth = h.depth + 1 }, IsHoldOf-acquire (take j T) l e h is e.thread refl op (IsOpenFor-from_none (take j T) l h is e.thread (op_breach T none j e here (Acquire l) op)))
+            (record { owner = Some e.thread; depth = h.depth + 1 }, IsHoldOf-acquire (take j T) l e h is op (IsOpenFor-from_none (take j T) l h is e.thread (op_breach T none j e here (Acquire l) op)))
         | inr keeps ↦ elim (cases_Bool (is_release l e.op)) [
           | inl lets ↦
               let op : e.op ≡ Release l = release-from_test l e.op lets in
@@ -201,15 +177,6 @@ module _ (T : List Event) (none : HasNoBreach T) (l : ℕ) where
   hold_up_to : (j : ℕ) → (h : Hold) × IsHoldOf (take j T) l h
   hold_up_to zero = (record { owner = None; depth = 0 }, record { counts = λ t. refl; depth = refl })
   hold_up_to (suc j) = rw (← add-one j) (hold_past j (slice_get T j) refl (hold_up_to j))
-
--- an owner with a hold
-owner-from_depth : (owner : Option ℕ) (depth t : ℕ) → 0 < depth_for owner depth t → owner ≡ Some t
-owner-from_depth None depth t above = absurd (omega arith)
-owner-from_depth (Some u) depth t above =
-    elim (cases_eq u t) [
-      | inl same ↦ ap Some same
-      | inr other ↦ absurd (lt_irrefl 0 (rw (← depth_for-other (Some u) depth u refl t (λ is. other (sym is))) above))
-    ]
 
 module _ (T : List Event) (is : IsDisciplined T) (j t l : ℕ) where
   -- in a trace that keeps the rules, no thread lets a lock go more often than it took it

@@ -5,12 +5,12 @@ use Rattle.std.proofs.lemmas.Option.{none-some, same_Some, slice_get-get_or, sli
 use Rattle.std.proofs.lemmas.Bool.{cases_eq, cases_Bool, and_parts, and_left, and_right, true≢false}
 use Rattle.std.proofs.lemmas.Bool.Decides.{nat_tests}
 use Rattle.std.proofs.lemmas.List.Sums.{sum_by_push, sum_by-cons}
-use Rattle.std.proofs.lemmas.List.Folds.{list_any-append}
+use Rattle.std.proofs.lemmas.List.Folds.{list_any-append, list_any_none}
 use Rattle.std.proofs.Math.Bool.{or-false, or-true}
-use Rattle.rapid_text.specs.Operations.{is_acquire, is_release}
+use Rattle.rapid_text.specs.Operations.{is_acquire}
 use Rattle.rapid_text.specs.declared.event.Event.{Event}
-use Rattle.rapid_text.specs.declared.event.Op.TheVariants.{Acquire, Release}
-use Rattle.trace_rules.specs.Rules.{acquire_count, release_count, hold_count}
+use Rattle.rapid_text.specs.declared.event.Op.{Op}
+use Rattle.trace_rules.specs.Rules.{hold_count}
 
 -- what stands at a place after a write: the new element, or the old one elsewhere
 pub slice_get-set : {X : Type 0} (xs : List X) (i k : ℕ) (y x : X) → i < length xs
@@ -36,16 +36,6 @@ count_by_push p xs y = sum_by_push (λ x. cond (p x) 1 0) xs y
 pub list_any_push : {X : Type 0} (p : X → Bool) (xs : List X) (y : X) → list_any p (xs ++ y ∷ []) ≡ (list_any p xs || p y)
 list_any_push p xs y = list_any-append p xs (y ∷ []) ∙ ap (λ b. list_any p xs || b) (or-false (p y))
 
--- no element passes a test that nothing passes
-pub list_any_never : {X : Type 0} (p : X → Bool) (xs : List X) → ((x : X) → p x ≡ false) → list_any p xs ≡ false
-list_any_never p [] h = refl
-list_any_never p (x ∷ xs) h = ap (λ b. b || list_any p xs) (h x) ∙ list_any_never p xs h
-
--- what does not pass counts for nothing
-rest_above : (n : ℕ) (b : Bool) → b ≡ false → 0 < cond b 1 0 + n → 0 < n
-rest_above n true fails above = absurd (true≢false fails)
-rest_above n false fails above = omega arith
-
 -- what counts above 0 is there, and passes each weaker test
 pub list_any-from_count : {X : Type 0} (p q : X → Bool) (xs : List X) → ((x : X) → p x ≡ true → q x ≡ true) → 0 < count_by p xs → list_any q xs ≡ true
 list_any-from_count p q [] h above = absurd (omega arith)
@@ -53,7 +43,7 @@ list_any-from_count p q (x ∷ xs) h above =
     elim (cases_Bool (p x)) [
       | inl there ↦ ap (λ b. b || list_any q xs) (h x there)
       | inr none ↦
-          let more : 0 < count_by p xs = rest_above (count_by p xs) (p x) none (rw (← sum_by-cons (λ x. cond (p x) 1 0) x xs) above) in
+          let more : 0 < count_by p xs = omega (arith, above, sum_by-cons (λ x. cond (p x) 1 0) x xs ∙ ap (λ b. cond b 1 0 + count_by p xs) none) in
           ap (λ b. q x || b) (list_any-from_count p q xs h more) ∙ or-true (q x)
     ]
 
@@ -68,19 +58,6 @@ pub list_any-or : {X : Type 0} (p q : X → Bool) (xs : List X) → list_any (λ
 list_any-or p q [] = refl
 list_any-or p q (x ∷ xs) = ap (λ b. (p x || q x) || b) (list_any-or p q xs) ∙ or_swap (p x) (q x) (list_any p xs) (list_any q xs)
 
-pub acquire_count_push : (es : List Event) (e : Event) (t l : ℕ)
-    → acquire_count (es ++ e ∷ []) t l ≡ acquire_count es t l + cond (e.thread == t && is_acquire l e.op) 1 0
-acquire_count_push es e t l = count_by_push (λ e. e.thread == t && is_acquire l e.op) es e
-
-pub release_count_push : (es : List Event) (e : Event) (t l : ℕ)
-    → release_count (es ++ e ∷ []) t l ≡ release_count es t l + cond (e.thread == t && is_release l e.op) 1 0
-release_count_push es e t l = count_by_push (λ e. e.thread == t && is_release l e.op) es e
-
--- what does not pass counts for nothing
-no_more : (n m : ℕ) (b : Bool) → m ≡ n + cond b 1 0 → b ≡ false → m ≡ n
-no_more n m true is fails = absurd (true≢false fails)
-no_more n m false is fails = omega arith
-
 -- nothing follows a test that fails
 pub and-false : (a b : Bool) → b ≡ false → (a && b) ≡ false
 and-false a b h = and_right a b h
@@ -90,34 +67,17 @@ pub and-true : (a b : Bool) → b ≡ true → (a && b) ≡ a
 and-true true b h = h
 and-true false b h = refl
 
-module _ (es : List Event) (e : Event) (t l : ℕ) where
-  -- an acquire of the lock counts for its thread
-  pub acquire_count-acquire : e.op ≡ Acquire l → acquire_count (es ++ e ∷ []) t l ≡ acquire_count es t l + cond (e.thread == t) 1 0
-  acquire_count-acquire is =
-      acquire_count_push es e t l ∙ ap (λ b. acquire_count es t l + cond b 1 0) (and-true (e.thread == t) (is_acquire l e.op) (ap (is_acquire l) is ∙ eq-eqb l l refl))
+-- a thread's events whose operations pass are one more after such an event, and as many after another
+pub count_yes : (p : Op → Bool) (es : List Event) (e : Event) (t : ℕ) → p e.op ≡ true
+    → count_by (λ d. d.thread == t && p d.op) (es ++ e ∷ []) ≡ count_by (λ d. d.thread == t && p d.op) es + cond (e.thread == t) 1 0
+count_yes p es e t so =
+    count_by_push (λ d. d.thread == t && p d.op) es e ∙ ap (λ b. count_by (λ d. d.thread == t && p d.op) es + cond b 1 0) (and-true (e.thread == t) (p e.op) so)
 
-  pub release_count-acquire : e.op ≡ Acquire l → release_count (es ++ e ∷ []) t l ≡ release_count es t l
-  release_count-acquire is =
-      no_more (release_count es t l) (release_count (es ++ e ∷ []) t l) (e.thread == t && is_release l e.op) (release_count_push es e t l) (and-false (e.thread == t) (is_release l e.op) (ap (is_release l) is))
-
-  -- a release of the lock counts for its thread
-  pub release_count-release : e.op ≡ Release l → release_count (es ++ e ∷ []) t l ≡ release_count es t l + cond (e.thread == t) 1 0
-  release_count-release is =
-      release_count_push es e t l ∙ ap (λ b. release_count es t l + cond b 1 0) (and-true (e.thread == t) (is_release l e.op) (ap (is_release l) is ∙ eq-eqb l l refl))
-
-  pub acquire_count-release : e.op ≡ Release l → acquire_count (es ++ e ∷ []) t l ≡ acquire_count es t l
-  acquire_count-release is =
-      no_more (acquire_count es t l) (acquire_count (es ++ e ∷ []) t l) (e.thread == t && is_acquire l e.op) (acquire_count_push es e t l) (and-false (e.thread == t) (is_acquire l e.op) (ap (is_acquire l) is))
-
-  -- what is no acquire of the lock counts for nobody
-  pub acquire_count-other : is_acquire l e.op ≡ false → acquire_count (es ++ e ∷ []) t l ≡ acquire_count es t l
-  acquire_count-other is =
-      no_more (acquire_count es t l) (acquire_count (es ++ e ∷ []) t l) (e.thread == t && is_acquire l e.op) (acquire_count_push es e t l) (and-false (e.thread == t) (is_acquire l e.op) is)
-
-  -- what is no release of the lock counts for nobody
-  pub release_count-other : is_release l e.op ≡ false → release_count (es ++ e ∷ []) t l ≡ release_count es t l
-  release_count-other is =
-      no_more (release_count es t l) (release_count (es ++ e ∷ []) t l) (e.thread == t && is_release l e.op) (release_count_push es e t l) (and-false (e.thread == t) (is_release l e.op) is)
+pub count_no : (p : Op → Bool) (es : List Event) (e : Event) (t : ℕ) → p e.op ≡ false
+    → count_by (λ d. d.thread == t && p d.op) (es ++ e ∷ []) ≡ count_by (λ d. d.thread == t && p d.op) es
+count_no p es e t fails =
+    count_by_push (λ d. d.thread == t && p d.op) es e ∙ ap (λ b. count_by (λ d. d.thread == t && p d.op) es + cond b 1 0) (and-false (e.thread == t) (p e.op) fails)
+    ∙ omega arith
 
 -- the test that another thread than t holds the lock
 abbrev pub is_held_by_another : List Event → ℕ → ℕ → Bool
@@ -126,17 +86,14 @@ is_held_by_another es t l = list_any (λ e. not (e.thread == t) && ltb 0 (hold_c
 -- it fails where all other threads have no hold
 pub is_held_by_another-false : (es : List Event) (t l : ℕ) → ((u : ℕ) → u ≢ t → hold_count es u l ≡ 0) → is_held_by_another es t l ≡ false
 is_held_by_another-false es t l none =
-    list_any_never (λ e. not (e.thread == t) && ltb 0 (hold_count es e.thread l)) es
-    (λ e. elim (cases_Bool (e.thread == t)) [
+    list_any_none (λ e. not (e.thread == t) && ltb 0 (hold_count es e.thread l)) es (λ k d low.
+    let e = get_or es k d in
+    elim (cases_Bool (e.thread == t)) [
       | inl there ↦ and_left (not (e.thread == t)) (ltb 0 (hold_count es e.thread l)) (ap not there)
       | inr other ↦
           let gone : hold_count es e.thread l ≡ 0 = none e.thread (λ same. true≢false (sym (eq-eqb e.thread t same) ∙ other)) in
           and_right (not (e.thread == t)) (ltb 0 (hold_count es e.thread l)) (ap (ltb 0) gone)
     ])
-
--- who holds a lock took it
-acquires-from_hold : (es : List Event) (u l : ℕ) → 0 < hold_count es u l → 0 < acquire_count es u l
-acquires-from_hold es u l held = omega arith
 
 -- it succeeds where another thread has a hold
 pub is_held_by_another-true : (es : List Event) (t l u : ℕ) → u ≢ t → 0 < hold_count es u l → is_held_by_another es t l ≡ true
@@ -145,7 +102,7 @@ is_held_by_another-true es t l u other held =
     let same : e.thread ≡ u = eqb-true e.thread u (and_parts (e.thread == u) (is_acquire l e.op) passes).0 in
     let apart : (e.thread == t) ≡ false = ne_eqb e.thread t (λ is. other (sym same ∙ is)) in
     let holds : ltb 0 (hold_count es e.thread l) ≡ true = lt-ltb 0 (hold_count es e.thread l) (rw same held) in
-    ap₂ (λ a b. not a && b) apart holds) (acquires-from_hold es u l held)
+    ap₂ (λ a b. not a && b) apart holds) (omega (arith, held))
 
 -- where it fails, no other thread has a hold
 pub hold_count-other : (es : List Event) (t l u : ℕ) → is_held_by_another es t l ≡ false → u ≢ t → hold_count es u l ≡ 0

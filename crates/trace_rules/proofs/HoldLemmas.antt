@@ -2,7 +2,7 @@
 use Rattle.std.proofs.Common.{nat_eq, ◌≡◌, ◌≢◌, ℕ, ◌+◌, ◌-◌, ◌<◌, ◌≤◌, ◌==◌, true, false, ◌&&◌, cond, List, [], ◌∷◌, ◌++◌, length, Option, Some, None, refl, sym, ap, ◌∙◌, subst, arith, eq-eqb, ne_eqb, eqb-true, inl, inr}
 use Rattle.std.specs.Option.{option_eq}
 use Rattle.std.proofs.lemmas.Bool.Decides.{nat_tests}
-use Rattle.std.proofs.lemmas.Bool.{cases_eq, true≢false, eqb-false}
+use Rattle.std.proofs.lemmas.Bool.{cases_eq, cases_lt, true≢false, eqb-false}
 use Rattle.std.proofs.lemmas.Option.{none-some}
 use Rattle.std.proofs.lemmas.List.Sums.{count_by-le-length}
 use Rattle.rapid_text.specs.Operations.{is_acquire, is_release}
@@ -12,7 +12,7 @@ use Rattle.trace_rules.specs.Rules.{acquire_count, release_count, hold_count, br
 use Rattle.trace_rules.specs.Tables.{depth_for, IsDepthOf, IsHoldOf, IsOpenFor}
 use Rattle.trace_rules.specs.declared.hold.Hold.{Hold}
 use Rattle.trace_rules.specs.declared.refusal.RuleCause.TheVariants.{ReleaseNotHeld, AcquireHeld}
-use Rattle.trace_rules.proofs.Counts.{is_held_by_another-false, is_held_by_another-true, acquire_count-acquire, release_count-acquire, acquire_count-release, release_count-release, acquire_count-other, release_count-other}
+use Rattle.trace_rules.proofs.Counts.{is_held_by_another-false, is_held_by_another-true, count_yes, count_no}
 
 -- an owner's holds are the depth
 pub depth_for-owner : (owner depth : ℕ) → depth_for (Some owner) depth owner ≡ depth
@@ -42,57 +42,55 @@ module _ (es : List Event) (l : ℕ) (h : Hold) (is : IsHoldOf es l h) where
   pub hold_count-IsHoldOf : (t : ℕ) → hold_count es t l ≡ depth_for h.owner h.depth t
   hold_count-IsHoldOf t = omega (arith, is.counts t)
 
-  -- an owner took the lock
-  pub depth-le-length : (owner : ℕ) → h.owner ≡ Some owner → h.depth ≤ length es
-  depth-le-length owner same =
-      let counts : acquire_count es owner l ≡ release_count es owner l + depth_for h.owner h.depth owner = is.counts owner in
-      let depth : depth_for h.owner h.depth owner ≡ h.depth = ap (λ o. depth_for o h.depth owner) same ∙ depth_for-owner owner h.depth in
-      let bound : acquire_count es owner l ≤ length es = count_by-le-length (λ e. e.thread == owner && is_acquire l e.op) es in
-      omega arith
-
 module _ (es : List Event) (l : ℕ) (e : Event) (h : Hold) (is : IsHoldOf es l h) where
   -- after an acquire by its owner, or of a free lock
-  pub IsHoldOf-acquire : (th : ℕ) → e.thread ≡ th → e.op ≡ Acquire l → IsOpenFor th h.owner
-      → IsHoldOf (es ++ e ∷ []) l (record { owner = Some th; depth = h.depth + 1 })
-  IsHoldOf-acquire th mine op free =
+  pub IsHoldOf-acquire : e.op ≡ Acquire l → IsOpenFor e.thread h.owner → IsHoldOf (es ++ e ∷ []) l (record { owner = Some e.thread; depth = h.depth + 1 })
+  IsHoldOf-acquire op free =
       record {
         counts = λ t.
-            let own : cond {A = ℕ} (e.thread == t) 1 0 ≡ cond {A = ℕ} (th == t) 1 0 = ap (λ u. cond {A = ℕ} (u == t) 1 0) mine in
-            omega (arith, acquire_count-acquire es e t l op, release_count-acquire es e t l op, is.counts t, depth_for-taken h.owner h.depth th t free is.depth);
+            let takes = count_yes (is_acquire l) es e t (ap (is_acquire l) op ∙ eq-eqb l l refl) in
+            let frees = count_no (is_release l) es e t (ap (is_release l) op) in
+            omega (arith, takes, frees, is.counts t, depth_for-taken h.owner h.depth e.thread t free is.depth);
         depth = omega arith;
       }
 
-  -- after a release that is not the last one
-  pub IsHoldOf-release : (th : ℕ) → e.thread ≡ th → e.op ≡ Release l → h.owner ≡ Some th → 1 < h.depth
-      → IsHoldOf (es ++ e ∷ []) l (record { owner = Some th; depth = h.depth - 1 })
-  IsHoldOf-release th mine op owned deep =
-      record {
-        counts = λ t.
-            let own : cond {A = ℕ} (e.thread == t) 1 0 ≡ cond {A = ℕ} (th == t) 1 0 = ap (λ u. cond {A = ℕ} (u == t) 1 0) mine in
-            let before : depth_for h.owner h.depth t ≡ depth_for (Some th) h.depth t = ap (λ o. depth_for o h.depth t) owned in
-            omega (arith, acquire_count-release es e t l op, release_count-release es e t l op, is.counts t, depth_for-let_go h.depth th t (omega arith));
-        depth = omega arith;
-      }
+  module _ (op : e.op ≡ Release l) (owned : h.owner ≡ Some e.thread) where
+    released : (t : ℕ) → release_count (es ++ e ∷ []) t l ≡ release_count es t l + cond (e.thread == t) 1 0
+    released t = count_yes (is_release l) es e t (ap (is_release l) op ∙ eq-eqb l l refl)
 
-  -- after the last release
-  pub IsHoldOf-last : (th : ℕ) (free : Hold) → e.thread ≡ th → e.op ≡ Release l → h.owner ≡ Some th
-      → h.depth ≡ 1 → IsHoldOf [] l free → IsHoldOf (es ++ e ∷ []) l free
-  IsHoldOf-last th free mine op owned last none =
-      record {
-        counts = λ t.
-            let own : cond {A = ℕ} (e.thread == t) 1 0 ≡ cond {A = ℕ} (th == t) 1 0 = ap (λ u. cond {A = ℕ} (u == t) 1 0) mine in
-            let before : depth_for h.owner h.depth t ≡ depth_for (Some th) 1 t = ap (λ o. depth_for o h.depth t) owned ∙ ap (λ d. depth_for (Some th) d t) last in
-            omega (arith, acquire_count-release es e t l op, release_count-release es e t l op, is.counts t, depth_for-last th t, none.counts t);
-        depth = none.depth;
-      }
+    counts : (t : ℕ) → acquire_count (es ++ e ∷ []) t l ≡ release_count es t l + depth_for (Some e.thread) h.depth t
+    counts t = count_no (is_acquire l) es e t (ap (is_acquire l) op) ∙ is.counts t ∙ ap (λ o. release_count es t l + depth_for o h.depth t) owned
+
+    -- after a release that is not the last one
+    pub IsHoldOf-release : 1 < h.depth → IsHoldOf (es ++ e ∷ []) l (record { owner = Some e.thread; depth = h.depth - 1 })
+    IsHoldOf-release deep = record { counts = λ t. omega (arith, counts t, released t, depth_for-let_go h.depth e.thread t (omega arith)); depth = omega arith }
+
+    -- after the last release
+    pub IsHoldOf-last : (free : Hold) → h.depth ≡ 1 → IsHoldOf [] l free → IsHoldOf (es ++ e ∷ []) l free
+    IsHoldOf-last free last none =
+        record {
+          counts = λ t.
+              let one = ap (λ d. depth_for (Some e.thread) d t) last ∙ depth_for-last e.thread t in
+              omega (arith, counts t, released t, one, none.counts t);
+          depth = none.depth;
+        }
 
   -- after an event that is no operation on the lock
   pub IsHoldOf-other : is_acquire l e.op ≡ false → is_release l e.op ≡ false → IsHoldOf (es ++ e ∷ []) l h
   IsHoldOf-other no_acquire no_release =
       record {
-        counts = λ t. omega (arith, acquire_count-other es e t l no_acquire, release_count-other es e t l no_release, is.counts t);
+        counts = λ t. omega (arith, count_no (is_acquire l) es e t no_acquire, count_no (is_release l) es e t no_release, is.counts t);
         depth = is.depth;
       }
+
+-- who has a hold is the owner
+pub owner-from_depth : (owner : Option ℕ) (depth t : ℕ) → 0 < depth_for owner depth t → owner ≡ Some t
+owner-from_depth None depth t above = absurd (omega arith)
+owner-from_depth (Some u) depth t above =
+    elim (cases_eq u t) [
+      | inl same ↦ ap Some same
+      | inr other ↦ absurd (omega (arith, above, depth_for-other (Some u) depth u refl t (λ is. other (sym is))))
+    ]
 
 -- an owner's depth is above 0
 pub depth-above : (owner : Option ℕ) (depth u : ℕ) → IsDepthOf owner depth → owner ≡ Some u → 0 < depth
@@ -104,7 +102,9 @@ depth-cases : (es : List Event) (l : ℕ) (h : Hold) → IsHoldOf es l h → (ow
 depth-cases es l h is None same =
     let nothing : h.depth ≡ 0 = subst (λ o. IsDepthOf o h.depth) same is.depth in
     omega arith
-depth-cases es l h is (Some owner) same = depth-le-length es l h is owner same
+depth-cases es l h is (Some owner) same =
+    let depth : depth_for h.owner h.depth owner ≡ h.depth = ap (λ o. depth_for o h.depth owner) same ∙ depth_for-owner owner h.depth in
+    omega (arith, is.counts owner, depth, count_by-le-length (λ e. e.thread == owner && is_acquire l e.op) es)
 
 pub depth-le : (es : List Event) (l : ℕ) (h : Hold) → IsHoldOf es l h → h.depth ≤ length es
 depth-le es l h is = depth-cases es l h is h.owner refl
@@ -148,17 +148,12 @@ module _ (es : List Event) (l : ℕ) (h : Hold) (is : IsHoldOf es l h) (t : ℕ)
   IsOpenFor-from_none kept = IsOpenFor-cases h.owner refl kept
 
   -- where a release breaks no rule, the lock is the thread's own
-  owner-cases : (owner : Option ℕ) → h.owner ≡ owner → breach_of_op es t (Release l) ≡ None → owner ≡ Some t
-  owner-cases None same kept = absurd (none-some ReleaseNotHeld (sym kept ∙ breach_of_op-release_other (ap (λ o. depth_for o h.depth t) same)))
-  owner-cases (Some u) same kept =
-      elim (cases_eq u t) [
-        | inl mine ↦ ap Some mine
-        | inr other ↦
-            absurd (none-some ReleaseNotHeld (sym kept ∙ breach_of_op-release_other (ap (λ o. depth_for o h.depth t) same ∙ depth_for-other (Some u) h.depth u refl t (λ is_u. other (sym is_u)))))
-      ]
-
   pub owner-from_none : breach_of_op es t (Release l) ≡ None → h.owner ≡ Some t
-  owner-from_none kept = owner-cases h.owner refl kept
+  owner-from_none kept =
+      elim (cases_lt 0 (depth_for h.owner h.depth t)) [
+        | inl above ↦ owner-from_depth h.owner h.depth t above
+        | inr none ↦ absurd (none-some ReleaseNotHeld (sym kept ∙ breach_of_op-release_other (omega (arith, none))))
+      ]
 
 -- what the test says that the owner is the thread t
 pub owner-from_test : (owner : Option ℕ) (t : ℕ) → option_eq nat_eq owner (Some t) ≡ true → owner ≡ Some t

@@ -42,6 +42,13 @@ pub IsMarked-event : (x : Life) → IsMarked x true false false (record { has_ev
 IsMarked-event x =
     record { has_event = sym (or-true x.has_event); was_forked = sym (or-false x.was_forked); was_joined = sym (or-false x.was_joined) }
 
+-- a life that is forked, or joined
+pub IsMarked-fork : (x : Life) → IsMarked x false true false (record { has_event = x.has_event; was_forked = true; was_joined = x.was_joined })
+IsMarked-fork x = record { has_event = sym (or-false x.has_event); was_forked = sym (or-true x.was_forked); was_joined = sym (or-false x.was_joined) }
+
+pub IsMarked-join : (x : Life) → IsMarked x false false true (record { has_event = x.has_event; was_forked = x.was_forked; was_joined = true })
+IsMarked-join x = record { has_event = sym (or-false x.has_event); was_forked = sym (or-false x.was_forked); was_joined = sym (or-true x.was_joined) }
+
 drop_false : (a b : Bool) → (a || (b && false)) ≡ a
 drop_false true b = refl
 drop_false false true = refl

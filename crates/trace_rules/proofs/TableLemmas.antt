@@ -1,26 +1,22 @@
 -- The tables at an event, and past it.
-use Rattle.std.proofs.Common.{◌≡◌, ◌≢◌, ℕ, ◌+◌, ◌<◌, ◌==◌, Bool, true, false, ◌||◌, ◌⊎◌, cond, List, [], ◌∷◌, ◌++◌, length, take, get_or, set, slice_get, option_and_then, Option, Some, None, refl, sym, ap, ◌∙◌, eq-eqb, ne_eqb, inl, inr}
+use Rattle.std.proofs.Common.{◌≡◌, ◌≢◌, ℕ, ◌+◌, ◌<◌, ◌==◌, Bool, true, false, ◌||◌, ◌⊎◌, cond, List, [], ◌∷◌, ◌++◌, length, take, get_or, set, slice_get, option_and_then, Option, Some, None, refl, sym, ap, ◌∙◌, subst, arith, eq-eqb, ne_eqb, inl, inr}
 use Rattle.std.proofs.lemmas.List.{take_more}
 use Rattle.std.proofs.lemmas.Option.{none-some, slice_get_read, slice_get_within, get_or_from_slice_get}
 use Rattle.std.specs.List.{list_any}
 use Rattle.rapid_text.specs.Operations.{is_acquire, is_release, is_fork, is_join}
 use Rattle.rapid_text.specs.declared.event.Event.{Event}
-use Rattle.rapid_text.specs.Recording.{Recording}
+use Rattle.rapid_text.specs.Recording.{Recording, IsNamedOp}
 use Rattle.rapid_text.specs.declared.event.Op.{Op}
 use Rattle.rapid_text.specs.declared.event.Op.TheVariants.{Read, Write, Acquire, Release, Fork, Join}
 use Rattle.trace_rules.specs.Rules.{breach_at, breach_of, breach_of_op}
-use Rattle.trace_rules.specs.Tables.{IsHoldOf, IsLifeOf, AreHoldsOf, IsStateOf}
+use Rattle.trace_rules.specs.Tables.{IsHoldOf, IsOpenFor, IsLifeOf, AreHoldsOf, IsStateOf}
 use Rattle.trace_rules.specs.declared.hold.Hold.{Hold}
 use Rattle.trace_rules.specs.declared.life.Life.{Life}
 use Rattle.trace_rules.specs.declared.state.State.{State}
 use Rattle.trace_rules.specs.declared.refusal.RuleCause.{RuleCause}
 use Rattle.trace_rules.specs.declared.refusal.RuleCause.TheVariants.{ForkTwice, ForkLate, OwnThread, AfterJoin}
 use Rattle.trace_rules.proofs.Counts.{slice_get-set}
-use Rattle.trace_rules.proofs.HoldLemmas.{IsHoldOf-other}
-
--- the element read at a place is the one that stands there
-pub slice_get-read : {X : Type 0} (xs : List X) (n k : ℕ) (x : X) → length xs ≡ n → k < n → x ≡ get_or xs k x → slice_get xs k ≡ Some x
-slice_get-read xs n k x len within is = slice_get_read xs n k x (sym len) within is
+use Rattle.trace_rules.proofs.HoldLemmas.{IsHoldOf-other, IsOpenFor-from_none, owner-from_none}
 
 -- a test that succeeds decides
 pub cond-from_none : (b : Bool) (o : Option RuleCause) (why : RuleCause) → cond b (Some why) o ≡ None → (b ≡ false) × (o ≡ None)
@@ -35,18 +31,10 @@ module _ (T : List Event) (i : ℕ) (e : Event) (here : slice_get T i ≡ Some e
   pub breach_at-event : breach_at T i ≡ breach_of (take i T) e
   breach_at-event = ap (option_and_then (breach_of (take i T))) here
 
-  module _ (life : Life) (is : IsLifeOf (take i T) e.thread life) where
-    -- an event of another thread is judged by its operation
-    pub breach_at-op : life.was_joined ≡ false → breach_at T i ≡ breach_of_op (take i T) e.thread e.op
-    breach_at-op running = breach_at-event ∙ ap (λ b. cond b (Some AfterJoin) (breach_of_op (take i T) e.thread e.op)) (sym is.was_joined ∙ running)
-
   -- an event that breaks no rule
-  pub breach_of_op-from_none : breach_at T i ≡ None → breach_of_op (take i T) e.thread e.op ≡ None
-  breach_of_op-from_none kept =
-      (cond-from_none (list_any (λ d. is_join e.thread d.op) (take i T)) (breach_of_op (take i T) e.thread e.op) AfterJoin (sym breach_at-event ∙ kept)).1
-
   pub breach_of_op-kept : (op : Op) → e.op ≡ op → breach_at T i ≡ None → breach_of_op (take i T) e.thread op ≡ None
-  breach_of_op-kept op is kept = rw (← is) (breach_of_op-from_none kept)
+  breach_of_op-kept op is kept =
+      rw (← is) (cond-from_none (list_any (λ d. is_join e.thread d.op) (take i T)) (breach_of_op (take i T) e.thread e.op) AfterJoin (sym breach_at-event ∙ kept)).1
 
   -- past an event that is no operation on a lock
   pub AreHoldsOf-same : (holds : List Hold) → AreHoldsOf (take i T) holds → ((l : ℕ) → (is_acquire l e.op ≡ false) × (is_release l e.op ≡ false))
@@ -66,23 +54,37 @@ module _ (T : List Event) (i : ℕ) (e : Event) (here : slice_get T i ≡ Some e
 -- the hold that is read in the table of a lock that the operation names
 pub hold_read : (r : Recording) (i l : ℕ) (holds : List Hold) (x : Hold) → AreHoldsOf (take i r.events) holds → length holds ≡ length r.locks
     → l < length r.locks → x ≡ get_or holds l x → IsHoldOf (take i r.events) l x
-hold_read r i l holds x are len within read = are l x (slice_get-read holds (length r.locks) l x len within read)
+hold_read r i l holds x are len within read = are l x (slice_get_read holds (length r.locks) l x (sym len) within read)
+
+-- at an operation that breaks no rule: the lock is in the table, its hold is what is read there, and it may be taken
+module _ (r : Recording) (i : ℕ) (e : Event) (here : slice_get r.events i ≡ Some e) (kept : breach_at r.events i ≡ None) (holds : List Hold)
+    (are : AreHoldsOf (take i r.events) holds) (len : length holds ≡ length r.locks) (named : IsNamedOp r e.op) (l : ℕ) (x : Hold) (read : x ≡ get_or holds l x) where
+  pub acquire_at : e.op ≡ Acquire l → (l < length holds) × IsHoldOf (take i r.events) l x × IsOpenFor e.thread x.owner
+  acquire_at op =
+      let within : l < length r.locks = subst (IsNamedOp r) op named in
+      let is = hold_read r i l holds x are len within read in
+      (omega (arith, len, within), is, IsOpenFor-from_none (take i r.events) l x is e.thread (breach_of_op-kept r.events i e here (Acquire l) op kept))
+
+  -- or it is the thread's, which lets it go
+  pub release_at : e.op ≡ Release l → (l < length holds) × IsHoldOf (take i r.events) l x × (x.owner ≡ Some e.thread)
+  release_at op =
+      let within : l < length r.locks = subst (IsNamedOp r) op named in
+      let is = hold_read r i l holds x are len within read in
+      (omega (arith, len, within), is, owner-from_none (take i r.events) l x is e.thread (breach_of_op-kept r.events i e here (Release l) op kept))
 
 module _ (r : Recording) (i : ℕ) (s : State) (is : IsStateOf r i s) where
   -- the life that is read in the table
   pub life_at : (t : ℕ) (x : Life) → t < length r.threads → x ≡ get_or s.lives.items t x → IsLifeOf (take i r.events) t x
-  life_at t x within read = is.lives t x (slice_get-read s.lives.items (length r.threads) t x is.threads within read)
-
-  -- the hold that is read in the table
-  pub hold_at : (l : ℕ) (x : Hold) → l < length r.locks → x ≡ get_or s.holds.items l x → IsHoldOf (take i r.events) l x
-  hold_at l x within read = hold_read r i l s.holds.items x is.holds is.locks within read
+  life_at t x within read = is.lives t x (slice_get_read s.lives.items (length r.threads) t x (sym is.threads) within read)
 
   -- an event whose thread was not joined is judged by its operation
   pub breach_at-running : (e : Event) (op : Op) (x : Life) → slice_get r.events i ≡ Some e
       → e.thread < length r.threads → x ≡ get_or s.lives.items e.thread x → x.was_joined ≡ false → e.op ≡ op
       → breach_at r.events i ≡ breach_of_op (take i r.events) e.thread op
   breach_at-running e op x here within read running does =
-      breach_at-op r.events i e here x (life_at e.thread x within read) running ∙ ap (breach_of_op (take i r.events) e.thread) does
+      let unjoined = sym (life_at e.thread x within read).was_joined ∙ running in
+      breach_at-event r.events i e here ∙ ap (λ b. cond b (Some AfterJoin) (breach_of_op (take i r.events) e.thread e.op)) unjoined
+      ∙ ap (breach_of_op (take i r.events) e.thread) does
 
 -- a fork or join of the own thread
 pub breach_of_op-own_fork : (es : List Event) (t u : ℕ) → u ≡ t → breach_of_op es t (Fork u) ≡ Some OwnThread

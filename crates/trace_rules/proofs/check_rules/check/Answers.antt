@@ -1,18 +1,18 @@
 use Rattle.std.proofs.Common.{◌≡◌, ◌<◌, length, None, inr, sym, ◌∙◌, arith, below_more}
 use Rattle.trace_rules.specs.Rules.{breach_at}
 use Rattle.trace_rules.proofs.CallerLemmas.{IsDisciplined-from_none, undisciplined-from_breach}
-use Rattle.trace_rules.proofs.FirstBreach.{HasNoBreach, first_breach-from_first, first_breach-from_none}
+use Rattle.trace_rules.proofs.FirstBreach.{first_breach-from_first, first_breach-from_none}
 use Rattle.trace_rules.proofs.check_rules.check.Goals as goal
 
 pub returns-in-Some-clause-refused : goal.returns-in-Some-clause-refused
 returns-in-Some-clause-refused c =
     let within : c.loop-event.event < length c.args.raw.events = omega (arith, c.loop-event-test.true, c.len-event-end.ensures.len) in
-    inr (first_breach-from_first c.args.raw.events _ (record { within = within; breach = sym c.breach.ensures ∙ c.in-Some.is; before = c.loop-event.invariant.kept }))
+    inr (first_breach-from_first _ _ (record { within = within; breach = sym c.breach.ensures ∙ c.in-Some.is; before = c.loop-event.invariant.kept }))
 
 pub returns-in-Some-clause-undisciplined : goal.returns-in-Some-clause-undisciplined
 returns-in-Some-clause-undisciplined c =
     let within : c.loop-event.event < length c.args.raw.events = omega (arith, c.loop-event-test.true, c.len-event-end.ensures.len) in
-    inr (undisciplined-from_breach c.args.raw.events c.loop-event.event c.in-Some.why within (sym c.breach.ensures ∙ c.in-Some.is))
+    inr (undisciplined-from_breach _ _ _ within (sym c.breach.ensures ∙ c.in-Some.is))
 
 pub loop-event-preserved : goal.loop-event-preserved
 loop-event-preserved c =
@@ -23,13 +23,11 @@ loop-event-preserved c =
 
 pub invariant_of-result : goal.invariant_of-result
 invariant_of-result c =
-    let none : HasNoBreach c.args.raw.events = λ j less. c.loop-event.invariant.kept j (omega (arith, c.loop-event-test.false, c.len-event-end.ensures.len)) in
-    (c.len-event-end.ensures.well_formed, IsDisciplined-from_none c.args.raw.events none)
+    let none = IsDisciplined-from_none _ (λ j less. c.loop-event.invariant.kept j (omega (arith, c.loop-event-test.false, c.len-event-end.ensures.len))) in
+    (c.len-event-end.ensures.well_formed, none)
 
 pub returns-clause-disciplined : goal.returns-clause-disciplined
-returns-clause-disciplined c =
-    IsDisciplined-from_none c.args.raw.events (λ j less. c.loop-event.invariant.kept j (omega (arith, c.loop-event-test.false, c.len-event-end.ensures.len)))
+returns-clause-disciplined c = IsDisciplined-from_none _ (λ j less. c.loop-event.invariant.kept j (omega (arith, c.loop-event-test.false, c.len-event-end.ensures.len)))
 
 pub returns-clause-accepted : goal.returns-clause-accepted
-returns-clause-accepted c =
-    first_breach-from_none c.args.raw.events (λ j less. c.loop-event.invariant.kept j (omega (arith, c.loop-event-test.false, c.len-event-end.ensures.len)))
+returns-clause-accepted c = first_breach-from_none _ (λ j less. c.loop-event.invariant.kept j (omega (arith, c.loop-event-test.false, c.len-event-end.ensures.len)))

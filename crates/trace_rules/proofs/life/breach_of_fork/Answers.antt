@@ -1,6 +1,5 @@
-use Rattle.std.proofs.Common.{◌≡◌, ◌||◌, true, Some, None, cond, sym, ap, ◌∙◌, ap₂}
+use Rattle.std.proofs.Common.{◌≡◌, ◌||◌, true, sym}
 use Rattle.std.proofs.lemmas.Bool.{or_left, or_right, or_from}
-use Rattle.trace_rules.specs.declared.refusal.RuleCause.TheVariants.{ForkTwice, ForkLate}
 use Rattle.trace_rules.proofs.LifeLemmas.{breach_of_op-fork}
 use Rattle.trace_rules.proofs.TableLemmas.{breach_of_op-own_fork}
 use Rattle.trace_rules.proofs.life.breach_of_fork.Goals as goal
@@ -10,22 +9,18 @@ pub returns-then-thread-by : goal.returns-then-thread-by
 returns-then-thread-by c = λ es is. sym (breach_of_op-own_fork es c.args.by c.args.thread c.if-thread-by.true)
 
 pub returns-then-life : goal.returns-then-life
-returns-then-life c = λ es is.
-    let life = c.args.life in
-    sym (breach_of_op-fork es c.args.by c.args.thread life is c.if-thread-by.false ∙ ap (λ a. cond a (Some ForkTwice) (cond (life.has_event || life.was_joined) (Some ForkLate) None)) c.if-life.true)
+returns-then-life c = λ es is. sym (rw c.if-life.true at (breach_of_op-fork es c.args.by c.args.thread c.args.life is c.if-thread-by.false))
 
 pub returns-then-life-2 : goal.returns-then-life-2
 returns-then-life-2 c = λ es is.
-    let life = c.args.life in
-    let late : (life.has_event || life.was_joined) ≡ true =
+    let late : (c.args.life.has_event || c.args.life.was_joined) ≡ true =
     elim c.then-life-2.branch [
-      | then-life-2-via-then-life-2 w ↦ or_left life.has_event life.was_joined w.if-life-2.true
-      | then-life-2-via-else-life-2+then-life-3 w ↦ or_right life.has_event life.was_joined w.if-life-3.true
+      | then-life-2-via-then-life-2 w ↦ or_left _ _ w.if-life-2.true
+      | then-life-2-via-else-life-2+then-life-3 w ↦ or_right _ _ w.if-life-3.true
     ] in
-    sym (breach_of_op-fork es c.args.by c.args.thread life is c.if-thread-by.false ∙ ap₂ (λ a b. cond a (Some ForkTwice) (cond b (Some ForkLate) None)) c.if-life.false late)
+    sym (rw (c.if-life.false, late) at (breach_of_op-fork es c.args.by c.args.thread c.args.life is c.if-thread-by.false))
 
 pub returns : goal.returns
 returns c = λ es is.
-    let life = c.args.life in
-    let early = or_from life.has_event life.was_joined c.if-life-2.false c.if-life-3.false in
-    sym (breach_of_op-fork es c.args.by c.args.thread life is c.if-thread-by.false ∙ ap₂ (λ a b. cond a (Some ForkTwice) (cond b (Some ForkLate) None)) c.if-life.false early)
+    let early = or_from c.args.life.has_event c.args.life.was_joined c.if-life-2.false c.if-life-3.false in
+    sym (rw (c.if-life.false, early) at (breach_of_op-fork es c.args.by c.args.thread c.args.life is c.if-thread-by.false))
