@@ -1,12 +1,13 @@
 -- Lemmas for the crates above: what the look-ups tell, from their definitions alone.
-use Rattle.std.proofs.Common.{◌≡◌, ℕ, ◌+◌, ◌-◌, ◌<◌, ◌≤◌, ◌⊎◌, ◌||◌, Bool, true, false, eqb, List, reverse, Option, Some, None, length, refl, sym, ap, ◌∙◌, arith, inl, inr}
+use Rattle.std.proofs.Common.{◌≡◌, ℕ, ◌+◌, ◌-◌, ◌<◌, ◌≤◌, ◌⊎◌, true, false, eqb, List, reverse, Option, Some, None, length, refl, sym, ap, ◌∙◌, arith, inl, inr}
 use Rattle.std.specs.List.{All, find, slice_get}
 use Rattle.std.specs.Option.{option_map}
-use Rattle.std.proofs.lemmas.Bool.{eqb-true, cases_order, or_cases, or_left, or_right}
+use Rattle.std.proofs.Math.Bool.{or_comm}
+use Rattle.std.proofs.lemmas.Bool.{eqb-true, cases_order}
 use Rattle.std.proofs.lemmas.List.Elements.{All-from_get_or, All-filter, All-weaker, filter_passes}
 use Rattle.std.proofs.lemmas.List.FromFn.{length-range_with_len, get_or-range_with_len}
 use Rattle.std.proofs.lemmas.List.Sums.{length-filter, count_by-le-length}
-use Rattle.std.proofs.lemmas.Option.{none-some, slice_get_within}
+use Rattle.std.proofs.lemmas.Option.{none-some, same_Some, slice_get_within}
 use Rattle.rapid_text.specs.Operations.{is_fork, is_write}
 use Rattle.rapid_text.specs.declared.event.Event.{Event}
 use Rattle.rapid_text.specs.declared.event.Op.{Op}
@@ -36,9 +37,6 @@ pub use Rattle.event_index.proofs.HoldLemmas.{takes, frees, takes_is, frees_is, 
 pub use Rattle.event_index.proofs.SectionLemmas.{held_above}
 pub use Rattle.event_index.proofs.RelationLaws.{Decides-is_clash, Decides-is_apart, Decides-is_conflict, Decides-is_independent, IsIndependent-sym}
 
-never : {A : Type 0} (w : ℕ) → None ≡ Some w → A
-never w h = absurd (none-some w h)
-
 -- the last write of x before e
 pub record IsLastWrite (T : List Event) (x e w : ℕ) : Type 0 where
   pub earlier : w < e
@@ -49,15 +47,11 @@ last_writer_by-some : (T : List Event) (e w : ℕ) (o : Option Op) → last_writ
 last_writer_by-some T e w (Some (Read x)) h =
     let found = find_last_is (is_write_at T x) e w h in
     (x, refl, record { earlier = found.0; writes = found.1; no_later = found.2 })
-last_writer_by-some T e w o h = never w h
+last_writer_by-some T e w o h = absurd (none-some w h)
 
 -- a last writer is the last write of the variable before its read
 pub last_writer-some : (T : List Event) (e w : ℕ) → last_writer T e ≡ Some w → (x : ℕ) × (op_at T e ≡ Some (Read x)) × IsLastWrite T x e w
 last_writer-some T e w h = last_writer_by-some T e w (op_at T e) h
-
--- a read with no last writer has no write of its variable before it
-pub last_writer-none : (T : List Event) (e x : ℕ) → op_at T e ≡ Some (Read x) → last_writer T e ≡ None → (k : ℕ) → k < e → is_write_at T x k ≡ false
-last_writer-none T e x op h = find_last_none (is_write_at T x) e (sym (ap (last_writer_by T e) op) ∙ h)
 
 pub last_writer-earlier : (T : List Event) (e w : ℕ) → last_writer T e ≡ Some w → w < e
 last_writer-earlier T e w h = (last_writer-some T e w h).2.earlier
@@ -75,7 +69,7 @@ or_else-some (Some e) p b h = inl h
 -- a base is the event of the thread before it, or else the fork of the thread
 pub base_by-some : (T : List Event) (e b : ℕ) (o : Option Event) → base_by T e o ≡ Some b
     → (v : Event) × (o ≡ Some v) × ((find (is_of_thread T v.thread) (reverse (before e)) ≡ Some b) ⊎ ((find (is_of_thread T v.thread) (reverse (before e)) ≡ None) × (fork_of T v.thread ≡ Some b)))
-base_by-some T e b None h = never b h
+base_by-some T e b None h = absurd (none-some b h)
 base_by-some T e b (Some v) h = (v, refl, or_else-some (find (is_of_thread T v.thread) (reverse (before e))) (fork_of T v.thread) b h)
 
 -- an event that forks the thread, releases the lock, is one of the thread
@@ -97,23 +91,16 @@ is_of_thread-thread T t e h =
 -- a base is earlier, in a trace that keeps the rules
 pub base_of-earlier : (T : List Event) → IsDisciplined T → (e b : ℕ) → base_of T e ≡ Some b → b < e
 base_of-earlier T rules e b h =
-    let found = base_by-some T e b (slice_get T e) h in
-    let v = found.0 in
-    elim found.2 [
+    let (v, at, either) = base_by-some T e b (slice_get T e) h in
+    elim either [
       | inl before_it ↦ (find_last_is (is_of_thread T v.thread) e b before_it).0
       | inr first ↦
-          let fork = fork_found T v.thread b (fork_of-some T v.thread b first.1).1 in
-          let w = fork.0 in
+          let (w, there, forks) = fork_found T v.thread b (fork_of-some T v.thread b first.1).1 in
           elim (cases_order e b) [
             | inl same ↦
-                let one : Some v ≡ Some w = sym found.1 ∙ ap (slice_get T) same ∙ fork.1 in
-                let is : v ≡ w = cc in
-                absurd (rules.no_own_fork e v found.1 (ap (λ (u : Event). u.op) is ∙ fork.2))
-            | inr apart ↦
-                elim apart [
-                  | inl late ↦ absurd (rules.no_event_before_fork e b v.thread v w late found.1 fork.1 fork.2 refl)
-                  | inr early ↦ early
-                ]
+                let one : v ≡ w = same_Some v w (sym at ∙ ap (slice_get T) same ∙ there) in
+                absurd (rules.no_own_fork e v at (ap (λ (u : Event). u.op) one ∙ forks))
+            | inr apart ↦ elim apart [ inl late ↦ absurd (rules.no_event_before_fork e b v.thread v w late at there forks refl) | inr early ↦ early ]
           ]
     ]
 
@@ -121,10 +108,10 @@ section_by-some : (T : List Event) (e t j : ℕ) (op : Op) → section_by T (len
 section_by-some T e t j (Acquire l) h =
     let found = find_first_is _ (e + 1) (length T - (e + 1)) j h in
     (omega (arith, found.0), omega (arith, found.0, found.1))
-section_by-some T e t j op h = never j h
+section_by-some T e t j op h = absurd (none-some j h)
 
 section_of-some : (T : List Event) (e j : ℕ) (o : Option Event) → section_of T (length T) e o ≡ Some j → (e < j) × (j < length T)
-section_of-some T e j None h = never j h
+section_of-some T e j None h = absurd (none-some j h)
 section_of-some T e j (Some v) h = section_by-some T e v.thread j v.op h
 
 -- a section ends at a later event
@@ -173,9 +160,6 @@ base_of-within T rules e b is =
     let found = base_by-some T e b (slice_get T e) is in
     omega (arith, base_of-earlier T rules e b is, slice_get_within T e found.0 found.1)
 
-or_turned : (p q : Bool) → (p || q) ≡ true → (q || p) ≡ true
-or_turned p q h = elim (or_cases p q h) [ inl first ↦ or_right q p first | inr second ↦ or_left q p second ]
-
 -- a conflict goes both ways
 pub IsConflicting-sym : (T : List Event) (a b : ℕ) → IsConflicting T a b → IsConflicting T b a
 IsConflicting-sym T a b is = record {
@@ -188,6 +172,6 @@ IsConflicting-sym T a b is = record {
     variable = is.clash.variable;
     first = is.clash.second;
     second = is.clash.first;
-    writes = or_turned (is_write is.clash.variable is.v.op) (is_write is.clash.variable is.w.op) is.clash.writes;
+    writes = or_comm (is_write is.clash.variable is.w.op) (is_write is.clash.variable is.v.op) ∙ is.clash.writes;
   };
 }

@@ -76,26 +76,12 @@ hold_same T i t l v at h k = omega (arith, taken_more T i t l v at, freed_more T
 -- one that takes it
 pub hold_taken : (T : List Event) → IsDisciplined T → (i t l : ℕ) (v : Event) → slice_get T i ≡ Some v → takes v t l ≡ true → frees v t l ≡ false → hold_count (take (i + 1) T) t l ≡ hold_count (take i T) t l + 1
 hold_taken T rules i t l v at h k =
-    omega (
-      arith,
-      taken_more T i t l v at,
-      freed_more T i t l v at,
-      as_one (takes v t l) h,
-      as_none (frees v t l) k,
-      release_count-le T rules i t l,
-    )
+    omega (arith, taken_more T i t l v at, freed_more T i t l v at, as_one (takes v t l) h, as_none (frees v t l) k, release_count-le T rules i t l)
 
 -- one that frees it
 pub hold_freed : (T : List Event) → IsDisciplined T → (i t l : ℕ) (v : Event) → slice_get T i ≡ Some v → takes v t l ≡ false → frees v t l ≡ true → hold_count (take (i + 1) T) t l + 1 ≡ hold_count (take i T) t l
 hold_freed T rules i t l v at h k =
-    omega (
-      arith,
-      taken_more T i t l v at,
-      freed_more T i t l v at,
-      as_none (takes v t l) h,
-      as_one (frees v t l) k,
-      freed_has T rules i t l v at k,
-    )
+    omega (arith, taken_more T i t l v at, freed_more T i t l v at, as_none (takes v t l) h, as_one (frees v t l) k, freed_has T rules i t l v at k)
 
 -- what an event does to a hold: it takes, it frees, or it leaves it
 pub hold_cases : (T : List Event) → IsDisciplined T → (i t l : ℕ) (v : Event) → slice_get T i ≡ Some v

@@ -1,5 +1,5 @@
 -- The place of an event and the list of its thread's events tell the same.
-use Rattle.std.proofs.Common.{◌≡◌, ℕ, zero, suc, ◌+◌, ◌<◌, ◌≤◌, Bool, true, false, cond, eqb, List, [], ◌∷◌, ◌++◌, Some, length, get_or, refl, sym, ap, ◌∙◌, subst, arith, add-one, append-nil, inl, inr, le_refl}
+use Rattle.std.proofs.Common.{◌≡◌, ℕ, zero, suc, ◌+◌, ◌<◌, ◌≤◌, true, false, cond, eqb, List, [], ◌∷◌, ◌++◌, Some, length, get_or, refl, sym, ap, ◌∙◌, subst, arith, add-one, append-nil, inl, inr, le_refl}
 use Rattle.std.specs.List.{filter, slice_get}
 use Rattle.std.specs.Option.{option_map}
 use Rattle.std.proofs.lemmas.Bool.{eq-eqb, eqb-true, cases_Bool, cases_eq, cases_lt}
@@ -36,12 +36,8 @@ length-events_before T t (suc e) within =
     let test : is_of_thread T t e ≡ eqb v.thread t = passes_here (λ w. eqb w.thread t) T e v at in
     subst (λ (n : ℕ). length (events_before T t n) ≡ count_before T n t) (add-one e)
     (elim (cases_Bool (eqb v.thread t)) [
-      | inl passes ↦
-          let one : ◌≡◌ {A = ℕ} (cond (eqb v.thread t) 1 0) 1 = ap (λ (b : Bool). cond b 1 0) passes in
-          ap length (more_yes T t e (test ∙ passes)) ∙ length_push (events_before T t e) e ∙ omega (arith, before_it, count, one)
-      | inr fails ↦
-          let none : ◌≡◌ {A = ℕ} (cond (eqb v.thread t) 1 0) 0 = ap (λ (b : Bool). cond b 1 0) fails in
-          ap length (more_no T t e (test ∙ fails)) ∙ omega (arith, before_it, count, none)
+      | inl passes ↦ rw (more_yes T t e (test ∙ passes)) (omega (arith, length_push (events_before T t e) e, before_it, rw passes at count))
+      | inr fails ↦ rw (more_no T t e (test ∙ fails)) (omega (arith, before_it, rw fails at count))
     ])
 
 -- an element stays where it is when one more follows

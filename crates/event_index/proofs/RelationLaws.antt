@@ -37,14 +37,8 @@ pub Decides-is_clash : (v w : Event) → Decides (is_clash v w) (Clash v w)
 Decides-is_clash v w = (
   λ h.
       let parts = and_parts (not (eqb v.thread w.thread)) (is_clash_of_ops v.op w.op) h in
-      let found = clash_found v.op w.op parts.1 in
-      record {
-        threads = eqb-false v.thread w.thread (not-true _ parts.0);
-        variable = found.0;
-        first = found.1.0;
-        second = found.1.1;
-        writes = found.1.2;
-      },
+      let (x, on) = clash_found v.op w.op parts.1 in
+      record { threads = eqb-false v.thread w.thread (not-true _ parts.0); variable = x; first = on.0; second = on.1; writes = on.2 },
   λ clash. and_from (not (eqb v.thread w.thread)) (is_clash_of_ops v.op w.op) (not_from_false _ (ne_eqb v.thread w.thread clash.threads))
       (clash_shown v.op w.op clash.variable (clash.first, clash.second, clash.writes)),
 )
@@ -62,12 +56,6 @@ tie_from_lock (Acquire m) b l h k =
     rw same_lock k
 tie_from_lock (Release m) b l h k = rw (eqb-true m l h) k
 tie_from_lock a b l h k = false_no h
-
-tie_from_fork : (a b : Op) (u : ℕ) → a ≡ Fork u → b ≡ Join u → is_tie_of_ops a b ≡ true
-tie_from_fork a b u e f = rw (e, f) (same u)
-
-tie_from_join : (a b : Op) (u : ℕ) → a ≡ Join u → b ≡ Fork u → is_tie_of_ops a b ≡ true
-tie_from_join a b u e f = rw (e, f) (same u)
 
 on_thread_fork : (op : Op) (u : ℕ) → op ≡ Fork u → is_on_thread u op ≡ true
 on_thread_fork op u e = rw e (or_left (eqb u u) false (same u))
@@ -109,8 +97,8 @@ apart_from_test v w h =
       first_no_join = λ e. first_off (on_thread_join v.op w.thread e);
       second_no_fork = λ e. second_off (on_thread_fork w.op v.thread e);
       second_no_join = λ e. second_off (on_thread_join w.op v.thread e);
-      no_fork_and_join = λ u e f. no_tie_here (tie_from_fork v.op w.op u e f);
-      no_join_and_fork = λ u e f. no_tie_here (tie_from_join v.op w.op u e f);
+      no_fork_and_join = λ u e f. no_tie_here (rw (e, f) (same u));
+      no_join_and_fork = λ u e f. no_tie_here (rw (e, f) (same u));
     }
 
 pub test_from_apart : (v w : Event) → AreApart v w → is_apart v w ≡ true
@@ -126,11 +114,7 @@ test_from_apart v w apart =
 pub Decides-is_apart : (v w : Event) → Decides (is_apart v w) (AreApart v w)
 Decides-is_apart v w = (apart_from_test v w, test_from_apart v w)
 
--- a test of two events that are there
-both_there : (test : Event → Event → Bool) (T : List Event) (a b : ℕ) (v w : Event) → slice_get T a ≡ Some v → slice_get T b ≡ Some w
-    → pass_both test (slice_get T a) (slice_get T b) ≡ test v w
-both_there test T a b v w e f = rw (e, f)
-
+-- two events that pass a test are there
 found_both : (test : Event → Event → Bool) (a b : Option Event) → pass_both test a b ≡ true
     → (v : Event) × (w : Event) × (a ≡ Some v) × (b ≡ Some w) × (test v w ≡ true)
 found_both test None b h = false_no h
@@ -141,41 +125,26 @@ found_both test (Some v) (Some w) h = (v, w, refl, refl, h)
 pub Decides-is_conflict : (T : List Event) (a b : ℕ) → Decides (is_conflict T a b) (IsConflicting T a b)
 Decides-is_conflict T a b = (
   λ h.
-      let found = found_both is_clash (slice_get T a) (slice_get T b) h in
-      record {
-        v = found.0;
-        w = found.1;
-        first = found.2;
-        second = found.3;
-        clash = (Decides-is_clash found.0 found.1).0 found.4;
-      },
-  λ conflict. both_there is_clash T a b conflict.v conflict.w conflict.first conflict.second ∙ (Decides-is_clash conflict.v conflict.w).1 conflict.clash,
+      let (v, w, first, second, passes) = found_both is_clash (slice_get T a) (slice_get T b) h in
+      record { v = v; w = w; first = first; second = second; clash = (Decides-is_clash v w).0 passes },
+  λ conflict. rw (conflict.first, conflict.second) ((Decides-is_clash conflict.v conflict.w).1 conflict.clash),
 )
 
 -- the test of independence tells the relation
 pub Decides-is_independent : (T : List Event) (a b : ℕ) → Decides (is_independent T a b) (IsIndependent T a b)
 Decides-is_independent T a b = (
   λ h.
-      let found = found_both is_apart (slice_get T a) (slice_get T b) h in
-      record {
-        v = found.0;
-        w = found.1;
-        first = found.2;
-        second = found.3;
-        apart = (Decides-is_apart found.0 found.1).0 found.4;
-      },
-  λ independent. both_there is_apart T a b independent.v independent.w independent.first independent.second
-      ∙ (Decides-is_apart independent.v independent.w).1 independent.apart,
+      let (v, w, first, second, passes) = found_both is_apart (slice_get T a) (slice_get T b) h in
+      record { v = v; w = w; first = first; second = second; apart = (Decides-is_apart v w).0 passes },
+  λ independent. rw (independent.first, independent.second) ((Decides-is_apart independent.v independent.w).1 independent.apart),
 )
 
 -- independence does not ask for the order of the two
 pub IsIndependent-sym : (T : List Event) (a b : ℕ) → IsIndependent T a b → IsIndependent T b a
 IsIndependent-sym T a b i =
-    let v : Event = i.v in
-    let w : Event = i.w in
     record {
-      v = w;
-      w = v;
+      v = i.w;
+      w = i.v;
       first = i.second;
       second = i.first;
       apart = record {
@@ -186,7 +155,7 @@ IsIndependent-sym T a b i =
               variable = clash.variable;
               first = clash.second;
               second = clash.first;
-              writes = or_comm (is_write clash.variable v.op) (is_write clash.variable w.op) ∙ clash.writes;
+              writes = or_comm (is_write clash.variable i.v.op) (is_write clash.variable i.w.op) ∙ clash.writes;
             });
         no_lock = λ l on_w on_v. i.apart.no_lock l on_v on_w;
         first_no_fork = i.apart.second_no_fork;

@@ -7,7 +7,7 @@ use Rattle.std.proofs.lemmas.List.Elements.{filter-append}
 use Rattle.std.proofs.lemmas.List.Folds.{find-append}
 use Rattle.std.proofs.lemmas.List.FromFn.{length-range_with_len, get_or-range_with_len}
 use Rattle.std.proofs.lemmas.Bool.{cond-true, cond-false, cases_Bool, cases_eq}
-use Rattle.std.proofs.lemmas.Option.{same_Some}
+use Rattle.std.proofs.lemmas.Option.{none-some, same_Some}
 use Rattle.event_index.specs.Lookups.{before}
 use Rattle.event_index.proofs.FindLemmas.{find-fails}
 
@@ -45,9 +45,6 @@ find_first_more test e = ap (find test) (before_more e) ∙ find-append test (be
 pub filter_more_before : (test : ℕ → Bool) (e : ℕ) → filter test (before (e + 1)) ≡ filter test (before e) ++ cond (test e) (e ∷ []) []
 filter_more_before test e = ap (filter test) (before_more e) ∙ filter-append test (before e) (e ∷ [])
 
-no_some : (a : ℕ) → Some a ≡ None → ⊥
-no_some a h = cc
-
 -- where none is found, none passes
 pub find_none : (test : ℕ → Bool) (a n : ℕ) → find test (range_with_len a n) ≡ None → (j : ℕ) → a ≤ j → j < a + n → test j ≡ false
 find_none test a n h j low high =
@@ -65,16 +62,12 @@ none_found test a (suc n) h =
 -- the first one that passes
 pub find_first_is : (test : ℕ → Bool) (a n j : ℕ) → find test (range_with_len a n) ≡ Some j
     → (a ≤ j) × (j < a + n) × (test j ≡ true) × ((k : ℕ) → a ≤ k → k < j → test k ≡ false)
-find_first_is test a zero j h = absurd (no_some j (sym h))
+find_first_is test a zero j h = absurd (none-some j h)
 find_first_is test a (suc n) j h =
     elim (cases_Bool (test a)) [
       | inl passes ↦
-          let here : a ≡ j = same_Some a j (sym (cond-true (test a) (Some a) (find test (range_with_len (a + 1) n)) passes) ∙ h) in (
-            omega arith,
-            omega arith,
-            ap test (sym here) ∙ passes,
-            λ k low high. absurd (omega arith),
-          )
+          let here : a ≡ j = same_Some a j (sym (cond-true (test a) (Some a) (find test (range_with_len (a + 1) n)) passes) ∙ h) in
+          (omega arith, omega arith, ap test (sym here) ∙ passes, λ k low high. absurd (omega arith))
       | inr fails ↦
           let rest = find_first_is test (a + 1) n j (sym (cond-false (test a) (Some a) (find test (range_with_len (a + 1) n)) fails) ∙ h) in (
             omega (arith, rest.0),
@@ -87,16 +80,13 @@ find_first_is test a (suc n) j h =
 -- the last one that passes
 pub find_last_is : (test : ℕ → Bool) (e j : ℕ) → find test (reverse (before e)) ≡ Some j
     → (j < e) × (test j ≡ true) × ((k : ℕ) → j < k → k < e → test k ≡ false)
-find_last_is test zero j h = absurd (no_some j (sym h))
+find_last_is test zero j h = absurd (none-some j h)
 find_last_is test (suc e) j h =
     let now : find test (reverse (before (e + 1))) ≡ Some j = rw (add-one e) h in
     elim (cases_Bool (test e)) [
       | inl passes ↦
-          let here : e ≡ j = same_Some e j (sym (find_last_yes test e passes) ∙ now) in (
-            omega arith,
-            ap test (sym here) ∙ passes,
-            λ k low high. absurd (omega arith),
-          )
+          let here : e ≡ j = same_Some e j (sym (find_last_yes test e passes) ∙ now) in
+          (omega arith, ap test (sym here) ∙ passes, λ k low high. absurd (omega arith))
       | inr fails ↦
           let rest = find_last_is test e j (sym (find_last_no test e fails) ∙ now) in (
             omega (arith, rest.0),
@@ -111,7 +101,7 @@ find_last_none test zero h k low = absurd (omega arith)
 find_last_none test (suc e) h k low =
     let now : find test (reverse (before (e + 1))) ≡ None = rw (add-one e) h in
     elim (cases_Bool (test e)) [
-      | inl passes ↦ absurd (no_some e (sym (find_last_yes test e passes) ∙ now))
+      | inl passes ↦ absurd (none-some e (sym now ∙ find_last_yes test e passes))
       | inr fails ↦
           elim (cases_eq k e) [
             | inl same ↦ ap test same ∙ fails

@@ -5,7 +5,7 @@ use Rattle.std.specs.Option.{option_or}
 use Rattle.std.proofs.lemmas.Bool.{eqb-true, cases_eq, cases_lt, cases_order, and_parts, and_from, and_left, and_right, ne_eqb, cond-true, cond-false, false_from_ne_true}
 use Rattle.std.proofs.lemmas.List.{get_or-replicate, get_or_default, length-replicate}
 use Rattle.std.proofs.lemmas.List.Folds.{find-append}
-use Rattle.std.proofs.lemmas.Option.{slice_get-get_or, slice_get_within}
+use Rattle.std.proofs.lemmas.Option.{same_Some, slice_get-get_or, slice_get_within}
 use Rattle.rapid_text.specs.Operations.{is_acquire, is_release}
 use Rattle.rapid_text.specs.Recording.{Recording}
 use Rattle.rapid_text.specs.declared.event.Event.{Event}
@@ -60,15 +60,11 @@ section_by-same : (T : List Event) (i e t : ℕ) (op : Op) → ((l : ℕ) → op
 section_by-same T i e t (Acquire l) h = not_later T i e t l (h l refl)
 section_by-same T i e t op h = refl
 
+-- event i ends no section of e
 section_of-same : (T : List Event) (i e : ℕ) (o : Option Event) → ((v : Event) (l : ℕ) → o ≡ Some v → v.op ≡ Acquire l → EndsNot T i e v.thread l)
     → section_of T i e o ≡ section_of T (i + 1) e o
 section_of-same T i e None h = refl
 section_of-same T i e (Some v) h = section_by-same T i e v.thread v.op (λ l op. h v l refl op)
-
--- event i ends no section of e
-end_before-same : (T : List Event) (i e : ℕ) → ((v : Event) (l : ℕ) → slice_get T e ≡ Some v → v.op ≡ Acquire l → EndsNot T i e v.thread l)
-    → end_before T i e ≡ end_before T (i + 1) e
-end_before-same T i e h = section_of-same T i e (slice_get T e) h
 
 -- ---- when a section is open
 
@@ -101,31 +97,21 @@ ends_not T i e t l v at h =
     and_left (passes_at (λ w. frees w t l) T i) (eqb (hold_count (take (i + 1) T) t l) (hold_count (take e T) t l))
     (passes_here (λ w. frees w t l) T i v at ∙ h)
 
--- an acquire stays open while its thread holds the lock more often than before it
-IsOpen-more : (T : List Event) (i t l d a : ℕ) → IsOpen T i t l d a → d < hold_count (take (i + 1) T) t l → IsOpen T (i + 1) t l d a
-IsOpen-more T i t l d a was more =
-    let early : a < i + 1 = omega (arith, was.early) in
-    record {
-      early = early;
-      acquire = was.acquire;
-      depth = was.depth;
-      above = λ j low high.
-          elim (cases_eq j (i + 1)) [
-            | inl same ↦ rw same more
-            | inr other ↦ was.above j low (omega arith)
-          ];
-    }
-
--- and so does a stack of them
+-- a stack of acquires stays open while its thread holds the lock as often
 stack_more : (T : List Event) (outer later : List (Option ℕ)) (i t l d : ℕ) (top : Option ℕ)
     → ((a : ℕ) → a < i → get_or outer a None ≡ get_or later a None) → d ≤ hold_count (take (i + 1) T) t l → IsStack T outer i t l d top
     → IsStack T later (i + 1) t l d top
 stack_more T outer later i t l zero top same more stack = stack
-stack_more T outer later i t l (suc d) top same more stack = (
-  stack.0,
-  stack.1,
-  IsOpen-more T i t l d stack.0 stack.2 (omega arith),
-  rw (← same stack.0 stack.2.early) (stack_more T outer later i t l d (get_or outer stack.0 None) same (omega arith) stack.3),
+stack_more T outer later i t l (suc d) top same more (a, is, was, below) = (
+  a,
+  is,
+  record {
+    early = omega (arith, was.early);
+    acquire = was.acquire;
+    depth = was.depth;
+    above = λ j low high. elim (cases_eq j (i + 1)) [ inl last ↦ rw last (omega arith) | inr other ↦ was.above j low (omega arith) ];
+  },
+  rw (← same a was.early) (stack_more T outer later i t l d (get_or outer a None) same (omega arith) below),
 )
 
 -- what holds of a lock that an event leaves alone
@@ -207,7 +193,7 @@ begun_held T rules outer top i lock v at op within known l held =
 pub begun_ends : (T : List Event) (i lock n : ℕ) (v : Event) (ends : List (Option ℕ)) → slice_get T i ≡ Some v → v.op ≡ Acquire lock
     → IsTable (end_before T i) n ends → IsTable (end_before T (i + 1)) n ends
 begun_ends T i lock n v ends at op table =
-    IsTable-like (end_before T i) (end_before T (i + 1)) n ends table (λ e within. end_before-same T i e (λ w l there acquire early unended.
+    IsTable-like (end_before T i) (end_before T (i + 1)) n ends table (λ e within. section_of-same T i e (slice_get T e) (λ w l there acquire early unended.
     ends_not T i e w.thread l v at (acquire_frees_not v w.thread l lock op)))
 
 -- a release of l, and the acquire a whose section it ends
@@ -231,22 +217,11 @@ ending T rules outer i l v top at op held =
     let t = v.thread in
     let has : 0 < hold_count (take i T) t l = rules.releases_held i l v at op in
     let freed : hold_count (take (i + 1) T) t l + 1 ≡ hold_count (take i T) t l = hold_freed T rules i t l v at (release_takes_not v t l l op) (frees_from v t l refl op) in
-    let mine : held.holder ≡ t = elim (cases_eq held.holder t) [
-      | inl same ↦ same
-      | inr other ↦ absurd (omega (arith, held.others t (λ e. other (sym e))))
-    ] in
+    let mine : held.holder ≡ t = elim (cases_eq held.holder t) [ inl same ↦ same | inr other ↦ absurd (omega (arith, held.others t (λ e. other (sym e)))) ] in
     let stack : IsStack T outer i t l (hold_count (take i T) t l) top = rw (← mine) held.stack in
-    let found = top_of T outer i t l (hold_count (take i T) t l) top has stack in (
-      found.2.0,
-      record {
-        d = found.0;
-        is_top = found.2.1;
-        is_open = found.2.2;
-        below = found.2.3;
-        others = λ u other. held.others u (λ e. other (e ∙ mine));
-        after = omega (arith, freed, found.1);
-      },
-    )
+    let (d, count, (a, is, was, below)) = top_of T outer i t l (hold_count (take i T) t l) top has stack in
+    let after : hold_count (take (i + 1) T) t l ≡ d = omega (arith, freed, count) in
+    (a, record { d = d; is_top = is; is_open = was; below = below; others = λ u other. held.others u (λ e. other (e ∙ mine)); after = after })
 
 -- the locks after a release
 ended_held : (T : List Event) → (outer top : List (Option ℕ)) (i lock a : ℕ) (v : Event) → slice_get T i ≡ Some v → v.op ≡ Release lock
@@ -307,18 +282,16 @@ end_found T outer i l a v top at op end =
     ap (section_of T (i + 1) a) was.acquire ∙ find_more test a i was.early ∙ ap (λ o. option_or o (cond (test i) (Some i) None)) none
     ∙ cond-true (test i) (Some i) None now
 
-same_release : (m l : ℕ) → Release m ≡ Release l → m ≡ l
-same_release m l e = cc
-
 -- a release ends no other section
 ends_no_other : (T : List Event) → IsDisciplined T → (outer : List (Option ℕ)) (i l a : ℕ) (v : Event) (top : Option ℕ) → slice_get T i ≡ Some v
     → v.op ≡ Release l → Ending T outer i l v top a → (e : ℕ) → e ≢ a → end_before T i e ≡ end_before T (i + 1) e
 ends_no_other T rules outer i l a v top at op end e other =
     let within = slice_get_within T i v at in
-    end_before-same T i e (λ w m there acquire early unended. false_from_ne_true (is_end T e w.thread m i) (λ h.
+    section_of-same T i e (slice_get T e) (λ w m there acquire early unended. false_from_ne_true (is_end T e w.thread m i) (λ h.
     let parts = and_parts (passes_at (λ u. frees u w.thread m) T i) (eqb (hold_count (take (i + 1) T) w.thread m) (hold_count (take e T) w.thread m)) h in
     let is = frees_is v w.thread m (sym (passes_here (λ u. frees u w.thread m) T i v at) ∙ parts.0) in
-    let locks : m ≡ l = same_release m l (sym is.1 ∙ op) in
+    let one : Release m ≡ Release l = sym is.1 ∙ op in
+    let locks : m ≡ l = cc in
     let threads : w.thread ≡ v.thread = sym is.0 in
     let back : hold_count (take (i + 1) T) w.thread m ≡ hold_count (take e T) w.thread m = eqb-true _ _ parts.1 in
     let mine : hold_count (take (i + 1) T) v.thread l ≡ hold_count (take e T) v.thread l =
@@ -332,9 +305,7 @@ pub ended : (T : List Event) → IsDisciplined T → (ends outer top : List (Opt
     → v.op ≡ Release lock → lock < length top → IsTable (end_before T i) n ends → IsHeld T outer i lock (get_or top lock None)
     → (a : ℕ) × (get_or top lock None ≡ Some a) × (a < i) × IsTable (end_before T (i + 1)) n (set ends a (Some i)) × ((l : ℕ) → IsHeld T outer i l (get_or top l None) → IsHeld T outer (i + 1) l (get_or (set top lock (get_or outer a None)) l None))
 ended T rules ends outer top i lock n v at op known table held =
-    let found = ending T rules outer i lock v (get_or top lock None) at op held in
-    let a = found.0 in
-    let end = found.1 in (
+    let (a, end) = ending T rules outer i lock v (get_or top lock None) at op held in (
       a,
       end.is_top,
       end.is_open.early,
@@ -355,7 +326,7 @@ passed_by r i v known at off was =
     let frees_no : (t l : ℕ) → frees v t l ≡ false = λ t l. and_right (eqb v.thread t) (is_release l v.op) (IsApartFrom-rest v.op off l).1 in
     record {
       ends = IsTable-like (end_before r.events i) (end_before r.events (i + 1)) (length r.events) known.ends.items was.ends
-          (λ e within. end_before-same r.events i e (λ w l there acquire early unended. ends_not r.events i e w.thread l v at (frees_no w.thread l)));
+          (λ e within. section_of-same r.events i e (slice_get r.events e) (λ w l there acquire early unended. ends_not r.events i e w.thread l v at (frees_no w.thread l)));
       outer = was.outer;
       top = was.top;
       held = λ l within. held_same r.events known.outer.items known.outer.items i l v (get_or known.top.items l None) at (λ a lt. refl)
@@ -400,3 +371,12 @@ top_found r rules i lock known release within was x is =
       found.3,
       λ l inside. found.4 l (was.held l inside),
     )
+
+-- the same of the acquire that is read
+pub top_read : (r : Recording) → IsDisciplined r.events → (i lock : ℕ) (known : Open) → HasOp r.events i (Release lock) → lock < length r.locks
+    → AreOpen r i known → (x : Option ℕ) → x ≡ get_or known.top.items lock x → (b : ℕ) → x ≡ Some b
+    → (b < i) × IsTable (end_before r.events (i + 1)) (length r.events) (set known.ends.items b (Some i)) × ((l : ℕ) → l < length r.locks → IsHeld r.events known.outer.items (i + 1) l (get_or (set known.top.items lock (get_or known.outer.items b None)) l None))
+top_read r rules i lock known release within was x is b read =
+    let (a, top, low, ends, held) = top_found r rules i lock known release within was x is in
+    let same : a ≡ b = same_Some a b (sym top ∙ read) in
+    rw (← same) (low, ends, held)
