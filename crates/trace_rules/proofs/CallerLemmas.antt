@@ -1,15 +1,18 @@
 -- What the rules say of a list of events, for the crates above: a list that keeps them has no first
 -- breach and the other way round; what a first breach says; and who holds a lock.
-use Rattle.std.proofs.Common.{◌≡◌, ◌≢◌, ℕ, zero, suc, ◌+◌, ◌-◌, ◌<◌, ◌≤◌, ◌==◌, Bool, true, false, ◌||◌, cond, List, [], ◌∷◌, ◌++◌, length, take, slice_get, option_and_then, Option, Some, None, refl, sym, ap, ◌∙◌, arith, add-one, eq-eqb, ne_eqb, inl, inr}
+use Rattle.std.proofs.Common.{◌≡◌, ◌≢◌, ℕ, zero, suc, ◌+◌, ◌-◌, ◌<◌, ◌≤◌, ◌==◌, Bool, true, false, ◌||◌, cond, List, [], ◌∷◌, ◌++◌, length, take, get_or, slice_get, Option, Some, None, refl, sym, ap, ◌∙◌, arith, add-one, eq-eqb, ne_eqb, inl, inr}
 use Rattle.std.specs.List.{list_any}
+use Rattle.std.specs.Prelude.{option_map}
 use Rattle.std.proofs.lemmas.Bool.{cases_Bool, cases_lt, or_left, or_right, or_from, true≢false, false_from_ne_true, eqb-false}
-use Rattle.std.proofs.lemmas.Option.{none-some, same_Some, slice_get_within, slice_get-get_or}
-use Rattle.std.proofs.lemmas.List.{take_all}
+use Rattle.std.proofs.lemmas.Option.{none-some, same_Some, slice_get_within, slice_get-get_or, get_or_from_slice_get}
+use Rattle.std.proofs.lemmas.List.{take_all, get_or-take, length-take}
+use Rattle.std.proofs.lemmas.List.Folds.{list_any_at, list_any_none}
+use Rattle.rapid_text.proofs.CallerLemmas.{nil-from_no_first, nothing_found, none-from_nothing, first_found, is_first_found}
 use Rattle.rapid_text.specs.Operations.{is_acquire, is_release, is_fork, is_join}
 use Rattle.rapid_text.specs.declared.event.Event.{Event}
 use Rattle.rapid_text.specs.declared.event.Op.{Op}
 use Rattle.rapid_text.specs.declared.event.Op.TheVariants.{Read, Write, Acquire, Release, Fork, Join}
-use Rattle.trace_rules.specs.Rules.{IsDisciplined, IsFirstBreach, acquire_count, release_count, hold_count, breach_of_op, breach_of, breach_at, first_breach}
+use Rattle.trace_rules.specs.Rules.{IsDisciplined, IsFirstBreach, refusal_at, breaches_of, acquire_count, release_count, hold_count, breach_of_op, breach_at, first_breach}
 use Rattle.trace_rules.specs.Tables.{IsHoldOf}
 use Rattle.trace_rules.specs.declared.hold.Hold.{Hold}
 use Rattle.trace_rules.specs.declared.refusal.RuleCause.{RuleCause}
@@ -18,23 +21,76 @@ use Rattle.trace_rules.specs.declared.refusal.RuleRefusal.{RuleRefusal}
 -- an operation that passes a test is of that kind
 pub use Rattle.rapid_text.proofs.CallerLemmas.{read-from_test, write-from_test, acquire-from_test, release-from_test, fork-from_test, join-from_test}
 use Rattle.trace_rules.proofs.Counts.{is_held_by_another, is_held_by_another-false, hold_count-other}
-use Rattle.trace_rules.proofs.FirstBreach.{HasNoBreach, first_breach-from_first, first_breach-from_none, none-from_first_breach, first-from_first_breach}
 use Rattle.trace_rules.proofs.HoldLemmas.{hold_count-IsHoldOf, owner-from_depth, depth-above, IsHoldOf-acquire, IsHoldOf-release, IsHoldOf-last, IsHoldOf-other, IsOpenFor-from_none, owner-from_none}
-use Rattle.trace_rules.proofs.TableLemmas.{take-event, cond-from_none, breach_at-event, breach_of_op-own_fork, breach_of_op-own_join}
+use Rattle.trace_rules.proofs.TableLemmas.{take-event, cond-from_none, breach_at-event}
+
+-- the refusal for an event with this breach
+abbrev refused_for : ℕ → Option RuleCause → Option RuleRefusal
+refused_for i breach = option_map (λ why. record { event = i; why = why }) breach
+
+no_refusal : (i : ℕ) (breach : Option RuleCause) → refused_for i breach ≡ None → breach ≡ None
+no_refusal i None is = refl
+no_refusal i (Some why) is = absurd (none-some _ (sym is))
+
+refusal_is : (i : ℕ) (breach : Option RuleCause) (r : RuleRefusal) → refused_for i breach ≡ Some r → (r.event ≡ i) × (breach ≡ Some r.why)
+refusal_is i None r is = absurd (none-some r is)
+refusal_is i (Some why) r is =
+    let same : record { event = i; why = why } ≡ r = same_Some (record { event = i; why = why }) r is in
+    (sym (ap (λ (q : RuleRefusal). q.event) same), ap (λ (q : RuleRefusal). Some q.why) same)
+
+-- no event breaks a rule
+abbrev pub HasNoBreach : List Event → Type 0
+HasNoBreach T = (j : ℕ) → j < length T → breach_at T j ≡ None
+
+module _ (T : List Event) where
+  -- an event that is the first to break a rule is the first breach
+  pub is_first-first_breach : (r : RuleRefusal) → IsFirstBreach T r → first_breach T ≡ Some r
+  unfolding first_breach
+  is_first-first_breach r is =
+      first_found (refusal_at T) 0 (length T) r (record {
+        place = r.event;
+        low = omega arith;
+        high = omega (arith, is.within);
+        here = ap (refused_for r.event) is.breach;
+        before = λ j low less. ap (refused_for j) (is.before j less);
+      })
+
+  pub first_breach-from_none : HasNoBreach T → first_breach T ≡ None
+  unfolding first_breach
+  first_breach-from_none none =
+      ap (λ rs. slice_get rs 0) (nothing_found (refusal_at T) 0 (length T) (λ j low less. ap (refused_for j) (none j (omega arith))))
+
+  -- where there is no first breach, no event breaks a rule
+  pub none-from_first_breach : first_breach T ≡ None → HasNoBreach T
+  unfolding first_breach
+  none-from_first_breach is j less =
+      no_refusal j (breach_at T j) (none-from_nothing (refusal_at T) 0 (length T) (nil-from_no_first (breaches_of T) is) j (omega arith) (omega arith))
+
+  -- what the first breach says
+  pub first_breach-is_first : (r : RuleRefusal) → first_breach T ≡ Some r → IsFirstBreach T r
+  unfolding first_breach
+  first_breach-is_first r is =
+      let found = is_first_found (refusal_at T) 0 (length T) r is in
+      let here = refusal_is found.place (breach_at T found.place) r found.here in
+      record {
+        within = omega (arith, here.0, found.high);
+        breach = ap (breach_at T) here.0 ∙ here.1;
+        before = λ j less. no_refusal j (breach_at T j) (found.before j (omega arith) (omega (arith, here.0)));
+      }
 
 module _ (p : Event → Bool) where
   -- an event that passes stands among the first j where it stands below j
   list_any_before : (T : List Event) (i j : ℕ) (d : Event) → i < j → slice_get T i ≡ Some d → p d ≡ true → list_any p (take j T) ≡ true
-  list_any_before [] i j d less at passes = absurd (none-some d at)
-  list_any_before (x ∷ T) i zero d less at passes = absurd (omega arith)
-  list_any_before (x ∷ T) zero (suc j) d less at passes = or_left (p x) (list_any p (take j T)) (ap p (same_Some x d at) ∙ passes)
-  list_any_before (x ∷ T) (suc i) (suc j) d less at passes = or_right (p x) (list_any p (take j T)) (list_any_before T i j d (omega arith) at passes)
+  list_any_before T i j d less at passes =
+      let low : i < length (take j T) = omega (arith, less, slice_get_within T i d at, length-take j T) in
+      list_any_at p (take j T) i d low (rw (get_or-take j T i d less, get_or_from_slice_get T i d d at) passes)
 
   -- where no event below j passes
   none_before : (T : List Event) (j : ℕ) → ((i : ℕ) (d : Event) → i < j → slice_get T i ≡ Some d → p d ≡ false) → list_any p (take j T) ≡ false
-  none_before T zero none = refl
-  none_before [] (suc j) none = refl
-  none_before (x ∷ T) (suc j) none = or_from (p x) (list_any p (take j T)) (none zero x (omega arith) refl) (none_before T j (λ i d less at. none (suc i) d (omega arith) at))
+  none_before T j none =
+      list_any_none p (take j T) (λ k d low.
+      let less : (k < j) × (k < length T) = (omega (arith, low, length-take j T), omega (arith, low, length-take j T)) in
+      rw (get_or-take j T k d less.0) (none k (get_or T k d) less.0 (slice_get-get_or T k d less.1)))
 
 -- what a fork that breaks no rule says
 fork_parts : (es : List Event) (t u : ℕ) → breach_of_op es t (Fork u) ≡ None
@@ -62,8 +118,8 @@ IsDisciplined-from_none T none =
       no_event_after_join = λ i j d e less there here is.
           let joined = list_any_before (λ d. is_join e.thread d.op) T i j d less there (ap (is_join e.thread) is ∙ eq-eqb e.thread e.thread refl) in
           true≢false (sym joined ∙ (event_parts T none j e here).0);
-      no_own_fork = λ j e here is. none-some OwnThread (sym (kept j e here (Fork e.thread) is) ∙ breach_of_op-own_fork (take j T) e.thread e.thread refl);
-      no_own_join = λ j e here is. none-some OwnThread (sym (kept j e here (Join e.thread) is) ∙ breach_of_op-own_join (take j T) e.thread e.thread refl);
+      no_own_fork = λ j e here is. none-some OwnThread (sym (rw (eq-eqb e.thread e.thread refl) at (kept j e here (Fork e.thread) is)));
+      no_own_join = λ j e here is. none-some OwnThread (sym (rw (eq-eqb e.thread e.thread refl) at (kept j e here (Join e.thread) is)));
       no_second_fork = λ i j u d e less there here fork is.
           let forked = list_any_before (λ e. is_fork u e.op) T i j d less there (ap (is_fork u) is ∙ eq-eqb u u refl) in
           true≢false (sym forked ∙ (parts j u e here fork).1);
@@ -108,12 +164,8 @@ module _ (T : List Event) (is : IsDisciplined T) (j : ℕ) (e : Event) (here : s
   event_keeps = breach_at-event T j e here ∙ ap (λ b. cond b (Some AfterJoin) (breach_of_op (take j T) e.thread e.op)) running ∙ op_keeps e.op refl
 
 -- in a list that keeps the rules, no event breaks one
-breach_at-cases : (T : List Event) → IsDisciplined T → (j : ℕ) (o : Option Event) → slice_get T j ≡ o → breach_at T j ≡ None
-breach_at-cases T is j None at = ap (option_and_then (breach_of (take j T))) at
-breach_at-cases T is j (Some e) at = event_keeps T is j e at
-
 pub none-from_IsDisciplined : (T : List Event) → IsDisciplined T → HasNoBreach T
-none-from_IsDisciplined T is j within = breach_at-cases T is j (slice_get T j) refl
+none-from_IsDisciplined T is j within = event_keeps T is j _ (slice_get-get_or T j (record { thread = 0; op = Read 0 }) within)
 
 -- a list keeps the rules exactly where it has no first breach
 pub disciplined-no_breach : (T : List Event) → IsDisciplined T → first_breach T ≡ None
@@ -126,14 +178,6 @@ no_breach-disciplined T is = IsDisciplined-from_none T (none-from_first_breach T
 pub undisciplined-from_breach : (T : List Event) (j : ℕ) (why : RuleCause) → j < length T → breach_at T j ≡ Some why → ¬ IsDisciplined T
 undisciplined-from_breach T j why within breach is = none-some why (sym (none-from_IsDisciplined T is j within) ∙ breach)
 
--- a first breach is of an event, is its first breach, and no earlier event has one
-pub first_breach-is_first : (T : List Event) (r : RuleRefusal) → first_breach T ≡ Some r → IsFirstBreach T r
-first_breach-is_first T r is = first-from_first_breach T r is
-
--- and where an event is the first that breaks a rule, it is the first breach
-pub is_first-first_breach : (T : List Event) (r : RuleRefusal) → IsFirstBreach T r → first_breach T ≡ Some r
-is_first-first_breach T r is = first_breach-from_first T r is
-
 -- past the end nothing is added
 take-past : (T : List Event) (j : ℕ) → slice_get T j ≡ None → take j T ≡ take (j + 1) T
 take-past T j past =
@@ -144,14 +188,8 @@ take-past T j past =
 
 -- The holds of a lock after events that break no rule: some table's hold says them.
 module _ (T : List Event) (none : HasNoBreach T) (l : ℕ) where
-  hold_after_release : (j : ℕ) (e : Event) (h : Hold) → IsHoldOf (take j T) l h → e.op ≡ Release l
-      → h.owner ≡ Some e.thread → (after : Hold) × IsHoldOf (take j T ++ e ∷ []) l after
-  hold_after_release j e h is op owned =
-      let above : 0 < h.depth = depth-above h.owner h.depth e.thread is.depth owned in
-      elim (cases_lt 1 h.depth) [
-        | inl deep ↦ (record { owner = Some e.thread; depth = h.depth - 1 }, IsHoldOf-release (take j T) l e h is op owned deep)
-        | inr last ↦ (record { owner = None; depth = 0 }, IsHoldOf-last (take j T) l e h is op owned (record { owner = None; depth = 0 }) (omega arith) (record { counts = λ t. refl; depth = refl }))
-      ]
+  unheld : (h : Hold) × IsHoldOf [] l h
+  unheld = (record { owner = None; depth = 0 }, record { counts = λ t. refl; depth = refl })
 
   -- past an event e
   hold_after : (j : ℕ) (e : Event) (h : Hold) → slice_get T j ≡ Some e → IsHoldOf (take j T) l h → (after : Hold) × IsHoldOf (take j T ++ e ∷ []) l after
@@ -163,7 +201,13 @@ module _ (T : List Event) (none : HasNoBreach T) (l : ℕ) where
         | inr keeps ↦ elim (cases_Bool (is_release l e.op)) [
           | inl lets ↦
               let op : e.op ≡ Release l = release-from_test l e.op lets in
-              hold_after_release j e h is op (owner-from_none (take j T) l h is e.thread (op_breach T none j e here (Release l) op))
+              let owned = owner-from_none (take j T) l h is e.thread (op_breach T none j e here (Release l) op) in
+              elim (cases_lt 1 h.depth) [
+                | inl deep ↦ (record { owner = Some e.thread; depth = h.depth - 1 }, IsHoldOf-release (take j T) l e h is op owned deep)
+                | inr last ↦
+                    let one : h.depth ≡ 1 = omega (arith, last, depth-above h.owner h.depth e.thread is.depth owned) in
+                    (unheld.0, IsHoldOf-last (take j T) l e h is op owned unheld.0 one unheld.1)
+              ]
           | inr stays ↦ (h, IsHoldOf-other (take j T) l e h is keeps stays)
         ]
       ]
@@ -175,7 +219,7 @@ module _ (T : List Event) (none : HasNoBreach T) (l : ℕ) where
       (after.0, rw (take-event T j e here) after.1)
 
   hold_up_to : (j : ℕ) → (h : Hold) × IsHoldOf (take j T) l h
-  hold_up_to zero = (record { owner = None; depth = 0 }, record { counts = λ t. refl; depth = refl })
+  hold_up_to zero = unheld
   hold_up_to (suc j) = rw (← add-one j) (hold_past j (slice_get T j) refl (hold_up_to j))
 
 module _ (T : List Event) (is : IsDisciplined T) (j t l : ℕ) where
@@ -184,10 +228,6 @@ module _ (T : List Event) (is : IsDisciplined T) (j t l : ℕ) where
   release_count-le =
       let held = hold_up_to T (none-from_IsDisciplined T is) l j in
       omega (arith, held.1.counts t)
-
-  -- so its acquires are its releases and its holds
-  pub acquire_count-split : acquire_count (take j T) t l ≡ release_count (take j T) t l + hold_count (take j T) t l
-  acquire_count-split = omega (arith, release_count-le)
 
   -- at most one thread holds a lock
   pub one_holder : (u : ℕ) → 0 < hold_count (take j T) t l → 0 < hold_count (take j T) u l → t ≡ u

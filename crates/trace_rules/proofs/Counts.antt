@@ -58,10 +58,6 @@ pub list_any-or : {X : Type 0} (p q : X → Bool) (xs : List X) → list_any (λ
 list_any-or p q [] = refl
 list_any-or p q (x ∷ xs) = ap (λ b. (p x || q x) || b) (list_any-or p q xs) ∙ or_swap (p x) (q x) (list_any p xs) (list_any q xs)
 
--- nothing follows a test that fails
-pub and-false : (a b : Bool) → b ≡ false → (a && b) ≡ false
-and-false a b h = and_right a b h
-
 -- a test that holds leaves the other
 pub and-true : (a b : Bool) → b ≡ true → (a && b) ≡ a
 and-true true b h = h
@@ -76,7 +72,7 @@ count_yes p es e t so =
 pub count_no : (p : Op → Bool) (es : List Event) (e : Event) (t : ℕ) → p e.op ≡ false
     → count_by (λ d. d.thread == t && p d.op) (es ++ e ∷ []) ≡ count_by (λ d. d.thread == t && p d.op) es
 count_no p es e t fails =
-    count_by_push (λ d. d.thread == t && p d.op) es e ∙ ap (λ b. count_by (λ d. d.thread == t && p d.op) es + cond b 1 0) (and-false (e.thread == t) (p e.op) fails)
+    count_by_push (λ d. d.thread == t && p d.op) es e ∙ ap (λ b. count_by (λ d. d.thread == t && p d.op) es + cond b 1 0) (and_right (e.thread == t) (p e.op) fails)
     ∙ omega arith
 
 -- the test that another thread than t holds the lock

@@ -1,5 +1,5 @@
 -- The tables at an event, and past it.
-use Rattle.std.proofs.Common.{◌≡◌, ◌≢◌, ℕ, ◌+◌, ◌<◌, ◌==◌, Bool, true, false, ◌||◌, ◌⊎◌, cond, List, [], ◌∷◌, ◌++◌, length, take, get_or, set, slice_get, option_and_then, Option, Some, None, refl, sym, ap, ◌∙◌, subst, arith, eq-eqb, ne_eqb, inl, inr}
+use Rattle.std.proofs.Common.{◌≡◌, ◌≢◌, ℕ, ◌+◌, ◌<◌, Bool, true, false, ◌⊎◌, cond, List, [], ◌∷◌, ◌++◌, length, take, get_or, set, slice_get, option_and_then, Option, Some, None, refl, sym, ap, ◌∙◌, subst, arith, ne_eqb, inl, inr}
 use Rattle.std.proofs.lemmas.List.{take_more}
 use Rattle.std.proofs.lemmas.Option.{none-some, slice_get_read, slice_get_within, get_or_from_slice_get}
 use Rattle.std.specs.List.{list_any}
@@ -14,7 +14,7 @@ use Rattle.trace_rules.specs.declared.hold.Hold.{Hold}
 use Rattle.trace_rules.specs.declared.life.Life.{Life}
 use Rattle.trace_rules.specs.declared.state.State.{State}
 use Rattle.trace_rules.specs.declared.refusal.RuleCause.{RuleCause}
-use Rattle.trace_rules.specs.declared.refusal.RuleCause.TheVariants.{ForkTwice, ForkLate, OwnThread, AfterJoin}
+use Rattle.trace_rules.specs.declared.refusal.RuleCause.TheVariants.{AfterJoin}
 use Rattle.trace_rules.proofs.Counts.{slice_get-set}
 use Rattle.trace_rules.proofs.HoldLemmas.{IsHoldOf-other, IsOpenFor-from_none, owner-from_none}
 
@@ -85,17 +85,6 @@ module _ (r : Recording) (i : ℕ) (s : State) (is : IsStateOf r i s) where
       let unjoined = sym (life_at e.thread x within read).was_joined ∙ running in
       breach_at-event r.events i e here ∙ ap (λ b. cond b (Some AfterJoin) (breach_of_op (take i r.events) e.thread e.op)) unjoined
       ∙ ap (breach_of_op (take i r.events) e.thread) does
-
--- a fork or join of the own thread
-pub breach_of_op-own_fork : (es : List Event) (t u : ℕ) → u ≡ t → breach_of_op es t (Fork u) ≡ Some OwnThread
-breach_of_op-own_fork es t u same =
-    ap (λ b. cond b (Some OwnThread) (cond (list_any (λ e. is_fork u e.op) es) (Some ForkTwice) (cond (list_any (λ e. e.thread == u || is_join u e.op) es) (Some ForkLate) None))) (eq-eqb u t same)
-
-pub breach_of_op-own_join : (es : List Event) (t u : ℕ) → u ≡ t → breach_of_op es t (Join u) ≡ Some OwnThread
-breach_of_op-own_join es t u same = ap (λ b. cond b (Some OwnThread) None) (eq-eqb u t same)
-
-pub breach_of_op-join : (es : List Event) (t u : ℕ) → u ≢ t → breach_of_op es t (Join u) ≡ None
-breach_of_op-join es t u other = ap (λ b. cond b (Some OwnThread) None) (ne_eqb u t other)
 
 -- what is no operation on the lock
 abbrev pub IsApartFrom : ℕ → Op → Type 0

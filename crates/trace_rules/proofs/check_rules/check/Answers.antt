@@ -1,13 +1,12 @@
 use Rattle.std.proofs.Common.{◌≡◌, ◌<◌, length, None, inr, sym, ◌∙◌, arith, below_more}
 use Rattle.trace_rules.specs.Rules.{breach_at}
-use Rattle.trace_rules.proofs.CallerLemmas.{IsDisciplined-from_none, undisciplined-from_breach}
-use Rattle.trace_rules.proofs.FirstBreach.{first_breach-from_first, first_breach-from_none}
+use Rattle.trace_rules.proofs.CallerLemmas.{IsDisciplined-from_none, undisciplined-from_breach, is_first-first_breach, first_breach-from_none}
 use Rattle.trace_rules.proofs.check_rules.check.Goals as goal
 
 pub returns-in-Some-clause-refused : goal.returns-in-Some-clause-refused
 returns-in-Some-clause-refused c =
     let within : c.loop-event.event < length c.args.raw.events = omega (arith, c.loop-event-test.true, c.len-event-end.ensures.len) in
-    inr (first_breach-from_first _ _ (record { within = within; breach = sym c.breach.ensures ∙ c.in-Some.is; before = c.loop-event.invariant.kept }))
+    inr (is_first-first_breach _ _ (record { within = within; breach = sym c.breach.ensures ∙ c.in-Some.is; before = c.loop-event.invariant.kept }))
 
 pub returns-in-Some-clause-undisciplined : goal.returns-in-Some-clause-undisciplined
 returns-in-Some-clause-undisciplined c =

@@ -1,12 +1,11 @@
-use Rattle.std.proofs.Common.{◌≡◌, ◌||◌, true, sym}
+use Rattle.std.proofs.Common.{◌≡◌, ◌||◌, true, refl, sym, eq-eqb}
 use Rattle.std.proofs.lemmas.Bool.{or_left, or_right, or_from}
 use Rattle.trace_rules.proofs.LifeLemmas.{breach_of_op-fork}
-use Rattle.trace_rules.proofs.TableLemmas.{breach_of_op-own_fork}
 use Rattle.trace_rules.proofs.life.breach_of_fork.Goals as goal
 use Rattle.trace_rules.proofs.life.breach_of_fork.Goals.{then-life-2-via-then-life-2, then-life-2-via-else-life-2+then-life-3}
 
 pub returns-then-thread-by : goal.returns-then-thread-by
-returns-then-thread-by c = λ es is. sym (breach_of_op-own_fork es c.args.by c.args.thread c.if-thread-by.true)
+returns-then-thread-by c = λ es is. rw (eq-eqb c.args.thread c.args.by c.if-thread-by.true) refl
 
 pub returns-then-life : goal.returns-then-life
 returns-then-life c = λ es is. sym (rw c.if-life.true at (breach_of_op-fork es c.args.by c.args.thread c.args.life is c.if-thread-by.false))
