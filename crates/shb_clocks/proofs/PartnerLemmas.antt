@@ -23,20 +23,14 @@ one_variable x y z h k = eqb-true z y k ∙ sym (eqb-true x y h)
 read_is : (x y : ℕ) → is_access y (Read x) ≡ true → eqb x y ≡ true
 read_is x y h = elim (or_cases (eqb x y) false h) [ inl is ↦ is | inr wrong ↦ absurd (true≢false (sym wrong)) ]
 
-no_access : (h : false ≡ true) → ⊥
-no_access h = true≢false (sym h)
-
 -- what clashes with an event that is sought stands in a chain
 access_linked : (w : Bool) (x y : ℕ) (op : Op) → is_access y (sought_by w x) ≡ true → is_access y op ≡ true
     → (is_write y (sought_by w x) || is_write y op) ≡ true → linked_variable w op ≡ Some x
-access_linked true x y (Read z) h k wr = absurd (no_access wr)
+access_linked true x y (Read z) h k wr = absurd (true≢false (sym wr))
 access_linked true x y (Write z) h k wr = ap Some (one_variable x y z (read_is x y h) k)
 access_linked false x y (Read z) h k wr = ap Some (one_variable x y z h (read_is z y k))
 access_linked false x y (Write z) h k wr = ap Some (one_variable x y z h k)
-access_linked w x y op h k wr = absurd (no_access k)
-
-self : (x y : ℕ) → x ≡ y → eqb x y ≡ true
-self x y is = eq-eqb x y is
+access_linked w x y op h k wr = absurd (true≢false (sym k))
 
 -- and the other way round
 record Clashes (w : Bool) (x : ℕ) (op : Op) : Type 0 where
@@ -46,11 +40,11 @@ record Clashes (w : Bool) (x : ℕ) (op : Op) : Type 0 where
 
 linked_access : (w : Bool) (x : ℕ) (op : Op) → linked_variable w op ≡ Some x → Clashes w x op
 linked_access true x (Write z) is =
-    record { first = ap (λ b. b || false) (self x x refl); second = self z x (same_Some z x is); writes = self z x (same_Some z x is) }
+    record { first = ap (λ b. b || false) (eq-eqb x x refl); second = eq-eqb z x (same_Some z x is); writes = eq-eqb z x (same_Some z x is) }
 linked_access false x (Read z) is =
-    record { first = self x x refl; second = ap (λ b. b || false) (self z x (same_Some z x is)); writes = ap (λ b. b || false) (self x x refl) }
+    record { first = eq-eqb x x refl; second = ap (λ b. b || false) (eq-eqb z x (same_Some z x is)); writes = ap (λ b. b || false) (eq-eqb x x refl) }
 linked_access false x (Write z) is =
-    record { first = self x x refl; second = self z x (same_Some z x is); writes = ap (λ b. b || eqb z x) (self x x refl) }
+    record { first = eq-eqb x x refl; second = eq-eqb z x (same_Some z x is); writes = ap (λ b. b || eqb z x) (eq-eqb x x refl) }
 linked_access w x op is = absurd (none-some x is)
 
 -- what is no access has no partners

@@ -1,4 +1,4 @@
-use Rattle.std.proofs.Common.{arith, ◌<◌, ◌≤◌, length, ◌∙◌}
+use Rattle.std.proofs.Common.{ℕ, arith, ◌<◌, ◌≤◌, length, ◌∙◌}
 use Rattle.shb_clocks.proofs.ListedLemmas.{AreListed-room, AreFirstCandidates-full, AreFirstCandidates-all, AreFirstBelow-none}
 use Rattle.shb_clocks.proofs.PartnerLemmas.{no_partner}
 use Rattle.shb_clocks.proofs.candidates.first_candidates.Goals as goal
@@ -18,26 +18,19 @@ pub loop-first-preserved : goal.loop-first-preserved
 loop-first-preserved c =
     let i = c.loop-first.invariant in
     let room : length c.loop-first.pairs < c.args.limit = rw (← c.items.ensures) c.if-items-limit.false in
-    let of_accesses = c.pass.ensures.writes ∙ i.of_accesses in
-    let of_writes = c.pass-in-loop-first.ensures.writes ∙ i.of_writes in
-    elim c.match-sought.branch [
-      | in-Some+in_ok-seek+in_ok-list w ↦
-          record {
-            accesses = c.pass.ensures.chains;
-            of_accesses = of_accesses;
-            writes = c.pass-in-loop-first.ensures.chains;
-            of_writes = of_writes;
-            listed = rw w.pairs-is w.in_ok-list.ensures;
-          }
-      | in_default w ↦
-          record {
-            accesses = c.pass.ensures.chains;
-            of_accesses = of_accesses;
-            writes = c.pass-in-loop-first.ensures.chains;
-            of_writes = of_writes;
-            listed = rw w.pairs-is (AreFirstBelow-none c.args.indexed.now.events c.loop-first.first c.args.limit c.loop-first.pairs i.listed room (λ b. no_partner c.args.indexed.now.events c.loop-first.first b c.event-op.result c.event-op.ensures.found (c.sought.ensures.none w.in_default.is)));
-          }
-    ]
+    record {
+      accesses = c.pass.ensures.chains;
+      of_accesses = c.pass.ensures.writes ∙ i.of_accesses;
+      writes = c.pass-in-loop-first.ensures.chains;
+      of_writes = c.pass-in-loop-first.ensures.writes ∙ i.of_writes;
+      listed =
+          elim c.match-sought.branch [
+            | in-Some+in_ok-seek+in_ok-list w ↦ rw w.pairs-is w.in_ok-list.ensures
+            | in_default w ↦
+                let none = λ (b : ℕ). no_partner c.args.indexed.now.events c.loop-first.first b c.event-op.result c.event-op.ensures.found (c.sought.ensures.none w.in_default.is) in
+                rw w.pairs-is (AreFirstBelow-none c.args.indexed.now.events c.loop-first.first c.args.limit c.loop-first.pairs i.listed room none)
+          ];
+    }
 
 pub returns : goal.returns
 returns c =
