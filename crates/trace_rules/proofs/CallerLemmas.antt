@@ -1,6 +1,6 @@
 -- What the rules say of a list of events, for the crates above: a list that keeps them has no first
 -- breach and the other way round; what a first breach says; and who holds a lock.
-use Rattle.std.proofs.Common.{◌≡◌, ◌≢◌, ℕ, zero, suc, ◌+◌, ◌-◌, ◌<◌, ◌≤◌, ◌==◌, Bool, true, false, ◌||◌, cond, List, [], ◌∷◌, ◌++◌, length, take, get_or, slice_get, Option, Some, None, refl, sym, ap, ◌∙◌, arith, add-one, eq-eqb, ne_eqb, inl, inr}
+use Rattle.std.proofs.Common.{◌≡◌, ◌≢◌, ℕ, zero, suc, ◌+◌, ◌-◌, ◌<◌, ◌≤◌, ◌==◌, Bool, true, false, ◌||◌, cond, List, [], ◌∷◌, ◌++◌, length, take, get_or, slice_get, Option, Some, None, refl, sym, ap, ◌∙◌, subst, arith, add-one, eq-eqb, ne_eqb, inl, inr}
 use Rattle.std.specs.List.{list_any}
 use Rattle.std.specs.Prelude.{option_map}
 use Rattle.std.proofs.lemmas.Bool.{cases_Bool, cases_lt, or_left, or_right, or_from, true≢false, false_from_ne_true, eqb-false}
@@ -21,7 +21,7 @@ use Rattle.trace_rules.specs.declared.refusal.RuleRefusal.{RuleRefusal}
 -- an operation that passes a test is of that kind
 pub use Rattle.rapid_text.proofs.CallerLemmas.{read-from_test, write-from_test, acquire-from_test, release-from_test, fork-from_test, join-from_test}
 use Rattle.trace_rules.proofs.Counts.{is_held_by_another, is_held_by_another-false, hold_count-other}
-use Rattle.trace_rules.proofs.HoldLemmas.{hold_count-IsHoldOf, owner-from_depth, depth-above, IsHoldOf-acquire, IsHoldOf-release, IsHoldOf-last, IsHoldOf-other, IsOpenFor-from_none, owner-from_none}
+use Rattle.trace_rules.proofs.HoldLemmas.{owner-from_depth, depth-above, IsHoldOf-acquire, IsHoldOf-release, IsHoldOf-last, IsHoldOf-other, IsOpenFor-from_none, owner-from_none}
 use Rattle.trace_rules.proofs.TableLemmas.{take-event, cond-from_none, breach_at-event}
 
 -- the refusal for an event with this breach
@@ -178,14 +178,6 @@ no_breach-disciplined T is = IsDisciplined-from_none T (none-from_first_breach T
 pub undisciplined-from_breach : (T : List Event) (j : ℕ) (why : RuleCause) → j < length T → breach_at T j ≡ Some why → ¬ IsDisciplined T
 undisciplined-from_breach T j why within breach is = none-some why (sym (none-from_IsDisciplined T is j within) ∙ breach)
 
--- past the end nothing is added
-take-past : (T : List Event) (j : ℕ) → slice_get T j ≡ None → take j T ≡ take (j + 1) T
-take-past T j past =
-    elim (cases_lt j (length T)) [
-      | inl low ↦ absurd (none-some _ (sym past ∙ slice_get-get_or T j (record { thread = 0; op = Read 0 }) low))
-      | inr long ↦ take_all j T long ∙ sym (take_all (j + 1) T (omega (arith, long)))
-    ]
-
 -- The holds of a lock after events that break no rule: some table's hold says them.
 module _ (T : List Event) (none : HasNoBreach T) (l : ℕ) where
   unheld : (h : Hold) × IsHoldOf [] l h
@@ -197,7 +189,7 @@ module _ (T : List Event) (none : HasNoBreach T) (l : ℕ) where
       elim (cases_Bool (is_acquire l e.op)) [
         | inl takes ↦
             let op : e.op ≡ Acquire l = acquire-from_test l e.op takes in
-            (record { owner = Some e.thread; depth = h.depth + 1 }, IsHoldOf-acquire (take j T) l e h is op (IsOpenFor-from_none (take j T) l h is e.thread (op_breach T none j e here (Acquire l) op)))
+            (record { owner = Some e.thread; depth = h.depth + 1 }, IsHoldOf-acquire (take j T) l e h is op (IsOpenFor-from_none (take j T) l h is e.thread h.owner refl (op_breach T none j e here (Acquire l) op)))
         | inr keeps ↦ elim (cases_Bool (is_release l e.op)) [
           | inl lets ↦
               let op : e.op ≡ Release l = release-from_test l e.op lets in
@@ -212,15 +204,18 @@ module _ (T : List Event) (none : HasNoBreach T) (l : ℕ) where
         ]
       ]
 
-  hold_past : (j : ℕ) (o : Option Event) → slice_get T j ≡ o → (h : Hold) × IsHoldOf (take j T) l h → (after : Hold) × IsHoldOf (take (j + 1) T) l after
-  hold_past j None past before = (before.0, rw (← take-past T j past) before.1)
-  hold_past j (Some e) here before =
-      let after = hold_after j e before.0 here before.1 in
-      (after.0, rw (take-event T j e here) after.1)
-
+  -- past the end nothing is added
   hold_up_to : (j : ℕ) → (h : Hold) × IsHoldOf (take j T) l h
   hold_up_to zero = unheld
-  hold_up_to (suc j) = rw (← add-one j) (hold_past j (slice_get T j) refl (hold_up_to j))
+  hold_up_to (suc j) =
+      let (h, is) = hold_up_to j in
+      rw (← add-one j) (elim (cases_lt j (length T)) [
+        | inl low ↦
+            let here = slice_get-get_or T j (record { thread = 0; op = Read 0 }) low in
+            let (after, next) = hold_after j _ h here is in
+            (after, rw (take-event T j _ here) next)
+        | inr long ↦ (h, subst (λ es. IsHoldOf es l h) (take_all j T long ∙ sym (take_all (j + 1) T (omega (arith, long)))) is)
+      ])
 
 module _ (T : List Event) (is : IsDisciplined T) (j t l : ℕ) where
   -- in a trace that keeps the rules, no thread lets a lock go more often than it took it
@@ -233,6 +228,6 @@ module _ (T : List Event) (is : IsDisciplined T) (j t l : ℕ) where
   pub one_holder : (u : ℕ) → 0 < hold_count (take j T) t l → 0 < hold_count (take j T) u l → t ≡ u
   one_holder u holds also =
       let held = hold_up_to T (none-from_IsDisciplined T is) l j in
-      let mine = owner-from_depth held.0.owner held.0.depth t (omega (arith, hold_count-IsHoldOf (take j T) l held.0 held.1 t)) in
-      let its = owner-from_depth held.0.owner held.0.depth u (omega (arith, hold_count-IsHoldOf (take j T) l held.0 held.1 u)) in
+      let mine = owner-from_depth held.0.owner held.0.depth t (omega (arith, held.1.counts t)) in
+      let its = owner-from_depth held.0.owner held.0.depth u (omega (arith, held.1.counts u)) in
       same_Some t u (sym mine ∙ its)

@@ -33,15 +33,6 @@ depth_for-taken (Some owner) depth th t free is = grind (arith, nat_tests)
 pub depth_for-let_go : (depth th t : ℕ) → 0 < depth → depth_for (Some th) depth t ≡ depth_for (Some th) (depth - 1) t + cond (th == t) 1 0
 depth_for-let_go depth th t above = grind (arith, nat_tests)
 
--- the last release
-pub depth_for-last : (th t : ℕ) → depth_for (Some th) 1 t ≡ cond (th == t) 1 0
-depth_for-last th t = grind (arith, nat_tests)
-
-module _ (es : List Event) (l : ℕ) (h : Hold) (is : IsHoldOf es l h) where
-  -- a thread's holds are those of the table
-  pub hold_count-IsHoldOf : (t : ℕ) → hold_count es t l ≡ depth_for h.owner h.depth t
-  hold_count-IsHoldOf t = omega (arith, is.counts t)
-
 module _ (es : List Event) (l : ℕ) (e : Event) (h : Hold) (is : IsHoldOf es l h) where
   -- after an acquire by its owner, or of a free lock
   pub IsHoldOf-acquire : e.op ≡ Acquire l → IsOpenFor e.thread h.owner → IsHoldOf (es ++ e ∷ []) l (record { owner = Some e.thread; depth = h.depth + 1 })
@@ -70,7 +61,7 @@ module _ (es : List Event) (l : ℕ) (e : Event) (h : Hold) (is : IsHoldOf es l 
     IsHoldOf-last free last none =
         record {
           counts = λ t.
-              let one = ap (λ d. depth_for (Some e.thread) d t) last ∙ depth_for-last e.thread t in
+              let one : depth_for (Some e.thread) h.depth t ≡ cond (e.thread == t) 1 0 = rw last (grind (arith, nat_tests)) in
               omega (arith, counts t, released t, one, none.counts t);
           depth = none.depth;
         }
@@ -98,30 +89,27 @@ depth-above None depth u is same = absurd (none-some u same)
 depth-above (Some owner) depth u is same = is
 
 -- a lock is held no deeper than there were events
-depth-cases : (es : List Event) (l : ℕ) (h : Hold) → IsHoldOf es l h → (owner : Option ℕ) → h.owner ≡ owner → h.depth ≤ length es
-depth-cases es l h is None same =
+pub depth-le : (es : List Event) (l : ℕ) (h : Hold) → IsHoldOf es l h → (owner : Option ℕ) → h.owner ≡ owner → h.depth ≤ length es
+depth-le es l h is None same =
     let nothing : h.depth ≡ 0 = subst (λ o. IsDepthOf o h.depth) same is.depth in
     omega arith
-depth-cases es l h is (Some owner) same =
+depth-le es l h is (Some owner) same =
     let depth : depth_for h.owner h.depth owner ≡ h.depth = ap (λ o. depth_for o h.depth owner) same ∙ depth_for-owner owner h.depth in
     omega (arith, is.counts owner, depth, count_by-le-length (λ e. e.thread == owner && is_acquire l e.op) es)
-
-pub depth-le : (es : List Event) (l : ℕ) (h : Hold) → IsHoldOf es l h → h.depth ≤ length es
-depth-le es l h is = depth-cases es l h is h.owner refl
 
 module _ (es : List Event) (l : ℕ) (h : Hold) (is : IsHoldOf es l h) (t : ℕ) where
   -- an acquire breaks no rule where the lock is free or the thread's own
   pub breach_of_op-acquire : IsOpenFor t h.owner → breach_of_op es t (Acquire l) ≡ None
   breach_of_op-acquire free =
       ap (λ b. cond b (Some AcquireHeld) None)
-      (is_held_by_another-false es t l (λ u other. hold_count-IsHoldOf es l h is u ∙ depth_for-other h.owner h.depth t free u other))
+      (is_held_by_another-false es t l (λ u other. omega (arith, is.counts u, depth_for-other h.owner h.depth t free u other)))
 
   -- it breaks one where another thread holds the lock
   pub breach_of_op-acquire_held : (u : ℕ) → h.owner ≡ Some u → u ≢ t → breach_of_op es t (Acquire l) ≡ Some AcquireHeld
   breach_of_op-acquire_held u owned other =
       let depth : depth_for h.owner h.depth u ≡ h.depth = ap (λ o. depth_for o h.depth u) owned ∙ depth_for-owner u h.depth in
       let above : 0 < h.depth = depth-above h.owner h.depth u is.depth owned in
-      let held : 0 < hold_count es u l = omega (arith, hold_count-IsHoldOf es l h is u) in
+      let held : 0 < hold_count es u l = omega (arith, is.counts u) in
       ap (λ b. cond b (Some AcquireHeld) None) (is_held_by_another-true es t l u other held)
 
   -- a release breaks no rule where the thread holds the lock
@@ -129,23 +117,20 @@ module _ (es : List Event) (l : ℕ) (h : Hold) (is : IsHoldOf es l h) (t : ℕ)
   breach_of_op-release owned =
       let depth : depth_for h.owner h.depth t ≡ h.depth = ap (λ o. depth_for o h.depth t) owned ∙ depth_for-owner t h.depth in
       let above : 0 < h.depth = depth-above h.owner h.depth t is.depth owned in
-      ap (λ b. cond b (Some ReleaseNotHeld) None) (ne_eqb (hold_count es t l) 0 (λ none. omega (arith, hold_count-IsHoldOf es l h is t)))
+      ap (λ b. cond b (Some ReleaseNotHeld) None) (ne_eqb (hold_count es t l) 0 (λ none. omega (arith, is.counts t)))
 
   -- it breaks one where another thread holds the lock, or none
   pub breach_of_op-release_other : depth_for h.owner h.depth t ≡ 0 → breach_of_op es t (Release l) ≡ Some ReleaseNotHeld
-  breach_of_op-release_other none = ap (λ b. cond b (Some ReleaseNotHeld) None) (eq-eqb (hold_count es t l) 0 (hold_count-IsHoldOf es l h is t ∙ none))
+  breach_of_op-release_other none = ap (λ b. cond b (Some ReleaseNotHeld) None) (eq-eqb (hold_count es t l) 0 (omega (arith, is.counts t, none)))
 
   -- where an acquire breaks no rule, the lock is free or the thread's own
-  IsOpenFor-cases : (owner : Option ℕ) → h.owner ≡ owner → breach_of_op es t (Acquire l) ≡ None → IsOpenFor t owner
-  IsOpenFor-cases None same kept = tt
-  IsOpenFor-cases (Some u) same kept =
+  pub IsOpenFor-from_none : (owner : Option ℕ) → h.owner ≡ owner → breach_of_op es t (Acquire l) ≡ None → IsOpenFor t owner
+  IsOpenFor-from_none None same kept = tt
+  IsOpenFor-from_none (Some u) same kept =
       elim (cases_eq u t) [
         | inl mine ↦ mine
         | inr other ↦ absurd (none-some AcquireHeld (sym kept ∙ breach_of_op-acquire_held u same other))
       ]
-
-  pub IsOpenFor-from_none : breach_of_op es t (Acquire l) ≡ None → IsOpenFor t h.owner
-  IsOpenFor-from_none kept = IsOpenFor-cases h.owner refl kept
 
   -- where a release breaks no rule, the lock is the thread's own
   pub owner-from_none : breach_of_op es t (Release l) ≡ None → h.owner ≡ Some t

@@ -39,8 +39,7 @@ breach_of_op-fork es t u s is other =
 
 -- a life with an event
 pub IsMarked-event : (x : Life) → IsMarked x true false false (record { has_event = true; was_forked = x.was_forked; was_joined = x.was_joined })
-IsMarked-event x =
-    record { has_event = sym (or-true x.has_event); was_forked = sym (or-false x.was_forked); was_joined = sym (or-false x.was_joined) }
+IsMarked-event x = record { has_event = sym (or-true x.has_event); was_forked = sym (or-false x.was_forked); was_joined = sym (or-false x.was_joined) }
 
 -- a life that is forked, or joined
 pub IsMarked-fork : (x : Life) → IsMarked x false true false (record { has_event = x.has_event; was_forked = true; was_joined = x.was_joined })

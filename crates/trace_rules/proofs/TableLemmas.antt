@@ -59,18 +59,19 @@ hold_read r i l holds x are len within read = are l x (slice_get_read holds (len
 -- at an operation that breaks no rule: the lock is in the table, its hold is what is read there, and it may be taken
 module _ (r : Recording) (i : ℕ) (e : Event) (here : slice_get r.events i ≡ Some e) (kept : breach_at r.events i ≡ None) (holds : List Hold)
     (are : AreHoldsOf (take i r.events) holds) (len : length holds ≡ length r.locks) (named : IsNamedOp r e.op) (l : ℕ) (x : Hold) (read : x ≡ get_or holds l x) where
+  lock_at : l < length r.locks → (l < length holds) × IsHoldOf (take i r.events) l x
+  lock_at within = (omega (arith, len, within), hold_read r i l holds x are len within read)
+
   pub acquire_at : e.op ≡ Acquire l → (l < length holds) × IsHoldOf (take i r.events) l x × IsOpenFor e.thread x.owner
   acquire_at op =
-      let within : l < length r.locks = subst (IsNamedOp r) op named in
-      let is = hold_read r i l holds x are len within read in
-      (omega (arith, len, within), is, IsOpenFor-from_none (take i r.events) l x is e.thread (breach_of_op-kept r.events i e here (Acquire l) op kept))
+      let (within, is) = lock_at (subst (IsNamedOp r) op named) in
+      (within, is, IsOpenFor-from_none (take i r.events) l x is e.thread x.owner refl (breach_of_op-kept r.events i e here (Acquire l) op kept))
 
   -- or it is the thread's, which lets it go
   pub release_at : e.op ≡ Release l → (l < length holds) × IsHoldOf (take i r.events) l x × (x.owner ≡ Some e.thread)
   release_at op =
-      let within : l < length r.locks = subst (IsNamedOp r) op named in
-      let is = hold_read r i l holds x are len within read in
-      (omega (arith, len, within), is, owner-from_none (take i r.events) l x is e.thread (breach_of_op-kept r.events i e here (Release l) op kept))
+      let (within, is) = lock_at (subst (IsNamedOp r) op named) in
+      (within, is, owner-from_none (take i r.events) l x is e.thread (breach_of_op-kept r.events i e here (Release l) op kept))
 
 module _ (r : Recording) (i : ℕ) (s : State) (is : IsStateOf r i s) where
   -- the life that is read in the table

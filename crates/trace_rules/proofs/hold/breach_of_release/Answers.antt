@@ -4,10 +4,8 @@ use Rattle.trace_rules.proofs.hold.breach_of_release.Goals as goal
 
 pub returns-then-eq-clause-breach : goal.returns-then-eq-clause-breach
 returns-then-eq-clause-breach c = λ es l is.
-    let owned = owner-from_test c.args.hold.owner c.args.thread (sym c.eq.ensures ∙ c.if-eq.true) in
-    sym (breach_of_op-release es l c.args.hold is c.args.thread owned)
+    sym (breach_of_op-release es l c.args.hold is c.args.thread (owner-from_test c.args.hold.owner c.args.thread (sym c.eq.ensures ∙ c.if-eq.true)))
 
 pub returns-else-eq-clause-breach : goal.returns-else-eq-clause-breach
 returns-else-eq-clause-breach c = λ es l is.
-    let none = depth_for-from_test c.args.hold.owner c.args.hold.depth c.args.thread (sym c.eq.ensures ∙ c.if-eq.false) in
-    sym (breach_of_op-release_other es l c.args.hold is c.args.thread none)
+    sym (breach_of_op-release_other es l c.args.hold is c.args.thread (depth_for-from_test c.args.hold.owner c.args.hold.depth c.args.thread (sym c.eq.ensures ∙ c.if-eq.false)))

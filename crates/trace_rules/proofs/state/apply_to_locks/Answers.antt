@@ -12,7 +12,7 @@ pub taken-requires-clause-room : goal.taken-requires-clause-room
 taken-requires-clause-room c =
     let e = c.event-event.ensures in
     let is = (acquire_at c.args.raw.now c.args.at _ e.found c.requires.kept _ c.requires.tables c.requires.locks e.named.1 _ _ c.index-hold.ensures c.in-Acquire.is).1 in
-    omega (arith, depth-le _ _ _ is, length-take-le c.args.at c.args.raw.now.events, c.requires.room)
+    omega (arith, depth-le _ _ _ is _ refl, length-take-le c.args.at c.args.raw.now.events, c.requires.room)
 
 pub let_go-requires-clause-owned : goal.let_go-requires-clause-owned
 let_go-requires-clause-owned c =
