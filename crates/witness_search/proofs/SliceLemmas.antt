@@ -111,10 +111,7 @@ module _ (T : List Event) (P : List ℕ) (is : IsClosed T P) where
   IsCandidatePair-shown a b shows =
       elim (cases_order a b) [
         | inl one ↦ absurd (apart_in_conflict a b one shows.conflict)
-        | inr either ↦ elim either [
-          | inl early ↦ inl (IsCandidate-shown a b early shows)
-          | inr late ↦ inr (IsCandidate-shown b a late (Shows-sym T P a b shows))
-        ]
+        | inr either ↦ elim either [ inl early ↦ inl (IsCandidate-shown a b early shows) | inr late ↦ inr (IsCandidate-shown b a late (Shows-sym T P a b shows)) ]
       ]
 
   -- and the list has the whole slice of the pair

@@ -96,16 +96,13 @@ module _ (T : List Event) (rules : IsDisciplined T) (P : List ℕ) (closed : (e 
   Contains-asked e d has (for_writer writer) = closed e d has (inr (ap (partner_by T e) (last_writer-some T e d writer).1 ∙ writer))
   Contains-asked e d has (for_release release) = closed e d has (inr (ap (partner_by T e) (section_acquires T e d (slice_get T e) release).1 ∙ release))
   Contains-asked e d has (for_thread u joins of) =
-      let end = end_of_thread-event T u d of in
-      earlier_within (end.0 + 1) end.0 d u (omega arith) (joined_within e u end.0 has joins end.1) end.2 of end.3
+      let (s, end, its, late) = end_of_thread-event T u d of in
+      earlier_within (s + 1) s d u (omega arith) (joined_within e u s has joins end) its of late
   Contains-asked e d has (for_fork u joins forks) =
-      let op : op_at T d ≡ Some (Fork u) = fork_of-op T u d forks in
-      let end = end_of_thread-fork T rules u d op in
-      let there : Contains P end.0 = joined_within e u end.0 has joins end.1 in
-      elim end.2 [
-        | inl of ↦ fork_within (end.0 + 1) end.0 d u (omega arith) there of op
-        | inr is ↦ rw is there
-      ]
+      let op = fork_of-op T u d forks in
+      let (s, end, either) = end_of_thread-fork T rules u d op in
+      let there = joined_within e u s has joins end in
+      elim either [ inl of ↦ fork_within (s + 1) s d u (omega arith) there of op | inr is ↦ rw is there ]
 
   -- so with the two bases it has all that is wanted
   Contains-wanted : (a b : ℕ) → IsBegun T a b P → (e : ℕ) → IsWanted T a b e → Contains P e
@@ -133,7 +130,7 @@ module _ (T : List Event) (a b at : ℕ) (P Q : List ℕ) (lt : at < length P) (
             adds.has d (rw (← here) sought)
         | inr other ↦
             let early : i < at = omega (arith, below, other) in
-            let here : get_or Q i 0 ≡ get_or P i 0 = get_or-prefix P Q adds.begins i 0 (omega (arith, early, lt)) in
+            let here = get_or-prefix P Q adds.begins i 0 (omega (arith, early, lt)) in
             Contains-prefix P Q adds.begins d (closed i d early (rw (← here) sought))
       ]
 
