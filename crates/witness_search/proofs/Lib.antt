@@ -2,7 +2,6 @@ pub mod CallerLemmas
 pub mod ClosedLemmas
 pub mod FoundLemmas
 pub mod KeptLemmas
-pub mod LeastLemmas
 pub mod ListingLemmas
 pub mod RisingLemmas
 pub mod SliceLemmas

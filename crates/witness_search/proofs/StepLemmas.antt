@@ -1,8 +1,8 @@
 -- The steps of the greedy search. `T` is the events of a trace that keeps the rules, `P` a correct
 -- reordering of it.
-use Rattle.std.proofs.Common.{◌≡◌, ℕ, zero, suc, ◌+◌, ◌-◌, ◌<◌, ◌≤◌, ◌⊎◌, ◌&&◌, ◌==◌, not, Bool, true, false, List, [], ◌∷◌, ◌++◌, length, find, option_map, Option, Some, None, Result, Ok, sym, refl, ap, ◌∙◌, arith, add-one, inl, inr}
+use Rattle.std.proofs.Common.{◌≡◌, ℕ, zero, suc, ◌+◌, ◌-◌, ◌<◌, ◌≤◌, ◌⊎◌, ◌&&◌, ◌==◌, not, Bool, true, false, List, [], ◌∷◌, ◌++◌, cond, filter, length, find, option_map, Option, Some, None, Result, Ok, sym, refl, ap, ◌∙◌, arith, add-one, inl, inr}
 use Rattle.std.specs.Option.{is_none}
-use Rattle.std.proofs.lemmas.Bool.{cases_eq, cases_lt, and_parts, true≢false}
+use Rattle.std.proofs.lemmas.Bool.{cases_Bool, cases_eq, cases_lt, cond_below, cond_above, and_parts, true≢false}
 use Rattle.std.proofs.lemmas.List.{length_push}
 use Rattle.shb_clocks.proofs.ReadLemmas.{thread_named}
 use Rattle.std.proofs.lemmas.Option.{same_Some, none-some}
@@ -20,13 +20,38 @@ use Rattle.schedule.specs.Reordering.{IsCorrectReordering, IsPrefix}
 use Rattle.schedule.specs.Shows.{Shows, is_ready, does_show}
 use Rattle.schedule.proofs.CallerLemmas.{Allows, Allows-enabled, IsEnabled-none, is_ready-true}
 use Rattle.witness_search.specs.Greedy.{may_take, next_step, followed_by, after_steps, first_shown, IsGreedyAnswer}
+use Rattle.witness_search.specs.Layout.{kept}
 use Rattle.witness_search.specs.Wanted.{AreWanted}
 use Rattle.witness_search.proofs.KeptLemmas.{event_there, kept_member, kept_passes, kept-rises}
 use Rattle.witness_search.proofs.RisingLemmas.{rising-unique}
 use Rattle.witness_search.proofs.WantedLemmas.{IsWanted-within}
 use Rattle.witness_search.specs.Searches.{is_marked, marked_events, is_step, lesser, IsStepBelow, IsStepOf, TellWanted}
 use Rattle.witness_search.proofs.FoundLemmas.{IsPrefix-self, IsPrefix-push, IsPrefix-trans}
-use Rattle.witness_search.proofs.LeastLemmas.{IsLeastOf-lesser, find-kept}
+
+-- of two the lesser
+pub IsLeastOf-lesser : (Q R : ℕ → Type 0) (r s : Option ℕ) → IsLeastOf Q r → IsLeastOf R s → IsLeastOf (λ e. Q e ⊎ R e) (lesser r s)
+IsLeastOf-lesser Q R None None q r = λ e h. elim h [ inl here ↦ q e here | inr there ↦ r e there ]
+IsLeastOf-lesser Q R None (Some y) q r = (inr r.0, λ e h. elim h [ inl here ↦ absurd (q e here) | inr there ↦ r.1 e there ])
+IsLeastOf-lesser Q R (Some x) None q r = (inl q.0, λ e h. elim h [ inl here ↦ q.1 e here | inr there ↦ absurd (r e there) ])
+IsLeastOf-lesser Q R (Some x) (Some y) q r =
+    elim (cases_lt y x) [
+      | inl below ↦
+          rw (← cond_below y x (Some y) (Some x) below) (inr r.0, λ e h. elim h [ inl here ↦ omega (arith, q.1 e here, below) | inr there ↦ r.1 e there ])
+      | inr above ↦
+          rw (← cond_above y x (Some y) (Some x) (Some x) above refl) (inl q.0, λ e h. elim h [ inl here ↦ q.1 e here | inr there ↦ omega (arith, r.1 e there, above) ])
+    ]
+
+-- a look among those that pass a test is a look for both
+find-filter : (p test : ℕ → Bool) (xs : List ℕ) → find p (filter test xs) ≡ find (λ e. test e && p e) xs
+find-filter p test [] = refl
+find-filter p test (x ∷ xs) =
+    elim (cases_Bool (test x)) [
+      | inl passes ↦ rw passes (ap (λ o. cond (p x) (Some x) o) (find-filter p test xs))
+      | inr fails ↦ rw fails (find-filter p test xs)
+    ]
+
+find-kept : (p test : ℕ → Bool) (n : ℕ) (r : Option ℕ) → IsLeastOf (λ e. (e < n) × ((test e && p e) ≡ true)) r → find p (kept test n) ≡ r
+find-kept p test n r is = find-filter p test (before n) ∙ find-least (λ e. test e && p e) n r is
 
 is_none-true : {X : Type 0} (o : Option X) → is_none o ≡ true → o ≡ None
 is_none-true None h = refl
