@@ -18,4 +18,5 @@ pub mod NotingLemmas
 pub mod UseLemmas
 pub mod BetweenLemmas
 pub mod FirstLemmas
+pub mod NotedLemmas
 pub mod CallerLemmas

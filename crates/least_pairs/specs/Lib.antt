@@ -4,3 +4,4 @@ pub mod Making
 pub mod Noting
 pub mod Going
 pub mod Uses
+pub mod Noted

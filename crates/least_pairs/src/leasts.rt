@@ -10,12 +10,14 @@ ghost use Rattle.race_groups.specs.Shared.{keeps_shared};
 ghost use Rattle.race_groups.specs.declared.kinds.Row.{Row as Counted};
 ghost use Rattle.least_pairs.specs.Going.{AreAllTaken, AreBehind, AreClashing, AreFound, AreHeldBelow, AreMore, AreSeen, AreStretched, AreTakenBelow, HasCandidate, HasOpen, IsPassed, IsReached, IsSound, IsTaken};
 ghost use Rattle.least_pairs.specs.Lanes.{AreLanes, IsLane, IsPlain, IsStretch};
+ghost use Rattle.least_pairs.specs.Noted.{AreTrueNotes};
 ghost use Rattle.least_pairs.specs.Pairs.{AreAt, AreGroups, AreLeasts, IsOf, IsPair, is_access_at};
 ghost use Rattle.least_pairs.specs.declared.lanes.Lane.{Lane as Other};
 ghost use Rattle.least_pairs.specs.declared.least.Least.{Least as Found};
 
 use crate::lanes::{Lane, accesses_of, lanes_of};
 use crate::least::Least;
+use crate::noted::{Note, Noted};
 use crate::stretches::Stretch;
 use crate::tries::{Between, Try};
 use event_index::Indexed;
@@ -85,6 +87,7 @@ struct Stretches {
     candidates: Stretch,
     opens: Stretch,
     places: Vec<usize>,
+    noted: Noted,
 }
 
 impl Search<'_> {
@@ -136,6 +139,7 @@ impl Search<'_> {
             candidates: Stretch::new(alloc),
             opens: Stretch::new(alloc),
             places: Vec::new(alloc),
+            noted: Noted::new(alloc, self.groups.rows.len())?,
         };
         for variable in 0..self.indexed.variables() {
             let of_variable = accesses[variable as usize].as_slice();
@@ -163,8 +167,10 @@ impl Search<'_> {
         requires lanes { AreLanes self.now.indexed.now.events self.now.classes.now.numbers.items variable lanes.now }
         requires variable { variable < length self.now.indexed.now.variables }
         requires found { AreFound self.now variable leasts.old }
+        requires noted { AreTrueNotes self.now variable leasts.old stretches.old.noted }
         ensures found { OnOk result (AreFound self.now variable leasts.new) }
         ensures more { OnOk result (AreMore self.now.most variable leasts.old leasts.new) }
+        ensures noted { OnOk result (AreTrueNotes self.now variable leasts.new stretches.new.noted) }
         ensures taken { OnOk result (AreAllTaken self.now.indexed.now (slice_index self.now.places.now) self.now.groups.now.rows.items self.now.most
             variable leasts.new) }
     {
@@ -188,8 +194,10 @@ impl Search<'_> {
         requires later { IsLane self.now.indexed.now.events self.now.classes.now.numbers.items variable later.now }
         requires variable { variable < length self.now.indexed.now.variables }
         requires found { AreFound self.now variable leasts.old }
+        requires noted { AreTrueNotes self.now variable leasts.old stretches.old.noted }
         ensures found { OnOk result (AreFound self.now variable leasts.new) }
         ensures more { OnOk result (AreMore self.now.most variable leasts.old leasts.new) }
+        ensures noted { OnOk result (AreTrueNotes self.now variable leasts.new stretches.new.noted) }
         ensures taken { OnOk result ((at : ℕ) (earlier : Other) → slice_get lanes.now at ≡ Some earlier → AreTakenBelow self.now.indexed.now (slice_index self.now.places.now)
             self.now.groups.now.rows.items self.now.most variable leasts.new earlier later.now (length later.now.events.items)) }
     {
@@ -214,8 +222,10 @@ impl Search<'_> {
         requires later { IsLane self.now.indexed.now.events self.now.classes.now.numbers.items variable later.now }
         requires variable { variable < length self.now.indexed.now.variables }
         requires found { AreFound self.now variable leasts.old }
+        requires noted { AreTrueNotes self.now variable leasts.old stretches.old.noted }
         ensures found { OnOk result (AreFound self.now variable leasts.new) }
         ensures more { OnOk result (AreMore self.now.most variable leasts.old leasts.new) }
+        ensures noted { OnOk result (AreTrueNotes self.now variable leasts.new stretches.new.noted) }
         ensures taken { OnOk result (AreTakenBelow self.now.indexed.now (slice_index self.now.places.now) self.now.groups.now.rows.items self.now.most
             variable leasts.new earlier.now later.now (length later.now.events.items)) }
     {
@@ -238,8 +248,10 @@ impl Search<'_> {
         requires sound { IsSound self.now }
         requires lanes { AreClashing self.now variable earlier.now later.now }
         requires found { AreFound self.now variable leasts.old }
+        requires noted { AreTrueNotes self.now variable leasts.old stretches.old.noted }
         ensures found { OnOk result (AreFound self.now variable leasts.new) }
         ensures more { OnOk result (AreMore self.now.most variable leasts.old leasts.new) }
+        ensures noted { OnOk result (AreTrueNotes self.now variable leasts.new stretches.new.noted) }
         ensures taken { OnOk result (AreTakenBelow self.now.indexed.now (slice_index self.now.places.now) self.now.groups.now.rows.items self.now.most
             variable leasts.new earlier.now later.now (length later.now.events.items)) }
     {
@@ -270,12 +282,14 @@ impl Search<'_> {
         requires some { 0 < length earlier.now.events.items }
         requires at { at < length later.now.events.items }
         requires found { AreFound self.now variable leasts.old }
+        requires noted { AreTrueNotes self.now variable leasts.old stretches.old.noted }
         requires behind { AreBehind self.now earlier.now later.now at stretches.old.candidates stretches.old.opens }
         requires candidates { AreSeen (HasCandidate self.now variable leasts.old) earlier.now later.now stretches.old.candidates at }
         requires opens { AreSeen (HasOpen self.now leasts.old (record { variable = variable; earlier = earlier.now.thread; later = later.now.thread }))
             earlier.now later.now stretches.old.opens at }
         ensures found { OnOk result (AreFound self.now variable leasts.new) }
         ensures more { OnOk result (AreMore self.now.most variable leasts.old leasts.new) }
+        ensures noted { OnOk result (AreTrueNotes self.now variable leasts.new stretches.new.noted) }
         ensures behind { OnOk result (AreBehind self.now earlier.now later.now (at + 1) stretches.new.candidates stretches.new.opens) }
         ensures candidates { OnOk result (AreSeen (HasCandidate self.now variable leasts.new) earlier.now later.now stretches.new.candidates (at + 1)) }
         ensures opens { OnOk result (AreSeen (HasOpen self.now leasts.new (record { variable = variable; earlier = earlier.now.thread; later = later.now.thread }))
@@ -306,6 +320,7 @@ impl Search<'_> {
             leasts,
             &mut stretches.candidates,
             &mut stretches.places,
+            &mut stretches.noted,
             earlier,
             later,
             variable,
@@ -329,6 +344,7 @@ impl Search<'_> {
         leasts: &mut [Least],
         stretch: &mut Stretch,
         places: &mut Vec<usize>,
+        noted: &mut Noted,
         earlier: &Lane,
         later: &Lane,
         variable: u32,
@@ -338,6 +354,7 @@ impl Search<'_> {
         requires lanes { AreClashing self.now variable earlier.now later.now }
         requires at { at < length later.now.events.items }
         requires found { AreFound self.now variable leasts.old }
+        requires noted { AreTrueNotes self.now variable leasts.old noted.old }
         requires stretch { IsStretch earlier.now (length later.now.classes.items) stretch.old }
         requires known { IsReached self.now.indexed.now.events earlier.now
             (known_before self.now.indexed.now.events (slice_index later.now.events.items at) earlier.now.thread) stretch.old.start }
@@ -345,6 +362,7 @@ impl Search<'_> {
         requires seen { AreSeen (HasCandidate self.now variable leasts.old) earlier.now later.now stretch.old at }
         ensures found { OnOk result (AreFound self.now variable leasts.new) }
         ensures more { OnOk result (AreMore self.now.most variable leasts.old leasts.new) }
+        ensures noted { OnOk result (AreTrueNotes self.now variable leasts.new noted.new) }
         ensures stretch { OnOk result (IsStretch earlier.now (length later.now.classes.items) stretch.new) }
         ensures start { OnOk result (stretch.new.start ≡ stretch.old.start) }
         ensures end { OnOk result (stretch.new.end ≡ stretch.old.end) }
@@ -357,7 +375,7 @@ impl Search<'_> {
         if !self.has_candidates {
             return Ok(());
         }
-        self.candidates(leasts, stretch, places, earlier, later, variable, at)?;
+        self.candidates(leasts, stretch, places, noted, earlier, later, variable, at)?;
         Ok(())
     }
 
@@ -367,6 +385,7 @@ impl Search<'_> {
         leasts: &mut [Least],
         stretch: &mut Stretch,
         places: &mut Vec<usize>,
+        noted: &mut Noted,
         earlier: &Lane,
         later: &Lane,
         variable: u32,
@@ -376,6 +395,7 @@ impl Search<'_> {
         requires lanes { AreClashing self.now variable earlier.now later.now }
         requires at { at < length later.now.events.items }
         requires found { AreFound self.now variable leasts.old }
+        requires noted { AreTrueNotes self.now variable leasts.old noted.old }
         requires stretch { IsStretch earlier.now (length later.now.classes.items) stretch.old }
         requires known { IsReached self.now.indexed.now.events earlier.now
             (known_before self.now.indexed.now.events (slice_index later.now.events.items at) earlier.now.thread) stretch.old.start }
@@ -383,6 +403,7 @@ impl Search<'_> {
         requires seen { AreSeen (HasCandidate self.now variable leasts.old) earlier.now later.now stretch.old at }
         ensures found { OnOk result (AreFound self.now variable leasts.new) }
         ensures more { OnOk result (AreMore self.now.most variable leasts.old leasts.new) }
+        ensures noted { OnOk result (AreTrueNotes self.now variable leasts.new noted.new) }
         ensures stretch { OnOk result (IsStretch earlier.now (length later.now.classes.items) stretch.new) }
         ensures start { OnOk result (stretch.new.start ≡ stretch.old.start) }
         ensures end { OnOk result (stretch.new.end ≡ stretch.old.end) }
@@ -392,7 +413,13 @@ impl Search<'_> {
     {
         stretch.ask(earlier, later.kinds[at], places)?;
         for place in places.iter() {
-            self.note_candidate(leasts, earlier.events[*place], later.events[at], variable);
+            self.take_candidate(
+                leasts,
+                noted,
+                earlier.events[*place],
+                later.events[at],
+                variable,
+            );
         }
         Ok(())
     }
@@ -476,6 +503,42 @@ impl Search<'_> {
             self.note_open(leasts, earlier.events[*place], later.events[at], of)?;
         }
         Ok(())
+    }
+
+    // Takes in a candidate, where none of its variable and places is noted that stands before it.
+    fn take_candidate(
+        &self,
+        leasts: &mut [Least],
+        noted: &mut Noted,
+        first: u32,
+        second: u32,
+        variable: u32,
+    )
+        requires sound { IsSound self.now }
+        requires variable { variable < length self.now.indexed.now.variables }
+        requires found { AreFound self.now variable leasts.old }
+        requires noted { AreTrueNotes self.now variable leasts.old noted.old }
+        requires pair { IsPair self.now.indexed.now.events first second }
+        requires kind { IsKind self.now.indexed.now first second CandidateKind }
+        requires access { is_access_at self.now.indexed.now.events variable first ≡ true }
+        ensures found { AreFound self.now variable leasts.new }
+        ensures more { AreMore self.now.most variable leasts.old leasts.new }
+        ensures noted { AreTrueNotes self.now variable leasts.new noted.new }
+        ensures held { HasCandidate self.now variable leasts.new first second }
+    {
+        let _len = self.indexed.len();
+        let one = self.places[first as usize];
+        let other = self.places[second as usize];
+        if noted.has(variable, one, other, second) {
+            return;
+        }
+        self.note_candidate(leasts, first, second, variable);
+        noted.note(Note {
+            variable,
+            first: one,
+            second: other,
+            later: second,
+        });
     }
 
     // Takes in a candidate.

@@ -5,6 +5,7 @@ mod firsts;
 mod lanes;
 mod least;
 mod leasts;
+mod noted;
 mod stretches;
 mod tries;
 mod uses;

@@ -3,6 +3,7 @@ use Rattle.std.proofs.lemmas.Bool.{cases_order}
 use Rattle.least_pairs.specs.Going.{AreFound}
 use Rattle.least_pairs.specs.Pairs.{is_access_at}
 use Rattle.least_pairs.proofs.NextLemmas.{AreSoFar-next}
+use Rattle.least_pairs.proofs.NotedLemmas.{notes_next}
 use Rattle.least_pairs.proofs.TakenLemmas.{IsHeld-more}
 use Rattle.least_pairs.proofs.leasts.Search.all.Goals as goal
 
@@ -21,6 +22,7 @@ loop-variable-preserved c =
             | inr (inl below) ↦ IsHeld-more s.indexed.now place rows s.most x c.loop-variable.leasts new done.more a b (c.loop-variable.invariant.1 y a b below pair access)
             | inr (inr above) ↦ absurd (omega (arith, lt, above))
           ],
+      notes_next s x new c.variable.new.stretches.noted done.noted,
     )
 
 pub returns-clause-found : goal.returns-clause-found

@@ -31,6 +31,7 @@ loop-at-preserved c =
                 (c.loop-at.invariant.2 i earlier before is k n inside inside' pair)
             | inr (inr after) ↦ absurd (omega (arith, lt, after))
           ],
+      done.noted,
     )
 
 pub returns-clause-taken : goal.returns-clause-taken

@@ -14,18 +14,21 @@ use Rattle.least_pairs.proofs.WindowLemmas.{candidate_above, pair_here}
 use Rattle.least_pairs.proofs.leasts.Search.candidates.Goals as goal
 
 pub loop-place-init : goal.loop-place-init
-loop-place-init c = (c.requires.found, AreMore-same c.args.self.now.most c.args.variable c.args.leasts.now, λ i lt. absurd (omega arith))
+loop-place-init c = (c.requires.found, AreMore-same c.args.self.now.most c.args.variable c.args.leasts.now, λ i lt. absurd (omega arith), c.requires.noted)
 
-pub note_candidate-requires-clause-found : goal.note_candidate-requires-clause-found
-note_candidate-requires-clause-found c = c.loop-place.invariant.0
+pub take_candidate-requires-clause-found : goal.take_candidate-requires-clause-found
+take_candidate-requires-clause-found c = c.loop-place.invariant.0
+
+pub take_candidate-requires-clause-noted : goal.take_candidate-requires-clause-noted
+take_candidate-requires-clause-noted c = c.loop-place.invariant.3
 
 -- the place that is gone through stands in the stretch
 place_inside : (from to n : ℕ) (xs ys : List ℕ) → n < length ys → ys ≡ xs → All (λ k. (from ≤ k) × (k < to)) xs → (from ≤ slice_index ys n) × (slice_index ys n < to)
 place_inside from to n xs ys lt same all =
     All-get_or (λ k. (from ≤ k) × (k < to)) ys n 0 lt (subst (λ (l : List ℕ). All (λ k. (from ≤ k) × (k < to)) l) (sym same) all)
 
-pub note_candidate-requires-clause-pair : goal.note_candidate-requires-clause-pair
-note_candidate-requires-clause-pair c =
+pub take_candidate-requires-clause-pair : goal.take_candidate-requires-clause-pair
+take_candidate-requires-clause-pair c =
     let s = c.args.self.now in
     let earlier = c.args.earlier.now in
     let later = c.args.later.now in
@@ -39,8 +42,8 @@ note_candidate-requires-clause-pair c =
     (subst (λ (b : ℕ). IsPair s.indexed.now.events (at_place earlier m) b) (sym second)
     (pair_here s c.args.variable earlier later c.requires.lanes m c.args.at lt c.requires.at (c.requires.passed.low m inside.1)))
 
-pub note_candidate-requires-clause-kind : goal.note_candidate-requires-clause-kind
-note_candidate-requires-clause-kind c =
+pub take_candidate-requires-clause-kind : goal.take_candidate-requires-clause-kind
+take_candidate-requires-clause-kind c =
     let s = c.args.self.now in
     let r = s.indexed.now in
     let earlier = c.args.earlier.now in
@@ -58,13 +61,13 @@ note_candidate-requires-clause-kind c =
     (candidate_above r (known_before r.events) c.requires.sound.known (at_place earlier m) (at_place later c.args.at) earlier.thread pair thread (c.requires.known.high m inside.0 lt)))
 
 held_here : (c : goal.After-leasts-1) (i : ℕ) → i ≡ c.loop-place.place-index
-    → HasCandidate c.args.self.now c.args.variable c.note_candidate.new.leasts (at_place c.args.earlier.now (slice_index c.deref-place-items.result.now i)) (at_place c.args.later.now c.args.at)
+    → HasCandidate c.args.self.now c.args.variable c.take_candidate.new.leasts (at_place c.args.earlier.now (slice_index c.deref-place-items.result.now i)) (at_place c.args.later.now c.args.at)
 held_here c i same =
     let s = c.args.self.now in
     let x = c.args.variable in
     let earlier = c.args.earlier.now in
     let later = c.args.later.now in
-    let new = c.note_candidate.new.leasts in
+    let new = c.take_candidate.new.leasts in
     let items = c.deref-place-items.result.now in
     let m = slice_index items c.loop-place.place-index in
     let inside = place_inside c.args.stretch.now.start c.args.stretch.now.end c.loop-place.place-index c.ask.new.places.items items
@@ -72,23 +75,24 @@ held_here c i same =
     let first = read_is earlier.events.items m c.index-in-loop-place.result.now (omega (arith, inside.1, c.requires.passed.within)) c.index-in-loop-place.ensures in
     let second = read_is later.events.items c.args.at c.index-in-loop-place-2.result.now c.requires.at c.index-in-loop-place-2.ensures in
     subst (λ (a : ℕ). HasCandidate s x new a (at_place later c.args.at)) (first ∙ ap (λ (j : ℕ). at_place earlier (slice_index items j)) (sym same))
-    (subst (λ (b : ℕ). HasCandidate s x new c.index-in-loop-place.result.now b) second c.note_candidate.ensures.held)
+    (subst (λ (b : ℕ). HasCandidate s x new c.index-in-loop-place.result.now b) second c.take_candidate.ensures.held)
 
 pub loop-place-preserved : goal.loop-place-preserved
 loop-place-preserved c =
     let s = c.args.self.now in
     let x = c.args.variable in
     let b = at_place c.args.later.now c.args.at in
-    let more = c.note_candidate.ensures.more in (
-      c.note_candidate.ensures.found,
-      AreMore-chain s.most x c.args.leasts.now c.loop-place.leasts c.note_candidate.new.leasts c.loop-place.invariant.1 more,
+    let more = c.take_candidate.ensures.more in (
+      c.take_candidate.ensures.found,
+      AreMore-chain s.most x c.args.leasts.now c.loop-place.leasts c.take_candidate.new.leasts c.loop-place.invariant.1 more,
       λ i lt.
           let a = at_place c.args.earlier.now (slice_index c.deref-place-items.result.now i) in
           elim (cases_order i c.loop-place.place-index) [
             | inl same ↦ held_here c i same
-            | inr (inl before) ↦ HasCandidate-more s c.loop-place.leasts c.note_candidate.new.leasts a b x more (c.loop-place.invariant.2 i before)
+            | inr (inl before) ↦ HasCandidate-more s c.loop-place.leasts c.take_candidate.new.leasts a b x more (c.loop-place.invariant.2 i before)
             | inr (inr after) ↦ absurd (omega (arith, lt, after))
           ],
+      c.take_candidate.ensures.noted,
     )
 
 pub returns-clause-found : goal.returns-clause-found
@@ -131,3 +135,6 @@ returns-clause-seen c =
     (λ k i from below after inside. HasCandidate-more s c.args.leasts.now ls (at_place earlier k) (at_place later i) x c.loop-place.invariant.1 (c.requires.seen k i from below after inside))
     (returns-clause-held c)
     (λ k i after inside same. candidate_onward s c.requires.sound x ls later c.requires.lanes.second.plain (at_place earlier k) c.args.at i after inside (sym same))
+
+pub returns-clause-noted : goal.returns-clause-noted
+returns-clause-noted c = c.loop-place.invariant.3

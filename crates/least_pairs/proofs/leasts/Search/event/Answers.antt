@@ -15,6 +15,7 @@ use Rattle.least_pairs.specs.declared.tries.Between.{Between}
 use Rattle.least_pairs.proofs.AlikeLemmas.{HasCandidate-more, HasOpen-more}
 use Rattle.least_pairs.proofs.HeldLemmas.{AreMore-chain}
 use Rattle.least_pairs.proofs.NoneLemmas.{open_apart}
+use Rattle.least_pairs.proofs.NotedLemmas.{notes_more}
 use Rattle.least_pairs.proofs.LaneFacts.{lane_event, lane_rises, lane_thread, read_is}
 use Rattle.least_pairs.proofs.SeenLemmas.{at_place}
 use Rattle.least_pairs.proofs.WindowLemmas.{one_between}
@@ -139,3 +140,7 @@ returns-clause-taken c = λ k lt pair.
       };
       counted = λ either. elim either [ inl kind ↦ (candidate kind).1 | inr kind ↦ (opens kind).1 ];
     }
+
+pub returns-clause-noted : goal.returns-clause-noted
+returns-clause-noted c =
+    notes_more c.args.self.now c.args.variable c.take_candidates.new.leasts c.take_open.new.leasts c.take_candidates.new.noted c.in_ok-take_open.ensures.more c.in_ok-take_candidates.ensures.noted

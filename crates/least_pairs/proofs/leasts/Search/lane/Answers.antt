@@ -30,6 +30,7 @@ loop-at-preserved c =
             | inr (inl before) ↦ IsTaken-more s.indexed.now place rows s.most x c.loop-at.leasts new done.more a b (c.loop-at.invariant.5 k i lt before pair)
             | inr (inr after) ↦ absurd (omega (arith, lt', after))
           ],
+      done.noted,
     )
 
 pub returns-clause-taken : goal.returns-clause-taken

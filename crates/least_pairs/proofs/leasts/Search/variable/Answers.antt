@@ -32,6 +32,7 @@ loop-at-preserved c =
                 (c.loop-at.invariant.2 i n later earlier before is is' k m inside inside' pair)
             | inr (inr after) ↦ absurd (omega (arith, lt, after))
           ],
+      done.noted,
     )
 
 pub returns-clause-taken : goal.returns-clause-taken

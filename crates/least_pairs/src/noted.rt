@@ -1,0 +1,74 @@
+//! Which candidates were taken in, so that one that changes nothing is passed by without a look at its row.
+ghost use Rattle.std.specs.Prelude.{◌≡◌, ◌⊎◌, ◌<◌, true, All, Contains, IfOk};
+ghost use Rattle.least_pairs.specs.Noted.{IsNothing};
+ghost use Rattle.least_pairs.specs.declared.noted.Note.{Note as Other};
+
+use rapid_text::OutOfMemory;
+use std::alloc::Global;
+
+// How many are noted at most.
+const MOST: usize = 1_048_576;
+
+/// A candidate that was taken in: its variable, the places of its two events, and the later event.
+#[derive(Clone, Copy)]
+pub(crate) struct Note {
+    pub(crate) variable: u32,
+    pub(crate) first: u32,
+    pub(crate) second: u32,
+    pub(crate) later: u32,
+}
+
+// What stands where nothing was noted: no event comes behind this one.
+const NOTHING: Note = Note {
+    variable: 0,
+    first: 0,
+    second: 0,
+    later: 4_294_967_295,
+};
+
+/// The candidates that were taken in, the last one for each slot.
+#[derive(Drop)]
+pub(crate) struct Noted {
+    pub(crate) notes: Vec<Note>,
+}
+
+impl Noted {
+    /// Nothing was noted yet; there are so many pairs of places.
+    pub(crate) fn new(alloc: Global, rows: usize) -> Result<Noted, OutOfMemory>
+        ensures { IfOk result (λ noted. All IsNothing noted.notes.items) }
+    {
+        Ok(Noted {
+            notes: vec![in alloc; NOTHING; rows.min(MOST)]?,
+        })
+    }
+
+    /// Whether a candidate of the variable and of these places was noted whose later event comes before this one.
+    pub(crate) fn has(&self, variable: u32, first: u32, second: u32, later: u32) -> bool
+        ensures { result ≡ true → (n : Other) × Contains self.now.notes.items n × (n.variable ≡ variable) × (n.first ≡ first) × (n.second ≡ second)
+            × (n.later < later) }
+    {
+        let Some(note) = self.notes.get(slot(first, second, self.notes.len())) else {
+            return false;
+        };
+        note.variable == variable
+            && note.first == first
+            && note.second == second
+            && note.later < later
+    }
+
+    /// Notes a candidate.
+    pub(crate) fn note(&mut self, note: Note)
+        ensures { All (λ n. (n ≡ note) ⊎ Contains self.old.notes.items n) self.new.notes.items }
+    {
+        let at = slot(note.first, note.second, self.notes.len());
+        if let Some(slot) = self.notes.get_mut(at) {
+            *slot = note;
+        }
+    }
+}
+
+// Where the candidates of two places are noted, in so many slots.
+fn slot(first: u32, second: u32, slots: usize) -> usize {
+    let mixed = u64::from(first).wrapping_mul(11_400_714_819_323_198_485) ^ u64::from(second);
+    (mixed.wrapping_mul(11_400_714_819_323_198_485) >> 32) as usize % slots.max(1)
+}
