@@ -9,6 +9,7 @@ pub mod Growing
 pub mod Guesses
 pub mod LineText
 pub mod Lines
+pub mod Marked
 pub mod NameNumbers
 pub mod Numbering
 pub mod Operation

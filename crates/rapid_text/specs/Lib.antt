@@ -4,6 +4,7 @@ pub mod Layout
 pub mod Limits
 pub mod LineLayout
 pub mod LinesLeft
+pub mod Marking
 pub mod Operations
 pub mod Reading
 pub mod Recorded

@@ -1,5 +1,5 @@
 //! Cuts a text where a byte stands, and takes blanks off its ends.
-ghost use Rattle.std.specs.Prelude.{◌≡◌, ◌==◌, ◌≤◌, true, false, drop, length, IfNone, IfSome};
+ghost use Rattle.std.specs.Prelude.{◌≡◌, ◌==◌, ◌-◌, ◌≤◌, true, false, take, drop, length, IfNone, IfSome};
 ghost use Rattle.std.specs.List.{before_first, after_first, list_any, prefix_len, suffix_len};
 ghost use Rattle.rapid_text.specs.Reading.{is_blank, trimmed};
 
@@ -63,10 +63,16 @@ pub fn trim_start(bytes: &[u8]) -> &[u8]
     &bytes[blanks_before(bytes)..]
 }
 
+/// The bytes without the blanks at their end.
+pub(crate) fn trim_end(bytes: &[u8]) -> &[u8]
+    ensures { result.now ≡ take (length bytes.now - suffix_len is_blank bytes.now) bytes.now }
+{
+    &bytes[..bytes.len() - blanks_after(bytes)]
+}
+
 /// The bytes without the blanks at both ends.
 pub fn trim(bytes: &[u8]) -> &[u8]
     ensures { result.now ≡ trimmed bytes.now }
 {
-    let rest = trim_start(bytes);
-    &rest[..rest.len() - blanks_after(rest)]
+    trim_end(trim_start(bytes))
 }

@@ -5,6 +5,7 @@ mod bytes;
 mod cutting;
 mod event;
 mod line;
+mod marks;
 mod memory;
 mod names;
 mod printing;

@@ -3,9 +3,11 @@ ghost use Rattle.std.specs.Prelude.{◌≡◌, length};
 ghost use Rattle.std.specs.List.{before_first, after_first};
 ghost use Rattle.rapid_text.specs.Reading.{is_bar, is_mark, kind_of, line_reading, named_reading, operation_reading, trimmed};
 ghost use Rattle.rapid_text.specs.LineLayout.{reading_in};
+ghost use Rattle.rapid_text.specs.Marking.{IsMarked};
 
-use crate::cutting::{cut_at, cut_or_all, trim};
+use crate::cutting::{trim, trim_end, trim_start};
 use crate::event::Kind;
+use crate::marks::{Marks, cut_marked, cut_or_all_marked};
 use crate::raw_trace::{MAX_LINE, MAX_NAME};
 use crate::refusal::TextCause;
 
@@ -74,14 +76,20 @@ fn read_names<'a>(
     })
 }
 
-/// What a line with this operation, `word(name)`, asks for.
-fn read_operation<'a>(thread: &'a [u8], operation: &'a [u8], location: &'a [u8]) -> Line<'a>
+/// What a line with this operation, `word(name)`, asks for; the marks are the operation's.
+fn read_operation<'a>(
+    thread: &'a [u8],
+    operation: &'a [u8],
+    location: &'a [u8],
+    marks: Marks,
+) -> Line<'a>
+    requires { IsMarked marks operation.now }
     ensures { reading_in result ≡ operation_reading thread.now operation.now location.now }
 {
     if is_bound(operation) {
         return Line::Skipped;
     }
-    let Some((word, rest)) = cut_at(b'(', operation) else {
+    let Some((word, rest)) = cut_marked(b'(', marks.opens, operation) else {
         return Line::Refused(TextCause::BadParentheses);
     };
     let Some(name) = rest.strip_suffix(b")") else {
@@ -94,31 +102,38 @@ fn read_operation<'a>(thread: &'a [u8], operation: &'a [u8], location: &'a [u8])
     read_names(thread, kind_with(word), trim(name), location)
 }
 
-/// What a line with the fields `thread` and, behind its first bar, `rest` asks for.
-fn read_fields<'a>(thread: &'a [u8], rest: &'a [u8]) -> Line<'a>
+/// What a line with the fields `thread` and, behind its first bar, `rest` asks for; the marks are those of `rest`.
+fn read_fields<'a>(thread: &'a [u8], rest: &'a [u8], marks: Marks) -> Line<'a>
+    requires { IsMarked marks rest.now }
     ensures { reading_in result
         ≡ operation_reading
         (trimmed thread.now)
         (trimmed (before_first is_bar rest.now))
         (trimmed (after_first is_bar rest.now)) }
 {
-    let (operation, location) = cut_or_all(b'|', rest);
-    read_operation(trim(thread), trim(operation), trim(location))
+    let (raw, location) = cut_or_all_marked(b'|', marks.bars, rest);
+    let front = trim_start(raw);
+    let operation = trim_end(front);
+    let marks = marks.behind(raw.len() - front.len());
+    read_operation(trim(thread), operation, trim(location), marks)
 }
 
-/// Reads a line, with the blanks at its ends.
-pub(crate) fn read_line(raw: &[u8]) -> Line<'_>
+/// Reads a line, with the blanks at its ends; the marks are the line's.
+pub(crate) fn read_line(raw: &[u8], marks: Marks) -> Line<'_>
+    requires { IsMarked marks raw.now }
     ensures { reading_in result ≡ line_reading raw.now }
 {
-    let line = trim(raw);
+    let front = trim_start(raw);
+    let line = trim_end(front);
     if line.is_empty() {
         return Line::Skipped;
     }
     if line.len() > MAX_LINE {
         return Line::Refused(TextCause::LineTooLong);
     }
-    match cut_at(b'|', line) {
-        Some((thread, rest)) => read_fields(thread, rest),
+    let marks = marks.behind(raw.len() - front.len());
+    match cut_marked(b'|', marks.bars, line) {
+        Some((thread, rest)) => read_fields(thread, rest, marks.behind(thread.len() + 1)),
         None => Line::Refused(TextCause::NoBar),
     }
 }

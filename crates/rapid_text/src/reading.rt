@@ -2,22 +2,24 @@
 ghost use Rattle.std.specs.Prelude.{◌≡◌, ◌⊎◌, ◌+◌, ◌<◌, ◌≤◌, ◌∷◌, length, IfOk, IfErr, OnOk, None, Ok, Err};
 ghost use Rattle.std.specs.List.{slice_split};
 ghost use Rattle.rapid_text.specs.Growth.{line_fault, with_line};
+ghost use Rattle.rapid_text.specs.Marking.{IsMarked};
 ghost use Rattle.rapid_text.specs.LinesLeft.{bytes_left, lines_left, refusal_for};
 ghost use Rattle.rapid_text.specs.Reading.{is_line_feed, line_reading, reading_of};
 ghost use Rattle.rapid_text.specs.Recorded.{recorded, IsReady, StopsFor};
 ghost use Rattle.rapid_text.specs.Refusals.{no_memory};
 
-use crate::cutting::cut_at;
 use crate::line::{Line, read_line};
+use crate::marks::{Marks, cut_marked};
 use crate::names::TextKeyed;
 use crate::raw_trace::RawTrace;
 use crate::recorder::{Recorder, Stop};
 use crate::refusal::{TextCause, TextRefusal};
 use std::alloc::Global;
 
-/// Reads one line and records the event that it asks for.
-fn record_line(recorder: &mut Recorder, raw: &[u8]) -> Result<(), Stop>
-    requires { IsReady recorder.old }
+/// Reads one line and records the event that it asks for; the marks are the line's.
+fn record_line(recorder: &mut Recorder, raw: &[u8], marks: Marks) -> Result<(), Stop>
+    requires ready { IsReady recorder.old }
+    requires marked { IsMarked marks raw.now }
     ensures allowed { OnOk result (line_fault (recorded recorder.old) (line_reading raw.now) ≡ None) }
     ensures ok { OnOk result
         (recorded recorder.new ≡ with_line (recorded recorder.old) (line_reading raw.now)) }
@@ -25,19 +27,22 @@ fn record_line(recorder: &mut Recorder, raw: &[u8]) -> Result<(), Stop>
     ensures refused { IfErr result
         (StopsFor (line_fault (recorded recorder.old) (line_reading raw.now))) }
 {
-    match read_line(raw) {
+    match read_line(raw, marks) {
         Line::Skipped => Ok(()),
         Line::Refused(why) => Err(Stop::Fault(why)),
         Line::Says(fields) => recorder.record(fields),
     }
 }
 
-/// The first line of a text without its end, and what stands behind its end if it has one.
-fn first_line(text: &[u8]) -> (&[u8], Option<&[u8]>)
+/// The first line of a text without its end, and what stands behind its end if it has one. The text's marks are the
+/// line's too.
+fn first_line(text: &[u8], marks: Marks) -> (&[u8], Option<&[u8]>)
+    requires { IsMarked marks text.now }
+    ensures marked { IsMarked marks result.0.now }
     ensures lines { slice_split is_line_feed text.now ≡ result.0.now ∷ lines_left result.1 }
     ensures shorter { bytes_left result.1 ≤ length text.now }
 {
-    match cut_at(b'\n', text) {
+    match cut_marked(b'\n', marks.feeds, text) {
         Some((line, rest)) => (line, Some(rest)),
         None => (text, None),
     }
@@ -68,8 +73,9 @@ pub fn parse(alloc: Global, text: &[u8]) -> Result<RawTrace, TextRefusal>
     let mut number: u64 = 0;
     while let Some(lines) = left {
         number += 1;
-        let (line, rest) = first_line(lines);
-        if let Err(stop) = record_line(&mut recorder, line) {
+        let marks = Marks::of(lines);
+        let (line, rest) = first_line(lines, marks);
+        if let Err(stop) = record_line(&mut recorder, line, marks) {
             return Err(refusal_at(number, stop));
         }
         left = rest;

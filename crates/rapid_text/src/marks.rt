@@ -1,0 +1,100 @@
+//! Marks the bytes at which a line is cut, of some bytes at once.
+ghost use Rattle.std.specs.Prelude.{◌≡◌, ℕ, List, ◌==◌, true, false, drop, map, IfNone, IfSome};
+ghost use Rattle.std.specs.Simd.Lanes.{mask_l};
+ghost use Rattle.std.specs.List.{before_first, after_first, list_any};
+ghost use Rattle.rapid_text.specs.Marking.{AreBits, IsMarked};
+
+use crate::cutting::cut_at;
+use std::simd::prelude::*;
+
+/// Where the bytes stand that end a line, a field and a word: a bit for each of the first places of a text.
+#[derive(Clone, Copy)]
+pub(crate) struct Marks {
+    pub(crate) feeds: u64,
+    pub(crate) bars: u64,
+    pub(crate) opens: u64,
+}
+
+impl Marks {
+    /// Tells nothing.
+    pub(crate) fn none() -> Marks
+        ensures { (xs : List ℕ) → IsMarked result xs }
+    {
+        Marks {
+            feeds: 0,
+            bars: 0,
+            opens: 0,
+        }
+    }
+
+    /// The marks of the first 32 bytes of a text; of a shorter one they tell nothing.
+    #[inline(always)]
+    pub(crate) fn of(text: &[u8]) -> Marks
+        ensures { IsMarked result text.now }
+    {
+        if text.len() < 32 {
+            return Marks::none();
+        }
+        let front = u8x32::from_slice(text);
+        Marks {
+            feeds: bits_of(b'\n', front),
+            bars: bits_of(b'|', front),
+            opens: bits_of(b'(', front),
+        }
+    }
+
+    /// The marks of what stands behind the first so many bytes.
+    #[inline(always)]
+    pub(crate) fn behind(self, count: usize) -> Marks
+        ensures { (xs : List ℕ) → IsMarked self xs → IsMarked result (drop count xs) }
+    {
+        if count >= 64 {
+            return Marks::none();
+        }
+        Marks {
+            feeds: self.feeds >> count,
+            bars: self.bars >> count,
+            opens: self.opens >> count,
+        }
+    }
+}
+
+/// The bits of the lanes that hold the byte.
+#[inline(always)]
+fn bits_of(byte: u8, front: u8x32) -> u64
+    ensures { result ≡ mask_l (map (λ c. c == byte) front) }
+{
+    front.simd_eq(u8x32::splat(byte)).to_bitmask()
+}
+
+/// What stands before the first such byte and after it; none where there is no such byte. Bits of where it stands
+/// spare the search.
+#[inline(always)]
+pub(crate) fn cut_marked(byte: u8, bits: u64, bytes: &[u8]) -> Option<(&[u8], &[u8])>
+    requires { AreBits (λ c. c == byte) bits bytes.now }
+    ensures none { IfNone result (list_any (λ c. c == byte) bytes.now ≡ false) }
+    ensures found { IfSome result (λ parts. list_any (λ c. c == byte) bytes.now ≡ true) }
+    ensures before { IfSome result (λ parts. parts.0.now ≡ before_first (λ c. c == byte) bytes.now) }
+    ensures after { IfSome result (λ parts. parts.1.now ≡ after_first (λ c. c == byte) bytes.now) }
+{
+    if bits != 0 {
+        let at = bits.trailing_zeros() as usize;
+        if at < bytes.len() {
+            return Some((&bytes[..at], &bytes[at + 1..]));
+        }
+    }
+    cut_at(byte, bytes)
+}
+
+/// What stands before the first such byte and after it; all and nothing where there is no such byte.
+#[inline(always)]
+pub(crate) fn cut_or_all_marked(byte: u8, bits: u64, bytes: &[u8]) -> (&[u8], &[u8])
+    requires { AreBits (λ c. c == byte) bits bytes.now }
+    ensures before { result.0.now ≡ before_first (λ c. c == byte) bytes.now }
+    ensures after { result.1.now ≡ after_first (λ c. c == byte) bytes.now }
+{
+    match cut_marked(byte, bits, bytes) {
+        Some(parts) => parts,
+        None => bytes.split_at(bytes.len()),
+    }
+}
