@@ -14,6 +14,7 @@ pub mod NameNumbers
 pub mod Numbering
 pub mod Operation
 pub mod Places
+pub mod PlainLine
 pub mod Positions
 pub mod PrintedLines
 pub mod Recordings

@@ -1,10 +1,11 @@
 -- Text with no blank at either end: what `trimmed` leaves, and where it changes nothing.
-use Rattle.std.proofs.Common.{◌≡◌, ℕ, ◌+◌, ◌-◌, ◌<◌, ◌≤◌, zero, suc, Bool, true, false, cond, List, [], ◌∷◌, ◌++◌, length, take, drop, reverse, get_or, All, refl, sym, ap, ◌∙◌, arith, inl, inr, append_assoc, take_all}
+use Rattle.std.proofs.Common.{◌≡◌, ℕ, ◌+◌, ◌-◌, ◌<◌, ◌≤◌, zero, suc, Bool, true, false, cond, List, [], ◌∷◌, ◌++◌, length, take, drop, reverse, get_or, All, refl, sym, ap, ◌∙◌, arith, inl, inr, append_assoc, take_all, le_refl}
 use Rattle.std.specs.List.{prefix_len, suffix_len}
 use Rattle.std.proofs.lemmas.Bool.{cases_lt}
 use Rattle.std.proofs.lemmas.List.{reverse-append, get_or-reverse, length-reverse, length-take, length-drop}
 use Rattle.std.proofs.lemmas.List.Elements.{All-take, All-drop}
 use Rattle.std.proofs.lemmas.List.Sums.{prefix_len_stops, prefix_len-drop_no, prefix_len-drop_all, suffix_len-take_no}
+use Rattle.rapid_text.specs.Marking.{HasNoBlank}
 use Rattle.rapid_text.specs.Reading.{is_blank, trimmed}
 
 -- no blank stands at either end
@@ -89,3 +90,13 @@ pub All-trimmed : (P : ℕ → Type 0) → (xs : List ℕ) → All P xs → All 
 All-trimmed P xs all =
     let rest = drop (prefix_len is_blank xs) xs in
     All-take P (length rest - suffix_len is_blank rest) rest (All-drop P (prefix_len is_blank xs) xs all)
+
+-- a text without a blank stays as it is
+pub trimmed-plain : (xs : List ℕ) → HasNoBlank xs → trimmed xs ≡ xs
+trimmed-plain [] none = refl
+trimmed-plain (x ∷ xs) none =
+    trimmed-bare (x ∷ xs) (record {
+      front = rw (none 0 0 (omega arith)) refl;
+      back = ap (suffix_len is_blank) (sym (take_all (length (x ∷ xs)) (x ∷ xs) (le_refl (length (x ∷ xs)))))
+          ∙ suffix_len-take_no is_blank (x ∷ xs) (length (x ∷ xs)) 0 (omega arith) (omega arith) (none (length (x ∷ xs) - 1) 0 (omega arith));
+    })

@@ -1,33 +1,7 @@
-//! Cuts a text where a byte stands, and takes blanks off its ends.
-ghost use Rattle.std.specs.Prelude.{◌≡◌, ◌==◌, ◌-◌, ◌≤◌, true, false, take, drop, length, IfNone, IfSome};
-ghost use Rattle.std.specs.List.{before_first, after_first, list_any, prefix_len, suffix_len};
+//! Takes blanks off the ends of a text.
+ghost use Rattle.std.specs.Prelude.{◌≡◌, ◌-◌, ◌≤◌, take, drop, length};
+ghost use Rattle.std.specs.List.{prefix_len, suffix_len};
 ghost use Rattle.rapid_text.specs.Reading.{is_blank, trimmed};
-
-use memchr::memchr;
-
-/// What stands before the first such byte and after it; none where there is no such byte.
-pub(crate) fn cut_at(byte: u8, bytes: &[u8]) -> Option<(&[u8], &[u8])>
-    ensures none { IfNone result (list_any (λ c. c == byte) bytes.now ≡ false) }
-    ensures found { IfSome result (λ parts. list_any (λ c. c == byte) bytes.now ≡ true) }
-    ensures before { IfSome result (λ parts. parts.0.now ≡ before_first (λ c. c == byte) bytes.now) }
-    ensures after { IfSome result (λ parts. parts.1.now ≡ after_first (λ c. c == byte) bytes.now) }
-{
-    let Some(at) = memchr(byte, bytes) else {
-        return None;
-    };
-    Some((&bytes[..at], &bytes[at + 1..]))
-}
-
-/// What stands before the first such byte and after it; all and nothing where there is no such byte.
-pub(crate) fn cut_or_all(byte: u8, bytes: &[u8]) -> (&[u8], &[u8])
-    ensures before { result.0.now ≡ before_first (λ c. c == byte) bytes.now }
-    ensures after { result.1.now ≡ after_first (λ c. c == byte) bytes.now }
-{
-    match cut_at(byte, bytes) {
-        Some(parts) => parts,
-        None => bytes.split_at(bytes.len()),
-    }
-}
 
 /// Whether the byte is a blank of the trace text: a space, a tab or a carriage return.
 pub fn is_a_blank(byte: u8) -> bool

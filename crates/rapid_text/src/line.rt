@@ -1,13 +1,13 @@
 //! Reads one line of a trace text, whatever stands before it.
-ghost use Rattle.std.specs.Prelude.{◌≡◌, length};
-ghost use Rattle.std.specs.List.{before_first, after_first};
-ghost use Rattle.rapid_text.specs.Reading.{is_bar, is_mark, kind_of, line_reading, named_reading, operation_reading, trimmed};
+ghost use Rattle.std.specs.Prelude.{◌≡◌, true, length, IfSome};
+ghost use Rattle.std.specs.List.{before_first, after_first, list_any};
+ghost use Rattle.rapid_text.specs.Reading.{is_bar, is_line_feed, is_mark, kind_of, line_reading, named_reading, operation_reading, trimmed};
 ghost use Rattle.rapid_text.specs.LineLayout.{reading_in};
-ghost use Rattle.rapid_text.specs.Marking.{IsMarked};
+ghost use Rattle.rapid_text.specs.Marking.{HasNoBlank, IsMarked};
 
 use crate::cutting::{trim, trim_end, trim_start};
 use crate::event::Kind;
-use crate::marks::{Marks, cut_marked, cut_or_all_marked};
+use crate::marks::{Marks, cut_marked, cut_or_all_marked, cut_told};
 use crate::raw_trace::{MAX_LINE, MAX_NAME};
 use crate::refusal::TextCause;
 
@@ -136,4 +136,42 @@ pub(crate) fn read_line(raw: &[u8], marks: Marks) -> Line<'_>
         Some((thread, rest)) => read_fields(thread, rest, marks.behind(thread.len() + 1)),
         None => Line::Refused(TextCause::NoBar),
     }
+}
+
+/// Reads a line without a blank, where the marks tell all places at which it is cut.
+#[inline(always)]
+fn read_parts<'a>(line: &'a [u8], marks: Marks) -> Option<Line<'a>>
+    requires marked { IsMarked marks line.now }
+    requires plain { HasNoBlank line.now }
+    ensures { IfSome result (λ r. reading_in r ≡ line_reading line.now) }
+{
+    if line.len() > MAX_LINE {
+        return None;
+    }
+    let (thread, rest) = cut_told(b'|', marks.bars, line)?;
+    let later = marks.behind(thread.len() + 1);
+    let (operation, location) = cut_told(b'|', later.bars, rest)?;
+    let (word, closed) = cut_told(b'(', later.opens, operation)?;
+    let name = closed.strip_suffix(b")")?;
+    if is_bound(operation) || is_bound(word) {
+        return None;
+    }
+    Some(read_names(thread, kind_with(word), name, location))
+}
+
+/// Reads the first line of a text, and gives what stands behind its end; the marks are the text's. None where they do not
+/// tell where to cut it, or where it has a blank: `read_line` reads every line.
+#[inline(always)]
+pub(crate) fn read_plain<'a>(text: &'a [u8], marks: Marks) -> Option<(Line<'a>, &'a [u8])>
+    requires { IsMarked marks text.now }
+    ensures line { IfSome result (λ r. reading_in r.0 ≡ line_reading (before_first is_line_feed text.now)) }
+    ensures found { IfSome result (λ r. list_any is_line_feed text.now ≡ true) }
+    ensures after { IfSome result (λ r. r.1.now ≡ after_first is_line_feed text.now) }
+{
+    let (line, left) = cut_told(b'\n', marks.feeds, text)?;
+    if marks.is_plain(line.len()) {
+        let reading = read_parts(line, marks)?;
+        return Some((reading, left));
+    }
+    None
 }

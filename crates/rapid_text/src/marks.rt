@@ -1,18 +1,20 @@
 //! Marks the bytes at which a line is cut, of some bytes at once.
-ghost use Rattle.std.specs.Prelude.{◌≡◌, ℕ, List, ◌==◌, true, false, drop, map, IfNone, IfSome};
+ghost use Rattle.std.specs.Prelude.{◌≡◌, ℕ, List, ◌==◌, nat_le, true, false, take, drop, map, IsTrue, IfNone, Some, IfSome};
 ghost use Rattle.std.specs.Simd.Lanes.{mask_l};
 ghost use Rattle.std.specs.List.{before_first, after_first, list_any};
-ghost use Rattle.rapid_text.specs.Marking.{AreBits, IsMarked};
+ghost use Rattle.memchr.specs.Find.{IsFirstByte};
+ghost use Rattle.rapid_text.specs.Marking.{AreBits, HasNoBlank, IsMarked};
 
-use crate::cutting::cut_at;
+use memchr::memchr;
 use std::simd::prelude::*;
 
-/// Where the bytes stand that end a line, a field and a word: a bit for each of the first places of a text.
+/// Where the bytes stand that end a line, a field and a word, and blanks: a bit for each of the first places of a text.
 #[derive(Clone, Copy)]
 pub(crate) struct Marks {
     pub(crate) feeds: u64,
     pub(crate) bars: u64,
     pub(crate) opens: u64,
+    pub(crate) blanks: u64,
 }
 
 impl Marks {
@@ -24,6 +26,7 @@ impl Marks {
             feeds: 0,
             bars: 0,
             opens: 0,
+            blanks: 0,
         }
     }
 
@@ -40,6 +43,7 @@ impl Marks {
             feeds: bits_of(b'\n', front),
             bars: bits_of(b'|', front),
             opens: bits_of(b'(', front),
+            blanks: blanks_of(front),
         }
     }
 
@@ -55,7 +59,23 @@ impl Marks {
             feeds: self.feeds >> count,
             bars: self.bars >> count,
             opens: self.opens >> count,
+            blanks: self.blanks >> count,
         }
+    }
+
+    /// Whether no blank stands before the first line feed, which stands at this place.
+    #[inline(always)]
+    pub(crate) fn is_plain(self, feed: usize) -> bool
+        ensures { IsTrue result → (xs : List ℕ) → IsMarked self xs → HasNoBlank (take feed xs) }
+    {
+        if self.feeds == 0 {
+            return false;
+        }
+        let first = self.feeds.trailing_zeros() as usize;
+        if first != feed {
+            return false;
+        }
+        self.blanks.trailing_zeros() as usize >= feed
     }
 }
 
@@ -67,8 +87,48 @@ fn bits_of(byte: u8, front: u8x32) -> u64
     front.simd_eq(u8x32::splat(byte)).to_bitmask()
 }
 
-/// What stands before the first such byte and after it; none where there is no such byte. Bits of where it stands
-/// spare the search.
+/// The bits of the lanes that hold a blank, or another byte that is no more than a space.
+#[inline(always)]
+fn blanks_of(front: u8x32) -> u64
+    ensures { result ≡ mask_l (map (λ c. nat_le c 32) front) }
+{
+    front.simd_le(u8x32::splat(b' ')).to_bitmask()
+}
+
+/// The first place of the byte, where a bit tells it.
+#[inline(always)]
+fn place_told(byte: u8, bits: u64, bytes: &[u8]) -> Option<usize>
+    requires { AreBits (λ c. c == byte) bits bytes.now }
+    ensures { IfSome result (λ at. IsFirstByte (λ c. c == byte) bytes.now (Some at)) }
+{
+    if bits == 0 {
+        return None;
+    }
+    let at = bits.trailing_zeros() as usize;
+    if at < bytes.len() { Some(at) } else { None }
+}
+
+/// The first place of the byte. Bits of where it stands spare the search.
+#[inline(always)]
+fn place_marked(byte: u8, bits: u64, bytes: &[u8]) -> Option<usize>
+    requires { AreBits (λ c. c == byte) bits bytes.now }
+    ensures { IsFirstByte (λ c. c == byte) bytes.now result }
+{
+    match place_told(byte, bits, bytes) {
+        Some(at) => Some(at),
+        None => search(byte, bytes),
+    }
+}
+
+/// The first place of the byte, where no bits tell it.
+#[inline(never)]
+fn search(byte: u8, bytes: &[u8]) -> Option<usize>
+    ensures { IsFirstByte (λ c. c == byte) bytes.now result }
+{
+    memchr(byte, bytes)
+}
+
+/// What stands before the first such byte and after it; none where there is no such byte.
 #[inline(always)]
 pub(crate) fn cut_marked(byte: u8, bits: u64, bytes: &[u8]) -> Option<(&[u8], &[u8])>
     requires { AreBits (λ c. c == byte) bits bytes.now }
@@ -77,13 +137,10 @@ pub(crate) fn cut_marked(byte: u8, bits: u64, bytes: &[u8]) -> Option<(&[u8], &[
     ensures before { IfSome result (λ parts. parts.0.now ≡ before_first (λ c. c == byte) bytes.now) }
     ensures after { IfSome result (λ parts. parts.1.now ≡ after_first (λ c. c == byte) bytes.now) }
 {
-    if bits != 0 {
-        let at = bits.trailing_zeros() as usize;
-        if at < bytes.len() {
-            return Some((&bytes[..at], &bytes[at + 1..]));
-        }
-    }
-    cut_at(byte, bytes)
+    let Some(at) = place_marked(byte, bits, bytes) else {
+        return None;
+    };
+    Some((&bytes[..at], &bytes[at + 1..]))
 }
 
 /// What stands before the first such byte and after it; all and nothing where there is no such byte.
@@ -97,4 +154,18 @@ pub(crate) fn cut_or_all_marked(byte: u8, bits: u64, bytes: &[u8]) -> (&[u8], &[
         Some(parts) => parts,
         None => bytes.split_at(bytes.len()),
     }
+}
+
+/// The same, where a bit tells where the byte stands; none also where no bit does.
+#[inline(always)]
+pub(crate) fn cut_told(byte: u8, bits: u64, bytes: &[u8]) -> Option<(&[u8], &[u8])>
+    requires { AreBits (λ c. c == byte) bits bytes.now }
+    ensures found { IfSome result (λ parts. list_any (λ c. c == byte) bytes.now ≡ true) }
+    ensures before { IfSome result (λ parts. parts.0.now ≡ before_first (λ c. c == byte) bytes.now) }
+    ensures after { IfSome result (λ parts. parts.1.now ≡ after_first (λ c. c == byte) bytes.now) }
+{
+    let Some(at) = place_told(byte, bits, bytes) else {
+        return None;
+    };
+    Some((&bytes[..at], &bytes[at + 1..]))
 }

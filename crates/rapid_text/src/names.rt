@@ -47,6 +47,17 @@ impl NameTable {
                 return Ok(guess);
             }
         }
+        self.look_up(alloc, name, mix)
+    }
+
+    // The number of the name by its hash, which is noted as the guess at its mix. It is kept out of the way of the guesses.
+    #[inline(never)]
+    fn look_up(&mut self, alloc: Global, name: &[u8], mix: u64) -> Result<u32, OutOfMemory>
+        requires { length (names_of self.old.names) < name_count_limit }
+        ensures names { OnOk result
+            (names_of self.new.names ≡ with_name (names_of self.old.names) name.now) }
+        ensures number { IfOk result (IsNumber (names_of self.new.names) name.now) }
+    {
         let count = self.names.len();
         let number = if self.was_new {
             put(&mut self.names, alloc, name)?

@@ -1,14 +1,15 @@
 //! Reads a trace text.
 ghost use Rattle.std.specs.Prelude.{◌≡◌, ◌⊎◌, ◌+◌, ◌<◌, ◌≤◌, ◌∷◌, length, IfOk, IfErr, OnOk, None, Ok, Err};
-ghost use Rattle.std.specs.List.{slice_split};
+ghost use Rattle.std.specs.List.{before_first, slice_split};
 ghost use Rattle.rapid_text.specs.Growth.{line_fault, with_line};
+ghost use Rattle.rapid_text.specs.LineLayout.{reading_in};
 ghost use Rattle.rapid_text.specs.Marking.{IsMarked};
 ghost use Rattle.rapid_text.specs.LinesLeft.{bytes_left, lines_left, refusal_for};
 ghost use Rattle.rapid_text.specs.Reading.{is_line_feed, line_reading, reading_of};
 ghost use Rattle.rapid_text.specs.Recorded.{recorded, IsReady, StopsFor};
 ghost use Rattle.rapid_text.specs.Refusals.{no_memory};
 
-use crate::line::{Line, read_line};
+use crate::line::{Line, read_line, read_plain};
 use crate::marks::{Marks, cut_marked};
 use crate::names::TextKeyed;
 use crate::raw_trace::RawTrace;
@@ -16,18 +17,16 @@ use crate::recorder::{Recorder, Stop};
 use crate::refusal::{TextCause, TextRefusal};
 use std::alloc::Global;
 
-/// Reads one line and records the event that it asks for; the marks are the line's.
-fn record_line(recorder: &mut Recorder, raw: &[u8], marks: Marks) -> Result<(), Stop>
-    requires ready { IsReady recorder.old }
-    requires marked { IsMarked marks raw.now }
-    ensures allowed { OnOk result (line_fault (recorded recorder.old) (line_reading raw.now) ≡ None) }
+/// Records the event that a line asks for.
+fn record_line(recorder: &mut Recorder, line: Line<'_>) -> Result<(), Stop>
+    requires { IsReady recorder.old }
+    ensures allowed { OnOk result (line_fault (recorded recorder.old) (reading_in line.entry) ≡ None) }
     ensures ok { OnOk result
-        (recorded recorder.new ≡ with_line (recorded recorder.old) (line_reading raw.now)) }
+        (recorded recorder.new ≡ with_line (recorded recorder.old) (reading_in line.entry)) }
     ensures ready { OnOk result (IsReady recorder.new) }
-    ensures refused { IfErr result
-        (StopsFor (line_fault (recorded recorder.old) (line_reading raw.now))) }
+    ensures refused { IfErr result (StopsFor (line_fault (recorded recorder.old) (reading_in line.entry))) }
 {
-    match read_line(raw, marks) {
+    match line {
         Line::Skipped => Ok(()),
         Line::Refused(why) => Err(Stop::Fault(why)),
         Line::Says(fields) => recorder.record(fields),
@@ -36,15 +35,44 @@ fn record_line(recorder: &mut Recorder, raw: &[u8], marks: Marks) -> Result<(), 
 
 /// The first line of a text without its end, and what stands behind its end if it has one. The text's marks are the
 /// line's too.
-fn first_line(text: &[u8], marks: Marks) -> (&[u8], Option<&[u8]>)
+fn cut_line(text: &[u8], marks: Marks) -> (&[u8], Option<&[u8]>)
     requires { IsMarked marks text.now }
     ensures marked { IsMarked marks result.0.now }
+    ensures line { result.0.now ≡ before_first is_line_feed text.now }
     ensures lines { slice_split is_line_feed text.now ≡ result.0.now ∷ lines_left result.1 }
     ensures shorter { bytes_left result.1 ≤ length text.now }
 {
     match cut_marked(b'\n', marks.feeds, text) {
         Some((line, rest)) => (line, Some(rest)),
         None => (text, None),
+    }
+}
+
+/// What the first line of a text asks for, and what stands behind its end if it has one; the marks are the text's.
+#[inline(never)]
+fn any_line(text: &[u8], marks: Marks) -> (Line<'_>, Option<&[u8]>)
+    requires { IsMarked marks text.now }
+    ensures line { reading_in result.0 ≡ line_reading (before_first is_line_feed text.now) }
+    ensures lines { slice_split is_line_feed text.now
+        ≡ before_first is_line_feed text.now ∷ lines_left result.1 }
+    ensures shorter { bytes_left result.1 ≤ length text.now }
+{
+    let (line, rest) = cut_line(text, marks);
+    (read_line(line, marks), rest)
+}
+
+/// The same. Most lines are short and have no blank; these are read at once.
+#[inline(always)]
+fn first_line(text: &[u8]) -> (Line<'_>, Option<&[u8]>)
+    ensures line { reading_in result.0 ≡ line_reading (before_first is_line_feed text.now) }
+    ensures lines { slice_split is_line_feed text.now
+        ≡ before_first is_line_feed text.now ∷ lines_left result.1 }
+    ensures shorter { bytes_left result.1 ≤ length text.now }
+{
+    let marks = Marks::of(text);
+    match read_plain(text, marks) {
+        Some((line, rest)) => (line, Some(rest)),
+        None => any_line(text, marks),
     }
 }
 
@@ -73,9 +101,8 @@ pub fn parse(alloc: Global, text: &[u8]) -> Result<RawTrace, TextRefusal>
     let mut number: u64 = 0;
     while let Some(lines) = left {
         number += 1;
-        let marks = Marks::of(lines);
-        let (line, rest) = first_line(lines, marks);
-        if let Err(stop) = record_line(&mut recorder, line, marks) {
+        let (line, rest) = first_line(lines);
+        if let Err(stop) = record_line(&mut recorder, line) {
             return Err(refusal_at(number, stop));
         }
         left = rest;

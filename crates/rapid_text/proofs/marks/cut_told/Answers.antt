@@ -1,10 +1,7 @@
 use Rattle.std.proofs.Common.{◌+◌, ◌==◌, take, drop, sym, ap, ◌∙◌}
 use Rattle.std.proofs.lemmas.List.{take_rest}
-use Rattle.rapid_text.proofs.FirstByte.{some-position, none-list_any}
-use Rattle.rapid_text.proofs.cutting.cut_at.Goals as goal
-
-pub returns-in_default-clause-none : goal.returns-in_default-clause-none
-returns-in_default-clause-none c = none-list_any (λ x. x == c.args.byte) c.args.bytes.now c.in_default.ensures
+use Rattle.rapid_text.proofs.FirstByte.{some-position}
+use Rattle.rapid_text.proofs.marks.cut_told.Goals as goal
 
 pub returns-clause-before : goal.returns-clause-before
 returns-clause-before c =
