@@ -49,7 +49,7 @@ fn cut_line(text: &[u8], marks: Marks) -> (&[u8], Option<&[u8]>)
 }
 
 /// What the first line of a text asks for, and what stands behind its end if it has one; the marks are the text's.
-#[inline(never)]
+#[inline(always)]
 fn any_line(text: &[u8], marks: Marks) -> (Line<'_>, Option<&[u8]>)
     requires { IsMarked marks text.now }
     ensures line { reading_in result.0 ≡ line_reading (before_first is_line_feed text.now) }
