@@ -2,15 +2,13 @@
 //! with each other.
 #![tactic(auto)]
 
-mod event_list;
 mod grouping;
 mod indexed;
-mod pairs;
+mod lists;
 mod relations;
 mod scans;
 mod sections;
 mod tables;
 
-pub use event_list::EventList;
 pub use indexed::Indexed;
-pub use pairs::Pairs;
+pub use lists::{EventList, Pairs};

@@ -1,9 +1,9 @@
 //! Reads a trace from its text in RAPID's standard format, and prints it back.
 #![tactic(auto)]
 
-mod bytes;
 mod cutting;
 mod event;
+mod items;
 mod line;
 mod marks;
 mod memory;
@@ -15,9 +15,9 @@ mod recent;
 mod recorder;
 mod refusal;
 
-pub use bytes::Bytes;
 pub use cutting::{is_a_blank, trim, trim_start};
 pub use event::{Event, Kind, Op};
+pub use items::{Bytes, Items};
 pub use memory::OutOfMemory;
 pub use names::TextKeyed;
 pub use printing::print;

@@ -4,8 +4,8 @@ ghost use Rattle.rapid_text.specs.Canonical.{canonical_text, event_text, op_text
 ghost use Rattle.rapid_text.specs.Reading.{reading_of};
 ghost use Rattle.rapid_text.specs.Recording.{IsNamed, IsNamedOp};
 
-use crate::bytes::Bytes;
 use crate::event::{Event, Op};
+use crate::items::Bytes;
 use crate::memory::OutOfMemory;
 use crate::raw_trace::RawTrace;
 use std::alloc::Global;
