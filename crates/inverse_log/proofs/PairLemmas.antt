@@ -1,6 +1,7 @@
 -- Only the next events of threads are in pairs that a schedule shows.
-use Rattle.std.proofs.Common.{◌≡◌, inl, inr, ℕ, Bool, true, false, cond, ◌&&◌, List, [], ◌∷◌, ◌++◌, Option, Some, None, length, filter, map, slice_get, refl, sym, ap, ◌∙◌}
+use Rattle.std.proofs.Common.{◌≡◌, inl, inr, ℕ, Bool, true, false, cond, ◌&&◌, List, [], ◌∷◌, ◌++◌, ◌+◌, ◌<◌, Option, Some, None, length, filter, map, drop, get_or, slice_get, refl, sym, ap, ◌∙◌, append_assoc}
 use Rattle.std.proofs.lemmas.Bool.{cases_Bool, and_parts, false≢true}
+use Rattle.std.proofs.lemmas.List.{drop_more}
 use Rattle.std.proofs.lemmas.List.Elements.{filter-append}
 use Rattle.rapid_text.specs.declared.event.Event.{Event}
 use Rattle.event_index.specs.Lookups.{before}
@@ -47,3 +48,14 @@ module _ (T : List Event) (P : List ℕ) where
 
   pub shown_next : shown_pairs T P ≡ filter (λ p. does_show T P p.0 p.1) (pairs_of (filter (is_next T P) (before (length T))))
   shown_next = kept_pairs (λ p. does_show T P p.0 p.1) (is_next T P) only_next (before (length T))
+
+-- the pairs of one member more
+pub pairs_more :
+    (q : ℕ × ℕ → Bool) (xs : List ℕ) (at x : ℕ) (old new : List (ℕ × ℕ)) → at < length xs → x ≡ get_or xs at 0
+    → new ≡ old ++ filter q (map (λ y. (x, y)) (drop (at + 1) xs)) → new ++ filter q (pairs_of (drop (at + 1) xs)) ≡ old ++ filter q (pairs_of (drop at xs))
+pairs_more q xs at x old new lt is next =
+    let later : List ℕ = drop (at + 1) xs in
+    let row : List (ℕ × ℕ) = filter q (map (λ y. (x, y)) later) in
+    let cut : filter q (pairs_of (drop at xs)) ≡ row ++ filter q (pairs_of later) =
+    ap (λ ys. filter q (pairs_of ys)) (drop_more xs at 0 lt ∙ ap (λ y. y ∷ later) (sym is)) ∙ filter-append q (map (λ y. (x, y)) later) (pairs_of later) in
+    ap (λ zs. zs ++ filter q (pairs_of later)) next ∙ append_assoc old row (filter q (pairs_of later)) ∙ ap (λ zs. old ++ zs) (sym cut)

@@ -13,15 +13,15 @@ use crate::counted::Counted;
 use crate::entry::Entry;
 use crate::kept::{Held, Kept, Spare};
 use crate::parts::{
-    add_entry, add_held, add_nothing, commands_at, copied, enter, first_blocker, is_batch, is_own,
-    leave, make_room, put_back, refused, take_out,
+    add_entry, add_held, add_nothing, commands_at, enter, first_blocker, is_batch, is_own, leave,
+    make_room, put_back, refused, take_out,
 };
 use crate::proposals::judge;
 use crate::races::shown_pairs;
 use crate::refusal::Refusal;
 use crate::reply::Reply;
 use dependence::{Clients, Touches};
-use event_index::Indexed;
+use event_index::{EventList, Indexed};
 use moves::{Board, Command, Commands, MoveRefusal, Name, Workspace};
 use rapid_text::{OutOfMemory, TextKeyed};
 use std::alloc::Global;
@@ -406,7 +406,7 @@ impl Bench {
             Ok(schedule) => schedule,
             Err(why) => return Err(why),
         };
-        let Ok(events) = copied(self.alloc, events) else {
+        let Ok(events) = EventList::of(self.alloc, events) else {
             return Err(Refusal::OutOfMemory);
         };
         let Ok(()) = make_room(self.alloc, &mut self.log, &mut self.steps, &mut self.spare) else {
@@ -436,7 +436,7 @@ impl Bench {
         let Some(schedule) = self.rows.workspace().get(name) else {
             return Err(Refusal::Move(MoveRefusal::NoSuchSchedule));
         };
-        let Ok(events) = copied(self.alloc, schedule.events()) else {
+        let Ok(events) = EventList::of(self.alloc, schedule.events()) else {
             return Err(Refusal::OutOfMemory);
         };
         Ok(Reply::Shown(events))

@@ -1,5 +1,5 @@
 //! Steps on the parts of a bench.
-ghost use Rattle.std.specs.Prelude.{◌≡◌, ℕ, ◌+◌, ◌++◌, ◌∷◌, [], ◌<◌, ◌≤◌, All, OnOk, OnErr, IfOk, IfErr, IsSome, Some, vec_len, vec_capacity, slice_get, slice_set, map};
+ghost use Rattle.std.specs.Prelude.{◌≡◌, ℕ, ◌+◌, ◌++◌, ◌∷◌, [], ◌<◌, ◌≤◌, All, OnOk, OnErr, IfErr, IsSome, Some, vec_len, vec_capacity, slice_get, slice_set, map};
 ghost use Rattle.dependence.specs.Limits.{client_limit};
 ghost use Rattle.dependence.specs.Lists.{AllBelow, Entered, Left, of_client, PushedAll, RemovedAll, Same};
 ghost use Rattle.moves.specs.Commands.{writes};
@@ -13,7 +13,6 @@ use crate::entry::Entry;
 use crate::kept::{Held, Kept, Spare};
 use crate::refusal::Refusal;
 use dependence::{Clients, Touches};
-use event_index::EventList;
 use moves::{BatchRefusal, Command, Name};
 use rapid_text::OutOfMemory;
 use std::alloc::Global;
@@ -225,12 +224,4 @@ pub(crate) fn refused(why: BatchRefusal) -> Refusal
         BatchRefusal::InBatch { place, cause } => Refusal::InBatch { place, cause },
         BatchRefusal::OutOfMemory => Refusal::OutOfMemory,
     }
-}
-
-/// A list of its own with these events.
-pub(crate) fn copied(alloc: Global, events: &[u32]) -> Result<EventList, OutOfMemory>
-    ensures { IfOk result (λ copy. copy ≡ events.now) }
-{
-    let items = Vec::from_slice(alloc, events)?;
-    Ok(EventList::from(items))
 }

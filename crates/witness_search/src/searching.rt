@@ -66,8 +66,8 @@ pub fn greedy(
     if !search(&mut schedule, indexed, &aim, budget)? {
         return Ok(None);
     }
-    let events = Vec::from_slice(alloc, schedule.events())?;
-    Ok(Some(EventList::from(events)))
+    let events = EventList::of(alloc, schedule.events())?;
+    Ok(Some(events))
 }
 
 // Whether the two are events and conflict.

@@ -18,9 +18,9 @@ returns c =
     let T = c.args.indexed.now.events in
     let N = marked_events T c.in_ok-wanted.wanted.items in
     let start = c.args.start.now.events in
-    let list : c.search.new.schedule.events ≡ c.from.result = sym (c.from.ensures ∙ c.in_ok-events.ensures.items ∙ c.events.ensures.same) in
+    let list : c.search.new.schedule.events ≡ c.in_ok-events.events = sym (c.in_ok-events.ensures ∙ c.events.ensures.same) in
     let shown : c.in_ok-search.field-0 ≡ true = search rules in
-    let found : first_shown T c.args.first c.args.second N start c.args.budget ≡ Some c.from.result =
+    let found : first_shown T c.args.first c.args.second N start c.args.budget ≡ Some c.in_ok-events.events =
     rw (← c.in_ok-schedule.ensures.events) (c.in_ok-search.ensures.shown (ap Ok shown) ∙ ap Some list) in
     let (j, low, after, shows) = first_shown-some T _ _ N start _ _ found in
     record {

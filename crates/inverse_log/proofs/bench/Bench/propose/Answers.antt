@@ -53,7 +53,7 @@ pub invariant_of-self-2 : goal.invariant_of-self-2
 invariant_of-self-2 c =
     let s = c.self.inside in
     let room : length s.log.items < 1000000 = omega (arith, c.len-number.ensures) in
-    let log : c.add_entry.new.log.items ≡ s.log.items ++ Proposed c.args.client c.args.first c.args.second c.args.events.now ∷ [] = rw (c.in-Ok-make_room.ensures.log, c.in-Ok-copied.ensures) at c.add_entry.ensures in
+    let log : c.add_entry.new.log.items ≡ s.log.items ++ Proposed c.args.client c.args.first c.args.second c.args.events.now ∷ [] = rw (c.in-Ok-make_room.ensures.log, c.in-Ok-of.ensures) at c.add_entry.ensures in
     proposed_bench s c.self.invariant c.add_entry.new.log.items c.deref.result.now c.args.client c.args.first c.args.second c.args.events.now c.in-Ok.schedule c.push.new.self c.add_nothing.new.steps.items
     c.deref.ensures room c.in-Ok.ensures.2 c.in-Ok.ensures.3 c.in-Ok.ensures.0 c.in-Ok.ensures.1 c.in-Ok-push.ensures.ok (rw (c.in-Ok-make_room.ensures.steps) at c.add_nothing.ensures) log c.requires.low c.requires.high
 
@@ -63,7 +63,7 @@ returns-clause-call c =
     let number : c.len-number.result ≡ length s.log.items = omega (arith, c.len-number.ensures) in
     let room : c.len-number.result < 1000000 = omega arith in
     let proposal : c.len-proposal.result ≡ length s.board = c.len-proposal.ensures in
-    let log : c.add_entry.new.log.items ≡ s.log.items ++ Proposed c.args.client c.args.first c.args.second c.args.events.now ∷ [] = rw (c.in-Ok-make_room.ensures.log, c.in-Ok-copied.ensures) at c.add_entry.ensures in
+    let log : c.add_entry.new.log.items ≡ s.log.items ++ Proposed c.args.client c.args.first c.args.second c.args.events.now ∷ [] = rw (c.in-Ok-make_room.ensures.log, c.in-Ok-of.ensures) at c.add_entry.ensures in
     let answer = propose_answer s c.self.invariant c.deref.result.now c.len-number.result c.len-proposal.result c.args.client c.args.first c.args.second c.args.events.now c.deref.ensures number room proposal c.in-Ok.ensures.2 c.in-Ok.ensures.3 in (
       subst (λ (v : Benched). answer_of v.trace v.log c.args.client (Propose c.args.first c.args.second c.args.events.now) ≡ Ok (ProposedAs c.len-number.result c.len-proposal.result)) c.self.view_is answer,
       subst (λ (v : Benched). c.add_entry.new.log.items ≡ log_after v.trace v.log c.args.client (Propose c.args.first c.args.second c.args.events.now)) c.self.view_is

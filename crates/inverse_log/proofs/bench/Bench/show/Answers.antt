@@ -16,8 +16,8 @@ returns-in_default c =
       refl,
     )
 
-pub returns-in_default-copied : goal.returns-in_default-copied
-returns-in_default-copied c =
+pub returns-in_default-of : goal.returns-in_default-of
+returns-in_default-of c =
     let s = c.self.inside in (
       subst (λ (v : Benched). may_want (answer_of v.trace v.log c.args.client (Show c.args.name.now)) ≡ true) c.self.view_is (show_may s c.self.invariant c.args.client c.args.name.now c.in-Some.schedule.now (rw (c.workspace.ensures) at c.in-Some.ensures.some)),
       refl,
