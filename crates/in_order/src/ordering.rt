@@ -45,7 +45,7 @@ pub fn fewer_runs(
     if is_order_of(alloc, indexed, list, order.as_slice(), first, second)? {
         return Ok(EventList::from(order));
     }
-    Ok(EventList::from(Vec::from_slice(alloc, list)?))
+    EventList::of(alloc, list)
 }
 
 /// Whether the order has the events of the list, each as often, is a correct reordering, and shows the pair.
