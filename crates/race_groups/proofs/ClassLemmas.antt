@@ -2,7 +2,6 @@
 use Rattle.std.proofs.Common.{◌≡◌, ℕ, ◌<◌, ◌≤◌, ◌==◌, Bool, true, false, cond, List, length, map, sum_by, slice_index, get_or, All, Some, refl, sym, ap, ◌∙◌, inl, inr, arith}
 use Rattle.std.specs.List.{slice_get}
 use Rattle.std.proofs.lemmas.Bool.{cases_Bool, cond-false, eqb-true}
-use Rattle.std.proofs.lemmas.List.{get_or_default}
 use Rattle.std.proofs.lemmas.List.Elements.{All-get_or, All-weaker}
 use Rattle.std.proofs.lemmas.List.FromFn.{length-map-range_with_len, length-range_with_len}
 use Rattle.std.proofs.lemmas.List.Sums.{sum_by-le, length-filter, count_by-le-length}
@@ -14,32 +13,24 @@ use Rattle.event_index.specs.Relations.{is_access}
 use Rattle.event_index.proofs.CallerLemmas.{events_of-length, events_of-within}
 use Rattle.race_groups.specs.Classes.{AreConflicting, accesses, adds_to, members_of}
 use Rattle.race_groups.specs.Counting.{AreCounts, below_sum, class_sum, ends_list, front_count, later_by, later_count}
-use Rattle.race_groups.specs.Cuts.{IsCut}
+use Rattle.race_groups.specs.Ends.{nothing}
 use Rattle.race_groups.specs.Owners.{AreOwners}
-use Rattle.race_groups.specs.Rows.{Part, of_all, of_known, of_known_shared, of_forced, of_forced_shared, by_cut}
 use Rattle.race_groups.specs.declared.class.Class.{Class}
 use Rattle.race_groups.proofs.ConflictLemmas.{conflicting_all, conflicting_few}
-use Rattle.race_groups.proofs.LaterLemmas.{later_none}
+use Rattle.race_groups.proofs.LaterLemmas.{later_none, later_nothing}
+use Rattle.race_groups.proofs.MonotoneLemmas.{below_sum-mono}
 use Rattle.race_groups.proofs.OwnerLemmas.{front_none}
 use Rattle.race_groups.proofs.SumLemmas.{sum_by_below, sum_by_each, sum_by_if, sum_by_same, sum_by_turned, sum_by_zero}
 use Rattle.race_groups.proofs.WalkLemmas.{share_of}
 use Rattle.race_groups.proofs.WeightLemmas.{below_sum-le, get_before, ends_are, ends_within}
 use Rattle.race_groups.proofs.WholeLemmas.{members_all, members_within, share_whole}
 
--- what holds of the two things that belong to each cut
-pub each_two : {X Y : Type 0} (P : X → Y → Type 0) (a b c : X) (d e f : Y) → P a d → P b e → P c f → (k : Part) → P (by_cut a b c k) (by_cut d e f k)
-each_two P a b c d e f x y z of_all = x
-each_two P a b c d e f x y z of_known = y
-each_two P a b c d e f x y z of_known_shared = y
-each_two P a b c d e f x y z of_forced = z
-each_two P a b c d e f x y z of_forced_shared = z
-
 -- sums that are not large are not large together
-pub members_fit : (infos : List Class) (x : ℕ) (op : Op) (sums cs : List ℕ) → length sums ≡ length infos → length infos ≤ 1048576 → All (λ n. n ≤ 1099511627776) sums → AreConflicting infos x op cs
-    → sum_by (slice_index sums) cs ≤ 1152921504606846976
-members_fit infos x op sums cs len few small are =
+pub members_fit : (infos : List Class) (x : ℕ) (op : Op) (sums : ℕ → ℕ) (cs : List ℕ) → length infos ≤ 1048576 → ((k : ℕ) → k < length infos → sums k ≤ 1099511627776) → AreConflicting infos x op cs
+    → sum_by sums cs ≤ 1152921504606846976
+members_fit infos x op sums cs few small are =
     let test : ℕ → Bool = λ c. accesses x (slice_get infos c) in
-    let each = sum_by-le (slice_index sums) 1099511627776 (members_of infos x) (All-weaker (λ c. c < length infos) (λ c. slice_index sums c ≤ 1099511627776) (λ c lt. All-get_or (λ n. n ≤ 1099511627776) sums c 0 (omega (arith, len, lt)) small) (members_of infos x) (members_within infos x)) in
+    let each = sum_by-le sums 1099511627776 (members_of infos x) (All-weaker (λ c. c < length infos) (λ c. sums c ≤ 1099511627776) (λ c lt. small c lt) (members_of infos x) (members_within infos x)) in
     let size = length-filter test (before (length infos)) in
     let short = count_by-le-length test (before (length infos)) in
     let whole = length-range_with_len 0 (length infos) in
@@ -71,7 +62,7 @@ module _ (r : Recording) (formed : IsWellFormed r) (classes : List ℕ) (infos :
         | inr other ↦ cond-false (slice_index classes b == c) (later_count r.events keeps classes infos u end p q b) 0 other
       ]
 
-  module _ (len : length classes ≡ length r.events) (within : All (λ n. n < length infos) classes) (cut : IsCut r.events end) (named : u < length r.threads) where
+  module _ (len : length classes ≡ length r.events) (within : All (λ n. n < length infos) classes) (ends : (b t : ℕ) → b < length r.events → end b t ≤ length (events_of r.events t)) (named : u < length r.threads) where
     -- how many events of class k come below the cut of event b
     abbrev below : ℕ → ℕ → ℕ
     below b k = front_count r.events (length r.threads) classes (ends_list (length r.threads) u (end b)) k
@@ -87,10 +78,10 @@ module _ (r : Recording) (formed : IsWellFormed r) (classes : List ℕ) (infos :
         let wide : length fronts ≡ length r.threads = length-map-range_with_len (λ t. cond (t == u) 0 (end b t)) 0 (length r.threads) in
         let are : AreCounts T (length r.threads) classes fronts counts = record {
           fronts_len = wide;
-          within = ends_within r formed classes u c end cut named b lt;
+          within = ends_within r formed classes u c end ends named b lt;
           counted = λ k low. get_before (below b) n k (omega (arith, low, size));
         } in
-        sum_by_below (λ k. cond (adds_to keeps p q j (slice_get infos k)) (below b k) 0) (share_of keeps p q j infos counts) n
+        sum_by_below (λ k. cond (adds_to keeps p q j (slice_get infos k)) (below b k) 0) (share_of keeps p q j infos (slice_index counts)) n
         (λ k low. ap (λ m. cond (adds_to keeps p q j (slice_get infos k)) m 0) (sym (get_before (below b) n k low)))
         ∙ share_whole r formed keeps p q j classes fronts counts infos u (end b) len within size are (ends_are (length r.threads) u (end b) named)
         ∙ sym (ap (later_by T keeps classes infos u (end b) p q) is)
@@ -109,8 +100,8 @@ module _ (r : Recording) (formed : IsWellFormed r) (classes : List ℕ) (infos :
           | inr other ↦ cond-false (slice_index classes b == c) whole 0 other ∙ sym (cond-false (slice_index classes b == c) (later_count r.events keeps classes infos u end p q b) 0 other)
         ]
 
-    class_whole : (sums : List ℕ) → All (λ e. e < length r.events) (events_of r.events u)
-        → ((k : ℕ) → k < length infos → slice_index sums k ≡ below_sum r.events (length r.threads) classes u end c k (events_of r.events u))
+    class_whole : (sums : ℕ → ℕ) → All (λ e. e < length r.events) (events_of r.events u)
+        → ((k : ℕ) → k < length infos → sums k ≡ below_sum r.events (length r.threads) classes u end c k (events_of r.events u))
         → sum_by (share_of keeps p q j infos sums) (before (length infos)) ≡ class_sum r.events keeps classes infos u end p q c
     class_whole sums known is =
         let n = length infos in
@@ -124,8 +115,8 @@ module _ (r : Recording) (formed : IsWellFormed r) (classes : List ℕ) (infos :
         (λ i d lt. each_event (get_or lane i d) (All-get_or (λ e. e < length r.events) lane i d lt known))
 
     -- what the classes add with which the class conflicts
-    pub class_added : (sums members : List ℕ) (given : List Class) (x : ℕ) → given ≡ infos → is_access x j.op ≡ true → AreConflicting infos x j.op members → All (λ e. e < length r.events) (events_of r.events u)
-        → ((k : ℕ) → k < length infos → slice_index sums k ≡ below_sum r.events (length r.threads) classes u end c k (events_of r.events u))
+    pub class_added : (sums : ℕ → ℕ) (members : List ℕ) (given : List Class) (x : ℕ) → given ≡ infos → is_access x j.op ≡ true → AreConflicting infos x j.op members → All (λ e. e < length r.events) (events_of r.events u)
+        → ((k : ℕ) → k < length infos → sums k ≡ below_sum r.events (length r.threads) classes u end c k (events_of r.events u))
         → sum_by (share_of keeps p q j given sums) members ≡ class_sum r.events keeps classes infos u end p q c
     class_added sums members given x e accessed are known is =
         ap (λ is. sum_by (share_of keeps p q j is sums) members) e
@@ -151,10 +142,27 @@ sums_same T threads classes given infos shown u c end sums items e s i counted k
     ap (λ xs. slice_index xs k) i ∙ counted k (omega (arith, lt, ap length s)) ∙ ap (λ xs. below_sum T threads xs u end c k (events_of T u)) e
 
 -- none of them is large
-pub sums_small : (r : Recording) → IsWellFormed r → (classes : List ℕ) (infos : List Class) (u c : ℕ) (end : ℕ → ℕ → ℕ) (sums : List ℕ) → IsCut r.events end → u < length r.threads → length sums ≡ length infos
-    → ((k : ℕ) → k < length infos → slice_index sums k ≡ below_sum r.events (length r.threads) classes u end c k (events_of r.events u)) → All (λ n. n ≤ 1099511627776) sums
-sums_small r formed classes infos u c end sums cut named size are = λ k d lt.
-    let here = get_or_default sums k d 0 lt in
-    let is = are k (omega (arith, lt, size)) in
-    let few = below_sum-le r formed classes u c end cut named k (events_of-within r.events u) (omega (arith, events_of-length r.events u, formed.events)) in
-    omega (arith, here, is, few)
+pub sums_small : (r : Recording) → IsWellFormed r → (classes : List ℕ) (u c : ℕ) (end : ℕ → ℕ → ℕ) → ((b t : ℕ) → b < length r.events → end b t ≤ length (events_of r.events t)) → u < length r.threads
+    → (k : ℕ) → below_sum r.events (length r.threads) classes u end c k (events_of r.events u) ≤ 1099511627776
+sums_small r formed classes u c end ends named k =
+    below_sum-le r formed classes u c end ends named k (events_of-within r.events u) (omega (arith, events_of-length r.events u, formed.events))
+
+-- sums below ends that are no further
+pub sums_nested : (T : List Event) (threads : ℕ) (classes : List ℕ) (u j n : ℕ) (end further : ℕ → ℕ → ℕ) (sums others : List ℕ)
+    → ((k : ℕ) → k < n → slice_index sums k ≡ below_sum T threads classes u end j k (events_of T u))
+    → ((k : ℕ) → k < n → slice_index others k ≡ below_sum T threads classes u further j k (events_of T u))
+    → ((b : ℕ) → b < length T → (t : ℕ) → t < threads → end b t ≤ further b t) → (k : ℕ) → k < n → slice_index sums k ≤ slice_index others k
+sums_nested T threads classes u j n end further sums others is also le k lt =
+    let less = below_sum-mono T threads classes u end further j k (events_of T u)
+    (All-weaker (λ e. e < length T) (λ b. (t : ℕ) → t < threads → end b t ≤ further b t) le (events_of T u) (events_of-within T u))
+    in
+    let here = is k lt in
+    let there = also k lt in
+    omega (arith, less, here, there)
+
+-- below no ends there is nothing
+pub class_nothing : (T : List Event) (keeps : Class → Class → Bool) (classes : List ℕ) (infos : List Class) (u p q c : ℕ) → class_sum T keeps classes infos u nothing p q c ≡ 0
+class_nothing T keeps classes infos u p q c =
+    sum_by_each (λ b. cond (slice_index classes b == c) (later_count T keeps classes infos u nothing p q b) 0) (λ b. 0) (events_of T u)
+    (λ b. ap (λ n. cond (slice_index classes b == c) n 0) (later_nothing T keeps classes infos u p q b) ∙ cond_none (slice_index classes b == c))
+    ∙ sum_by_zero (events_of T u)

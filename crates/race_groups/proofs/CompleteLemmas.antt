@@ -1,5 +1,5 @@
 -- Which rows there are, and where they stand.
-use Rattle.std.proofs.Common.{◌≡◌, ℕ, zero, suc, ◌<◌, ◌≤◌, ◌==◌, ◌&&◌, ◌⊎◌, Bool, true, false, not, nat_lt, List, [], ◌∷◌, length, map, All, Contains, count_by, get_or, Option, Some, None, Result, Err, refl, sym, ap, subst, ◌∙◌, inl, inr, arith}
+use Rattle.std.proofs.Common.{◌≡◌, ℕ, zero, suc, ◌*◌, ◌<◌, ◌≤◌, ◌==◌, ◌&&◌, ◌⊎◌, Bool, true, false, not, nat_lt, List, [], ◌∷◌, length, map, All, Contains, count_by, get_or, Option, Some, None, Result, Err, refl, sym, ap, subst, ◌∙◌, inl, inr, arith}
 use Rattle.std.specs.List.{slice_get}
 use Rattle.std.specs.Option.{option_map, IfSome}
 use Rattle.std.specs.Map.{keys_of, lookup}
@@ -18,7 +18,7 @@ use Rattle.race_groups.specs.declared.rows.Sums.{Sums}
 use Rattle.race_groups.proofs.ApartLemmas.{in_group}
 use Rattle.race_groups.proofs.BuildLemmas.{All-from_slice_get}
 use Rattle.race_groups.proofs.RowLemmas.{same_places_are, are_same_places, between_one, count_at-none}
-use Rattle.race_groups.proofs.TellLemmas.{IsPair, group_pairs, All-both}
+use Rattle.race_groups.proofs.TellLemmas.{IsPair, group_pairs, All-both, count_all}
 
 -- what holds of a number that is found
 pub found_from : (P Q : ℕ → Type 0) (o : Option ℕ) → ((n : ℕ) → P n → Q n) → IfSome o P → IfSome o Q
@@ -158,7 +158,7 @@ some_or_none None = inl refl
 some_or_none (Some x) = inr (x, refl)
 
 pub AreComplete-from : {S : Type 0} (T : List Event) (place : ℕ → ℕ) (k : Part) (m : IndexMap (ℕ × ℕ) Sums S) (rows : List Row) → places_of rows ≡ keys m
-    → ((p q : ℕ) → p ≤ q → count_at k m p q ≡ length (group_of T place p q)) → AreComplete T place rows
+    → ((p q : ℕ) → p ≤ q → count_at k m p q ≡ 2 * length (group_of T place p q)) → AreComplete T place rows
 AreComplete-from T place k m rows is counted a b lt conflict =
     let key = rising_places (place a) (place b) in
     let p = key.0.0 in
@@ -189,10 +189,13 @@ have_conflict T place test p q more =
     let pair : IsPair T found.0.0 found.0.1 = found.1.0 in
     record { first = found.0.0; second = found.0.1; earlier = pair.earlier; conflict = pair.conflict; between = found.1.1 }
 
--- rows that count no more than there is, of which there are too many
-pub AreTooMany-from : {S : Type 0} (T : List Event) (place : ℕ → ℕ) (limit : ℕ) (m : IndexMap (ℕ × ℕ) Sums S) (test : Part → ℕ × ℕ → Bool) → AreMore limit m
-    → ((k : Part) (p q : ℕ) → p ≤ q → count_at k m p q ≤ count_of T place (test k) p q) → AreTooMany T place limit
-AreTooMany-from T place limit m test are fits = record {
+pub have_some : (T : List Event) (place : ℕ → ℕ) (p q : ℕ) → 0 < length (group_of T place p q) → HaveConflict T place (p, q)
+have_some T place p q more = have_conflict T place (λ e. true) p q (let all = count_all (group_of T place p q) in omega (arith, all, more))
+
+-- rows that count none where there is none, of which there are too many
+pub AreTooMany-from : {S : Type 0} (T : List Event) (place : ℕ → ℕ) (limit : ℕ) (m : IndexMap (ℕ × ℕ) Sums S) → AreMore limit m
+    → ((k : Part) (p q : ℕ) → p ≤ q → count_at k m p q ≤ 3 * length (group_of T place p q)) → AreTooMany T place limit
+AreTooMany-from T place limit m are fits = record {
   places = keys m;
   more = omega (arith, are.more, length-map m.entries (λ (e : (ℕ × ℕ) × Sums). e.0));
   rising = are.are.rising;
@@ -204,5 +207,5 @@ AreTooMany-from T place limit m test are fits = record {
       let some = are.are.counted p.0 p.1 there in
       let low : p.0 ≤ p.1 = All-contains (λ (e : ℕ × ℕ). e.0 ≤ e.1) (keys m) p are.are.rising there in
       let le = fits some.0 p.0 p.1 low in
-      have_conflict T place (test some.0) p.0 p.1 (omega (arith, le, some.1)));
+      have_some T place p.0 p.1 (omega (arith, le, some.1)));
 }

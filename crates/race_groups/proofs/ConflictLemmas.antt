@@ -1,5 +1,5 @@
 -- The classes with which an operation conflicts, in place of all of its variable.
-use Rattle.std.proofs.Common.{◌≡◌, ℕ, ◌<◌, ◌≤◌, ◌&&◌, Bool, true, false, cond, zero, suc, List, [], ◌∷◌, ◌++◌, length, sum_by, slice_index, All, Option, Some, None, refl, sym, ap, subst, ◌∙◌, inl, inr, arith}
+use Rattle.std.proofs.Common.{◌≡◌, ℕ, ◌<◌, ◌≤◌, ◌&&◌, Bool, true, false, cond, zero, suc, List, [], ◌∷◌, ◌++◌, length, sum_by, All, Option, Some, None, refl, sym, ap, subst, ◌∙◌, inl, inr, arith}
 use Rattle.std.specs.Bool.{if◌then◌else◌}
 use Rattle.std.specs.List.{slice_get}
 use Rattle.std.proofs.lemmas.Bool.{and_parts, true≢false}
@@ -35,14 +35,14 @@ module _ (keeps : Class → Class → Bool) (p q : ℕ) (j : Class) where
   only false false n h = refl
 
   -- they add all that the classes of the variable add
-  pub conflicting_all : (infos : List Class) (counts : List ℕ) (x : ℕ) (cs : List ℕ) → AreConflicting infos x j.op cs
+  pub conflicting_all : (infos : List Class) (counts : ℕ → ℕ) (x : ℕ) (cs : List ℕ) → AreConflicting infos x j.op cs
       → sum_by (share_of keeps p q j infos counts) cs ≡ sum_by (share_of keeps p q j infos counts) (members_of infos x)
   conflicting_all infos counts x cs (inl is) = ap (sum_by (share_of keeps p q j infos counts)) is
   conflicting_all infos counts x cs (inr reads) =
       ap (sum_by (share_of keeps p q j infos counts)) reads.1
       ∙ sum_by-filter (share_of keeps p q j infos counts) (λ c. is_writing (slice_get infos c)) (members_of infos x)
       ∙ sum_by_each (λ c. cond (is_writing (slice_get infos c)) (share_of keeps p q j infos counts c) 0) (share_of keeps p q j infos counts) (members_of infos x)
-      (λ c. only (is_writing (slice_get infos c)) (adds_to keeps p q j (slice_get infos c)) (slice_index counts c) (adds_writing (slice_get infos c) reads.0))
+      (λ c. only (is_writing (slice_get infos c)) (adds_to keeps p q j (slice_get infos c)) (counts c) (adds_writing (slice_get infos c) reads.0))
 
 -- they are classes
 pub conflicting_within : (infos : List Class) (x : ℕ) (op : Op) (cs : List ℕ) → AreConflicting infos x op cs → All (λ c. c < length infos) cs
@@ -55,11 +55,11 @@ cond_le : (b : Bool) (n : ℕ) → cond b n 0 ≤ n
 cond_le true n = omega arith
 cond_le false n = omega arith
 
-pub conflicting_few : (infos : List Class) (counts : List ℕ) (x : ℕ) (op : Op) (cs : List ℕ) → AreConflicting infos x op cs → sum_by (slice_index counts) cs ≤ sum_by (slice_index counts) (members_of infos x)
-conflicting_few infos counts x op cs (inl is) = let same = ap (sum_by (slice_index counts)) is in omega (arith, same)
+pub conflicting_few : (infos : List Class) (counts : ℕ → ℕ) (x : ℕ) (op : Op) (cs : List ℕ) → AreConflicting infos x op cs → sum_by counts cs ≤ sum_by counts (members_of infos x)
+conflicting_few infos counts x op cs (inl is) = let same = ap (sum_by counts) is in omega (arith, same)
 conflicting_few infos counts x op cs (inr reads) =
-    let same = ap (sum_by (slice_index counts)) reads.1 ∙ sum_by-filter (slice_index counts) (λ c. is_writing (slice_get infos c)) (members_of infos x) in
-    let less = sum_by-le-sum_by (λ c. cond (is_writing (slice_get infos c)) (slice_index counts c) 0) (slice_index counts) (members_of infos x) (λ c. cond_le (is_writing (slice_get infos c)) (slice_index counts c)) in
+    let same = ap (sum_by counts) reads.1 ∙ sum_by-filter counts (λ c. is_writing (slice_get infos c)) (members_of infos x) in
+    let less = sum_by-le-sum_by (λ c. cond (is_writing (slice_get infos c)) (counts c) 0) counts (members_of infos x) (λ c. cond_le (is_writing (slice_get infos c)) (counts c)) in
     omega (arith, same, less)
 
 -- what holds of each element of a list and of its place, with one more

@@ -30,7 +30,7 @@ module _ (T : List Event) where
             absurd (omega (arith, rise, is))
       ]
 
-  counted_is : (a b t : ℕ) → thread_at T a ≡ Some t → a < b → place_of T a < count_before T b t
+  pub counted_is : (a b t : ℕ) → thread_at T a ≡ Some t → a < b → place_of T a < count_before T b t
   counted_is a b t at lt =
       let rise = count_before-rises T t (a + 1) b (omega arith) in
       let is = placed a t at in

@@ -11,9 +11,13 @@ pub mod StateLemmas
 pub mod ConflictLemmas
 pub mod LaterLemmas
 pub mod OwnerLemmas
+pub mod MonotoneLemmas
+pub mod LooseLemmas
 pub mod ClassLemmas
 pub mod PairLemmas
 pub mod FlagLemmas
+pub mod DoubledLemmas
+pub mod TotalLemmas
 pub mod KindLemmas
 pub mod CutLemmas
 pub mod RelationLemmas
@@ -24,6 +28,7 @@ pub mod OrderCutLemmas
 pub mod HeldLemmas
 pub mod PartLemmas
 pub mod TellLemmas
+pub mod TotalGroupLemmas
 pub mod ApartLemmas
 pub mod CompleteLemmas
 pub mod Examples

@@ -4,16 +4,13 @@ use Rattle.std.proofs.lemmas.Bool.{cases_eq, cases_lt, cond-false, ne_eqb}
 use Rattle.std.proofs.lemmas.List.Elements.{All-take, All-weaker}
 use Rattle.std.proofs.lemmas.List.Sums.{sum_by_more}
 use Rattle.rapid_text.specs.declared.event.Event.{Event}
-use Rattle.rapid_text.specs.Recording.{Recording, IsWellFormed}
+use Rattle.rapid_text.specs.Recording.{Recording}
 use Rattle.event_index.specs.Events.{thread_at}
 use Rattle.event_index.specs.Lookups.{before, events_of}
 use Rattle.event_index.proofs.CallerLemmas.{events_of-thread}
-use Rattle.shb_clocks.specs.SharedRows.{Counted}
-use Rattle.race_groups.specs.Counting.{AreFrontsAt, class_count, front_count}
+use Rattle.race_groups.specs.Counting.{IsFront, class_count, front_count}
 use Rattle.race_groups.specs.Owners.{AreOwners}
-use Rattle.race_groups.specs.Rows.{Part, by_cut}
-use Rattle.race_groups.specs.declared.counted.Fronts.{Fronts}
-use Rattle.race_groups.proofs.LaterLemmas.{by_cut-same, counts_are, each_front, front_of}
+use Rattle.race_groups.specs.declared.counting.Front.{Front}
 use Rattle.race_groups.proofs.SumLemmas.{sum_by_same, sum_by_each, sum_by_zero}
 
 module _ (T : List Event) (threads : ℕ) (classes owners : List ℕ) (are : AreOwners T threads classes owners) (u c : ℕ) (lt : u < threads) (own : slice_index owners c ≡ u) where
@@ -45,15 +42,13 @@ module _ (T : List Event) (threads : ℕ) (classes owners : List ℕ) (are : Are
       ∙ sum_by_zero (before threads)
 
 -- nothing is counted of a thread's own classes
-pub own_nothing : (r : Recording) → IsWellFormed r → (n : ℕ) (classes : List ℕ) (u : ℕ) (rows : Counted) (i : ℕ) (fronts : Fronts) → AreFrontsAt r.events (length r.threads) n classes u rows i fronts
-    → (owners : List ℕ) → AreOwners r.events (length r.threads) classes owners → u < length r.threads
-    → (earlier known forced : List ℕ) → earlier ≡ fronts.earlier.counts.items → known ≡ fronts.known.counts.items → forced ≡ fronts.forced.counts.items
-    → (c : ℕ) → c < n → slice_index owners c ≡ u → (k : Part) → slice_index (by_cut earlier known forced k) c ≡ 0
-own_nothing r formed n classes u rows i fronts are owners owned lt earlier known forced e1 e2 e3 c low own k =
-    let front = each_front r formed n classes u rows i fronts are k in
-    ap (λ counts. slice_index counts c) (by_cut-same earlier known forced fronts.earlier.counts.items fronts.known.counts.items fronts.forced.counts.items e1 e2 e3 k ∙ counts_are fronts k)
-    ∙ front.counts.counted c (omega (arith, front.len))
-    ∙ front_none r.events (length r.threads) classes owners owned u c lt own (front_of fronts k).fronts.items front.own
+pub own_nothing : (r : Recording) (n : ℕ) (classes : List ℕ) (u : ℕ) (end : ℕ → ℕ → ℕ) (i : ℕ) (front : Front) → IsFront r.events (length r.threads) n classes u end i front
+    → (owners : List ℕ) → AreOwners r.events (length r.threads) classes owners → u < length r.threads → (counts : List ℕ) → counts ≡ front.counts.items
+    → (c : ℕ) → c < n → slice_index owners c ≡ u → slice_index counts c ≡ 0
+own_nothing r n classes u end i front are owners owned lt counts e c low own =
+    ap (λ (cs : List ℕ). slice_index cs c) e
+    ∙ are.counts.counted c (omega (arith, low, are.len))
+    ∙ front_none r.events (length r.threads) classes owners owned u c lt own front.fronts.items are.own
 
 -- a walk passes by places whose terms are 0
 pub sum_by_passed : (f : ℕ → ℕ) (cs : List ℕ) (i n : ℕ) → i ≤ n → n ≤ length cs → ((k : ℕ) → i ≤ k → k < n → f (slice_index cs k) ≡ 0) → sum_by f (take n cs) ≡ sum_by f (take i cs)

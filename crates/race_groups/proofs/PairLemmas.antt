@@ -16,7 +16,7 @@ use Rattle.event_index.proofs.CallerLemmas.{events_of-thread, place_of-count}
 use Rattle.race_groups.specs.Groups.{pairs_below, conflicts, count_of, is_between}
 use Rattle.race_groups.specs.Cuts.{IsCut, is_under, is_cut_off}
 use Rattle.race_groups.specs.Classes.{AreClasses, adds_to, keeps_by, is_kept_pair}
-use Rattle.race_groups.specs.Counting.{later_by, later_count}
+use Rattle.race_groups.specs.Counting.{later_by, later_count, pair_count}
 use Rattle.race_groups.specs.declared.class.Class.{Class}
 use Rattle.race_groups.proofs.SumLemmas.{sum_by_each, sum_by_same, sum_by_below, sum_by_below_suc, sum_by-filter}
 use Rattle.race_groups.proofs.ThreadLemmas.{thread_number, some_event, sum_by_threads}
@@ -84,8 +84,33 @@ shape :
     → cond (under && adds) n 0 ≡ cond conf (cond between (cond (cutoff && kept) n 0) 0) 0
 shape under adds conf between cutoff kept t l c k w n e1 e2 e3 e4 e5 e6 = cc (turned t l c k w n)
 
-module _ (r : Recording) (formed : IsWellFormed r) (place : ℕ → ℕ) (keeps : Class → Class → Bool) (classes : List ℕ) (infos : List Class) (end : ℕ → ℕ → ℕ) (are : AreClasses r.events place classes infos) (cut : IsCut r.events end) (p q : ℕ) where
-  class_of : (e : ℕ) → e < length r.events → slice_get infos (slice_index classes e) ≡ Some (get_or infos (slice_index classes e) some_class)
+-- the count of a group as a sum over pairs
+pub count_of-pairs : (T : List Event) (place : ℕ → ℕ) (test : ℕ × ℕ → Bool) (p q : ℕ)
+    → count_of T place test p q
+    ≡ sum_by (λ b. sum_by (λ a. cond (is_conflict T a b) (cond (is_between p q (place a) (place b)) (cond (test (a, b)) 1 0) 0) 0) (before b)) (before (length T))
+count_of-pairs T place test p q =
+    let one : ℕ × ℕ → ℕ = λ e. cond (test e) 1 0 in
+    let inner : ℕ × ℕ → ℕ = λ e. cond (is_between p q (place e.0) (place e.1)) (one e) 0 in
+    sum_by-filter one (λ e. is_between p q (place e.0) (place e.1)) (conflicts T)
+    ∙ sum_by-filter inner (λ e. is_conflict T e.0 e.1) (pairs_below (length T))
+    ∙ sum_by-pairs (λ e. cond (is_conflict T e.0 e.1) (inner e) 0) (length T)
+
+-- what later events count, thread by thread, is what all events count, each of its own thread
+pub later_sums : (r : Recording) → IsWellFormed r → (keeps : Class → Class → Bool) (classes : List ℕ) (infos : List Class) (end : ℕ → ℕ → ℕ) (p q : ℕ)
+    → sum_by (λ u. sum_by (later_count r.events keeps classes infos u end p q) (events_of r.events u)) (before (length r.threads))
+    ≡ sum_by (λ b. later_count r.events keeps classes infos (thread_number r.events b) end p q b) (before (length r.events))
+later_sums r formed keeps classes infos end p q =
+    let T = r.events in
+    let h : ℕ → ℕ = λ b. later_count T keeps classes infos (thread_number T b) end p q b in
+    sym (sum_by_each (λ u. sum_by h (events_of T u)) (λ u. sum_by (later_count T keeps classes infos u end p q) (events_of T u)) (before (length r.threads))
+    (λ u. sum_by_same h (later_count T keeps classes infos u end p q) (events_of T u)
+    (All-weaker (λ e. thread_at T e ≡ Some u) (λ e. h e ≡ later_count T keeps classes infos u end p q e)
+    (λ e at. ap (λ o. later_count T keeps classes infos (unwrap_or o 0) end p q e) at) (events_of T u) (events_of-thread T u))))
+    ∙ sum_by_threads r formed h
+
+-- any ends, of a cut or not
+module _ (r : Recording) (place : ℕ → ℕ) (keeps : Class → Class → Bool) (classes : List ℕ) (infos : List Class) (end : ℕ → ℕ → ℕ) (are : AreClasses r.events place classes infos) (p q : ℕ) where
+  pub class_of : (e : ℕ) → e < length r.events → slice_get infos (slice_index classes e) ≡ Some (get_or infos (slice_index classes e) some_class)
   class_of e lt =
       slice_get-get_or infos (slice_index classes e) some_class (All-get_or (λ c. c < length infos) classes e 0 (omega (arith, are.len)) are.within)
 
@@ -125,6 +150,13 @@ module _ (r : Recording) (formed : IsWellFormed r) (place : ℕ → ℕ) (keeps 
       (ap (passes_by (λ (v : Event). nat_lt (place_of T a) (end b v.thread))) vat)
       (ap (λ o. keeps_by keeps o (slice_get infos (slice_index classes b))) iat ∙ ap (keeps_by keeps (Some i)) jat)
 
+  -- what a later event counts, by its class
+  pub count_of_class : (b : ℕ) → b < length r.events
+      → later_count r.events keeps classes infos (thread_number r.events b) end p q b
+      ≡ pair_count r.events keeps classes infos (thread_number r.events b) (end b) (get_or infos (slice_index classes b) some_class) p q
+  count_of_class b lt = ap (later_by r.events keeps classes infos (thread_number r.events b) (end b) p q) (class_of b lt)
+
+module _ (r : Recording) (formed : IsWellFormed r) (place : ℕ → ℕ) (keeps : Class → Class → Bool) (classes : List ℕ) (infos : List Class) (end : ℕ → ℕ → ℕ) (are : AreClasses r.events place classes infos) (cut : IsCut r.events end) (p q : ℕ) where
   -- no event from b on comes before an end of b
   under_none : (a b : ℕ) → b ≤ a → a < length r.events → is_under r.events (thread_number r.events b) (end b) a ≡ false
   under_none a b le lt =
@@ -145,29 +177,21 @@ module _ (r : Recording) (formed : IsWellFormed r) (place : ℕ → ℕ) (keeps 
       let u = thread_number T b in
       let j = get_or infos (slice_index classes b) some_class in
       let F : ℕ → ℕ = λ a. cond (is_under T u (end b) a && adds_to keeps p q j (slice_get infos (slice_index classes a))) 1 0 in
-      ap (later_by T keeps classes infos u (end b) p q) (class_of b lt)
+      count_of_class r place keeps classes infos end are p q b lt
       ∙ sum_by_cut F b (length T) (omega arith)
       (λ a low high. cond-false (is_under T u (end b) a && adds_to keeps p q j (slice_get infos (slice_index classes a))) 1 0 (and_left (is_under T u (end b) a) (adds_to keeps p q j (slice_get infos (slice_index classes a))) (under_none a b low high)))
       ∙ sum_by_below F (λ a. cond (is_conflict T a b) (cond (is_between p q (place a) (place b)) (cond (is_cut_off T end a b && is_kept_pair keeps classes infos a b) 1 0) 0) 0) b
-      (λ a low. term a b 1 (omega arith) lt)
+      (λ a low. term r place keeps classes infos end are p q a b 1 (omega arith) lt)
 
   pub group_is : count_of r.events place (λ e. is_cut_off r.events end e.0 e.1 && is_kept_pair keeps classes infos e.0 e.1) p q
       ≡ sum_by (λ u. sum_by (later_count r.events keeps classes infos u end p q) (events_of r.events u)) (before (length r.threads))
   group_is =
       let T = r.events in
-      let test : ℕ × ℕ → ℕ = λ e. cond (is_cut_off T end e.0 e.1 && is_kept_pair keeps classes infos e.0 e.1) 1 0 in
-      let inner : ℕ × ℕ → ℕ = λ e. cond (is_between p q (place e.0) (place e.1)) (test e) 0 in
-      let outer : ℕ × ℕ → ℕ = λ e. cond (is_conflict T e.0 e.1) (inner e) 0 in
-      let h : ℕ → ℕ = λ b. later_count T keeps classes infos (thread_number T b) end p q b in
-      sum_by-filter test (λ e. is_between p q (place e.0) (place e.1)) (conflicts T)
-      ∙ sum_by-filter inner (λ e. is_conflict T e.0 e.1) (pairs_below (length T))
-      ∙ sum_by-pairs outer (length T)
-      ∙ sum_by_below (λ b. sum_by (λ a. outer (a, b)) (before b)) h (length T) (λ b lt. sym (later_is b lt))
-      ∙ sym (sum_by_threads r formed h)
-      ∙ sum_by_each (λ u. sum_by h (events_of T u)) (λ u. sum_by (later_count T keeps classes infos u end p q) (events_of T u)) (before (length r.threads))
-      (λ u. sum_by_same h (later_count T keeps classes infos u end p q) (events_of T u)
-      (All-weaker (λ e. thread_at T e ≡ Some u) (λ e. h e ≡ later_count T keeps classes infos u end p q e)
-      (λ e at. ap (λ o. later_count T keeps classes infos (unwrap_or o 0) end p q e) at) (events_of T u) (events_of-thread T u)))
+      count_of-pairs T place (λ e. is_cut_off T end e.0 e.1 && is_kept_pair keeps classes infos e.0 e.1) p q
+      ∙ sum_by_below
+      (λ b. sum_by (λ a. cond (is_conflict T a b) (cond (is_between p q (place a) (place b)) (cond (is_cut_off T end a b && is_kept_pair keeps classes infos a b) 1 0) 0) 0) (before b))
+      (λ b. later_count T keeps classes infos (thread_number T b) end p q b) (length T) (λ b lt. sym (later_is b lt))
+      ∙ sym (later_sums r formed keeps classes infos end p q)
 
 -- all pairs fit
 module _ (r : Recording) (formed : IsWellFormed r) (keeps : Class → Class → Bool) (classes : List ℕ) (infos : List Class) (end : ℕ → ℕ → ℕ) (p q k : ℕ) where

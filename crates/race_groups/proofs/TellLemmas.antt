@@ -1,6 +1,7 @@
 -- What the tests of a conflicting pair tell: its kind.
-use Rattle.std.proofs.Common.{◌≡◌, ℕ, ◌<◌, ◌≤◌, ◌↔◌, Bool, true, false, ◌&&◌, IsTrue, List, [], ◌∷◌, Vec, length, All, count_by, sum_by, cond, add-one, map, Option, Some, refl, sym, ap, ◌∙◌, subst, arith, inl, inr, slice_index, get_or}
+use Rattle.std.proofs.Common.{◌≡◌, ℕ, ◌+◌, ◌*◌, ◌/◌, ◌<◌, ◌≤◌, ◌↔◌, Bool, true, false, ◌&&◌, IsTrue, List, [], ◌∷◌, Vec, length, All, count_by, sum_by, cond, add-one, map, Option, Some, refl, sym, ap, ◌∙◌, subst, arith, inl, inr, slice_index, get_or}
 use Rattle.std.specs.List.{slice_get, flat_map}
+use Rattle.std.proofs.Math.Nat.{mul-div_cancel_left}
 use Rattle.std.proofs.lemmas.List.Sums.{sum_by-cons}
 use Rattle.std.specs.declared.alloc.Global.{Global}
 use Rattle.std.proofs.lemmas.Bool.{true≢false, cases_Bool}
@@ -27,10 +28,10 @@ use Rattle.race_groups.specs.Ends.{IsKnownBefore, known_before}
 use Rattle.race_groups.specs.Groups.{pairs_below, conflicts, group_of, is_between, kind_by, IsCountOf}
 use Rattle.race_groups.specs.Holding.{AreLocksOf}
 use Rattle.race_groups.specs.Kinds.{is_kind, kind_count, IsRowAt, IsDifference}
-use Rattle.race_groups.specs.Rows.{Part, of_all, of_known, of_known_shared, of_forced, of_forced_shared, part, count_at, same_places}
+use Rattle.race_groups.specs.Rows.{Part, of_all, of_candidates, of_ordered, of_guarded, part, count_at, same_places}
 use Rattle.race_groups.specs.declared.rows.Sums.{Sums}
 use Rattle.race_groups.specs.declared.kinds.Counts.{Counts}
-use Rattle.race_groups.specs.Shared.{keeps_shared, is_sharing, is_sharing_by, is_meeting}
+use Rattle.race_groups.specs.Shared.{keeps_shared, is_sharing_by, is_meeting}
 use Rattle.race_groups.specs.declared.class.Class.{Class}
 use Rattle.race_groups.proofs.CutLemmas.{cut_off_is}
 use Rattle.race_groups.proofs.HeldLemmas.{meeting_has, has_meeting}
@@ -40,6 +41,10 @@ use Rattle.race_groups.proofs.SumLemmas.{sum_by_same}
 use Rattle.race_groups.proofs.ThreadLemmas.{All-before}
 use Rattle.race_groups.proofs.PartLemmas.{forced_is_known}
 use Rattle.race_groups.proofs.RowLemmas.{count_at-there}
+
+-- half of what is twice
+half_of : (n : ℕ) → 2 * n / 2 ≡ n
+half_of n = mul-div_cancel_left n (omega arith)
 
 -- all pairs of classes are kept
 abbrev keeps_all : Class → Class → Bool
@@ -168,7 +173,7 @@ one_if : (k b : Bool) → k ≡ true → b ≡ true → ◌≡◌ {A = ℕ} (con
 one_if true b is also = ap (λ x. cond x 1 0) also
 one_if false b is also = absurd (true≢false (sym is))
 
-count_all : {X : Type 0} (xs : List X) → sum_by (λ x. 1) xs ≡ length xs
+pub count_all : {X : Type 0} (xs : List X) → sum_by (λ x. 1) xs ≡ length xs
 count_all [] = refl
 count_all (x ∷ xs) = let rest = count_all xs in omega (arith, rest, sum_by-cons (λ y. 1) x xs, add-one (length xs))
 
@@ -256,11 +261,10 @@ module _ {S : Type 0} (r : Recording) (formed : IsWellFormed r) (rules : IsDisci
       count = refl;
     }
 
-    -- all of them are counted
-    pub all_is : count_at of_all rows p q ≡ length group
+    -- all of them are earlier
+    all_is : count_by (λ e. is_cut_off r.events (count_before r.events) e.0 e.1 && any e) group ≡ length group
     all_is =
-        counted.counts of_all p q rising
-        ∙ sum_by_same (λ e. cond (is_cut_off r.events (count_before r.events) e.0 e.1 && any e) 1 0) (λ e. 1) group
+        sum_by_same (λ e. cond (is_cut_off r.events (count_before r.events) e.0 e.1 && any e) 1 0) (λ e. 1) group
         (All-weaker (λ e. IsPair r.events e.0 e.1) (λ e. ◌≡◌ {A = ℕ} (cond (is_cut_off r.events (count_before r.events) e.0 e.1 && any e) 1 0) 1)
         (λ e pair. one_if (is_cut_off r.events (count_before r.events) e.0 e.1) (any e) (earlier_is e.0 e.1 pair) (any_is e.0 e.1 pair)) group pairs)
         ∙ count_all group
@@ -274,16 +278,23 @@ module _ {S : Type 0} (r : Recording) (formed : IsWellFormed r) (rules : IsDisci
     kinds_counted sums there counts of =
         let parts = kinds_are known forced shared group (All-weaker (λ e. IsPair r.events e.0 e.1) (λ e. forced e ≡ true → known e ≡ true) (λ e pair. forced_known e.0 e.1 pair) group pairs) in
         let at : (k : Part) → count_at k rows p q ≡ part k sums = λ k. count_at-there rows k p q sums there in
-        let all = sym (at of_all) ∙ all_is in
-        let known_at = sym (at of_known) ∙ counted.counts of_known p q rising ∙ without_any known in
-        let forced_at = sym (at of_forced) ∙ counted.counts of_forced p q rising ∙ without_any forced in
-        let known_shared = sym (at of_known_shared) ∙ counted.counts of_known_shared p q rising in
-        let forced_shared = sym (at of_forced_shared) ∙ counted.counts of_forced_shared p q rising in
-        let candidates : kind_count known forced shared Candidate group ≡ counts.candidates = omega (arith, parts.candidate, all, known_at, of.candidates) in
-        let forces : kind_count known forced shared Forced group ≡ counts.forced = omega (arith, parts.force, forced_at, of.forced) in
-        let guards : kind_count known forced shared Guarded group ≡ counts.guarded = omega (arith, parts.guard, known_shared, forced_shared, of.guarded) in
-        let opens : kind_count known forced shared Open group ≡ counts.open_pairs =
-        omega (arith, parts.whole, parts.candidate, parts.force, guards, known_at, forced_at, of.open_pairs)
+        let all = sym (at of_all) ∙ counted.all p q rising in
+        let candidate = counted.candidates p q rising in
+        let order = counted.ordered p q rising in
+        let guard = counted.guarded p q rising in
+        let knows = without_any known in
+        let forces_some = without_any forced in
+        let candidates : kind_count known forced shared Candidate group ≡ counts.candidates =
+        omega (arith, parts.candidate, candidate, at of_candidates, all_is, knows, of.candidates)
+        in
+        let ordered : kind_count known forced shared Open group + kind_count known forced shared Guarded group ≡ sums.ordered =
+        omega (arith, parts.whole, parts.candidate, parts.force, order, at of_ordered, knows, forces_some)
+        in
+        let guards : kind_count known forced shared Guarded group ≡ counts.guarded = omega (arith, parts.guard, guard, at of_guarded, of.guarded) in
+        let opens : kind_count known forced shared Open group ≡ counts.open_pairs = omega (arith, ordered, guards, of.open_pairs, of.guarded) in
+        let half : sums.all / 2 ≡ length group = ap (λ n. n / 2) all ∙ half_of (length group) in
+        let forces : kind_count known forced shared Forced group ≡ counts.forced =
+        omega (arith, parts.whole, half, ordered, candidates, of.candidates, of.forced)
         in record {
           rising = rising;
           candidates = subst (IsCountOf (λ e. IsKind r e.0 e.1 Candidate) group) candidates (kind_is Candidate);

@@ -1,5 +1,5 @@
 -- What one later event adds to a row, class by class.
-use Rattle.std.proofs.Common.{◌≡◌, ℕ, ◌+◌, ◌<◌, ◌≤◌, Bool, true, false, List, length, take, sum_by, slice_index, Some, ap, ◌∙◌, arith}
+use Rattle.std.proofs.Common.{◌≡◌, ℕ, ◌+◌, ◌<◌, ◌≤◌, Bool, true, false, List, length, take, sum_by, slice_index, arith}
 use Rattle.std.specs.Bool.{if◌then◌else◌}
 use Rattle.std.specs.List.{slice_get}
 use Rattle.std.proofs.lemmas.List.Sums.{sum_by_more, sum_by_more_le_part}
@@ -12,22 +12,19 @@ abbrev pub some_class : Class
 some_class = record { place = 0; op = Read 0; held = 0 }
 
 -- how many events of class c are in pairs of the places p and q with the later event
-abbrev pub share_of : (Class → Class → Bool) → ℕ → ℕ → Class → List Class → List ℕ → ℕ → ℕ
-share_of keeps p q later infos counts c = if adds_to keeps p q later (slice_get infos c) then slice_index counts c else 0
+abbrev pub share_of : (Class → Class → Bool) → ℕ → ℕ → Class → List Class → (ℕ → ℕ) → ℕ → ℕ
+share_of keeps p q later infos counts c = if adds_to keeps p q later (slice_get infos c) then counts c else 0
 
 pub if_le : (b : Bool) (n : ℕ) → (if b then n else 0) ≤ n
 if_le true n = omega arith
 if_le false n = omega arith
 
 -- the classes up to the next, and what is added for it
-module _ (keeps : Class → Class → Bool) (p q : ℕ) (later : Class) (infos : List Class) (counts members : List ℕ) (i : ℕ) (lt : i < length members) where
-  pub share_more : (info : Class) → slice_get infos (slice_index members i) ≡ Some info
-      → sum_by (share_of keeps p q later infos counts) (take (i + 1) members)
-      ≡ sum_by (share_of keeps p q later infos counts) (take i members) + (if adds_to keeps p q later (Some info) then slice_index counts (slice_index members i) else 0)
-  share_more info at =
-      sum_by_more (share_of keeps p q later infos counts) members i 0 lt
-      ∙ ap (λ o. sum_by (share_of keeps p q later infos counts) (take i members) + (if adds_to keeps p q later o then slice_index counts (slice_index members i) else 0)) at
+module _ (keeps : Class → Class → Bool) (p q : ℕ) (later : Class) (infos : List Class) (counts : ℕ → ℕ) (members : List ℕ) (i : ℕ) (lt : i < length members) where
+  pub share_more : sum_by (share_of keeps p q later infos counts) (take (i + 1) members)
+      ≡ sum_by (share_of keeps p q later infos counts) (take i members) + (if adds_to keeps p q later (slice_get infos (slice_index members i)) then counts (slice_index members i) else 0)
+  share_more = sum_by_more (share_of keeps p q later infos counts) members i 0 lt
 
   -- what is there and what is added fits
-  pub share_fits : sum_by (share_of keeps p q later infos counts) (take i members) + slice_index counts (slice_index members i) ≤ sum_by (slice_index counts) members
-  share_fits = sum_by_more_le_part (share_of keeps p q later infos counts) (slice_index counts) members i 0 lt (λ c. if_le (adds_to keeps p q later (slice_get infos c)) (slice_index counts c))
+  pub share_fits : sum_by (share_of keeps p q later infos counts) (take i members) + counts (slice_index members i) ≤ sum_by counts members
+  share_fits = sum_by_more_le_part (share_of keeps p q later infos counts) counts members i 0 lt (λ c. if_le (adds_to keeps p q later (slice_get infos c)) (counts c))

@@ -222,13 +222,13 @@ module _ (T : List Event) (threads n : ℕ) (classes : List ℕ) (u j : ℕ) (en
       omega (arith, old, light, whole)
 
 -- The sums fit.
-module _ (r : Recording) (formed : IsWellFormed r) (classes : List ℕ) (u j : ℕ) (end : ℕ → ℕ → ℕ) (cut : IsCut r.events end) (named : u < length r.threads) where
+module _ (r : Recording) (formed : IsWellFormed r) (classes : List ℕ) (u j : ℕ) (end : ℕ → ℕ → ℕ) (within : (b t : ℕ) → b < length r.events → end b t ≤ length (events_of r.events t)) (named : u < length r.threads) where
   pub ends_within : (b : ℕ) → b < length r.events → (t : ℕ) → t < length r.threads → slice_index (ends_list (length r.threads) u (end b)) t ≤ length (events_of r.events t)
   ends_within b lt t below =
       let are = ends_are (length r.threads) u (end b) named in
       elim (cases_eq t u) [
         | inl e ↦ let none : slice_index (ends_list (length r.threads) u (end b)) t ≡ 0 = ap (slice_index (ends_list (length r.threads) u (end b))) e ∙ are.1 in omega (arith, none)
-        | inr ne ↦ let is = are.0 t below ne in let fits = cut.within b t lt in omega (arith, is, fits)
+        | inr ne ↦ let is = are.0 t below ne in let fits = within b t lt in omega (arith, is, fits)
       ]
 
   pub ends_count-le : (b c : ℕ) → b < length r.events → front_count r.events (length r.threads) classes (ends_list (length r.threads) u (end b)) c ≤ length r.events

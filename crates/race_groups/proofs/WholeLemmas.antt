@@ -65,12 +65,12 @@ module _ (keeps : Class → Class → Bool) (p q : ℕ) (j : Class) where
   member_only false true n h = false_no (h refl)
   member_only false false n h = refl
 
-  pub members_all : (infos : List Class) (counts : List ℕ) (x : ℕ) → is_access x j.op ≡ true
+  pub members_all : (infos : List Class) (counts : ℕ → ℕ) (x : ℕ) → is_access x j.op ≡ true
       → sum_by (share_of keeps p q j infos counts) (members_of infos x) ≡ sum_by (share_of keeps p q j infos counts) (before (length infos))
   members_all infos counts x h =
       sum_by-filter (share_of keeps p q j infos counts) (λ c. accesses x (slice_get infos c)) (before (length infos))
       ∙ sum_by_each (λ c. cond (accesses x (slice_get infos c)) (share_of keeps p q j infos counts c) 0) (share_of keeps p q j infos counts) (before (length infos))
-      (λ c. member_only (accesses x (slice_get infos c)) (adds_to keeps p q j (slice_get infos c)) (slice_index counts c) (adds_access (slice_get infos c) x h))
+      (λ c. member_only (accesses x (slice_get infos c)) (adds_to keeps p q j (slice_get infos c)) (counts c) (adds_access (slice_get infos c) x h))
 
   -- a class that accesses nothing adds nothing
   none_shared : (b : Bool) (n : ℕ) → (b ≡ true → ⊥) → (if b then n else 0) ≡ 0
@@ -83,10 +83,10 @@ module _ (keeps : Class → Class → Bool) (p q : ℕ) (j : Class) where
       let found = clash_accesses i.op j.op (and_parts (is_clash_of_ops i.op j.op) (keeps i j) (and_parts (is_clash_of_ops i.op j.op && keeps i j) (is_between p q i.place j.place) e).0).0 in
       true≢false (sym found.1 ∙ h found.0)
 
-  pub members_none : (infos : List Class) (counts : List ℕ) → ((x : ℕ) → is_access x j.op ≡ false)
+  pub members_none : (infos : List Class) (counts : ℕ → ℕ) → ((x : ℕ) → is_access x j.op ≡ false)
       → sum_by (share_of keeps p q j infos counts) (before (length infos)) ≡ 0
   members_none infos counts h =
-      sum_by_each (share_of keeps p q j infos counts) (λ c. 0) (before (length infos)) (λ c. none_shared (adds_to keeps p q j (slice_get infos c)) (slice_index counts c) (none_added (slice_get infos c) h))
+      sum_by_each (share_of keeps p q j infos counts) (λ c. 0) (before (length infos)) (λ c. none_shared (adds_to keeps p q j (slice_get infos c)) (counts c) (none_added (slice_get infos c) h))
       ∙ sum_by_zero (before (length infos))
 
 -- the members are classes
@@ -138,14 +138,14 @@ module _ (r : Recording) (formed : IsWellFormed r) where
   module _ (keeps : Class → Class → Bool) (p q : ℕ) (j : Class) (classes fronts counts : List ℕ) (infos : List Class) where
     pub share_whole : (u : ℕ) (ends : ℕ → ℕ) → length classes ≡ length r.events → All (λ c. c < length infos) classes → length counts ≡ length infos
         → AreCounts r.events (length r.threads) classes fronts counts → AreFronts (length r.threads) u ends fronts
-        → sum_by (share_of keeps p q j infos counts) (before (length infos)) ≡ pair_count r.events keeps classes infos u ends j p q
+        → sum_by (share_of keeps p q j infos (slice_index counts)) (before (length infos)) ≡ pair_count r.events keeps classes infos u ends j p q
     share_whole u ends len within size are fronted =
         let T = r.events in
         let D : ℕ → Bool = λ c. adds_to keeps p q j (slice_get infos c) in
         let S : ℕ → ℕ → Bool = λ e c. slice_index classes e == c in
         let F : ℕ → Bool = λ e. nat_lt (place_of T e) (slice_index fronts (thread_number T e)) in
         let term : ℕ → ℕ → ℕ = λ c e. cond (D c) (cond (F e) (cond (S e c) 1 0) 0) 0 in
-        sum_by_below (share_of keeps p q j infos counts) (λ c. sum_by (term c) (before (length T))) (length infos)
+        sum_by_below (share_of keeps p q j infos (slice_index counts)) (λ c. sum_by (term c) (before (length T))) (length infos)
         (λ c lt.
         let counted : slice_index counts c ≡ sum_by (λ e. cond (F e) (cond (S e c) 1 0) 0) (before (length T)) =
         are.counted c (omega (arith, size)) ∙ sum_by_fronts r formed (λ e. cond (S e c) 1 0) (slice_index fronts) are.within

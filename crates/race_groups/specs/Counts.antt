@@ -1,6 +1,6 @@
 -- The counts of a trace's conflicting pairs below its cuts. `T` is the events of a trace, `place` tells the place of each, `classes`
 -- and `infos` its class, and `lists` the locks of each class.
-use Rattle.std.specs.Prelude.{◌≡◌, ℕ, ◌≤◌, ◌&&◌, Bool, true, List, Vec}
+use Rattle.std.specs.Prelude.{◌≡◌, ℕ, ◌+◌, ◌*◌, ◌≤◌, ◌&&◌, Bool, true, List, Vec, length}
 use Rattle.std.specs.declared.alloc.Global.{Global}
 use Rattle.rapid_text.specs.declared.event.Event.{Event}
 use Rattle.event_index.specs.Lookups.{count_before}
@@ -9,8 +9,8 @@ use Rattle.must_order.specs.MustBefore.{IsForced}
 use Rattle.race_groups.specs.Classes.{is_kept_pair}
 use Rattle.race_groups.specs.Cuts.{IsCutOf, is_cut_off}
 use Rattle.race_groups.specs.Ends.{IsKnownBefore, known_before}
-use Rattle.race_groups.specs.Groups.{count_of}
-use Rattle.race_groups.specs.Rows.{Part, of_all, of_known, of_known_shared, of_forced, of_forced_shared, by_cut, count_at, AreRows}
+use Rattle.race_groups.specs.Groups.{count_of, group_of}
+use Rattle.race_groups.specs.Rows.{Part, of_all, of_candidates, of_ordered, of_guarded, count_at, AreRows}
 use Rattle.race_groups.specs.Shared.{is_sharing}
 use Rattle.race_groups.specs.declared.class.Class.{Class}
 use Rattle.race_groups.specs.declared.rows.Sums.{Sums}
@@ -18,10 +18,9 @@ use Rattle.race_groups.specs.declared.rows.Sums.{Sums}
 -- whether a part counts pairs whose classes have a lock in common, or have not
 abbrev pub is_counted : Part → Bool → Bool
 is_counted of_all shared = true
-is_counted of_known shared = true
-is_counted of_known_shared shared = shared
-is_counted of_forced shared = true
-is_counted of_forced_shared shared = shared
+is_counted of_candidates shared = true
+is_counted of_ordered shared = true
+is_counted of_guarded shared = shared
 
 -- whether it counts pairs of these classes
 abbrev pub keeps : List (Vec ℕ Global) → Part → Class → Class → Bool
@@ -31,12 +30,20 @@ keeps lists k i j = is_counted k (is_sharing lists i.held j.held)
 abbrev pub is_below : List Event → List ℕ → List Class → List (Vec ℕ Global) → Part → (ℕ → ℕ → ℕ) → ℕ × ℕ → Bool
 is_below T classes infos lists k end e = is_cut_off T end e.0 e.1 && is_kept_pair (keeps lists k) classes infos e.0 e.1
 
--- Each part counts the conflicting pairs below its cut.
+-- n is how many more of the pairs that the part counts come before the upper ends than before the lower
+abbrev pub IsMore : List Event → (ℕ → ℕ) → List ℕ → List Class → List (Vec ℕ Global) → Part → (ℕ → ℕ → ℕ) → (ℕ → ℕ → ℕ) → ℕ → ℕ → ℕ → Type 0
+IsMore T place classes infos lists k lower upper p q n =
+    n + count_of T place (is_below T classes infos lists k lower) p q ≡ count_of T place (is_below T classes infos lists k upper) p q
+
+-- All conflicting pairs are counted twice, and of the other parts those below one cut that are not below the next.
 pub record AreCounted {S : Type 0} (T : List Event) (place : ℕ → ℕ) (classes : List ℕ) (infos : List Class) (lists : List (Vec ℕ Global)) (rows : IndexMap (ℕ × ℕ) Sums S) : Type 0 where
   pub are : AreRows rows
   -- where the cut of what is forced ends
   pub ends : ℕ → ℕ → ℕ
-  pub counts : (k : Part) (p q : ℕ) → p ≤ q
-      → count_at k rows p q ≡ count_of T place (is_below T classes infos lists k (by_cut (count_before T) (known_before T) ends k)) p q
+  pub all : (p q : ℕ) → p ≤ q → count_at of_all rows p q ≡ 2 * length (group_of T place p q)
+  pub candidates : (p q : ℕ) → p ≤ q
+      → IsMore T place classes infos lists of_candidates (known_before T) (count_before T) p q (count_at of_candidates rows p q)
+  pub ordered : (p q : ℕ) → p ≤ q → IsMore T place classes infos lists of_ordered ends (known_before T) p q (count_at of_ordered rows p q)
+  pub guarded : (p q : ℕ) → p ≤ q → IsMore T place classes infos lists of_guarded ends (known_before T) p q (count_at of_guarded rows p q)
   pub tells_known : IsCutOf T (IsKnownBefore T) (known_before T)
   pub tells_forced : IsCutOf T (IsForced T) ends

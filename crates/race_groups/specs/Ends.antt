@@ -5,7 +5,7 @@ use Rattle.event_index.specs.Lookups.{base_of, count_before}
 use Rattle.shb_clocks.specs.HappensBefore.{IsShbBefore}
 use Rattle.shb_clocks.specs.Known.{known_of}
 use Rattle.shb_clocks.specs.SharedRows.{Counted, count_of}
-use Rattle.race_groups.specs.Rows.{Part, by_cut}
+use Rattle.race_groups.specs.Rows.{Part, by_part}
 
 abbrev pub known_by : List Event → Option ℕ → ℕ → ℕ
 known_by T None t = 0
@@ -23,9 +23,17 @@ counted_by rows (Some c) t = cond (nat_lt t rows.width) (count_of rows c t) 0
 abbrev pub counted_before : Counted → List Event → ℕ → ℕ → ℕ
 counted_before rows T b t = counted_by rows (base_of T b) t
 
--- where the cut of a part ends; the rows count what is forced
-abbrev pub ends_of : List Event → Counted → Part → ℕ → ℕ → ℕ
-ends_of T rows = by_cut (count_before T) (known_before T) (counted_before rows T)
+-- a cut before which nothing comes
+abbrev pub nothing : ℕ → ℕ → ℕ
+nothing b t = 0
+
+-- where the cut ends below which a part counts
+abbrev pub upper_of : List Event → Part → ℕ → ℕ → ℕ
+upper_of T = by_part nothing (count_before T) (known_before T)
+
+-- and that below which it does not; the rows count what is forced
+abbrev pub lower_of : List Event → Counted → Part → ℕ → ℕ → ℕ
+lower_of T rows = by_part nothing (known_before T) (counted_before rows T)
 
 -- a is b's base, or SHB-before it
 abbrev pub IsKnownBefore : List Event → ℕ → ℕ → Type 0

@@ -1,6 +1,6 @@
 -- The kinds of pairs, how many there are of each in a list, and rows that tell it of a pair of places. `r` is a recording, `place`
 -- tells the place of each event.
-use Rattle.std.specs.Prelude.{◌≡◌, ℕ, ◌-◌, ◌≤◌, Bool, true, false, List, count_by}
+use Rattle.std.specs.Prelude.{◌≡◌, ℕ, ◌-◌, ◌/◌, ◌≤◌, Bool, true, false, List, count_by}
 use Rattle.rapid_text.specs.Recording.{Recording}
 use Rattle.rapid_text.specs.declared.event.Event.{Event}
 use Rattle.schedule.specs.Reordering.{IsCorrectReordering}
@@ -40,9 +40,9 @@ abbrev pub IsNeverShownBetween : List Event → (ℕ → ℕ) → ℕ → ℕ �
 IsNeverShownBetween T place p q =
     (a b : ℕ) (P : List ℕ) → is_between p q (place a) (place b) ≡ true → IsCorrectReordering T P → ¬ Shows T P a b
 
--- The counts are differences of what was counted below the cuts.
+-- The counts are what was counted and differences of it: what is forced is the rest.
 pub record IsDifference (sums : Sums) (counts : Counts) : Type 0 where
-  pub candidates : counts.candidates ≡ sums.all - sums.known
-  pub guarded : counts.guarded ≡ sums.known_shared - sums.forced_shared
-  pub open_pairs : counts.open_pairs ≡ sums.known - sums.forced - counts.guarded
-  pub forced : counts.forced ≡ sums.forced
+  pub candidates : counts.candidates ≡ sums.candidates
+  pub guarded : counts.guarded ≡ sums.guarded
+  pub open_pairs : counts.open_pairs ≡ sums.ordered - sums.guarded
+  pub forced : counts.forced ≡ sums.all / 2 - sums.candidates - sums.ordered

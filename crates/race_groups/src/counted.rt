@@ -1,4 +1,4 @@
-//! The counts of a trace's conflicting pairs below three cuts: what is earlier in the trace, what SHB keeps before, what is forced.
+//! The counts of a trace's conflicting pairs between three cuts: what is earlier in the trace, what SHB keeps before, what is forced.
 //! For each later thread the events of the others are counted by class as they come below the cuts.
 ghost use Rattle.std.specs.Prelude.{◌≡◌, ℕ, ◌+◌, ◌^◌, ◌<◌, ◌≤◌, length, All, IfOk, OnOk, Err, Some, slice_get, slice_index, sum_by};
 ghost use Rattle.indexmap.specs.IndexMap.{index_map_len};
@@ -6,10 +6,9 @@ ghost use Rattle.rapid_text.specs.Recording.{IsWellFormed};
 ghost use Rattle.event_index.specs.Lookups.{events_of};
 ghost use Rattle.shb_clocks.specs.SharedRows.{Counted, len_of};
 ghost use Rattle.race_groups.specs.Classes.{AreClasses, AreMembers};
-ghost use Rattle.race_groups.specs.Counting.{AreFrontsAt, AreMoved, later_count, unflagged_count};
+ghost use Rattle.race_groups.specs.Counting.{AreCuts, AreFrontsAt, AreMoved, later_count, thread_sum, unflagged_count};
 ghost use Rattle.race_groups.specs.Counts.{AreCounted, keeps};
-ghost use Rattle.race_groups.specs.Cuts.{IsCut};
-ghost use Rattle.race_groups.specs.Ends.{ends_of};
+ghost use Rattle.race_groups.specs.Ends.{lower_of, upper_of};
 ghost use Rattle.race_groups.specs.Found.{AreTooMany};
 ghost use Rattle.race_groups.specs.Owners.{AreConflicts};
 ghost use Rattle.race_groups.specs.Rows.{Part, count_at, AreRows, AreMore};
@@ -21,6 +20,8 @@ use crate::cuts::{Earlier, Forced, Known};
 use crate::guesses::Guesses;
 use crate::heavy::{add_classes, heavies};
 use crate::rows::{Rows, RowsRefusal};
+use crate::shares::Loose;
+use crate::totals::add_totals;
 use crate::walk::add_members;
 use crate::writers::{Conflicts, conflicting};
 use event_index::Indexed;
@@ -66,7 +67,7 @@ impl Fronts {
         requires clocks { clocks.now ≡ indexed.now }
         requires width { rows.now.width ≡ length indexed.now.threads }
         requires len { len_of rows.now ≡ length indexed.now.events }
-        requires cuts { (k : Part) → IsCut indexed.now.events (ends_of indexed.now.events rows.now k) }
+        requires cuts { AreCuts indexed.now.events rows.now }
         requires numbers { length classes.now.numbers.items ≡ length indexed.now.events }
         requires classes { All (λ c. c < length classes.now.infos.items) classes.now.numbers.items }
         requires thread { thread < length indexed.now.threads }
@@ -117,7 +118,7 @@ fn add_later(
     requires width { forced.now.width ≡ length indexed.now.threads }
     requires len { len_of forced.now ≡ length indexed.now.events }
     requires formed { IsWellFormed indexed.now }
-    requires cuts { (k : Part) → IsCut indexed.now.events (ends_of indexed.now.events forced.now k) }
+    requires cuts { AreCuts indexed.now.events forced.now }
     requires numbers { length classes.now.numbers.items ≡ length indexed.now.events }
     requires classes { All (λ c. c < length classes.now.infos.items) classes.now.numbers.items }
     requires few { length classes.now.infos.items ≤ 1048576 }
@@ -129,12 +130,16 @@ fn add_later(
     requires fronts { AreFrontsAt indexed.now.events (length indexed.now.threads) (length classes.now.infos.items)
         classes.now.numbers.items thread forced.now at fronts.old }
     requires rows { AreRows rows.old }
-    requires room { (k : Part) (p q : ℕ) → p ≤ q → count_at k rows.old p q ≤ 2 ^ 40 }
+    requires room { (k : Part) (p q : ℕ) → p ≤ q → count_at k rows.old p q ≤ 2 ^ 42 }
     ensures fronts { OnOk result (AreFrontsAt indexed.now.events (length indexed.now.threads) (length classes.now.infos.items)
         classes.now.numbers.items thread forced.now (at + 1) fronts.new) }
-    ensures ok { OnOk result ((k : Part) (p q : ℕ) → p ≤ q → count_at k rows.new p q ≡ count_at k rows.old p q
+    // What comes below one cut and not below the next is added to each part.
+    ensures ok { OnOk result ((k : Part) (p q : ℕ) → p ≤ q → count_at k rows.new p q
         + later_count indexed.now.events (keeps classes.now.lists.keys k) classes.now.numbers.items classes.now.infos.items thread
-        (ends_of indexed.now.events forced.now k) p q (slice_index (events_of indexed.now.events thread) at)) }
+        (lower_of indexed.now.events forced.now k) p q (slice_index (events_of indexed.now.events thread) at)
+        ≡ count_at k rows.old p q
+        + later_count indexed.now.events (keeps classes.now.lists.keys k) classes.now.numbers.items classes.now.infos.items thread
+        (upper_of indexed.now.events k) p q (slice_index (events_of indexed.now.events thread) at)) }
     ensures rows { OnOk result (AreRows rows.new) }
 {
     let class = class_of(classes, indexed.thread_events(thread)[at]);
@@ -142,12 +147,15 @@ fn add_later(
         return Ok(());
     };
     fronts.advance(indexed, clocks, forced, classes, thread, at);
+    let loose = Loose {
+        earlier: fronts.earlier.counts.as_slice(),
+        known: fronts.known.counts.as_slice(),
+        forced: fronts.forced.counts.as_slice(),
+    };
     add_members(
         rows,
         guesses,
-        fronts.earlier.counts.as_slice(),
-        fronts.known.counts.as_slice(),
-        fronts.forced.counts.as_slice(),
+        &loose,
         classes.infos.as_slice(),
         &classes.lists,
         conflicting(classes, conflicts, variable, class.op),
@@ -175,7 +183,7 @@ fn add_light(
     requires width { forced.now.width ≡ length indexed.now.threads }
     requires len { len_of forced.now ≡ length indexed.now.events }
     requires formed { IsWellFormed indexed.now }
-    requires cuts { (k : Part) → IsCut indexed.now.events (ends_of indexed.now.events forced.now k) }
+    requires cuts { AreCuts indexed.now.events forced.now }
     requires numbers { length classes.now.numbers.items ≡ length indexed.now.events }
     requires classes { All (λ c. c < length classes.now.infos.items) classes.now.numbers.items }
     requires few { length classes.now.infos.items ≤ 1048576 }
@@ -188,12 +196,15 @@ fn add_light(
     requires fronts { AreFrontsAt indexed.now.events (length indexed.now.threads) (length classes.now.infos.items)
         classes.now.numbers.items thread forced.now at fronts.old }
     requires rows { AreRows rows.old }
-    requires room { (k : Part) (p q : ℕ) → p ≤ q → count_at k rows.old p q ≤ 2 ^ 40 }
+    requires room { (k : Part) (p q : ℕ) → p ≤ q → count_at k rows.old p q ≤ 2 ^ 42 }
     ensures fronts { OnOk result (AreFrontsAt indexed.now.events (length indexed.now.threads) (length classes.now.infos.items)
         classes.now.numbers.items thread forced.now (at + 1) fronts.new) }
-    ensures ok { OnOk result ((k : Part) (p q : ℕ) → p ≤ q → count_at k rows.new p q ≡ count_at k rows.old p q
+    ensures ok { OnOk result ((k : Part) (p q : ℕ) → p ≤ q → count_at k rows.new p q
         + unflagged_count indexed.now.events (keeps classes.now.lists.keys k) classes.now.numbers.items classes.now.infos.items thread
-        (ends_of indexed.now.events forced.now k) p q flags.now (slice_index (events_of indexed.now.events thread) at)) }
+        (lower_of indexed.now.events forced.now k) p q flags.now (slice_index (events_of indexed.now.events thread) at)
+        ≡ count_at k rows.old p q
+        + unflagged_count indexed.now.events (keeps classes.now.lists.keys k) classes.now.numbers.items classes.now.infos.items thread
+        (upper_of indexed.now.events k) p q flags.now (slice_index (events_of indexed.now.events thread) at)) }
     ensures rows { OnOk result (AreRows rows.new) }
 {
     let event = indexed.thread_events(thread)[at];
@@ -223,7 +234,7 @@ fn add_thread(
     requires width { forced.now.width ≡ length indexed.now.threads }
     requires len { len_of forced.now ≡ length indexed.now.events }
     requires formed { IsWellFormed indexed.now }
-    requires cuts { (k : Part) → IsCut indexed.now.events (ends_of indexed.now.events forced.now k) }
+    requires cuts { AreCuts indexed.now.events forced.now }
     requires numbers { length classes.now.numbers.items ≡ length indexed.now.events }
     requires classes { All (λ c. c < length classes.now.infos.items) classes.now.numbers.items }
     requires few { length classes.now.infos.items ≤ 1048576 }
@@ -234,16 +245,19 @@ fn add_thread(
     requires rows { AreRows rows.old }
     requires kept { index_map_len rows.old ≤ limit }
     requires room { (k : Part) (p q : ℕ) → p ≤ q
-        → count_at k rows.old p q + sum_by (λ e. length indexed.now.events) (events_of indexed.now.events thread) ≤ 2 ^ 40 }
-    ensures ok { OnOk result ((k : Part) (p q : ℕ) → p ≤ q → count_at k rows.new p q ≡ count_at k rows.old p q
-        + sum_by (later_count indexed.now.events (keeps classes.now.lists.keys k) classes.now.numbers.items classes.now.infos.items thread
-        (ends_of indexed.now.events forced.now k) p q) (events_of indexed.now.events thread)) }
+        → count_at k rows.old p q + sum_by (λ e. length indexed.now.events) (events_of indexed.now.events thread) ≤ 2 ^ 42 }
+    ensures ok { OnOk result ((k : Part) (p q : ℕ) → p ≤ q → count_at k rows.new p q
+        + thread_sum indexed.now.events (keeps classes.now.lists.keys k) classes.now.numbers.items classes.now.infos.items
+        (lower_of indexed.now.events forced.now k) p q thread
+        ≡ count_at k rows.old p q
+        + thread_sum indexed.now.events (keeps classes.now.lists.keys k) classes.now.numbers.items classes.now.infos.items
+        (upper_of indexed.now.events k) p q thread) }
     ensures rows { OnOk result (AreRows rows.new) }
     ensures kept { OnOk result (index_map_len rows.new ≤ limit) }
     // Where there are too many, none of them counts more than there is.
     ensures too_many { result ≡ Err RowsRefusal.TooMany → AreMore limit rows.new × ((k : Part) (p q : ℕ) → p ≤ q → count_at k rows.new p q
-        ≤ count_at k rows.old p q + sum_by (later_count indexed.now.events (keeps classes.now.lists.keys k) classes.now.numbers.items
-        classes.now.infos.items thread (ends_of indexed.now.events forced.now k) p q) (events_of indexed.now.events thread)) }
+        ≤ count_at k rows.old p q + thread_sum indexed.now.events (keeps classes.now.lists.keys k) classes.now.numbers.items
+        classes.now.infos.items (upper_of indexed.now.events k) p q thread) }
 {
     let flags = heavies(alloc, indexed, classes, conflicts, thread)?;
     let flagged = flags.as_slice();
@@ -299,6 +313,18 @@ pub(crate) fn count_cuts(
     let conflicts = Conflicts::of(alloc, indexed, classes)?;
     let mut rows = IndexMap::new(alloc);
     let mut guesses = Guesses::new(alloc, classes.infos.as_slice())?;
+    match add_totals(
+        alloc,
+        &mut rows,
+        &mut guesses,
+        indexed,
+        classes,
+        limit,
+        &conflicts,
+    ) {
+        Ok(()) => {}
+        Err(refusal) => return Err(refusal),
+    }
     for thread in 0..indexed.threads() {
         match add_thread(
             alloc,

@@ -76,8 +76,8 @@ impl Front {
     }
 }
 
-// Counts these events, each by its class.
-fn count(counts: &mut [u64], classes: &[u32], events: &[u32])
+/// Counts these events, each by its class.
+pub(crate) fn count(counts: &mut [u64], classes: &[u32], events: &[u32])
     requires events { All (λ e. e < length classes.now) events.now }
     requires classes { All (λ c. c < length counts.old) classes.now }
     requires room { (c : ℕ) → c < length counts.old → slice_index counts.old c + length events.now < 2 ^ 32 }

@@ -7,10 +7,9 @@ ghost use Rattle.event_index.specs.Lookups.{events_of};
 ghost use Rattle.event_index.specs.Relations.{is_access};
 ghost use Rattle.shb_clocks.specs.SharedRows.{len_of};
 ghost use Rattle.race_groups.specs.Classes.{AreMembers};
-ghost use Rattle.race_groups.specs.Counting.{class_sum, flagged_class, flagged_sum, later_count};
+ghost use Rattle.race_groups.specs.Counting.{AreCuts, class_sum, flagged_class, flagged_sum, thread_sum};
 ghost use Rattle.race_groups.specs.Counts.{keeps};
-ghost use Rattle.race_groups.specs.Cuts.{IsCut};
-ghost use Rattle.race_groups.specs.Ends.{ends_of};
+ghost use Rattle.race_groups.specs.Ends.{lower_of, upper_of};
 ghost use Rattle.race_groups.specs.Owners.{AreConflicts, AreRuns};
 ghost use Rattle.race_groups.specs.Rows.{Part, count_at, AreMore, AreRows};
 
@@ -19,6 +18,7 @@ use crate::cuts::{Earlier, Forced, Known};
 use crate::guesses::Guesses;
 use crate::owners::owner_of;
 use crate::rows::{Rows, RowsRefusal};
+use crate::shares::Loose;
 use crate::sums::sums_below;
 use crate::walk::add_members;
 use crate::writers::{Conflicts, Walk, conflicting};
@@ -44,7 +44,7 @@ fn add_class(
     requires width { forced.now.width ≡ length indexed.now.threads }
     requires len { len_of forced.now ≡ length indexed.now.events }
     requires formed { IsWellFormed indexed.now }
-    requires cuts { (k : Part) → IsCut indexed.now.events (ends_of indexed.now.events forced.now k) }
+    requires cuts { AreCuts indexed.now.events forced.now }
     requires numbers { length classes.now.numbers.items ≡ length indexed.now.events }
     requires classes { All (λ c. c < length classes.now.infos.items) classes.now.numbers.items }
     requires few { length classes.now.infos.items ≤ 1048576 }
@@ -54,10 +54,13 @@ fn add_class(
     requires thread { thread < length indexed.now.threads }
     requires class { class < length classes.now.infos.items }
     requires rows { AreRows rows.old }
-    requires room { (k : Part) (p q : ℕ) → p ≤ q → count_at k rows.old p q ≤ 2 ^ 40 }
-    ensures ok { OnOk result ((k : Part) (p q : ℕ) → p ≤ q → count_at k rows.new p q ≡ count_at k rows.old p q
+    requires room { (k : Part) (p q : ℕ) → p ≤ q → count_at k rows.old p q ≤ 2 ^ 42 }
+    ensures ok { OnOk result ((k : Part) (p q : ℕ) → p ≤ q → count_at k rows.new p q
         + class_sum indexed.now.events (keeps classes.now.lists.keys k) classes.now.numbers.items classes.now.infos.items thread
-        (ends_of indexed.now.events forced.now k) p q class) }
+        (lower_of indexed.now.events forced.now k) p q class
+        ≡ count_at k rows.old p q
+        + class_sum indexed.now.events (keeps classes.now.lists.keys k) classes.now.numbers.items classes.now.infos.items thread
+        (upper_of indexed.now.events k) p q class) }
     ensures rows { OnOk result (AreRows rows.new) }
 {
     let info = classes.infos[class as usize];
@@ -96,12 +99,15 @@ fn add_class(
         class,
         infos.len(),
     )?;
+    let loose = Loose {
+        earlier: earlier.as_slice(),
+        known: known.as_slice(),
+        forced: must.as_slice(),
+    };
     add_members(
         rows,
         guesses,
-        earlier.as_slice(),
-        known.as_slice(),
-        must.as_slice(),
+        &loose,
         infos,
         &classes.lists,
         conflicting(classes, conflicts, variable, info.op),
@@ -129,7 +135,7 @@ fn add_flagged(
     requires width { forced.now.width ≡ length indexed.now.threads }
     requires len { len_of forced.now ≡ length indexed.now.events }
     requires formed { IsWellFormed indexed.now }
-    requires cuts { (k : Part) → IsCut indexed.now.events (ends_of indexed.now.events forced.now k) }
+    requires cuts { AreCuts indexed.now.events forced.now }
     requires numbers { length classes.now.numbers.items ≡ length indexed.now.events }
     requires classes { All (λ c. c < length classes.now.infos.items) classes.now.numbers.items }
     requires few { length classes.now.infos.items ≤ 1048576 }
@@ -140,10 +146,13 @@ fn add_flagged(
     requires class { class < length classes.now.infos.items }
     requires flags { length flags.now ≡ length classes.now.infos.items }
     requires rows { AreRows rows.old }
-    requires room { (k : Part) (p q : ℕ) → p ≤ q → count_at k rows.old p q ≤ 2 ^ 40 }
-    ensures ok { OnOk result ((k : Part) (p q : ℕ) → p ≤ q → count_at k rows.new p q ≡ count_at k rows.old p q
+    requires room { (k : Part) (p q : ℕ) → p ≤ q → count_at k rows.old p q ≤ 2 ^ 42 }
+    ensures ok { OnOk result ((k : Part) (p q : ℕ) → p ≤ q → count_at k rows.new p q
         + flagged_class indexed.now.events (keeps classes.now.lists.keys k) classes.now.numbers.items classes.now.infos.items thread
-        (ends_of indexed.now.events forced.now k) p q flags.now class) }
+        (lower_of indexed.now.events forced.now k) p q flags.now class
+        ≡ count_at k rows.old p q
+        + flagged_class indexed.now.events (keeps classes.now.lists.keys k) classes.now.numbers.items classes.now.infos.items thread
+        (upper_of indexed.now.events k) p q flags.now class) }
     ensures rows { OnOk result (AreRows rows.new) }
 {
     if flags[class as usize] != 1 {
@@ -173,7 +182,7 @@ pub(crate) fn add_classes(
     requires width { forced.now.width ≡ length indexed.now.threads }
     requires len { len_of forced.now ≡ length indexed.now.events }
     requires formed { IsWellFormed indexed.now }
-    requires cuts { (k : Part) → IsCut indexed.now.events (ends_of indexed.now.events forced.now k) }
+    requires cuts { AreCuts indexed.now.events forced.now }
     requires numbers { length classes.now.numbers.items ≡ length indexed.now.events }
     requires classes { All (λ c. c < length classes.now.infos.items) classes.now.numbers.items }
     requires few { length classes.now.infos.items ≤ 1048576 }
@@ -185,15 +194,18 @@ pub(crate) fn add_classes(
     requires rows { AreRows rows.old }
     requires kept { index_map_len rows.old ≤ limit }
     requires room { (k : Part) (p q : ℕ) → p ≤ q
-        → count_at k rows.old p q + sum_by (λ e. length indexed.now.events) (events_of indexed.now.events thread) ≤ 2 ^ 40 }
-    ensures ok { OnOk result ((k : Part) (p q : ℕ) → p ≤ q → count_at k rows.new p q ≡ count_at k rows.old p q
+        → count_at k rows.old p q + sum_by (λ e. length indexed.now.events) (events_of indexed.now.events thread) ≤ 2 ^ 42 }
+    ensures ok { OnOk result ((k : Part) (p q : ℕ) → p ≤ q → count_at k rows.new p q
         + flagged_sum indexed.now.events (keeps classes.now.lists.keys k) classes.now.numbers.items classes.now.infos.items thread
-        (ends_of indexed.now.events forced.now k) p q flags.now (length classes.now.infos.items)) }
+        (lower_of indexed.now.events forced.now k) p q flags.now (length classes.now.infos.items)
+        ≡ count_at k rows.old p q
+        + flagged_sum indexed.now.events (keeps classes.now.lists.keys k) classes.now.numbers.items classes.now.infos.items thread
+        (upper_of indexed.now.events k) p q flags.now (length classes.now.infos.items)) }
     ensures rows { OnOk result (AreRows rows.new) }
     ensures kept { OnOk result (index_map_len rows.new ≤ limit) }
     ensures too_many { result ≡ Err RowsRefusal.TooMany → AreMore limit rows.new × ((k : Part) (p q : ℕ) → p ≤ q → count_at k rows.new p q
-        ≤ count_at k rows.old p q + sum_by (later_count indexed.now.events (keeps classes.now.lists.keys k) classes.now.numbers.items
-        classes.now.infos.items thread (ends_of indexed.now.events forced.now k) p q) (events_of indexed.now.events thread)) }
+        ≤ count_at k rows.old p q + thread_sum indexed.now.events (keeps classes.now.lists.keys k) classes.now.numbers.items
+        classes.now.infos.items (upper_of indexed.now.events k) p q thread) }
 {
     for class in 0..flags.len() {
         add_flagged(

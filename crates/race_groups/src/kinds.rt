@@ -127,19 +127,17 @@ fn rows_of(
 }
 
 impl Sums {
-    // The counts of the four kinds, which are differences of these.
+    // The counts of the four kinds. What is forced is the rest.
     fn counts(self) -> Counts
         ensures { IsDifference self result }
     {
-        let guarded = self.known_shared.saturating_sub(self.forced_shared);
         Counts {
-            candidates: self.all.saturating_sub(self.known),
-            open_pairs: self
-                .known
-                .saturating_sub(self.forced)
-                .saturating_sub(guarded),
-            guarded,
-            forced: self.forced,
+            candidates: self.candidates,
+            open_pairs: self.ordered.saturating_sub(self.guarded),
+            guarded: self.guarded,
+            forced: (self.all / 2)
+                .saturating_sub(self.candidates)
+                .saturating_sub(self.ordered),
         }
     }
 }

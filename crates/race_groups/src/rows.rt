@@ -12,16 +12,14 @@ use std::alloc::{AllocError, AllocFailed};
 /// How many conflicting pairs of a pair of places there are.
 #[derive(Clone, Copy)]
 pub(crate) struct Sums {
-    /// All.
+    /// All, each twice: once at its later event, and once at its earlier one.
     pub(crate) all: u64,
-    /// Those that SHB orders: the earlier is the later's base or SHB-before it.
-    pub(crate) known: u64,
+    /// Those that are candidates.
+    pub(crate) candidates: u64,
+    /// Those that SHB orders and nothing forces.
+    pub(crate) ordered: u64,
     /// Those of them whose threads both hold a lock.
-    pub(crate) known_shared: u64,
-    /// Those that are forced.
-    pub(crate) forced: u64,
-    /// Those of them whose threads both hold a lock.
-    pub(crate) forced_shared: u64,
+    pub(crate) guarded: u64,
 }
 
 /// For each pair of places, the lesser first, what was counted of it.
@@ -77,10 +75,9 @@ impl Sums {
     {
         Sums {
             all: self.all + more.all,
-            known: self.known + more.known,
-            known_shared: self.known_shared + more.known_shared,
-            forced: self.forced + more.forced,
-            forced_shared: self.forced_shared + more.forced_shared,
+            candidates: self.candidates + more.candidates,
+            ordered: self.ordered + more.ordered,
+            guarded: self.guarded + more.guarded,
         }
     }
 }

@@ -1,10 +1,10 @@
-use Rattle.std.proofs.Common.{◌≡◌, ◌+◌, length, take, sum_by, ap, arith}
+use Rattle.std.proofs.Common.{◌≡◌, ◌+◌, ◌<◌, length, take, sum_by, ap, arith}
 use Rattle.std.proofs.lemmas.List.{take_all}
 use Rattle.std.proofs.lemmas.List.Sums.{sum_by_more, sum_by-take-le}
 use Rattle.event_index.specs.Lookups.{events_of}
 use Rattle.race_groups.specs.Counting.{unflagged_count}
 use Rattle.race_groups.specs.Counts.{keeps}
-use Rattle.race_groups.specs.Ends.{ends_of}
+use Rattle.race_groups.specs.Ends.{lower_of, upper_of}
 use Rattle.race_groups.proofs.FlagLemmas.{flagged_all}
 use Rattle.race_groups.proofs.LoopLemmas.{later_sum-le}
 use Rattle.race_groups.proofs.counted.add_thread.Goals as goal
@@ -16,13 +16,15 @@ add_light-requires-clause-room c = λ k p q le.
     let keep = keeps c.args.classes.now.lists.keys k in
     let numbers = c.args.classes.now.numbers.items in
     let infos = c.args.classes.now.infos.items in
-    let end = ends_of T c.args.forced.now k in
     let flags = c.as_slice-flagged.result.now in
-    let f = unflagged_count T keep numbers infos c.args.thread end p q flags in
+    let upper = upper_of T k in
+    let lower = lower_of T c.args.forced.now k in
+    let f = unflagged_count T keep numbers infos c.args.thread upper p q flags in
+    let g = unflagged_count T keep numbers infos c.args.thread lower p q flags in
     let part = sum_by-take-le f lane c.loop-at.at in
-    let whole = flagged_all T keep numbers infos c.args.thread end p q flags c.requires.numbers c.requires.classes in
-    let few = later_sum-le T keep numbers infos c.args.thread end p q lane in
-    omega (arith, part, whole, few, c.in_ok-add_classes.ensures.ok k p q le, c.loop-at.invariant.rows k p q le, c.requires.room k p q le)
+    let whole = flagged_all T keep numbers infos c.args.thread upper p q flags c.requires.numbers c.requires.classes in
+    let few = later_sum-le T keep numbers infos c.args.thread upper p q lane in
+    omega (arith, part, whole, few, c.loop-at.invariant.rows k p q le, c.requires.room k p q le)
 
 pub loop-at-preserved : goal.loop-at-preserved
 loop-at-preserved c = record {
@@ -32,9 +34,18 @@ loop-at-preserved c = record {
   rows = λ k p q le.
       let T = c.args.indexed.now.events in
       let lane = events_of T c.args.thread in
-      let f = unflagged_count T (keeps c.args.classes.now.lists.keys k) c.args.classes.now.numbers.items c.args.classes.now.infos.items c.args.thread (ends_of T c.args.forced.now k) p q c.as_slice-flagged.result.now in
-      let more = sum_by_more f lane c.loop-at.at 0 (omega (arith, c.loop-at-test.true, ap length c.thread_events-at-end.ensures.events)) in
-      omega (arith, more, c.in_ok-add_light.ensures.ok k p q le, c.loop-at.invariant.rows k p q le);
+      let keep = keeps c.args.classes.now.lists.keys k in
+      let numbers = c.args.classes.now.numbers.items in
+      let infos = c.args.classes.now.infos.items in
+      let flags = c.as_slice-flagged.result.now in
+      let upper = upper_of T k in
+      let lower = lower_of T c.args.forced.now k in
+      let f = unflagged_count T keep numbers infos c.args.thread upper p q flags in
+      let g = unflagged_count T keep numbers infos c.args.thread lower p q flags in
+      let inside : c.loop-at.at < length lane = omega (arith, c.loop-at-test.true, ap length c.thread_events-at-end.ensures.events) in
+      let more = sum_by_more f lane c.loop-at.at 0 inside in
+      let less = sum_by_more g lane c.loop-at.at 0 inside in
+      omega (arith, more, less, c.in_ok-add_light.ensures.ok k p q le, c.loop-at.invariant.rows k p q le);
 }
 
 pub loop-at-init : goal.loop-at-init
@@ -52,13 +63,17 @@ returns-clause-ok c = λ k p q le.
     let keep = keeps c.args.classes.now.lists.keys k in
     let numbers = c.args.classes.now.numbers.items in
     let infos = c.args.classes.now.infos.items in
-    let end = ends_of T c.args.forced.now k in
     let flags = c.as_slice-flagged.result.now in
-    let f = unflagged_count T keep numbers infos c.args.thread end p q flags in
+    let upper = upper_of T k in
+    let lower = lower_of T c.args.forced.now k in
+    let f = unflagged_count T keep numbers infos c.args.thread upper p q flags in
+    let g = unflagged_count T keep numbers infos c.args.thread lower p q flags in
     let whole : take c.loop-at.at lane ≡ lane = take_all c.loop-at.at lane (omega (arith, c.loop-at-test.false, ap length c.thread_events-at-end.ensures.events)) in
     let same = ap (sum_by f) whole in
-    let all = flagged_all T keep numbers infos c.args.thread end p q flags c.requires.numbers c.requires.classes in
-    omega (arith, same, all, c.loop-at.invariant.rows k p q le)
+    let other = ap (sum_by g) whole in
+    let all = flagged_all T keep numbers infos c.args.thread upper p q flags c.requires.numbers c.requires.classes in
+    let rest = flagged_all T keep numbers infos c.args.thread lower p q flags c.requires.numbers c.requires.classes in
+    omega (arith, same, other, all, rest, c.loop-at.invariant.rows k p q le)
 
 pub returns-then-len-limit-clause-too_many : goal.returns-then-len-limit-clause-too_many
 returns-then-len-limit-clause-too_many c = λ refused. (
@@ -69,11 +84,14 @@ returns-then-len-limit-clause-too_many c = λ refused. (
       let keep = keeps c.args.classes.now.lists.keys k in
       let numbers = c.args.classes.now.numbers.items in
       let infos = c.args.classes.now.infos.items in
-      let end = ends_of T c.args.forced.now k in
       let flags = c.as_slice-flagged.result.now in
-      let f = unflagged_count T keep numbers infos c.args.thread end p q flags in
-      let more = sum_by_more f lane c.loop-at.at 0 (omega (arith, c.loop-at-test.true, ap length c.thread_events-at-end.ensures.events)) in
+      let upper = upper_of T k in
+      let lower = lower_of T c.args.forced.now k in
+      let f = unflagged_count T keep numbers infos c.args.thread upper p q flags in
+      let g = unflagged_count T keep numbers infos c.args.thread lower p q flags in
+      let inside : c.loop-at.at < length lane = omega (arith, c.loop-at-test.true, ap length c.thread_events-at-end.ensures.events) in
+      let more = sum_by_more f lane c.loop-at.at 0 inside in
       let part = sum_by-take-le f lane (c.loop-at.at + 1) in
-      let all = flagged_all T keep numbers infos c.args.thread end p q flags c.requires.numbers c.requires.classes in
+      let all = flagged_all T keep numbers infos c.args.thread upper p q flags c.requires.numbers c.requires.classes in
       omega (arith, more, part, all, c.in_ok-add_light.ensures.ok k p q le, c.loop-at.invariant.rows k p q le),
 )

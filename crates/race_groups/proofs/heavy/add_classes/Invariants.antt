@@ -2,7 +2,7 @@ use Rattle.std.proofs.Common.{◌≡◌, ℕ, ◌+◌, ◌≤◌}
 use Rattle.indexmap.specs.IndexMap.{index_map_len}
 use Rattle.race_groups.specs.Counting.{flagged_sum}
 use Rattle.race_groups.specs.Counts.{keeps}
-use Rattle.race_groups.specs.Ends.{ends_of}
+use Rattle.race_groups.specs.Ends.{lower_of, upper_of}
 use Rattle.race_groups.specs.Rows.{Part, count_at, AreRows}
 use Rattle.race_groups.proofs.heavy.add_classes.Given as goal
 
@@ -12,6 +12,8 @@ invariant-loop-class l =
       kept : AreRows l.rows;
       few : index_map_len l.rows ≤ l.limit;
       rows :
-          (k : Part) (p q : ℕ) → p ≤ q → count_at k l.rows p q ≡ count_at k l.fn.rows p q
-          + flagged_sum l.indexed.events (keeps l.classes.lists.keys k) l.classes.numbers.items l.classes.infos.items l.thread (ends_of l.indexed.events l.forced k) p q l.flags l.class;
+          (k : Part) (p q : ℕ) → p ≤ q → count_at k l.rows p q
+          + flagged_sum l.indexed.events (keeps l.classes.lists.keys k) l.classes.numbers.items l.classes.infos.items l.thread (lower_of l.indexed.events l.forced k) p q l.flags l.class
+          ≡ count_at k l.fn.rows p q
+          + flagged_sum l.indexed.events (keeps l.classes.lists.keys k) l.classes.numbers.items l.classes.infos.items l.thread (upper_of l.indexed.events k) p q l.flags l.class;
     }

@@ -2,7 +2,6 @@ use Rattle.std.proofs.Common.{slice_index}
 use Rattle.indexmap.specs.IndexMap.{keys}
 use Rattle.race_groups.specs.Rows.{of_all}
 use Rattle.race_groups.proofs.CompleteLemmas.{are_places-from, AreComplete-from, AreOnce-from}
-use Rattle.race_groups.proofs.TellLemmas.{all_is}
 use Rattle.race_groups.proofs.kinds.groups_of.Goals as goal
 
 pub invariant_of-result : goal.invariant_of-result
@@ -13,11 +12,7 @@ invariant_of-result c =
 
 pub returns-clause-complete : goal.returns-clause-complete
 returns-clause-complete c =
-    let r = c.args.indexed.now in
-    let k = c.args.classes.now in
-    let place = slice_index c.args.places.now in
-    AreComplete-from r.events place of_all c.in-Ok.index c.in_ok-rows.rows.items c.in_ok-rows.ensures.places
-    (λ p q low. all_is r c.len-len.ensures.well_formed c.len-len.ensures.disciplined place k.numbers.items k.infos.items k.lists.keys c.requires.classes c.requires.locks c.in-Ok.index c.in-Ok.ensures.counted p q low)
+    AreComplete-from c.args.indexed.now.events (slice_index c.args.places.now) of_all c.in-Ok.index c.in_ok-rows.rows.items c.in_ok-rows.ensures.places c.in-Ok.ensures.counted.all
 
 pub returns-clause-once : goal.returns-clause-once
 returns-clause-once c = AreOnce-from c.in-Ok.index c.in_ok-rows.rows.items c.in_ok-rows.ensures.once c.in_ok-rows.ensures.places

@@ -24,7 +24,7 @@ weigh_all-requires-clause-room g c = λ k lt.
     let few = left_few T (length r.threads) (length c.args.sums.now) c.args.classes.now c.args.own c.args.class end c.loop-at.at c.loop-at.left c.loop-at.fronts c.loop-at.sums c.loop-at.invariant in
     let light = weight-le r c.requires.formed c.args.classes.now c.loop-at.fronts k c.loop-at.left (omega (arith, few, short)) c.loop-at.invariant.within in
     let known : All (λ e. e < length T) lane = subst (λ xs. All (λ e. e < length T) xs) c.thread_events.ensures.events c.thread_events.ensures.within in
-    let whole = below_sum-le r c.requires.formed c.args.classes.now c.args.own c.args.class end c.requires.cut c.requires.own k known short in
+    let whole = below_sum-le r c.requires.formed c.args.classes.now c.args.own c.args.class end c.requires.cut.within c.requires.own k known short in
     let part = below_part T (length r.threads) c.args.classes.now c.args.own c.args.class end k c.loop-at.at in
     let is = c.loop-at.invariant.counted k (omega (arith, lt, c.loop-at.invariant.len)) in
     omega (arith, is, light, whole, part)

@@ -1,0 +1,17 @@
+use Rattle.std.proofs.Common.{◌≡◌, ℕ, ◌+◌, ◌≤◌, sum_by}
+use Rattle.event_index.specs.Lookups.{before}
+use Rattle.indexmap.specs.IndexMap.{index_map_len}
+use Rattle.race_groups.specs.Counting.{class_sum, total_ends}
+use Rattle.race_groups.specs.Counts.{keeps}
+use Rattle.race_groups.specs.Rows.{Part, count_at, AreRows}
+use Rattle.race_groups.proofs.totals.add_own.Given as goal
+
+abbrev pub invariant-loop-class : goal.invariant-loop-class
+invariant-loop-class l =
+    record {
+      kept : AreRows l.rows;
+      few : index_map_len l.rows ≤ l.limit;
+      rows :
+          (k : Part) (p q : ℕ) → p ≤ q → count_at k l.rows p q ≡ count_at k l.fn.rows p q
+          + sum_by (class_sum l.indexed.events (keeps l.classes.lists.keys k) l.classes.numbers.items l.classes.infos.items l.thread (total_ends l.indexed.events k) p q) (before l.class);
+    }
