@@ -1,23 +1,23 @@
 -- Totals without a cut: over all events of other threads, before an event and after it, each pair is met twice.
-use Rattle.std.proofs.Common.{◌≡◌, ℕ, zero, suc, ◌+◌, ◌*◌, ◌^◌, ◌<◌, ◌≤◌, ◌==◌, nat_lt, Bool, true, false, ◌&&◌, ◌||◌, cond, List, [], ◌∷◌, length, get_or, sum_by, slice_index, Option, Some, None, refl, sym, ap, ◌∙◌, arith, le_refl}
+use Rattle.std.proofs.Common.{◌≡◌, ℕ, zero, suc, ◌+◌, ◌*◌, ◌<◌, ◌==◌, nat_lt, Bool, true, false, ◌&&◌, ◌||◌, cond, List, [], ◌∷◌, length, get_or, sum_by, slice_index, Option, Some, None, refl, sym, ap, ◌∙◌, arith, le_refl}
 use Rattle.std.proofs.Math.Bool.{and_comm, or_comm}
 use Rattle.std.specs.List.{slice_get}
-use Rattle.std.proofs.lemmas.Bool.{eqb-true, lt-ltb, false_from_ne_true}
+use Rattle.std.proofs.lemmas.Bool.{lt-ltb, false_from_ne_true}
 use Rattle.std.proofs.lemmas.Option.{slice_get-get_or, same_Some}
 use Rattle.std.proofs.lemmas.List.Sums.{sum_by-cons}
 use Rattle.rapid_text.specs.declared.event.Event.{Event}
 use Rattle.rapid_text.specs.Recording.{Recording, IsWellFormed}
 use Rattle.event_index.specs.Events.{passes_by}
-use Rattle.event_index.specs.Lookups.{before, events_of, place_of, count_before}
+use Rattle.event_index.specs.Lookups.{before, events_of, place_of}
 use Rattle.event_index.specs.Relations.{is_conflict, IsConflicting}
 use Rattle.event_index.proofs.CallerLemmas.{thread_here, length-events_before, Decides-is_conflict, IsConflicting-sym}
 use Rattle.race_groups.specs.Groups.{count_of, is_between}
 use Rattle.race_groups.specs.Cuts.{is_under, is_cut_off}
 use Rattle.race_groups.specs.Classes.{AreClasses, adds_to, keeps_by, is_kept_pair}
-use Rattle.race_groups.specs.Counting.{class_count, pair_count, later_by, later_count, class_sum, whole_ends}
+use Rattle.race_groups.specs.Counting.{later_count, whole_ends}
 use Rattle.race_groups.specs.declared.class.Class.{Class}
 use Rattle.race_groups.proofs.EarlierLemmas.{counted_is}
-use Rattle.race_groups.proofs.PairLemmas.{class_of, term, count_of_class, count_of-pairs, later_sums, room_is}
+use Rattle.race_groups.proofs.PairLemmas.{class_of, term, count_of_class, count_of-pairs, later_sums}
 use Rattle.race_groups.proofs.SumLemmas.{sum_by_below, sum_by_below_suc, sum_by-plus, sum_by_each}
 use Rattle.race_groups.proofs.ThreadLemmas.{some_event, thread_number}
 use Rattle.race_groups.proofs.WalkLemmas.{some_class}
@@ -77,14 +77,6 @@ module _ (T : List Event) where
       let under = counted_is T a (length T) v.thread (thread_here T a v at) lt in
       let all = length-events_before T v.thread (length T) (le_refl (length T)) in
       ap (passes_by (λ (v : Event). nat_lt (place_of T a) (whole_ends T b v.thread))) at ∙ lt-ltb (place_of T a) (length (events_of T v.thread)) (omega (arith, under, all))
-
-  -- and an earlier one before the ends of a later
-  before_later : (a b : ℕ) → a < b → a < length T → is_cut_off T (count_before T) a b ≡ true
-  before_later a b lt inside =
-      let v = get_or T a some_event in
-      let at : slice_get T a ≡ Some v = slice_get-get_or T a some_event inside in
-      ap (passes_by (λ (v : Event). nat_lt (place_of T a) (count_before T b v.thread))) at
-      ∙ lt-ltb (place_of T a) (count_before T b v.thread) (counted_is T a b v.thread (thread_here T a v at) lt)
 
 between_turned : (p q c d : ℕ) → is_between p q c d ≡ is_between p q d c
 between_turned p q c d =
@@ -147,16 +139,6 @@ module _ (r : Recording) (formed : IsWellFormed r) (place : ℕ → ℕ) (keeps 
       ∙ doubled meets (length T) meets_turned meets_none
       ∙ ap (λ m. 2 * m) (sym (count_of-pairs T place (λ e. is_kept_pair keeps classes infos e.0 e.1) p q))
 
-  -- the same where the cut is said: all that is earlier
-  pub doubled_earlier : sum_by (λ u. sum_by (later_count r.events keeps classes infos u (whole_ends r.events) p q) (events_of r.events u)) (before (length r.threads))
-      ≡ 2 * count_of r.events place (λ e. is_cut_off r.events (count_before r.events) e.0 e.1 && is_kept_pair keeps classes infos e.0 e.1) p q
-  doubled_earlier =
-      let T = r.events in
-      doubled_is
-      ∙ ap (λ m. 2 * m)
-      (count_of-same T place (λ e. is_kept_pair keeps classes infos e.0 e.1) (λ e. is_cut_off T (count_before T) e.0 e.1 && is_kept_pair keeps classes infos e.0 e.1) p q
-      (λ a b lt inside. ap (λ c. c && is_kept_pair keeps classes infos a b) (sym (before_later T a b lt (omega arith)))))
-
   -- and where every pair is kept
   pub doubled_all : ((i j : Class) → keeps i j ≡ true)
       → sum_by (λ u. sum_by (later_count r.events keeps classes infos u (whole_ends r.events) p q) (events_of r.events u)) (before (length r.threads))
@@ -172,26 +154,3 @@ module _ (r : Recording) (formed : IsWellFormed r) (place : ℕ → ℕ) (keeps 
       ap (λ o. keeps_by keeps o (slice_get infos (slice_index classes b))) (class_of r place keeps classes infos (whole_ends T) are p q a (omega arith))
       ∙ ap (keeps_by keeps (Some i)) (class_of r place keeps classes infos (whole_ends T) are p q b inside)
       ∙ all i j))
-
--- All of it fits.
-pub doubled_room : (r : Recording) → IsWellFormed r → (keeps : Class → Class → Bool) (classes : List ℕ) (infos : List Class) (p q k : ℕ) → k < length r.threads
-    → sum_by (λ u. sum_by (later_count r.events keeps classes infos u (whole_ends r.events) p q) (events_of r.events u)) (before k) + sum_by (λ e. length r.events) (events_of r.events k) ≤ 2 ^ 40
-doubled_room r formed keeps classes infos p q k lt = room_is r formed keeps classes infos (whole_ends r.events) p q k lt
-
-many : (c : Bool) (m k : ℕ) → (c ≡ true → m ≡ k) → cond c m 0 ≡ cond c 1 0 * k
-many true m k is = let same = is refl in omega (arith, same)
-many false m k is = omega arith
-
--- Without a cut the events of one class and thread count alike.
-pub class_total : (T : List Event) (keeps : Class → Class → Bool) (classes : List ℕ) (infos : List Class) (u p q j : ℕ) (i : Class) → slice_get infos j ≡ Some i
-    → class_sum T keeps classes infos u (whole_ends T) p q j
-    ≡ class_count classes j (events_of T u) * pair_count T keeps classes infos u (λ t. length (events_of T t)) i p q
-class_total T keeps classes infos u p q j i at =
-    let each : ℕ = pair_count T keeps classes infos u (λ t. length (events_of T t)) i p q in
-    let one : ℕ → ℕ = λ b. cond (slice_index classes b == j) 1 0 in
-    sum_by_each (λ b. cond (slice_index classes b == j) (later_count T keeps classes infos u (whole_ends T) p q b) 0) (λ b. one b * each) (events_of T u)
-    (λ b. many (slice_index classes b == j) (later_count T keeps classes infos u (whole_ends T) p q b) each
-    (λ this.
-    ap (λ c. later_by T keeps classes infos u (λ t. length (events_of T t)) p q (slice_get infos c)) (eqb-true (slice_index classes b) j this)
-    ∙ ap (later_by T keeps classes infos u (λ t. length (events_of T t)) p q) at))
-    ∙ sum_by-times one each (events_of T u)

@@ -1,23 +1,18 @@
 -- Ends that are no further count no more, and what is forced is known.
-use Rattle.std.proofs.Common.{◌≡◌, ℕ, zero, suc, ◌+◌, ◌-◌, ◌<◌, ◌≤◌, ◌==◌, nat_lt, Bool, true, false, not, ◌&&◌, cond, List, [], ◌∷◌, length, take, sum_by, slice_index, All, Option, Some, None, refl, sym, inl, inr, arith, le_refl}
+use Rattle.std.proofs.Common.{◌≡◌, ℕ, zero, suc, ◌+◌, ◌-◌, ◌<◌, ◌≤◌, ◌==◌, Bool, true, false, cond, List, [], ◌∷◌, length, take, sum_by, slice_index, All, refl, inl, inr, arith}
 use Rattle.std.specs.Bool.{if◌then◌else◌}
-use Rattle.std.specs.List.{slice_get}
-use Rattle.std.proofs.lemmas.Bool.{cases_lt, ltb-true, lt-ltb, and_parts, and_from, true≢false}
+use Rattle.std.proofs.lemmas.Bool.{cases_lt}
 use Rattle.std.proofs.lemmas.Option.{slice_get-get_or}
 use Rattle.std.proofs.lemmas.List.Elements.{All-head, All-tail, All-weaker}
-use Rattle.std.proofs.lemmas.List.Sums.{sum_by-cons, sum_by-le-sum_by}
+use Rattle.std.proofs.lemmas.List.Sums.{sum_by-cons}
 use Rattle.rapid_text.specs.declared.event.Event.{Event}
 use Rattle.trace_rules.specs.Rules.{IsDisciplined}
-use Rattle.event_index.specs.Events.{passes_by}
-use Rattle.event_index.specs.Lookups.{before, events_of, place_of, count_before}
+use Rattle.event_index.specs.Lookups.{before, events_of, place_of}
 use Rattle.event_index.proofs.CallerLemmas.{place_of-events_of}
 use Rattle.must_order.specs.MustBefore.{IsForced}
-use Rattle.race_groups.specs.Classes.{adds_to}
-use Rattle.race_groups.specs.Counting.{class_count, front_count, ends_list, below_sum, pair_count, later_by, later_count}
-use Rattle.race_groups.specs.Cuts.{IsCutOf, is_under}
+use Rattle.race_groups.specs.Counting.{class_count, front_count, ends_list, below_sum}
+use Rattle.race_groups.specs.Cuts.{IsCutOf}
 use Rattle.race_groups.specs.Ends.{IsKnownBefore, known_before}
-use Rattle.race_groups.specs.declared.class.Class.{Class}
-use Rattle.race_groups.proofs.CutLemmas.{IsCut-from}
 use Rattle.race_groups.proofs.FrontLemmas.{class_count-between}
 use Rattle.race_groups.proofs.PartLemmas.{forced_is_known}
 use Rattle.race_groups.proofs.SumLemmas.{sum_by_below_suc}
@@ -98,44 +93,6 @@ below_sum-mono T threads classes u end further j c xs le =
     (front_count-mono T threads classes (ends_list threads u (end b)) (ends_list threads u (further b)) c (ends_list-mono threads u (end b) (further b) here)))
     xs le)
 
-count_mono : (b d c : Bool) → (b ≡ true → d ≡ true) → cond (b && c) 1 0 ≤ cond (d && c) 1 0
-count_mono true d c more = rw (more refl) (le_refl (cond c 1 0))
-count_mono false d c more = omega arith
-
-module _ (T : List Event) (keeps : Class → Class → Bool) (classes : List ℕ) (infos : List Class) (u : ℕ) where
-  under_more : (ends further : ℕ → ℕ) → ((t : ℕ) → ends t ≤ further t) → (place : ℕ) (o : Option Event)
-      → passes_by (λ v. not (v.thread == u) && nat_lt place (ends v.thread)) o ≡ true
-      → passes_by (λ v. not (v.thread == u) && nat_lt place (further v.thread)) o ≡ true
-  under_more ends further le place None h = absurd (true≢false (sym h))
-  under_more ends further le place (Some v) h =
-      let parts = and_parts (not (v.thread == u)) (nat_lt place (ends v.thread)) h in
-      let low = ltb-true place (ends v.thread) parts.1 in
-      and_from (not (v.thread == u)) (nat_lt place (further v.thread)) parts.0 (lt-ltb place (further v.thread) (omega (arith, low, le v.thread)))
-
-  -- the pairs of one later event
-  pub pair_count-mono : (ends further : ℕ → ℕ) (j : Class) (p q : ℕ) → ((t : ℕ) → ends t ≤ further t)
-      → pair_count T keeps classes infos u ends j p q ≤ pair_count T keeps classes infos u further j p q
-  pair_count-mono ends further j p q le =
-      let D : ℕ → Bool = λ a. adds_to keeps p q j (slice_get infos (slice_index classes a)) in
-      sum_by-le-sum_by (λ a. cond (is_under T u ends a && D a) 1 0) (λ a. cond (is_under T u further a && D a) 1 0) (before (length T))
-      (λ a. count_mono (is_under T u ends a) (is_under T u further a) (D a) (under_more ends further le (place_of T a) (slice_get T a)))
-
-  pub later_count-mono : (end further : ℕ → ℕ → ℕ) (p q b : ℕ) → ((t : ℕ) → end b t ≤ further b t)
-      → later_count T keeps classes infos u end p q b ≤ later_count T keeps classes infos u further p q b
-  later_count-mono end further p q b le = by_class (slice_get infos (slice_index classes b))
-    where
-      by_class : (o : Option Class) → later_by T keeps classes infos u (end b) p q o ≤ later_by T keeps classes infos u (further b) p q o
-      by_class None = omega arith
-      by_class (Some j) = pair_count-mono (end b) (further b) j p q le
-
-  -- the pairs of a list of them
-  pub later_sum-mono : (end further : ℕ → ℕ → ℕ) (p q : ℕ) (xs : List ℕ) → All (λ b. (t : ℕ) → end b t ≤ further b t) xs
-      → sum_by (later_count T keeps classes infos u end p q) xs ≤ sum_by (later_count T keeps classes infos u further p q) xs
-  later_sum-mono end further p q xs le =
-      let f : ℕ → ℕ = later_count T keeps classes infos u end p q in
-      let g : ℕ → ℕ = later_count T keeps classes infos u further p q in
-      sum_by-mono f g xs (All-weaker (λ b. (t : ℕ) → end b t ≤ further b t) (λ b. f b ≤ g b) (λ b here. later_count-mono end further p q b here) xs le)
-
 -- A relation that is part of another has the nearer ends.
 pub IsCutOf-mono : (T : List Event) (IsLess IsMore : ℕ → ℕ → Type 0) (end further : ℕ → ℕ → ℕ) → IsCutOf T IsLess end → IsCutOf T IsMore further
     → ((a b : ℕ) → IsLess a b → IsMore a b) → (b t : ℕ) → b < length T → end b t ≤ further b t
@@ -156,7 +113,3 @@ IsCutOf-mono T IsLess IsMore end further less more part b t lt =
 pub forced-le-known : (T : List Event) → IsDisciplined T → (ends : ℕ → ℕ → ℕ) → IsCutOf T (IsForced T) ends → IsCutOf T (IsKnownBefore T) (known_before T)
     → (b t : ℕ) → b < length T → ends b t ≤ known_before T b t
 forced-le-known T rules ends forced known = IsCutOf-mono T (IsForced T) (IsKnownBefore T) ends (known_before T) forced known (forced_is_known T rules)
-
--- and what is known is earlier
-pub known-le-earlier : (T : List Event) → IsCutOf T (IsKnownBefore T) (known_before T) → (b t : ℕ) → b < length T → known_before T b t ≤ count_before T b t
-known-le-earlier T known = (IsCut-from T (IsKnownBefore T) (known_before T) known).earlier

@@ -182,7 +182,7 @@ total_few r formed classes c =
     omega (arith, whole, few, all, formed.events)
 
 -- products of numbers that are not large
-pub total_fits : (times all own : ℕ) → times ≤ 1048576 → all ≤ 1048576 → times * (all - own) ≤ 1099511627776
-total_fits times all own few small =
-    let fits = mul-le times (all - own) 1048576 1048576 few (omega (arith, small)) in
+pub total_fits : (times all : ℕ) → times ≤ 1048576 → all ≤ 1048576 → times * all ≤ 1099511627776
+total_fits times all few small =
+    let fits = mul-le times all 1048576 1048576 few small in
     omega (arith, fits)

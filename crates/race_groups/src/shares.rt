@@ -113,7 +113,7 @@ impl Shares for Total<'_> {
 
     ghost can_tell = { λ s c. (c < length s.totals.now) × (c < length s.own.now)
         × (slice_index s.own.now c ≤ slice_index s.totals.now c)
-        × (s.times * (slice_index s.totals.now c - slice_index s.own.now c) < 2 ^ 64) };
+        × (s.times * slice_index s.totals.now c < 2 ^ 64) };
 
     ghost amount_of = { λ s k c. by_part (s.times * (slice_index s.totals.now c - slice_index s.own.now c)) 0 0 k };
 

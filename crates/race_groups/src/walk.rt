@@ -85,6 +85,31 @@ fn clash(first: Op, second: Op) -> bool
     }
 }
 
+// The same of each of these classes, which are not the thread's own.
+fn add_run<A: Shares>(
+    rows: &mut Rows,
+    guesses: &mut Guesses,
+    shares: &A,
+    infos: &[Class],
+    lists: &IndexSet<Vec<u32>>,
+    members: &[u32],
+    later: Class,
+) -> Result<(), OutOfMemory>
+    requires members { All (λ c. c < length infos.now) members.now }
+    requires can { (c : ℕ) → c < length infos.now → A.can_tell shares.now c }
+    requires rows { AreRows rows.old }
+    requires room { (k : Part) (p q : ℕ) → p ≤ q → count_at k rows.old p q + sum_by (A.amount_of shares.now k) members.now < 2 ^ 64 }
+    ensures ok { OnOk result ((k : Part) (p q : ℕ) → p ≤ q → count_at k rows.new p q ≡ count_at k rows.old p q
+        + sum_by (λ c. if adds_to (keeps lists.now.keys k) p q later (slice_get infos.now c) then A.amount_of shares.now k c else 0) members.now) }
+    ensures rows { OnOk result (AreRows rows.new) }
+{
+    for member in members {
+        let share = shares.share(*member);
+        add_share(rows, guesses, infos, lists, *member, later, share)?;
+    }
+    Ok(())
+}
+
 /// Adds what an event of a class, or several of them, have with the events of other threads, as it is told by class.
 pub(crate) fn add_members<A: Shares>(
     rows: &mut Rows,
@@ -111,13 +136,12 @@ pub(crate) fn add_members<A: Shares>(
     let members = walk.members;
     let mut at = 0;
     while at < members.len() {
-        let member = members[at];
-        if owner_of(walk.owners, member) == thread {
-            at = walk.runs[at];
+        let to = walk.runs[at];
+        if owner_of(walk.owners, members[at]) == thread {
+            at = to;
         } else {
-            let share = shares.share(member);
-            add_share(rows, guesses, infos, lists, member, later, share)?;
-            at += 1;
+            add_run(rows, guesses, shares, infos, lists, &members[at..to], later)?;
+            at = to;
         }
     }
     Ok(())

@@ -69,7 +69,7 @@ add_members-requires-clause-can c = λ x low.
     let times = c.requires.own j c.requires.class in
     let most = total_few r formed numbers j in
     let part = own_le T n numbers u j c.requires.thread in
-    let fits = total_fits (slice_index own j) (slice_index totals x) (slice_index own x) (omega (arith, times, most, part)) (omega (arith, all, few)) in
+    let fits = total_fits (slice_index own j) (slice_index totals x) (omega (arith, times, most, part)) (omega (arith, all, few)) in
     (omega (arith, inside, c.requires.totals_len), omega (arith, inside, c.requires.own_len), omega (arith, all, mine, some), omega (arith, fits))
 
 pub add_members-requires-clause-own : goal.add_members-requires-clause-own

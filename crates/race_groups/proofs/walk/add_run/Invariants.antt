@@ -1,0 +1,17 @@
+use Rattle.std.proofs.Common.{◌≡◌, ℕ, ◌+◌, ◌≤◌, take, sum_by}
+use Rattle.std.specs.Bool.{if◌then◌else◌}
+use Rattle.std.specs.List.{slice_get}
+use Rattle.race_groups.specs.Classes.{adds_to}
+use Rattle.race_groups.specs.Counts.{keeps}
+use Rattle.race_groups.specs.Rows.{Part, count_at, AreRows}
+use Rattle.race_groups.proofs.walk.add_run.Given as goal
+
+abbrev pub invariant-loop-member : goal.invariant-loop-member
+invariant-loop-member g l =
+    record {
+      rows : AreRows l.rows;
+      counts :
+          (k : Part) (p q : ℕ) → p ≤ q
+          → count_at k l.rows p q ≡ count_at k l.fn.rows p q
+          + sum_by (λ c. if adds_to (keeps l.lists.keys k) p q l.later (slice_get l.infos c) then g.A.Shares.amount_of l.shares k c else 0) (take l.member-index l.members);
+    }
