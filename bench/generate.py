@@ -143,9 +143,9 @@ def write_places(folder):
     os.makedirs(folder)
     for events, threads in ((EVENTS, 16), (MOST_EVENTS, 16), (MOST_EVENTS, 256)):
         write_trace(folder, f"guarded_{threads}_{events}", guarded_places(events, threads))
+        write_trace(folder, f"free_{threads}_{events}", free_places(events, threads))
     for events in (EVENTS, MOST_EVENTS):
-        write_trace(folder, f"free_16_{events}", free_places(events, 16))
-    write_trace(folder, f"crowded_16_{EVENTS}", crowded_places(EVENTS, 16))
+        write_trace(folder, f"crowded_16_{events}", crowded_places(events, 16))
     write_trace(folder, f"one_writing_{sized(100_000)}", one_writing_place(sized(100_000)))
     write_trace(folder, f"written_everywhere_{sized(40_000)}", [f"T0|w(x)|p{i}" for i in range(sized(40_000))])
 
