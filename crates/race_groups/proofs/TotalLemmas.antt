@@ -1,5 +1,5 @@
 -- All pairs by class and thread: how many events of a class a thread has, times how many of another the others have.
-use Rattle.std.proofs.Common.{◌≡◌, ◌≢◌, ℕ, ◌+◌, ◌-◌, ◌*◌, ◌<◌, ◌≤◌, ◌==◌, Bool, true, false, cond, List, [], ◌∷◌, length, take, sum_by, slice_index, All, refl, sym, ap, ◌∙◌, arith, add-one}
+use Rattle.std.proofs.Common.{◌≡◌, ◌≢◌, ℕ, ◌+◌, ◌-◌, ◌*◌, ◌^◌, ◌<◌, ◌≤◌, ◌==◌, Bool, true, false, cond, List, [], ◌∷◌, length, take, sum_by, slice_index, All, refl, sym, ap, ◌∙◌, le_refl, arith, add-one}
 use Rattle.std.proofs.lemmas.Bool.{cond-false, cond-true, eq-eqb, ne_eqb}
 use Rattle.std.proofs.lemmas.Nat.{mul-le}
 use Rattle.std.proofs.lemmas.List.{take_all}
@@ -186,3 +186,9 @@ pub total_fits : (times all : ℕ) → times ≤ 1048576 → all ≤ 1048576 →
 total_fits times all few small =
     let fits = mul-le times all 1048576 1048576 few small in
     omega (arith, fits)
+
+-- a smaller factor
+pub product_fits : (times all less : ℕ) → times * all < 2 ^ 64 → times * (all - less) < 2 ^ 64
+product_fits times all less room =
+    let part = mul-le times (all - less) times all (le_refl times) (omega arith) in
+    omega (arith, part, room)

@@ -119,8 +119,9 @@ impl Shares for Total<'_> {
 
     fn share(&self, class: u32) -> Share {
         let others = self.totals[class as usize] - self.own[class as usize];
+        let all = self.times * others;
         Share {
-            all: self.times * others,
+            all,
             candidates: 0,
             ordered: 0,
         }

@@ -1,12 +1,6 @@
-use Rattle.std.proofs.Common.{◌-◌, ◌*◌, ◌≤◌, slice_index, le_refl, arith}
-use Rattle.std.proofs.lemmas.Nat.{mul-le}
+use Rattle.std.proofs.Common.{slice_index}
+use Rattle.race_groups.proofs.TotalLemmas.{product_fits}
 use Rattle.race_groups.proofs.shares.TotalShares.share.Goals as goal
 
-pub overflow_mul-result : goal.overflow_mul-result
-overflow_mul-result c =
-    let times = c.args.self.now.times in
-    let all = slice_index c.args.self.now.totals.now c.args.class in
-    let own = slice_index c.args.self.now.own.now c.args.class in
-    let less : times * (all - own) ≤ times * all = mul-le times (all - own) times all (le_refl times) (omega arith) in
-    let room = c.requires.can.3 in
-    omega (arith, less, room)
+pub overflow_mul-all : goal.overflow_mul-all
+overflow_mul-all c = record { fits = product_fits c.args.self.now.times (slice_index c.args.self.now.totals.now c.args.class) _ c.requires.can.3 }
