@@ -1,6 +1,7 @@
 mod ChosenLemmas
 mod FilterLemmas
 pub mod HeldLemmas
+mod KnownLemmas
 mod MarkLemmas
 mod OpenLemmas
 mod OutcomeLemmas

@@ -76,7 +76,7 @@ index_last : (numbers : List ℕ) (m e : ℕ) → e ≡ length numbers → slice
 index_last numbers m e is = ap (λ k. slice_index (numbers ++ m ∷ []) k) is ∙ get_or-append_seam numbers m [] 0
 
 -- what stands at one place is one text
-one_text : (keys : List (Vec ℕ Global)) (s t : List ℕ) (n : ℕ) → IsSpot keys s n → IsSpot keys t n → s ≡ t
+pub one_text : (keys : List (Vec ℕ Global)) (s t : List ℕ) (n : ℕ) → IsSpot keys s n → IsSpot keys t n → s ≡ t
 one_text [] s t n is also = absurd (omega (arith, is.1))
 one_text (k ∷ ks) s t n is also =
     let first = passes_at_first (is_text s) (k ∷ ks) k (omega (arith, is.0, is.1)) in

@@ -1,4 +1,13 @@
 //! The races that an earlier text lists.
+ghost use Rattle.std.specs.Prelude.{◌≡◌, ◌≤◌, ◌∷◌, ℕ, List, IfNone, IfOk, IfSome, OnOk, length, true, false};
+ghost use Rattle.std.specs.List.{after_first, list_any, slice_split};
+ghost use Rattle.rapid_text.specs.LinesLeft.{bytes_left, lines_left};
+ghost use Rattle.rapid_text.specs.Reading.{is_bar, is_line_feed};
+ghost use Rattle.rapid_text.specs.Recording.{Recording};
+ghost use Rattle.race_triage.specs.Blocks.{ArePair, IsNoted, IsPlace, IsRead};
+ghost use Rattle.race_triage.specs.Known.{is_access, is_head, AreKnown, IsLocation, OnlyNamed};
+ghost use Rattle.race_triage.specs.Places.{AreNumbered};
+
 use crate::places::Places;
 use indexmap::IndexSet;
 use memchr::memchr;
@@ -10,82 +19,139 @@ pub type Known = IndexSet<(u32, u32)>;
 
 /// The pairs of places of the blocks `race` in a text that `triage` printed, or in part of one, as far as the trace has these places.
 /// Nothing else in the text means anything.
-pub fn known_of(alloc: Global, places: &Places, text: &[u8]) -> Result<Known, OutOfMemory> {
+pub fn known_of(alloc: Global, places: &Places, text: &[u8]) -> Result<Known, OutOfMemory>
+    ensures known { IfOk result (λ known. AreKnown places.now.locations.keys text.now known.keys) }
+    // Where these are the places of a trace, a verdict on it is known only where the text names its two locations.
+    ensures named { IfOk result (λ known. (r : Recording) → AreNumbered r (length r.events) places.now.locations.keys places.now.numbers.items
+        → OnlyNamed r places.now.numbers.items text.now known.keys) }
+{
     let mut known = IndexSet::new(alloc);
-    let mut block = Block {
-        is_race: false,
-        first: None,
-    };
-    let mut rest = text;
-    'lines: for _ in 0..text.len() {
-        if rest.is_empty() {
-            break;
-        }
-        let (line, behind) = cut_line(rest);
-        rest = behind;
-        if let Some((one, other)) = block.read(places, line) {
-            known.insert(if one <= other {
-                (one, other)
-            } else {
-                (other, one)
-            })?;
-        }
+    let mut block = Block::Nothing;
+    let mut left = Some(text);
+    while let Some(lines) = left {
+        let (line, rest) = first_line(lines);
+        let (next, told) = read(block, line);
+        note(&mut known, places, told)?;
+        block = next;
+        left = rest;
     }
     Ok(known)
 }
 
-/// What was read of a block.
+// What was read of a block.
 #[derive(Clone, Copy)]
-struct Block {
-    // Whether a line `race ..` stands above, and not yet two events below it.
-    is_race: bool,
-    // The place of the first event, where the trace has it; None inside where it has not.
-    first: Option<Option<u32>>,
+enum Block<'a> {
+    // No line `race ..` stands above, or two accesses stand below it.
+    Nothing,
+    // A line `race ..` stands above, and no access below it.
+    Race,
+    // The same, and this line of one access below it.
+    First(&'a [u8]),
 }
 
-impl Block {
-    // Reads one line more; the places of the two events, where it is the second.
-    fn read(&mut self, places: &Places, line: &[u8]) -> Option<(u32, u32)> {
-        if line.starts_with(b"race ") {
-            self.is_race = true;
-            self.first = None;
-            return None;
-        }
-        if !self.is_race || !is_event_line(line) {
-            return None;
-        }
-        let place = place_of(places, line);
-        match self.first {
-            None => {
-                self.first = Some(place);
-                None
-            }
-            Some(first) => {
-                self.is_race = false;
-                Some((first?, place?))
-            }
-        }
-    }
-}
-
-// The first line without its end, and what stands behind it.
-fn cut_line(text: &[u8]) -> (&[u8], &[u8]) {
+// The first line without its end, and what stands behind its end if it has one.
+fn first_line(text: &[u8]) -> (&[u8], Option<&[u8]>)
+    ensures lines { slice_split is_line_feed text.now ≡ result.0.now ∷ lines_left result.1 }
+    ensures shorter { bytes_left result.1 ≤ length text.now }
+{
     match memchr(b'\n', text) {
-        Some(end) => (&text[..end], &text[end + 1..]),
-        None => (text, &text[text.len()..]),
+        Some(end) => (&text[..end], Some(&text[end + 1..])),
+        None => (text, None),
     }
+}
+
+// What is read of a block with one line more, and the lines of its two accesses where this is the second.
+fn read<'a>(block: Block<'a>, line: &'a [u8]) -> (Block<'a>, Option<(&'a [u8], &'a [u8])>)
+    ensures { IsRead block.entry line.now result.0 result.1 }
+{
+    if is_head(line) {
+        return (Block::Race, None);
+    }
+    if !is_access(line) {
+        return (block, None);
+    }
+    match block {
+        Block::Nothing => (Block::Nothing, None),
+        Block::Race => (Block::First(line), None),
+        Block::First(first) => (Block::Nothing, Some((first, line))),
+    }
+}
+
+// Whether the line is the first of a block `race`.
+fn is_head(line: &[u8]) -> bool
+    ensures { result ≡ is_head line.now }
+{
+    line.starts_with(b"race ")
 }
 
 // Whether the line has two blanks before its first word, and no more.
-fn is_event_line(line: &[u8]) -> bool {
+fn is_access(line: &[u8]) -> bool
+    ensures { result ≡ is_access line.now }
+{
     line.starts_with(b"  ") && !line.starts_with(b"   ")
 }
 
-// The place of the event whose line this is, where the trace has it.
-fn place_of(places: &Places, line: &[u8]) -> Option<u32> {
-    let line = trim(line);
-    let first = memchr(b'|', line)?;
-    let rest = &line[first + 1..];
-    let second = memchr(b'|', rest)?;
-    places.number(trim(&rest[second + 1..]))
+// Notes the places of the two lines that are told, where the trace has both.
+fn note(known: &mut Known, places: &Places, told: Option<(&[u8], &[u8])>) -> Result<(), OutOfMemory>
+    ensures { OnOk result (IsNoted places.now.locations.keys told.entry known.old.keys known.new.keys) }
+{
+    let Some((one, other)) = told else {
+        return Ok(());
+    };
+    let Some(pair) = pair_of(places, one, other)? else {
+        return Ok(());
+    };
+    known.insert(pair)?;
+    Ok(())
+}
+
+// The places of two lines of accesses, the lesser first, where the trace has both.
+fn pair_of(places: &Places, one: &[u8], other: &[u8]) -> Result<Option<(u32, u32)>, OutOfMemory>
+    ensures some { IfOk result (λ pair. IfSome pair (λ pair. ArePair places.now.locations.keys one.now other.now pair.0 pair.1)) }
+    ensures none { IfOk result (λ pair. IfNone pair ((p q : ℕ) → ¬ ArePair places.now.locations.keys one.now other.now p q)) }
+{
+    let Some(one) = place_of(places, one)? else {
+        return Ok(None);
+    };
+    let Some(other) = place_of(places, other)? else {
+        return Ok(None);
+    };
+    Ok(Some((one.min(other), one.max(other))))
+}
+
+// The place of the access whose line this is, where the trace has it.
+fn place_of(places: &Places, line: &[u8]) -> Result<Option<u32>, OutOfMemory>
+    ensures some { IfOk result (λ place. IfSome place (IsPlace places.now.locations.keys line.now)) }
+    ensures none { IfOk result (λ place. IfNone place ((n : ℕ) → ¬ IsPlace places.now.locations.keys line.now n)) }
+{
+    match location_of(line) {
+        Some(location) => places.number(location),
+        None => Ok(None),
+    }
+}
+
+// The location in the line of an access.
+fn location_of(line: &[u8]) -> Option<&[u8]>
+    ensures some { IfSome result (λ location. IsLocation line.now location.now) }
+    ensures none { IfNone result ((location : List ℕ) → ¬ IsLocation line.now location) }
+{
+    let Some(behind) = behind_bar(trim(line)) else {
+        return None;
+    };
+    match behind_bar(behind) {
+        Some(location) => Some(trim(location)),
+        None => None,
+    }
+}
+
+// What stands behind the first bar.
+fn behind_bar(text: &[u8]) -> Option<&[u8]>
+    ensures found { IfSome result (λ behind. list_any is_bar text.now ≡ true) }
+    ensures behind { IfSome result (λ behind. behind.now ≡ after_first is_bar text.now) }
+    ensures none { IfNone result (list_any is_bar text.now ≡ false) }
+{
+    match memchr(b'|', text) {
+        Some(bar) => Some(&text[bar + 1..]),
+        None => None,
+    }
 }

@@ -1,6 +1,6 @@
 //! Places: the locations of events, numbered by their first uses.
-ghost use Rattle.std.specs.Prelude.{◌≡◌, IfOk, OnOk};
-ghost use Rattle.race_triage.specs.Places.{AreNumbers, AreKept, IsSpot};
+ghost use Rattle.std.specs.Prelude.{◌≡◌, ℕ, IfNone, IfOk, IfSome, OnOk, length};
+ghost use Rattle.race_triage.specs.Places.{AreNumbered, AreNumbers, AreKept, IsSpot};
 
 use event_index::Indexed;
 use indexmap::IndexSet;
@@ -22,7 +22,9 @@ pub struct Places {
 impl Places {
     /// The places of all events.
     pub fn of(alloc: Global, indexed: &Indexed) -> Result<Places, OutOfMemory>
-        ensures { IfOk result (λ places. AreNumbers indexed.now places.numbers.items) }
+        ensures numbers { IfOk result (λ places. AreNumbers indexed.now places.numbers.items) }
+        // The number of an event is that of its location.
+        ensures spots { IfOk result (λ places. AreNumbered indexed.now (length indexed.now.events) places.locations.keys places.numbers.items) }
     {
         let _len = indexed.len();
         let raw = indexed.trace().raw();
@@ -35,10 +37,13 @@ impl Places {
     }
 
     /// The number of the location with this text, where the trace has it.
-    pub fn number(&self, location: &[u8]) -> Option<u32> {
+    pub fn number(&self, location: &[u8]) -> Result<Option<u32>, OutOfMemory>
+        ensures some { IfOk result (λ number. IfSome number (IsSpot self.now.locations.keys location.now)) }
+        ensures none { IfOk result (λ number. IfNone number ((n : ℕ) → ¬ IsSpot self.now.locations.keys location.now n)) }
+    {
         match self.locations.get_index_of(location) {
-            Some(at) => u32::try_from(at).ok(),
-            None => None,
+            Some(at) => Ok(Some(small(at)?)),
+            None => Ok(None),
         }
     }
 }

@@ -1,7 +1,7 @@
 //! The verdict on each pair of places.
 ghost use Rattle.std.specs.Prelude.{◌≡◌, ℕ, ◌<◌, All, Err, IfOk, List, length, slice_index};
 ghost use Rattle.race_groups.specs.Found.{AreTooMany};
-ghost use Rattle.race_triage.specs.Places.{AreNumbers};
+ghost use Rattle.race_triage.specs.Places.{AreNumbered, AreNumbers};
 ghost use Rattle.race_triage.specs.Verdicts.{IsVerdict, AreAllTold, AreRising};
 
 use crate::found::found_of;
@@ -130,6 +130,8 @@ pub fn triage<R: Threads + Sync, W: Watch + Sync>(
     requires must { must.now ≡ indexed.now }
     // Two events have one number exactly where their locations are one.
     ensures places { IfOk result (λ found. AreNumbers indexed.now found.places.numbers.items) }
+    // It is that of its location.
+    ensures spots { IfOk result (λ found. AreNumbered indexed.now (length indexed.now.events) found.places.locations.keys found.places.numbers.items) }
     // The counts are exact; the two events conflict, and are told with the earlier first; a schedule shows those of a race; none shows
     // two events of places that are apart. The two are the least pair of their kind; of open pairs, the first that was found of those that
     // were tried, which are the first `tries`.

@@ -17,4 +17,5 @@ returns c =
     let keys = c.loop-event.locations.keys in
     let same : length c.raw-raw.result.now.events ≡ length r.events = ap (λ (s : Recording). length s.events) (c.raw-raw.ensures.same ∙ c.trace.ensures.same) in
     let end : c.loop-event.event ≡ length r.events = omega (arith, c.loop-event-test.false, c.loop-event.auto.event-end, c.len-event-end.ensures.len, c.len-len.ensures.len, same) in
-    AreNumbers-end r keys c.loop-event.numbers.items c.len-len.ensures.well_formed (subst (λ n. AreNumbered r n keys c.loop-event.numbers.items) end c.loop-event.invariant)
+    let whole : AreNumbered r (length r.events) keys c.loop-event.numbers.items = subst (λ n. AreNumbered r n keys c.loop-event.numbers.items) end c.loop-event.invariant in
+    record { numbers = AreNumbers-end r keys c.loop-event.numbers.items c.len-len.ensures.well_formed whole; spots = whole }
