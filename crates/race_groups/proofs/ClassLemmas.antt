@@ -100,7 +100,7 @@ module _ (r : Recording) (formed : IsWellFormed r) (classes : List ℕ) (infos :
           | inr other ↦ cond-false (slice_index classes b == c) whole 0 other ∙ sym (cond-false (slice_index classes b == c) (later_count r.events keeps classes infos u end p q b) 0 other)
         ]
 
-    class_whole : (sums : ℕ → ℕ) → All (λ e. e < length r.events) (events_of r.events u)
+    pub class_whole : (sums : ℕ → ℕ) → All (λ e. e < length r.events) (events_of r.events u)
         → ((k : ℕ) → k < length infos → sums k ≡ below_sum r.events (length r.threads) classes u end c k (events_of r.events u))
         → sum_by (share_of keeps p q j infos sums) (before (length infos)) ≡ class_sum r.events keeps classes infos u end p q c
     class_whole sums known is =

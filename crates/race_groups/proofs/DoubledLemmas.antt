@@ -48,7 +48,7 @@ sum_by-times f k (x ∷ xs) =
     omega (arith, sum_by-times f k xs, sum_by-cons (λ x. f x * k) x xs, ap (λ m. m * k) (sum_by-cons f x xs))
 
 -- two tests that pass together
-same_tests : (b d : Bool) → (b ≡ true → d ≡ true) → (d ≡ true → b ≡ true) → b ≡ d
+pub same_tests : (b d : Bool) → (b ≡ true → d ≡ true) → (d ≡ true → b ≡ true) → b ≡ d
 same_tests true d there back = sym (there refl)
 same_tests false true there back = back refl
 same_tests false false there back = refl
@@ -78,7 +78,7 @@ module _ (T : List Event) where
       let all = length-events_before T v.thread (length T) (le_refl (length T)) in
       ap (passes_by (λ (v : Event). nat_lt (place_of T a) (whole_ends T b v.thread))) at ∙ lt-ltb (place_of T a) (length (events_of T v.thread)) (omega (arith, under, all))
 
-between_turned : (p q c d : ℕ) → is_between p q c d ≡ is_between p q d c
+pub between_turned : (p q c d : ℕ) → is_between p q c d ≡ is_between p q d c
 between_turned p q c d =
     ap (λ x. x || (c == q && d == p)) (and_comm (c == p) (d == q))
     ∙ ap (λ x. (d == q && c == p) || x) (and_comm (c == q) (d == p))

@@ -5,6 +5,7 @@ pub mod WeightLemmas
 pub mod EachPartLemmas
 pub mod RowLemmas
 pub mod WalkLemmas
+pub mod SharingLemmas
 pub mod WholeLemmas
 pub mod LoopLemmas
 pub mod StateLemmas
@@ -17,7 +18,10 @@ pub mod ClassLemmas
 pub mod PairLemmas
 pub mod FlagLemmas
 pub mod DoubledLemmas
+pub mod GreaterLemmas
 pub mod TotalLemmas
+pub mod SpreadLemmas
+pub mod TwoClassLemmas
 pub mod KindLemmas
 pub mod CutLemmas
 pub mod RelationLemmas

@@ -21,7 +21,7 @@ module _ (T : List Event) (threads : ℕ) (classes owners : List ℕ) (are : Are
       sym (are e t at (omega (arith, here))) ∙ here
 
   -- no other thread has one
-  other_none : (t : ℕ) → t ≢ u → (xs : List ℕ) → All (λ e. thread_at T e ≡ Some t) xs → class_count classes c xs ≡ 0
+  pub other_none : (t : ℕ) → t ≢ u → (xs : List ℕ) → All (λ e. thread_at T e ≡ Some t) xs → class_count classes c xs ≡ 0
   other_none t ne xs all =
       let f : ℕ → ℕ = λ e. cond (slice_index classes e == c) 1 0 in
       let g : ℕ → ℕ = λ e. 0 in

@@ -1,6 +1,6 @@
--- All pairs by class and thread: how many events of a class a thread has, times how many of another the others have.
-use Rattle.std.proofs.Common.{◌≡◌, ◌≢◌, ℕ, ◌+◌, ◌-◌, ◌*◌, ◌^◌, ◌<◌, ◌≤◌, ◌==◌, Bool, true, false, cond, List, [], ◌∷◌, length, take, sum_by, slice_index, All, refl, sym, ap, ◌∙◌, le_refl, arith, add-one}
-use Rattle.std.proofs.lemmas.Bool.{cond-false, cond-true, eq-eqb, ne_eqb}
+-- All pairs, class by class: how many events there are of each of two classes, without those that are of one thread.
+use Rattle.std.proofs.Common.{◌≡◌, ◌≢◌, ℕ, ◌+◌, ◌*◌, ◌<◌, ◌≤◌, ◌==◌, Bool, true, false, cond, List, [], ◌∷◌, length, take, sum_by, slice_index, All, refl, sym, ap, ◌∙◌, inl, inr, mul_comm, arith, add-one}
+use Rattle.std.proofs.lemmas.Bool.{cases_eq, cond-false, cond-true, eq-eqb, ne_eqb}
 use Rattle.std.proofs.lemmas.Nat.{mul-le}
 use Rattle.std.proofs.lemmas.List.{take_all}
 use Rattle.std.proofs.lemmas.List.Elements.{All-get_or, All-weaker}
@@ -9,26 +9,22 @@ use Rattle.std.proofs.lemmas.List.Sums.{sum_by-cons, sum_by-le-sum_by, count_by-
 use Rattle.rapid_text.specs.declared.event.Event.{Event}
 use Rattle.rapid_text.specs.Recording.{Recording, IsWellFormed}
 use Rattle.event_index.specs.Lookups.{before, events_of}
-use Rattle.event_index.proofs.CallerLemmas.{events_of-within}
-use Rattle.race_groups.specs.Counting.{below_sum, class_count, class_sum, ends_list, front_count, later_count, thread_sum, total_ends}
+use Rattle.event_index.proofs.CallerLemmas.{events_of-within, events_of-thread}
+use Rattle.race_groups.specs.Counting.{below_sum, class_count, class_sum, ends_list, front_count, later_count, thread_sum, total_ends, whole_ends}
 use Rattle.race_groups.specs.Ends.{nothing}
-use Rattle.race_groups.specs.Rows.{Part, of_all, of_candidates, of_ordered, of_guarded, by_part}
+use Rattle.race_groups.specs.Owners.{AreOwners}
+use Rattle.race_groups.specs.Rows.{Part, of_all, of_candidates, of_ordered, of_guarded}
+use Rattle.race_groups.specs.Totals.{total_count, two_sum}
 use Rattle.race_groups.specs.declared.class.Class.{Class}
 use Rattle.race_groups.proofs.DoubledLemmas.{sum_by-times}
 use Rattle.race_groups.proofs.FlagLemmas.{sum_by_flagged}
 use Rattle.race_groups.proofs.LaterLemmas.{later_nothing}
+use Rattle.race_groups.proofs.OwnerLemmas.{other_none}
 use Rattle.race_groups.proofs.PairLemmas.{sum_by_below-le}
-use Rattle.race_groups.proofs.SumLemmas.{sum_by_below, sum_by_below_changed, sum_by_each, sum_by_zero}
+use Rattle.race_groups.proofs.SumLemmas.{sum_by_below, sum_by_below_changed, sum_by_each, sum_by_zero, sum_by-plus}
+use Rattle.race_groups.proofs.ClassLemmas.{sums_nothing}
 use Rattle.race_groups.proofs.ThreadLemmas.{sum_by_threads}
 use Rattle.race_groups.proofs.WeightLemmas.{get_before}
-
--- how many events are of the class, thread by thread
-abbrev pub total_count : List Event → ℕ → List ℕ → ℕ → ℕ
-total_count T n classes c = sum_by (λ t. class_count classes c (events_of T t)) (before n)
-
--- what each class adds to a part
-abbrev pub total_of : List ℕ → List ℕ → ℕ → Part → ℕ → ℕ
-total_of totals own times k c = by_part (times * (slice_index totals c - slice_index own c)) 0 0 k
 
 cond_times : (b : Bool) (n : ℕ) → cond b n 0 ≡ cond b 1 0 * n
 cond_times true n = omega arith
@@ -80,25 +76,71 @@ sum_none T threads classes u j c xs =
         (λ t lt. ap (λ n. class_count classes c (take n (events_of T t))) (zero_at t lt))
         ∙ sum_by_zero (before threads)
 
--- what each class adds is what comes below the ends
-pub total_is : (T : List Event) (threads n : ℕ) (classes : List ℕ) (u : ℕ) (totals own : List ℕ) (j : ℕ) → u < threads → j < n
-    → ((c : ℕ) → c < n → slice_index totals c ≡ total_count T threads classes c) → ((c : ℕ) → c < n → slice_index own c ≡ class_count classes c (events_of T u))
-    → (k : Part) (c : ℕ) → c < n → total_of totals own (slice_index own j) k c ≡ below_sum T threads classes u (total_ends T k) j c (events_of T u)
-total_is T threads n classes u totals own j named low all mine of_all c lt =
-    let others = others_are T threads classes u c named in
-    let rest : slice_index totals c - slice_index own c ≡ front_count T threads classes (ends_list threads u (λ t. length (events_of T t))) c =
-    omega (arith, others, all c lt, mine c lt)
-    in
-    ap (λ m. m * (slice_index totals c - slice_index own c)) (mine j low)
-    ∙ ap (λ m. class_count classes j (events_of T u) * m) rest
-    ∙ sym (sum_alike T threads classes u (λ t. length (events_of T t)) j c (events_of T u))
-total_is T threads n classes u totals own j named low all mine of_candidates c lt = sym (sum_none T threads classes u j c (events_of T u))
-total_is T threads n classes u totals own j named low all mine of_ordered c lt = sym (sum_none T threads classes u j c (events_of T u))
-total_is T threads n classes u totals own j named low all mine of_guarded c lt = sym (sum_none T threads classes u j c (events_of T u))
+none_of : (n : ℕ) → 0 * n ≡ 0
+none_of n = omega arith
 
--- a thread's own are some of all
-pub own_le : (T : List Event) (threads : ℕ) (classes : List ℕ) (u c : ℕ) → u < threads → class_count classes c (events_of T u) ≤ total_count T threads classes c
-own_le T threads classes u c lt = let others = others_are T threads classes u c lt in omega (arith, others)
+-- of each of two classes, one of a thread and the other of another or of the same: together they are all
+times_both : (a o m : ℕ) → a * o + m * a ≡ a * (o + m)
+times_both a o m = omega arith
+
+module _ (T : List Event) (threads : ℕ) (classes : List ℕ) where
+  -- how many events of the class the thread has
+  abbrev has : ℕ → ℕ → ℕ
+  has c t = class_count classes c (events_of T t)
+
+  -- how many pairs of two classes are of one thread
+  abbrev pub same_thread : ℕ → ℕ → ℕ
+  same_thread j c = sum_by (λ t. has c t * has j t) (before threads)
+
+  one_thread : (j c u : ℕ) → u < threads → below_sum T threads classes u (whole_ends T) j c (events_of T u) + has c u * has j u ≡ has j u * total_count T threads classes c
+  one_thread j c u lt =
+      let others : ℕ = front_count T threads classes (ends_list threads u (λ t. length (events_of T t))) c in
+      ap (λ n. n + has c u * has j u) (sum_alike T threads classes u (λ t. length (events_of T t)) j c (events_of T u))
+      ∙ times_both (has j u) others (has c u)
+      ∙ ap (λ n. has j u * n) (others_are T threads classes u c lt)
+
+  pub two_all : (j c : ℕ) → two_sum T threads classes (whole_ends T) j c + same_thread j c ≡ total_count T threads classes j * total_count T threads classes c
+  two_all j c =
+      let below : ℕ → ℕ = λ u. below_sum T threads classes u (whole_ends T) j c (events_of T u) in
+      let same : ℕ → ℕ = λ t. has c t * has j t in
+      sym (sum_by-plus below same (before threads))
+      ∙ sum_by_below (λ t. below t + same t) (λ t. has j t * total_count T threads classes c) threads (one_thread j c)
+      ∙ sum_by-times (has j) (total_count T threads classes c) (before threads)
+
+  -- which of two classes comes first does not matter
+  pub two_turned : (j c : ℕ) → two_sum T threads classes (whole_ends T) j c ≡ two_sum T threads classes (whole_ends T) c j
+  two_turned j c =
+      let one = two_all j c in
+      let other = two_all c j in
+      let same : same_thread j c ≡ same_thread c j = sum_by_each (λ t. has c t * has j t) (λ t. has j t * has c t) (before threads) (λ t. mul_comm (has c t) (has j t)) in
+      let product = mul_comm (total_count T threads classes j) (total_count T threads classes c) in
+      omega (arith, one, other, same, product)
+
+  -- before ends that are 0 there are none
+  pub two_none : (j c : ℕ) → two_sum T threads classes nothing j c ≡ 0
+  two_none j c = sum_by_each (λ u. below_sum T threads classes u nothing j c (events_of T u)) (λ u. 0) (before threads) (λ u. sum_none T threads classes u j c (events_of T u)) ∙ sum_by_zero (before threads)
+
+  -- nor are there of two classes of which one thread has all events
+  module _ (owners : List ℕ) (are : AreOwners T threads classes owners) (u : ℕ) (lt : u < threads) where
+    two_owned : (j c : ℕ) → slice_index owners j ≡ u → slice_index owners c ≡ u → two_sum T threads classes (whole_ends T) j c ≡ 0
+    two_owned j c mine own = sum_by_each (λ t. below_sum T threads classes t (whole_ends T) j c (events_of T t)) (λ t. 0) (before threads) each ∙ sum_by_zero (before threads)
+      where
+        other : (t : ℕ) → t ≢ u → below_sum T threads classes t (whole_ends T) j c (events_of T t) ≡ 0
+        other t ne =
+            let n : ℕ = front_count T threads classes (ends_list threads t (λ s. length (events_of T s))) c in
+            sum_alike T threads classes t (λ s. length (events_of T s)) j c (events_of T t) ∙ ap (λ m. m * n) (other_none T threads classes owners are u j lt mine t ne (events_of T t) (events_of-thread T t)) ∙ none_of n
+
+        each : (t : ℕ) → below_sum T threads classes t (whole_ends T) j c (events_of T t) ≡ 0
+        each t = elim (cases_eq t u) [
+          | inl is ↦ ap (λ s. below_sum T threads classes s (whole_ends T) j c (events_of T s)) is ∙ sums_nothing T threads classes owners are u c lt own (whole_ends T) j (events_of T u)
+          | inr ne ↦ other t ne
+        ]
+
+    pub owned_none : (k : Part) (j c : ℕ) → slice_index owners j ≡ u → slice_index owners c ≡ u → two_sum T threads classes (total_ends T k) j c ≡ 0
+    owned_none of_all j c mine own = two_owned j c mine own
+    owned_none of_candidates j c mine own = two_none j c
+    owned_none of_ordered j c mine own = two_none j c
+    owned_none of_guarded j c mine own = two_none j c
 
 -- the ends are within the threads
 pub total_within : (T : List Event) (k : Part) (b t : ℕ) → b < length T → total_ends T k b t ≤ length (events_of T t)
@@ -107,25 +149,6 @@ total_within T of_candidates b t lt = omega arith
 total_within T of_ordered b t lt = omega arith
 total_within T of_guarded b t lt = omega arith
 
--- a class of which the thread has no event
-pub class_empty : (T : List Event) (keeps : Class → Class → Bool) (classes : List ℕ) (infos : List Class) (u : ℕ) (end : ℕ → ℕ → ℕ) (p q j : ℕ)
-    → class_count classes j (events_of T u) ≡ 0 → class_sum T keeps classes infos u end p q j ≡ 0
-class_empty T keeps classes infos u end p q j none = empty (events_of T u) none
-  where
-    no_more : (t : Bool) (n : ℕ) → ◌≡◌ {A = ℕ} (cond t 1 0) 0 → cond t n 0 ≡ 0
-    no_more true n is = absurd (omega (arith, is))
-    no_more false n is = refl
-
-    empty : (xs : List ℕ) → class_count classes j xs ≡ 0 → sum_by (λ b. cond (slice_index classes b == j) (later_count T keeps classes infos u end p q b) 0) xs ≡ 0
-    empty [] none = refl
-    empty (b ∷ xs) none =
-        let one : ℕ → ℕ = λ b. cond (slice_index classes b == j) 1 0 in
-        let f : ℕ → ℕ = λ b. cond (slice_index classes b == j) (later_count T keeps classes infos u end p q b) 0 in
-        let more = sum_by-cons one b xs in
-        let rest = empty xs (omega (arith, more, none)) in
-        let here = no_more (slice_index classes b == j) (later_count T keeps classes infos u end p q b) (omega (arith, more, none)) in
-        sum_by-cons f b xs ∙ omega (arith, rest, here)
-
 -- the events of all classes are all events of the thread
 module _ (T : List Event) (keeps : Class → Class → Bool) (classes : List ℕ) (infos : List Class) (u : ℕ) (end : ℕ → ℕ → ℕ) (p q : ℕ) (len : length classes ≡ length T) (within : All (λ c. c < length infos) classes) where
   inside : All (λ b. slice_index classes b < length infos) (events_of T u)
@@ -133,12 +156,6 @@ module _ (T : List Event) (keeps : Class → Class → Bool) (classes : List ℕ
 
   pub classes_all : sum_by (class_sum T keeps classes infos u end p q) (before (length infos)) ≡ thread_sum T keeps classes infos end p q u
   classes_all = sum_by_flagged (slice_index classes) (λ j. true) (later_count T keeps classes infos u end p q) (length infos) (events_of T u) inside
-
-  pub classes_part : (j : ℕ) → j < length infos → sum_by (class_sum T keeps classes infos u end p q) (before j) + class_sum T keeps classes infos u end p q j ≤ thread_sum T keeps classes infos end p q u
-  classes_part j lt =
-      let part = sum_by_below-le (class_sum T keeps classes infos u end p q) j (length infos) lt in
-      let whole = classes_all in
-      omega (arith, part, whole)
 
 -- below no ends there is nothing
 pub thread_nothing : (T : List Event) (keeps : Class → Class → Bool) (classes : List ℕ) (infos : List Class) (p q u : ℕ) → thread_sum T keeps classes infos nothing p q u ≡ 0
@@ -186,9 +203,3 @@ pub total_fits : (times all : ℕ) → times ≤ 1048576 → all ≤ 1048576 →
 total_fits times all few small =
     let fits = mul-le times all 1048576 1048576 few small in
     omega (arith, fits)
-
--- a smaller factor
-pub product_fits : (times all less : ℕ) → times * all < 2 ^ 64 → times * (all - less) < 2 ^ 64
-product_fits times all less room =
-    let part = mul-le times (all - less) times all (le_refl times) (omega arith) in
-    omega (arith, part, room)

@@ -1,6 +1,7 @@
 pub mod Groups
 pub mod Cuts
 pub mod Counting
+pub mod Totals
 pub mod Owners
 pub mod Rows
 pub mod Classes

@@ -10,6 +10,7 @@ ghost use Rattle.race_groups.specs.Kinds.{IsDifference, IsRow};
 
 use crate::classes::Classes;
 use crate::counted::count_cuts;
+use crate::guesses::Guesses;
 use crate::rows::{Rows, RowsRefusal, Sums, ordered, row_at};
 use event_index::Indexed;
 use must_order::Must;
@@ -46,6 +47,8 @@ pub struct Groups {
     pub rows: Vec<Row>,
     // The rows' places, in the same order.
     index: Rows,
+    // Where the row of two places may stand, which spares most look-ups.
+    guesses: Guesses,
     ghost places: { are_places rows.items (keys index) ≡ true },
 }
 
@@ -58,8 +61,33 @@ impl Groups {
         ensures none { result ≡ None → (at : ℕ) (row : Row) → slice_get self.now.rows.items at ≡ Some row
             → is_between row.places.0 row.places.1 first second ≡ false }
     {
-        row_at(&self.index, ordered(first, second))
+        let places = ordered(first, second);
+        if let Some(at) = self.guesses.guess(places) {
+            if is_row(self.rows.as_slice(), at, places) {
+                return Some(at);
+            }
+        }
+        row_at(&self.index, places)
     }
+}
+
+// Whether the row of these places stands there.
+fn is_row(rows: &[Row], at: usize, places: (u32, u32)) -> bool
+    ensures { result ≡ true → (row : Row) × (slice_get rows.now at ≡ Some row) × (row.places ≡ places) }
+{
+    match rows.get(at) {
+        Some(row) => row.places.0 == places.0 && row.places.1 == places.1,
+        None => false,
+    }
+}
+
+// Where the rows stand.
+fn guesses_of(alloc: Global, classes: &Classes, rows: &[Row]) -> Result<Guesses, OutOfMemory> {
+    let mut guesses = Guesses::new(alloc, classes.infos.as_slice())?;
+    for at in 0..rows.len() {
+        guesses.note(rows[at].places, at);
+    }
+    Ok(guesses)
 }
 
 /// The conflicting pairs of a trace by pair of places and by kind; refused where there are more than `limit` pairs of places.
@@ -94,7 +122,12 @@ pub fn groups_of(
         Err(refusal) => return Err(refusal),
     };
     let rows = rows_of(alloc, indexed, places, classes, &index)?;
-    Ok(Groups { rows, index })
+    let guesses = guesses_of(alloc, classes, rows.as_slice())?;
+    Ok(Groups {
+        rows,
+        index,
+        guesses,
+    })
 }
 
 // The rows of the pairs that were counted.

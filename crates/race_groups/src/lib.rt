@@ -16,6 +16,7 @@ mod rows;
 mod runs;
 mod shares;
 mod sharing;
+mod spread;
 mod sums;
 mod totals;
 mod walk;

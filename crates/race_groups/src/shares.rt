@@ -1,7 +1,8 @@
 //! What the events of a class add to the rows together with a later event, or with all later ones of one class.
-ghost use Rattle.std.specs.Prelude.{◌≡◌, ◌-◌, ◌*◌, ◌<◌, ◌≤◌, ◌^◌, ℕ, Bool, true, false, length, slice_index, if◌then◌else◌};
+ghost use Rattle.std.specs.Prelude.{◌≡◌, ◌-◌, ◌*◌, ◌<◌, ◌≤◌, ◌^◌, ℕ, All, Bool, true, false, length, slice_index, if◌then◌else◌};
 ghost use Rattle.race_groups.specs.Counts.{is_counted};
 ghost use Rattle.race_groups.specs.Rows.{Part, part, amount, by_part};
+ghost use Rattle.race_groups.specs.Totals.{entries_at, weighed_sum};
 
 use crate::rows::Sums;
 
@@ -97,29 +98,71 @@ impl Shares for Loose<'_> {
     }
 }
 
-/// All pairs of so many events of a thread: those with the events of each class that are of other threads.
+/// All pairs of a class's events: with the events of each lesser class, counted twice, and with each other.
 #[derive(Clone, Copy)]
 pub(crate) struct Total<'a> {
     /// How many events of each class there are.
     pub(crate) totals: &'a [u64],
-    /// How many of them are the thread's own.
-    pub(crate) own: &'a [u64],
+    /// In which threads they are.
+    pub(crate) spread: &'a [Vec<(u32, u32)>],
+    /// How many events of the class each thread has.
+    pub(crate) weights: &'a [u64],
+    /// How many all threads have.
     pub(crate) times: u64,
+    /// The number of the class.
+    pub(crate) class: u32,
+}
+
+impl Total<'_> {
+    // How many pairs of different threads there are with the events of this class.
+    fn pairs(&self, class: u32) -> u64
+        requires class { class < length self.now.totals.now }
+        requires spread { class < length self.now.spread.now }
+        requires within { All (λ e. e.0 < length self.now.weights.now) (entries_at self.now.spread.now class) }
+        requires less { weighed_sum (slice_index self.now.weights.now) (entries_at self.now.spread.now class) ≤ self.now.times * slice_index self.now.totals.now class }
+        requires fits { self.now.times * slice_index self.now.totals.now class < 2 ^ 63 }
+        ensures { result ≡ self.now.times * slice_index self.now.totals.now class
+            - weighed_sum (slice_index self.now.weights.now) (entries_at self.now.spread.now class) }
+    {
+        let all = self.times * self.totals[class as usize];
+        all - weighed(self.weights, self.spread[class as usize].as_slice())
+    }
+}
+
+// The numbers of the entries, each times the weight of its thread.
+fn weighed(weights: &[u64], entries: &[(u32, u32)]) -> u64
+    requires within { All (λ e. e.0 < length weights.now) entries.now }
+    requires fits { weighed_sum (slice_index weights.now) entries.now < 2 ^ 64 }
+    ensures { result ≡ weighed_sum (slice_index weights.now) entries.now }
+{
+    let mut sum = 0u64;
+    for entry in entries {
+        sum += u64::from(entry.1) * weights[entry.0 as usize];
+    }
+    sum
 }
 
 impl Shares for Total<'_> {
-    ghost use Rattle.std.specs.Prelude.{◌-◌, ◌*◌, ◌<◌, ◌≤◌, ◌^◌, length, slice_index};
+    ghost use Rattle.std.specs.Prelude.{◌-◌, ◌*◌, ◌<◌, ◌≤◌, ◌^◌, All, length, slice_index};
     ghost use Rattle.race_groups.specs.Rows.{by_part};
+    ghost use Rattle.race_groups.specs.Totals.{at_greater, entries_at, weighed_sum};
 
-    ghost can_tell = { λ s c. (c < length s.totals.now) × (c < length s.own.now)
-        × (slice_index s.own.now c ≤ slice_index s.totals.now c)
-        × (s.times * slice_index s.totals.now c < 2 ^ 64) };
+    ghost can_tell = { λ s c. (c < length s.totals.now) × (c < length s.spread.now)
+        × All (λ e. e.0 < length s.weights.now) (entries_at s.spread.now c)
+        × (weighed_sum (slice_index s.weights.now) (entries_at s.spread.now c) ≤ s.times * slice_index s.totals.now c)
+        × (s.times * slice_index s.totals.now c < 2 ^ 63) };
 
-    ghost amount_of = { λ s k c. by_part (s.times * (slice_index s.totals.now c - slice_index s.own.now c)) 0 0 k };
+    ghost amount_of = { λ s k c. by_part (at_greater s.class c
+        (s.times * slice_index s.totals.now c - weighed_sum (slice_index s.weights.now) (entries_at s.spread.now c))) 0 0 k };
 
     fn share(&self, class: u32) -> Share {
-        let others = self.totals[class as usize] - self.own[class as usize];
-        let all = self.times * others;
+        let all = if class > self.class {
+            0
+        } else if class == self.class {
+            self.pairs(class)
+        } else {
+            2 * self.pairs(class)
+        };
         Share {
             all,
             candidates: 0,

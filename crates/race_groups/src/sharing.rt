@@ -11,6 +11,10 @@ pub fn are_sharing(lists: &IndexSet<Vec<u32>>, first: u32, second: u32) -> bool
     let Some(mine) = lists.get_index(first as usize) else {
         return false;
     };
+    // Most pairs that are asked for hold the very same locks.
+    if first == second {
+        return !mine.as_slice().is_empty();
+    }
     let Some(theirs) = lists.get_index(second as usize) else {
         return false;
     };

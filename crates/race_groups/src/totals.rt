@@ -1,21 +1,23 @@
-//! The number of all conflicting pairs of each pair of places, by class and thread: how many events a thread has of one class, times
-//! how many the others have of another. No pair is looked at, and each is counted twice, once for each of its two threads.
-ghost use Rattle.std.specs.Prelude.{◌≡◌, ℕ, ◌+◌, ◌^◌, ◌<◌, ◌≤◌, length, All, IfOk, OnOk, Err, slice_index, sum_by};
+//! The number of all conflicting pairs of each pair of places, class by class: how many events there are of two classes, without those
+//! that are of one thread. No pair is looked at, and each is counted twice, once for each of its two events.
+ghost use Rattle.std.specs.Prelude.{◌≡◌, ℕ, ◌+◌, ◌==◌, ◌^◌, ◌<◌, ◌≤◌, cond, length, All, IfOk, OnOk, Err, slice_index};
 ghost use Rattle.indexmap.specs.IndexMap.{index_map_len};
 ghost use Rattle.rapid_text.specs.Recording.{IsWellFormed};
-ghost use Rattle.event_index.specs.Lookups.{before, events_of};
 ghost use Rattle.race_groups.specs.Classes.{AreMembers};
-ghost use Rattle.race_groups.specs.Counting.{class_count, class_sum, thread_sum, threads_sum, total_ends};
+ghost use Rattle.race_groups.specs.Counting.{threads_sum, total_ends};
 ghost use Rattle.race_groups.specs.Counts.{keeps};
 ghost use Rattle.race_groups.specs.Owners.{AreConflicts};
 ghost use Rattle.race_groups.specs.Rows.{Part, count_at, AreMore, AreRows};
+ghost use Rattle.race_groups.specs.Totals.{AreSpread, total_count, total_sum, weighed_sum};
 
 use crate::classes::{Classes, variable_of};
 use crate::counting::count;
 use crate::guesses::Guesses;
+use crate::owners::owner_of;
 use crate::rows::{Rows, RowsRefusal};
 use crate::shares::Total;
-use crate::walk::add_members;
+use crate::spread::spread_of;
+use crate::walk::add_all;
 use crate::writers::{Conflicts, conflicting};
 use event_index::Indexed;
 use rapid_text::OutOfMemory;
@@ -26,8 +28,8 @@ fn totals_of(alloc: Global, indexed: &Indexed, classes: &Classes) -> Result<Vec<
     requires numbers { length classes.now.numbers.items ≡ length indexed.now.events }
     requires classes { All (λ c. c < length classes.now.infos.items) classes.now.numbers.items }
     ensures len { IfOk result (λ totals. length totals.items ≡ length classes.now.infos.items) }
-    ensures counted { IfOk result (λ totals. (c : ℕ) → c < length classes.now.infos.items → slice_index totals.items c
-        ≡ sum_by (λ t. class_count classes.now.numbers.items c (events_of indexed.now.events t)) (before (length indexed.now.threads))) }
+    ensures counted { IfOk result (λ totals. (c : ℕ) → c < length classes.now.infos.items
+        → slice_index totals.items c ≡ total_count indexed.now.events (length indexed.now.threads) classes.now.numbers.items c) }
 {
     let _len = indexed.len();
     let numbers = classes.numbers.as_slice();
@@ -39,37 +41,32 @@ fn totals_of(alloc: Global, indexed: &Indexed, classes: &Classes) -> Result<Vec<
     Ok(made)
 }
 
-// How many of the thread's events are of each class.
-fn own_of(
-    alloc: Global,
-    indexed: &Indexed,
-    classes: &Classes,
-    thread: u32,
-) -> Result<Vec<u64>, OutOfMemory>
-    requires numbers { length classes.now.numbers.items ≡ length indexed.now.events }
-    requires classes { All (λ c. c < length classes.now.infos.items) classes.now.numbers.items }
-    requires thread { thread < length indexed.now.threads }
-    ensures len { IfOk result (λ own. length own.items ≡ length classes.now.infos.items) }
-    ensures counted { IfOk result (λ own. (c : ℕ) → c < length classes.now.infos.items
-        → slice_index own.items c ≡ class_count classes.now.numbers.items c (events_of indexed.now.events thread)) }
+// How many events of a class each thread has, from its entries.
+fn weights_of(alloc: Global, threads: u32, entries: &[(u32, u32)]) -> Result<Vec<u64>, OutOfMemory>
+    requires within { All (λ e. e.0 < threads) entries.now }
+    requires few { weighed_sum (λ t. 1) entries.now < 2 ^ 64 }
+    ensures len { IfOk result (λ weights. length weights.items ≡ threads) }
+    ensures weights { IfOk result (λ weights. (t : ℕ) → t < threads
+        → slice_index weights.items t ≡ weighed_sum (λ u. cond (t == u) 1 0) entries.now) }
 {
-    let _len = indexed.len();
-    let numbers = classes.numbers.as_slice();
-    let mut own = vec![in alloc; 0u64; classes.infos.as_slice().len()]?;
-    count(own.as_mut_slice(), numbers, indexed.thread_events(thread));
-    Ok(own)
+    let mut made = vec![in alloc; 0u64; threads as usize]?;
+    let weights = made.as_mut_slice();
+    for entry in entries {
+        weights[entry.0 as usize] += u64::from(entry.1);
+    }
+    Ok(made)
 }
 
-// Adds all pairs that have an event of the thread and of the class of this number.
+// Adds all pairs of an event of the class of this number with one of a class that is not greater.
 fn add_total(
+    alloc: Global,
     rows: &mut Rows,
     guesses: &mut Guesses,
     indexed: &Indexed,
     classes: &Classes,
     conflicts: &Conflicts,
     totals: &[u64],
-    own: &[u64],
-    thread: u32,
+    spread: &[Vec<(u32, u32)>],
     class: u32,
 ) -> Result<(), OutOfMemory>
     requires formed { IsWellFormed indexed.now }
@@ -80,96 +77,47 @@ fn add_total(
     requires conflicts { AreConflicts indexed.now.events (length indexed.now.threads) classes.now.numbers.items
         classes.now.infos.items classes.now.members.items conflicts.now }
     requires totals_len { length totals.now ≡ length classes.now.infos.items }
-    requires totals { (c : ℕ) → c < length classes.now.infos.items → slice_index totals.now c
-        ≡ sum_by (λ t. class_count classes.now.numbers.items c (events_of indexed.now.events t)) (before (length indexed.now.threads)) }
-    requires own_len { length own.now ≡ length classes.now.infos.items }
-    requires own { (c : ℕ) → c < length classes.now.infos.items
-        → slice_index own.now c ≡ class_count classes.now.numbers.items c (events_of indexed.now.events thread) }
-    requires thread { thread < length indexed.now.threads }
+    requires totals { (c : ℕ) → c < length classes.now.infos.items
+        → slice_index totals.now c ≡ total_count indexed.now.events (length indexed.now.threads) classes.now.numbers.items c }
+    requires spread { AreSpread indexed.now.events (length indexed.now.threads) classes.now.numbers.items (length classes.now.infos.items) spread.now }
     requires class { class < length classes.now.infos.items }
     requires rows { AreRows rows.old }
     requires room { (k : Part) (p q : ℕ) → p ≤ q → count_at k rows.old p q ≤ 2 ^ 42 }
     ensures ok { OnOk result ((k : Part) (p q : ℕ) → p ≤ q → count_at k rows.new p q ≡ count_at k rows.old p q
-        + class_sum indexed.now.events (keeps classes.now.lists.keys k) classes.now.numbers.items classes.now.infos.items thread
-        (total_ends indexed.now.events k) p q class) }
+        + total_sum indexed.now.events (keeps classes.now.lists.keys k) classes.now.numbers.items classes.now.infos.items
+        (length indexed.now.threads) (total_ends indexed.now.events k) p q class) }
     ensures rows { OnOk result (AreRows rows.new) }
 {
-    let times = own[class as usize];
-    if times == 0 {
-        return Ok(());
-    }
     let info = classes.infos[class as usize];
     let Some(variable) = variable_of(info.op) else {
         return Ok(());
     };
-    let total = Total { totals, own, times };
-    add_members(
+    let infos = classes.infos.as_slice();
+    let threads = indexed.threads();
+    let entries = spread[class as usize].as_slice();
+    let made = weights_of(alloc, threads, entries)?;
+    let weights = made.as_slice();
+    let times = totals[class as usize];
+    let total = Total {
+        totals,
+        spread,
+        weights,
+        times,
+        class,
+    };
+    let owner = owner_of(conflicts.owners.as_slice(), class);
+    let walk = conflicting(classes, conflicts, variable, info.op);
+    add_all(
         rows,
         guesses,
         &total,
-        classes.infos.as_slice(),
+        infos,
         &classes.lists,
-        conflicting(classes, conflicts, variable, info.op),
+        walk,
         info,
-        thread,
+        owner,
+        threads,
     )?;
-    Ok(())
-}
-
-// Adds all pairs that have an event of the thread.
-fn add_own(
-    alloc: Global,
-    rows: &mut Rows,
-    guesses: &mut Guesses,
-    indexed: &Indexed,
-    classes: &Classes,
-    limit: u32,
-    conflicts: &Conflicts,
-    totals: &[u64],
-    thread: u32,
-) -> Result<(), RowsRefusal>
-    requires formed { IsWellFormed indexed.now }
-    requires numbers { length classes.now.numbers.items ≡ length indexed.now.events }
-    requires classes { All (λ c. c < length classes.now.infos.items) classes.now.numbers.items }
-    requires few { length classes.now.infos.items ≤ 1048576 }
-    requires members { AreMembers classes.now.infos.items classes.now.members.items }
-    requires conflicts { AreConflicts indexed.now.events (length indexed.now.threads) classes.now.numbers.items
-        classes.now.infos.items classes.now.members.items conflicts.now }
-    requires totals_len { length totals.now ≡ length classes.now.infos.items }
-    requires totals { (c : ℕ) → c < length classes.now.infos.items → slice_index totals.now c
-        ≡ sum_by (λ t. class_count classes.now.numbers.items c (events_of indexed.now.events t)) (before (length indexed.now.threads)) }
-    requires thread { thread < length indexed.now.threads }
-    requires rows { AreRows rows.old }
-    requires kept { index_map_len rows.old ≤ limit }
-    requires room { (k : Part) (p q : ℕ) → p ≤ q
-        → count_at k rows.old p q + sum_by (λ e. length indexed.now.events) (events_of indexed.now.events thread) ≤ 2 ^ 42 }
-    ensures ok { OnOk result ((k : Part) (p q : ℕ) → p ≤ q → count_at k rows.new p q ≡ count_at k rows.old p q
-        + thread_sum indexed.now.events (keeps classes.now.lists.keys k) classes.now.numbers.items classes.now.infos.items
-        (total_ends indexed.now.events k) p q thread) }
-    ensures rows { OnOk result (AreRows rows.new) }
-    ensures kept { OnOk result (index_map_len rows.new ≤ limit) }
-    ensures too_many { result ≡ Err RowsRefusal.TooMany → AreMore limit rows.new × ((k : Part) (p q : ℕ) → p ≤ q → count_at k rows.new p q
-        ≤ count_at k rows.old p q + thread_sum indexed.now.events (keeps classes.now.lists.keys k) classes.now.numbers.items
-        classes.now.infos.items (total_ends indexed.now.events k) p q thread) }
-{
-    let made = own_of(alloc, indexed, classes, thread)?;
-    let own = made.as_slice();
-    for class in 0..own.len() {
-        add_total(
-            rows,
-            guesses,
-            indexed,
-            classes,
-            conflicts,
-            totals,
-            own,
-            thread,
-            class as u32,
-        )?;
-        if rows.len() > limit as usize {
-            return Err(RowsRefusal::TooMany);
-        }
-    }
     Ok(())
 }
 
@@ -204,12 +152,22 @@ pub(crate) fn add_totals(
     let _len = indexed.len();
     let made = totals_of(alloc, indexed, classes)?;
     let totals = made.as_slice();
-    for thread in 0..indexed.threads() {
-        match add_own(
-            alloc, rows, guesses, indexed, classes, limit, conflicts, totals, thread,
-        ) {
-            Ok(()) => {}
-            Err(refusal) => return Err(refusal),
+    let spread = spread_of(alloc, indexed, classes)?;
+    let entries = spread.as_slice();
+    for class in 0..totals.len() {
+        add_total(
+            alloc,
+            rows,
+            guesses,
+            indexed,
+            classes,
+            conflicts,
+            totals,
+            entries,
+            class as u32,
+        )?;
+        if rows.len() > limit as usize {
+            return Err(RowsRefusal::TooMany);
         }
     }
     Ok(())

@@ -146,3 +146,34 @@ pub(crate) fn add_members<A: Shares>(
     }
     Ok(())
 }
+
+/// The same for a class, of which `owner` has all events where it is one of the threads.
+pub(crate) fn add_all<A: Shares>(
+    rows: &mut Rows,
+    guesses: &mut Guesses,
+    shares: &A,
+    infos: &[Class],
+    lists: &IndexSet<Vec<u32>>,
+    walk: Walk<'_>,
+    later: Class,
+    owner: u32,
+    threads: u32,
+) -> Result<(), OutOfMemory>
+    requires members { All (λ c. c < length infos.now) walk.members.now }
+    requires runs { AreRuns walk.owners.now walk.members.now walk.runs.now }
+    requires can { (c : ℕ) → c < length infos.now → A.can_tell shares.now c }
+    requires own { owner < threads → (c : ℕ) → c < length infos.now → slice_index walk.owners.now c ≡ owner → (k : Part) → A.amount_of shares.now k c ≡ 0 }
+    requires rows { AreRows rows.old }
+    requires room { (k : Part) (p q : ℕ) → p ≤ q → count_at k rows.old p q + sum_by (A.amount_of shares.now k) walk.members.now < 2 ^ 64 }
+    ensures ok { OnOk result ((k : Part) (p q : ℕ) → p ≤ q → count_at k rows.new p q ≡ count_at k rows.old p q
+        + sum_by (λ c. if adds_to (keeps lists.now.keys k) p q later (slice_get infos.now c)
+        then A.amount_of shares.now k c else 0) walk.entry.members.now) }
+    ensures rows { OnOk result (AreRows rows.new) }
+{
+    if owner < threads {
+        add_members(rows, guesses, shares, infos, lists, walk, later, owner)?;
+    } else {
+        add_run(rows, guesses, shares, infos, lists, walk.members, later)?;
+    }
+    Ok(())
+}

@@ -1,69 +1,56 @@
-use Rattle.std.proofs.Common.{◌≡◌, ℕ, length, ap, Err, arith}
-use Rattle.race_groups.specs.Counting.{thread_sum, threads_sum, total_ends}
+use Rattle.std.proofs.Common.{◌≡◌, ◌<◌, length, sum_by, ap, arith}
+use Rattle.event_index.specs.Lookups.{before}
+use Rattle.race_groups.specs.Counting.{total_ends}
 use Rattle.race_groups.specs.Counts.{keeps}
-use Rattle.race_groups.specs.declared.rows.RowsRefusal.TheVariants.{TooMany}
-use Rattle.race_groups.proofs.CompleteLemmas.{same_Err}
-use Rattle.race_groups.proofs.PairLemmas.{room_is, sum_by_below-le}
+use Rattle.race_groups.specs.Totals.{total_sum}
 use Rattle.race_groups.proofs.SumLemmas.{sum_by_below_more}
+use Rattle.race_groups.proofs.TotalGroupLemmas.{total_room}
+use Rattle.race_groups.proofs.TwoClassLemmas.{both_turned, total_part, totals_all}
 use Rattle.race_groups.proofs.totals.add_totals.Goals as goal
 
-pub add_own-requires-clause-room : goal.add_own-requires-clause-room
-add_own-requires-clause-room c = λ k p q le.
+pub add_total-requires-clause-room : goal.add_total-requires-clause-room
+add_total-requires-clause-room c = λ k p q le.
     let r = c.args.indexed.now in
-    let T = r.events in
-    let keep = keeps c.args.classes.now.lists.keys k in
+    let lists = c.args.classes.now.lists.keys in
     let numbers = c.args.classes.now.numbers.items in
     let infos = c.args.classes.now.infos.items in
-    let end = total_ends T k in
-    let f : ℕ → ℕ = thread_sum T keep numbers infos end p q in
-    let thread = c.loop-thread.thread in
-    let room = room_is r c.len-len.ensures.well_formed keep numbers infos end p q thread (omega (arith, c.loop-thread-test.true, c.threads-thread-end.ensures.len)) in
-    omega (arith, room, c.loop-thread.invariant.rows k p q le)
+    let low : c.loop-class.class < length infos = omega (arith, c.loop-class-test.true, ap length c.as_slice-totals.ensures.value, c.in_ok-made.ensures.len) in
+    let part = total_part r numbers infos lists p q c.len-len.ensures.well_formed c.requires.numbers c.requires.classes k c.loop-class.class low in
+    let few = total_room r c.len-len.ensures.well_formed (keeps lists k) numbers infos (total_ends r.events k) p q in
+    omega (arith, part, few, c.loop-class.invariant.rows k p q le)
 
-pub loop-thread-preserved : goal.loop-thread-preserved
-loop-thread-preserved c = record {
-  kept = c.in-Ok.ensures.rows;
-  few = c.in-Ok.ensures.kept;
+pub loop-class-preserved : goal.loop-class-preserved
+loop-class-preserved c = record {
+  kept = c.in_ok-add_total.ensures.rows;
+  few = omega (arith, c.if-len-limit.false, c.len.ensures.len);
   rows = λ k p q le.
       let r = c.args.indexed.now in
-      let T = r.events in
-      let keep = keeps c.args.classes.now.lists.keys k in
+      let class = c.loop-class.class in
+      let more = sum_by_below_more (total_sum r.events (keeps c.args.classes.now.lists.keys k) c.args.classes.now.numbers.items c.args.classes.now.infos.items (length r.threads) (total_ends r.events k) p q) class in
+      omega (arith, more, c.in_ok-add_total.ensures.ok k p q le, c.loop-class.invariant.rows k p q le);
+}
+
+pub returns-then-len-limit-clause-too_many : goal.returns-then-len-limit-clause-too_many
+returns-then-len-limit-clause-too_many c = λ refused. (
+  record { are = c.in_ok-add_total.ensures.rows; more = omega (arith, c.if-len-limit.true, c.len.ensures.len); once = c.len.ensures.unique },
+  λ k p q le.
+      let r = c.args.indexed.now in
+      let lists = c.args.classes.now.lists.keys in
       let numbers = c.args.classes.now.numbers.items in
       let infos = c.args.classes.now.infos.items in
-      let end = total_ends T k in
-      let f : ℕ → ℕ = thread_sum T keep numbers infos end p q in
-      let thread = c.loop-thread.thread in
-      let more = sum_by_below_more f thread in
-      omega (arith, more, c.in-Ok.ensures.ok k p q le, c.loop-thread.invariant.rows k p q le);
-}
+      let low : c.loop-class.class < length infos = omega (arith, c.loop-class-test.true, ap length c.as_slice-totals.ensures.value, c.in_ok-made.ensures.len) in
+      let part = total_part r numbers infos lists p q c.len-len.ensures.well_formed c.requires.numbers c.requires.classes k c.loop-class.class low in
+      omega (arith, part, c.in_ok-add_total.ensures.ok k p q le, c.loop-class.invariant.rows k p q le),
+)
 
 pub returns-clause-ok : goal.returns-clause-ok
 returns-clause-ok c = λ k p q le.
     let r = c.args.indexed.now in
-    let T = r.events in
-    let keep = keeps c.args.classes.now.lists.keys k in
+    let lists = c.args.classes.now.lists.keys in
     let numbers = c.args.classes.now.numbers.items in
     let infos = c.args.classes.now.infos.items in
-    let end = total_ends T k in
-    let f : ℕ → ℕ = thread_sum T keep numbers infos end p q in
-    let thread = c.loop-thread.thread in
-    let done : thread ≡ length r.threads = omega (arith, c.loop-thread-test.false, c.threads-thread-end.ensures.len, c.loop-thread.auto.thread-end) in
-    let same = ap (threads_sum T keep numbers infos end p q) done in
-    omega (arith, same, c.loop-thread.invariant.rows k p q le)
-
-pub returns-in-Err-clause-too_many : goal.returns-in-Err-clause-too_many
-returns-in-Err-clause-too_many c = λ refused.
-    let told = c.in-Err.ensures.too_many (ap Err (same_Err c.in-Err.refusal TooMany refused)) in (
-      told.0,
-      λ k p q le.
-          let r = c.args.indexed.now in
-          let T = r.events in
-          let keep = keeps c.args.classes.now.lists.keys k in
-          let numbers = c.args.classes.now.numbers.items in
-          let infos = c.args.classes.now.infos.items in
-          let end = total_ends T k in
-          let f : ℕ → ℕ = thread_sum T keep numbers infos end p q in
-          let thread = c.loop-thread.thread in
-          let part = sum_by_below-le f thread (length r.threads) (omega (arith, c.loop-thread-test.true, c.threads-thread-end.ensures.len)) in
-          omega (arith, told.1 k p q le, c.loop-thread.invariant.rows k p q le, part),
-    )
+    let class = c.loop-class.class in
+    let whole : class ≡ length infos = omega (arith, c.loop-class-test.false, c.loop-class.auto.class-end, ap length c.as_slice-totals.ensures.value, c.in_ok-made.ensures.len) in
+    let same = ap (λ n. sum_by (total_sum r.events (keeps lists k) numbers infos (length r.threads) (total_ends r.events k) p q) (before n)) whole in
+    let all = totals_all r c.len-len.ensures.well_formed numbers infos c.requires.numbers c.requires.classes (keeps lists k) p q k (both_turned r numbers infos lists p q k) in
+    omega (arith, same, all, c.loop-class.invariant.rows k p q le)

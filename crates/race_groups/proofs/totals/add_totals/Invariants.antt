@@ -1,16 +1,18 @@
-use Rattle.std.proofs.Common.{◌≡◌, ℕ, ◌≤◌}
+use Rattle.std.proofs.Common.{◌≡◌, ℕ, ◌≤◌, length, sum_by}
+use Rattle.event_index.specs.Lookups.{before}
 use Rattle.indexmap.specs.IndexMap.{index_map_len}
-use Rattle.race_groups.specs.Counting.{threads_sum, total_ends}
+use Rattle.race_groups.specs.Counting.{total_ends}
 use Rattle.race_groups.specs.Counts.{keeps}
 use Rattle.race_groups.specs.Rows.{Part, count_at, AreRows}
+use Rattle.race_groups.specs.Totals.{total_sum}
 use Rattle.race_groups.proofs.totals.add_totals.Given as goal
 
-abbrev pub invariant-loop-thread : goal.invariant-loop-thread
-invariant-loop-thread l =
+abbrev pub invariant-loop-class : goal.invariant-loop-class
+invariant-loop-class l =
     record {
       kept : AreRows l.rows;
       few : index_map_len l.rows ≤ l.limit;
       rows :
           (k : Part) (p q : ℕ) → p ≤ q → count_at k l.rows p q
-          ≡ threads_sum l.indexed.events (keeps l.classes.lists.keys k) l.classes.numbers.items l.classes.infos.items (total_ends l.indexed.events k) p q l.thread;
+          ≡ sum_by (total_sum l.indexed.events (keeps l.classes.lists.keys k) l.classes.numbers.items l.classes.infos.items (length l.indexed.threads) (total_ends l.indexed.events k) p q) (before l.class);
     }

@@ -1,5 +1,5 @@
 use Rattle.std.proofs.Common.{◌≡◌, ℕ, ◌<◌, length, slice_index}
-use Rattle.race_groups.proofs.TotalLemmas.{total_count}
+use Rattle.race_groups.specs.Totals.{total_count}
 use Rattle.race_groups.proofs.totals.totals_of.Given as goal
 
 abbrev pub invariant-loop-thread : goal.invariant-loop-thread

@@ -1,0 +1,49 @@
+-- The count of all pairs, class by class. No public clause cites this module. `T` is the events of a trace.
+use Rattle.std.specs.Prelude.{◌≡◌, ℕ, ◌*◌, ◌<◌, ◌==◌, nat_lt, Bool, false, cond, List, [], All, length, sum_by, slice_get, Option, Some, None, Vec}
+use Rattle.std.specs.declared.alloc.Global.{Global}
+use Rattle.rapid_text.specs.declared.event.Event.{Event}
+use Rattle.event_index.specs.Lookups.{before, events_of}
+use Rattle.race_groups.specs.Classes.{adds_to}
+use Rattle.race_groups.specs.Counting.{below_sum, class_count}
+use Rattle.race_groups.specs.declared.class.Class.{Class}
+
+-- the entries of class c: a thread and a number each
+abbrev pub items_of : Option (Vec (ℕ × ℕ) Global) → List (ℕ × ℕ)
+items_of None = []
+items_of (Some v) = v.items
+
+abbrev pub entries_at : List (Vec (ℕ × ℕ) Global) → ℕ → List (ℕ × ℕ)
+entries_at spread c = items_of (slice_get spread c)
+
+-- their numbers, each weighed by its thread
+abbrev pub weighed_sum : (ℕ → ℕ) → List (ℕ × ℕ) → ℕ
+weighed_sum w entries = sum_by (λ e. e.1 * w e.0) entries
+
+-- how many events all threads have of class c
+abbrev pub total_count : List Event → ℕ → List ℕ → ℕ → ℕ
+total_count T threads classes c = sum_by (λ t. class_count classes c (events_of T t)) (before threads)
+
+-- The entries of each class tell how many events of it each thread has.
+pub record AreSpread (T : List Event) (threads : ℕ) (classes : List ℕ) (n : ℕ) (spread : List (Vec (ℕ × ℕ) Global)) : Type 0 where
+  pub len : length spread ≡ n
+  pub within : (c : ℕ) → All (λ e. e.0 < threads) (entries_at spread c)
+  pub weighed : (c : ℕ) (w : ℕ → ℕ) → c < n
+      → weighed_sum w (entries_at spread c) ≡ sum_by (λ t. class_count classes c (events_of T t) * w t) (before threads)
+
+-- how many pairs events of class j have with events of class c of other threads before the ends
+abbrev pub two_sum : List Event → ℕ → List ℕ → (ℕ → ℕ → ℕ) → ℕ → ℕ → ℕ
+two_sum T threads classes end j c = sum_by (λ u. below_sum T threads classes u end j c (events_of T u)) (before threads)
+
+-- Two classes are looked at once, at the greater of the two, for both of them.
+abbrev pub at_greater : ℕ → ℕ → ℕ → ℕ
+at_greater j c n = cond (nat_lt c j) (2 * n) (cond (c == j) n 0)
+
+-- whether the pairs of two classes are of the places p and q, and are kept
+abbrev pub adds_both : (Class → Class → Bool) → ℕ → ℕ → Option Class → Option Class → Bool
+adds_both keeps p q None other = false
+adds_both keeps p q (Some j) other = adds_to keeps p q j other
+
+-- what class j adds to the places p and q
+abbrev pub total_sum : List Event → (Class → Class → Bool) → List ℕ → List Class → ℕ → (ℕ → ℕ → ℕ) → ℕ → ℕ → ℕ → ℕ
+total_sum T keeps classes infos threads end p q j =
+    sum_by (λ c. cond (adds_both keeps p q (slice_get infos j) (slice_get infos c)) (at_greater j c (two_sum T threads classes end j c)) 0) (before (length infos))

@@ -1,0 +1,109 @@
+//! In which threads the events of each class are, and how many in each.
+ghost use Rattle.std.specs.Prelude.{◌≡◌, ℕ, ◌+◌, ◌-◌, ◌*◌, ◌==◌, ◌<◌, ◌^◌, [], cond, length, All, IfOk, IfSome, OnOk, Some, slice_get};
+ghost use Rattle.rapid_text.specs.Recording.{IsWellFormed};
+ghost use Rattle.event_index.specs.Lookups.{events_of};
+ghost use Rattle.race_groups.specs.Counting.{class_count};
+ghost use Rattle.race_groups.specs.Totals.{AreSpread, entries_at, weighed_sum};
+
+use crate::classes::Classes;
+use event_index::Indexed;
+use rapid_text::OutOfMemory;
+use std::alloc::Global;
+
+/// For each class the threads that have events of it, each with how many.
+pub(crate) type Spread = Vec<Vec<(u32, u32)>>;
+
+/// For each class of the trace.
+pub(crate) fn spread_of(
+    alloc: Global,
+    indexed: &Indexed,
+    classes: &Classes,
+) -> Result<Spread, OutOfMemory>
+    requires numbers { length classes.now.numbers.items ≡ length indexed.now.events }
+    requires classes { All (λ c. c < length classes.now.infos.items) classes.now.numbers.items }
+    ensures { IfOk result (λ spread. AreSpread indexed.now.events (length indexed.now.threads) classes.now.numbers.items
+        (length classes.now.infos.items) spread.items) }
+{
+    let _len = indexed.len();
+    let numbers = classes.numbers.as_slice();
+    let mut spread = empty(alloc, classes.infos.as_slice().len())?;
+    for thread in 0..indexed.threads() {
+        note_thread(&mut spread, indexed, numbers, thread)?;
+    }
+    Ok(spread)
+}
+
+// No events yet.
+fn empty(alloc: Global, many: usize) -> Result<Spread, OutOfMemory>
+    ensures len { IfOk result (λ spread. length spread.items ≡ many) }
+    ensures none { IfOk result (λ spread. (c : ℕ) → entries_at spread.items c ≡ []) }
+{
+    let mut spread = Vec::with_capacity(alloc, many)?;
+    for _class in 0..many {
+        spread.push(Vec::new(alloc))?;
+    }
+    Ok(spread)
+}
+
+// All events of the thread, which has none yet.
+fn note_thread(
+    spread: &mut Spread,
+    indexed: &Indexed,
+    numbers: &[u32],
+    thread: u32,
+) -> Result<(), OutOfMemory>
+    requires formed { IsWellFormed indexed.now }
+    requires numbers { length numbers.now ≡ length indexed.now.events }
+    requires classes { All (λ c. c < length spread.old.items) numbers.now }
+    requires thread { thread < length indexed.now.threads }
+    requires room { (c : ℕ) → weighed_sum (λ t. 1) (entries_at spread.old.items c) + length (events_of indexed.now.events thread) < 2 ^ 32 }
+    requires within { (c : ℕ) → All (λ e. e.0 < length indexed.now.threads) (entries_at spread.old.items c) }
+    ensures len { OnOk result (length spread.new.items ≡ length spread.old.items) }
+    ensures within { OnOk result ((c : ℕ) → All (λ e. e.0 < length indexed.now.threads) (entries_at spread.new.items c)) }
+    ensures noted { OnOk result ((c : ℕ) (w : ℕ → ℕ) → weighed_sum w (entries_at spread.new.items c)
+        ≡ weighed_sum w (entries_at spread.old.items c) + class_count numbers.now c (events_of indexed.now.events thread) * w thread) }
+{
+    for at in 0..indexed.thread_events(thread).len() {
+        let event = indexed.thread_events(thread)[at];
+        note_class(spread, numbers[event as usize], thread)?;
+    }
+    Ok(())
+}
+
+// One event more of the class, of this thread.
+fn note_class(spread: &mut Spread, class: u32, thread: u32) -> Result<(), OutOfMemory>
+    requires class { class < length spread.old.items }
+    requires room { weighed_sum (λ t. 1) (entries_at spread.old.items class) < 2 ^ 32 - 1 }
+    ensures len { OnOk result (length spread.new.items ≡ length spread.old.items) }
+    ensures within { OnOk result ((n c : ℕ) → thread < n → All (λ e. e.0 < n) (entries_at spread.old.items c)
+        → All (λ e. e.0 < n) (entries_at spread.new.items c)) }
+    ensures noted { OnOk result ((c : ℕ) (w : ℕ → ℕ) → weighed_sum w (entries_at spread.new.items c)
+        ≡ weighed_sum w (entries_at spread.old.items c) + cond (class == c) (w thread) 0) }
+{
+    note(&mut spread[class as usize], thread)?;
+    Ok(())
+}
+
+// The events of a thread come one after the other.
+fn note(entries: &mut Vec<(u32, u32)>, thread: u32) -> Result<(), OutOfMemory>
+    requires room { weighed_sum (λ t. 1) entries.old.items < 2 ^ 32 - 1 }
+    ensures within { OnOk result ((n : ℕ) → thread < n → All (λ e. e.0 < n) entries.old.items → All (λ e. e.0 < n) entries.new.items) }
+    ensures noted { OnOk result ((w : ℕ → ℕ) → weighed_sum w entries.new.items ≡ weighed_sum w entries.old.items + w thread) }
+{
+    match last_count(entries.as_slice(), thread) {
+        Some(count) => {
+            let last = entries.len() - 1;
+            entries[last] = (thread, count + 1);
+        }
+        None => entries.push((thread, 1))?,
+    }
+    Ok(())
+}
+
+// How many events the last entry counts, where it is the thread's.
+fn last_count(entries: &[(u32, u32)], thread: u32) -> Option<u32>
+    ensures { IfSome result (λ n. (0 < length entries.now) × (slice_get entries.now (length entries.now - 1) ≡ Some (thread, n))) }
+{
+    let last = entries.last()?;
+    if last.0 == thread { Some(last.1) } else { None }
+}
