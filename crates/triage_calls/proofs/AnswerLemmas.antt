@@ -1,16 +1,17 @@
 -- What the steps of the call say of the whole.
-use Rattle.std.proofs.Common.{◌≡◌, ◌≢◌, ◌⊎◌, ℕ, ◌<◌, ◌+◌, List, [], length, replicate, Option, Some, None, Result, Ok, Err, OnOk, OnErr, IfErr, IfSome, refl, sym, ap, ◌∙◌, subst, arith, inl, inr}
+use Rattle.std.proofs.Common.{◌≡◌, ◌≢◌, ◌⊎◌, ℕ, ◌<◌, ◌+◌, List, [], length, replicate, Vec, Option, Some, None, Result, Ok, Err, IfSome, refl, arith, inl, inr}
+use Rattle.std.specs.Option.{option_map}
+use Rattle.std.specs.declared.alloc.Global.{Global}
 use Rattle.std.proofs.lemmas.List.{length-replicate}
-use Rattle.std.specs.Io.KnownBytes.{Appends}
 use Rattle.rapid_text.specs.Recording.{Recording}
-use Rattle.client_scripts.specs.Replay.{AppendsPart, IsAccepted, IsFault, IsUnreadable, of_trace}
+use Rattle.client_scripts.specs.Replay.{IsAccepted, IsFault, of_trace}
 use Rattle.client_scripts.specs.Steps.{IsInput}
 use Rattle.client_scripts.specs.declared.fault.ReplayFault.{ReplayFault}
 use Rattle.client_scripts.specs.declared.fault.ReplayFault.TheVariants.{Text, Rule, Script, Read, Write, OutOfMemory}
 use Rattle.client_scripts.specs.declared.fault.ReadCause.TheVariants.{Device, TooLong}
 use Rattle.client_scripts.specs.declared.fault.TheConstants.{LIMIT}
 use Rattle.pair_calls.specs.Answers.{IsRead}
-use Rattle.triage_calls.specs.Answers.{IsGiven, IsKnownFault, IsKnownRead, IsKnownUnread, IsListed, IsListing, IsTriaged, IsUntold, IsWritten}
+use Rattle.triage_calls.specs.Answers.{given_text, IsKnownFault, IsKnownRead, IsKnownUnread, IsTriaged, IsWritten}
 use Rattle.triage_calls.specs.declared.fault.TriageFault.{TriageFault}
 use Rattle.triage_calls.specs.declared.fault.TriageFault.TheVariants.{Replay, TooMany}
 use Rattle.triage_calls.specs.declared.listing.Asked.{Asked}
@@ -57,24 +58,25 @@ module _ {X : Type 0} (bytes listed : List ℕ) (given : Option X) (asked : Aske
   unread-triaged known (Script refusal) other (inl e) = absurd (cc e)
   unread-triaged known (Read input why) other (inl e) = absurd (cc e)
 
-  -- what was written of the trace that the bytes say
-  pub written-triaged : {Y : Type 0} (r : Recording) (text : Option Y) (old new : Option (List ℕ)) → IsRead bytes r → ((known : Option (List (ℕ × ℕ))) → IsGiven text known → IsGiven given known)
-      → (result : Result ℕ TriageFault) → IsWritten r text asked old new result → IsTriaged bytes listed given asked old new result
-  written-triaged r text old new read same (Ok races) (shown, (known, is, listing), appended) = (shown, (r, read, (known, same known is, listing)), appended)
-  written-triaged r text old new read same (Err (Replay Write)) (races, shown, (known, is, listing), appended) = (races, shown, (r, read, (known, same known is, listing)), appended)
-  written-triaged r text old new read same (Err (Replay OutOfMemory)) h = h.1
-  written-triaged r text old new read same (Err (Replay (Text refusal))) h = absurd h.0
-  written-triaged r text old new read same (Err (Replay (Rule refusal))) h = absurd h.0
-  written-triaged r text old new read same (Err (Replay (Script refusal))) h = absurd h.0
-  written-triaged r text old new read same (Err (Replay (Read input why))) h = absurd h.0
-  written-triaged r text old new read same (Err TooMany) h = (r, read, h.0, h.1)
+-- what was written of the trace that the bytes say
+module _ {X : Type 0} (bytes listed : List ℕ) (given : Option X) (asked : Asked) (r : Recording) (old new : Option (List ℕ)) (read : IsRead bytes r) where
+  pub written-triaged : (result : Result ℕ TriageFault) → IsWritten r (given_text given listed) asked old new result → IsTriaged bytes listed given asked old new result
+  written-triaged (Ok races) (shown, listing, appended) = (shown, (r, read, listing), appended)
+  written-triaged (Err (Replay Write)) (races, shown, listing, appended) = (races, shown, (r, read, listing), appended)
+  written-triaged (Err (Replay OutOfMemory)) h = h.1
+  written-triaged (Err (Replay (Text refusal))) h = absurd h.0
+  written-triaged (Err (Replay (Rule refusal))) h = absurd h.0
+  written-triaged (Err (Replay (Script refusal))) h = absurd h.0
+  written-triaged (Err (Replay (Read input why))) h = absurd h.0
+  written-triaged (Err TooMany) h = (r, read, h.0, h.1)
 
--- what is known is known of the text that was read
-pub given_same : {X Y : Type 0} (given : Option X) (text : Option Y) → IsKnownRead given text → (known : Option (List (ℕ × ℕ))) → IsGiven text known → IsGiven given known
-given_same None None read known h = h
-given_same None (Some text) read known h = absurd read
-given_same (Some source) None read known h = absurd read
-given_same (Some source) (Some text) read known h = tt
+-- the text of known races is what the second reader tells, where there is one
+pub listed_text : {X : Type 0} (rest : X → Option (List ℕ)) (known : Option X) (text : Option (Vec ℕ Global)) → IsKnownRead rest known text
+    → (listed : List ℕ) × IfSome known (λ k. IfSome (rest k) (λ told. listed ≡ told)) × (option_map (λ v. v.items) text ≡ given_text known listed)
+listed_text rest None None read = ([], tt, refl)
+listed_text rest (Some source) (Some text) read = (text.items, read, refl)
+listed_text rest None (Some text) read = absurd read
+listed_text rest (Some source) None read = absurd read
 
 -- the bytes of a second reader, where there is one
 pub listed_bytes : {X : Type 0} (rest : X → Option (List ℕ)) (known : Option X) → (listed : List ℕ) × IfSome known (λ k. IfSome (rest k) (λ told. listed ≡ told))

@@ -1,5 +1,6 @@
 -- What `triage` answers of the bytes that it reads, and what its writer has taken. All notions here are this project's own.
-use Rattle.std.specs.Prelude.{◌≡◌, ◌⊎◌, ℕ, Bool, List, [], length, map, All, None, Some, Option, Result, Ok, Err, IfSome, slice_index, ⊤}
+use Rattle.std.specs.Prelude.{◌≡◌, ◌⊎◌, ℕ, Bool, List, length, map, All, None, Some, Option, Result, Ok, Err, IfSome, Vec, slice_index, ⊤}
+use Rattle.std.specs.declared.alloc.Global.{Global}
 use Rattle.std.specs.Io.KnownBytes.{Appends}
 use Rattle.rapid_text.specs.Recording.{Recording}
 use Rattle.race_groups.specs.Found.{AreTooMany}
@@ -7,7 +8,8 @@ use Rattle.race_json.specs.Lines.{IsTriageJson}
 use Rattle.race_page.specs.Pages.{IsPage}
 use Rattle.race_page.specs.Rows.{all_rows}
 use Rattle.race_triage.specs.Chosen.{AreChosen}
-use Rattle.race_triage.specs.Places.{AreNumbers}
+use Rattle.race_triage.specs.Known.{AreKnown}
+use Rattle.race_triage.specs.Places.{AreNumbered, AreNumbers}
 use Rattle.race_triage.specs.Texts.{IsTriageText}
 use Rattle.race_triage.specs.Verdicts.{IsVerdict, AreAllTold, AreRising}
 use Rattle.race_triage.specs.declared.chosen.Chosen.{Chosen}
@@ -47,9 +49,19 @@ IsToldIn Json r known asked vs races text =
 IsToldIn (Page name) r known asked vs races text =
     (c : Chosen) × AreChosen r known (only_of asked) (hide_of asked) asked.apart vs c × IsPage text (all_rows asked.apart c.verdicts.items) × (races ≡ c.races)
 
--- The text tells of the verdicts on the trace what was asked for; `known` is the pairs of places whose races are known.
-pub record IsListing (r : Recording) (known : Option (List (ℕ × ℕ))) (asked : Asked) (races : ℕ) (text : List ℕ) : Type 0 where
+-- Which pairs of places are known: those whose two locations the text names, where one is given. `keys` are the locations by their numbers.
+abbrev pub IsGiven : List (Vec ℕ Global) → Option (List ℕ) → Option (List (ℕ × ℕ)) → Type 0
+IsGiven keys None known = known ≡ None
+IsGiven keys (Some text) (Some pairs) = AreKnown keys text pairs
+IsGiven keys (Some text) None = ⊥
+
+-- The text tells of the verdicts on the trace what was asked for; `given` is the text of known races, where there is one.
+pub record IsListing (r : Recording) (given : Option (List ℕ)) (asked : Asked) (races : ℕ) (text : List ℕ) : Type 0 where
+  pub keys : List (Vec ℕ Global)
   pub numbers : List ℕ
+  pub numbered : AreNumbered r (length r.events) keys numbers
+  pub known : Option (List (ℕ × ℕ))
+  pub known_is : IsGiven keys given known
   pub verdicts : List Verdict
   pub found : AreVerdicts r numbers asked.tries asked.apart verdicts
   pub told : IsToldIn asked.form r known asked verdicts races text
@@ -58,24 +70,20 @@ pub record IsListing (r : Recording) (known : Option (List (ℕ × ℕ))) (asked
 abbrev pub IsCrowded : Recording → Type 0
 IsCrowded r = (numbers : List ℕ) × AreNumbers r numbers × AreTooMany r.events (slice_index numbers) MAX_PLACES
 
--- where no text of known races is given, none is known
-abbrev pub IsGiven : {X : Type 0} → Option X → Option (List (ℕ × ℕ)) → Type 0
-IsGiven None known = known ≡ None
-IsGiven (Some text) known = ⊤
-
--- the text tells what was asked for of the trace
-abbrev pub IsListed : {X : Type 0} → Recording → Option X → Asked → ℕ → List ℕ → Type 0
-IsListed r given asked races text = (known : Option (List (ℕ × ℕ))) × IsGiven given known × IsListing r known asked races text
-
 -- the text of known races was read, where there is one; or was not, for this reason
-abbrev pub IsKnownRead : {X Y : Type 0} → Option X → Option Y → Type 0
-IsKnownRead None None = ⊤
-IsKnownRead (Some source) (Some text) = ⊤
-IsKnownRead known listed = ⊥
+abbrev pub IsKnownRead : {X : Type 0} → (X → Option (List ℕ)) → Option X → Option (Vec ℕ Global) → Type 0
+IsKnownRead rest None None = ⊤
+IsKnownRead rest (Some source) (Some text) = IfSome (rest source) (λ told. text.items ≡ told)
+IsKnownRead rest known listed = ⊥
 
 abbrev pub IsKnownUnread : Option (List ℕ) → TriageFault → Type 0
 IsKnownUnread rest (Replay fault) = IsInput 2 rest (Err fault)
 IsKnownUnread rest TooMany = ⊥
+
+-- the text that the second reader tells, where there is one
+abbrev pub given_text : {X : Type 0} → Option X → List ℕ → Option (List ℕ)
+given_text None listed = None
+given_text (Some source) listed = Some listed
 
 -- why nothing is told of a trace
 abbrev pub IsUntold : Recording → TriageFault → Type 0
@@ -84,9 +92,9 @@ IsUntold r (Replay fault) = ⊥
 IsUntold r TooMany = IsCrowded r
 
 -- What was written of a trace: the whole text; or the writer failed, and it is a beginning of it; or, where nothing is told, nothing.
-abbrev pub IsWritten : {X : Type 0} → Recording → Option X → Asked → Option (List ℕ) → Option (List ℕ) → Result ℕ TriageFault → Type 0
-IsWritten r given asked old new (Ok races) = (text : List ℕ) × IsListed r given asked races text × Appends old new text
-IsWritten r given asked old new (Err (Replay Write)) = (races : ℕ) × (text : List ℕ) × IsListed r given asked races text × AppendsPart old new text
+abbrev pub IsWritten : Recording → Option (List ℕ) → Asked → Option (List ℕ) → Option (List ℕ) → Result ℕ TriageFault → Type 0
+IsWritten r given asked old new (Ok races) = (text : List ℕ) × IsListing r given asked races text × Appends old new text
+IsWritten r given asked old new (Err (Replay Write)) = (races : ℕ) × (text : List ℕ) × IsListing r given asked races text × AppendsPart old new text
 IsWritten r given asked old new (Err fault) = IsUntold r fault × (new ≡ old)
 
 -- the text of known races is not read, where the trace is accepted
@@ -95,16 +103,16 @@ IsKnownFault bytes listed (Read input why) = (input ≡ 2) × IsAccepted (of_tra
 IsKnownFault bytes listed fault = ⊥
 
 -- the trace's bytes are accepted, and the text tells what was asked for
-abbrev pub IsAnswer : {X : Type 0} → List ℕ → Option X → Asked → ℕ → List ℕ → Type 0
+abbrev pub IsAnswer : List ℕ → Option (List ℕ) → Asked → ℕ → List ℕ → Type 0
 IsAnswer bytes given asked races text =
-    (r : Recording) × IsRead bytes r × IsListed r given asked races text
+    (r : Recording) × IsRead bytes r × IsListing r given asked races text
 
 -- What is answered, and what the writer has taken: the whole text; or the writer failed, and it is a beginning of the text; or, at another
 -- fault, nothing.
 abbrev pub IsTriaged : {X : Type 0} → List ℕ → List ℕ → Option X → Asked → Option (List ℕ) → Option (List ℕ) → Result ℕ TriageFault → Type 0
-IsTriaged bytes listed given asked old new (Ok races) = (text : List ℕ) × IsAnswer bytes given asked races text × Appends old new text
+IsTriaged bytes listed given asked old new (Ok races) = (text : List ℕ) × IsAnswer bytes (given_text given listed) asked races text × Appends old new text
 IsTriaged bytes listed given asked old new (Err (Replay Write)) =
-    (races : ℕ) × (text : List ℕ) × IsAnswer bytes given asked races text × AppendsPart old new text
+    (races : ℕ) × (text : List ℕ) × IsAnswer bytes (given_text given listed) asked races text × AppendsPart old new text
 IsTriaged bytes listed given asked old new (Err (Replay OutOfMemory)) = new ≡ old
 IsTriaged bytes listed given asked old new (Err (Replay fault)) = (IsFault (of_trace bytes) fault ⊎ IsKnownFault bytes listed fault) × (new ≡ old)
 IsTriaged bytes listed given asked old new (Err TooMany) = (r : Recording) × IsRead bytes r × IsCrowded r × (new ≡ old)

@@ -1,8 +1,9 @@
 //! Lists the races of a trace by pairs of places: reads the trace, finds the verdicts, makes the text, and writes it.
-ghost use Rattle.std.specs.Prelude.{◌≡◌, ◌≢◌, ◌++◌, ℕ, List, Option, None, Err, IfErr, IfOk, IfSome, map, true, false};
+ghost use Rattle.std.specs.Prelude.{◌≡◌, ◌≢◌, ◌++◌, ℕ, List, None, Err, IfErr, IfOk, IfSome, length, option_map, true, false};
 ghost use Rattle.client_scripts.specs.declared.fault.ReadCause.TheVariants.{Device};
 ghost use Rattle.client_scripts.specs.declared.fault.ReplayFault.TheVariants.{Read, Write};
 ghost use Rattle.race_triage.specs.Chosen.{known_places, AreChosen};
+ghost use Rattle.race_triage.specs.Places.{AreNumbered};
 ghost use Rattle.triage_calls.specs.Answers.{hide_of, only_of, AreVerdicts, IsGiven, IsKnownRead, IsKnownUnread, IsListing, IsToldIn, IsTriaged, IsUntold, IsWritten};
 ghost use Rattle.triage_calls.specs.declared.fault.TriageFault.TheVariants.{Replay};
 
@@ -67,7 +68,8 @@ pub fn triage<R: Threads + Sync, S: Source, L: Source + Drop, K: Sink, W: Watch 
     requires reader { S.has_failed reader.old ≡ false }
     requires known { IfSome known (λ k. L.has_failed k ≡ false) }
     requires writer { K.has_failed writer.old ≡ false }
-    // There are texts of the trace and of known races, those that the readers tell where they tell them, of which this comes.
+    // There are texts of the trace and of known races, those that the readers tell where they tell them, of which this comes. Known are exactly
+    // the races of two places whose locations the text of known races names.
     ensures triaged { (bytes listed : List ℕ)
         × IfSome (S.rest reader.old) (λ told. bytes ≡ told)
         × IfSome known (λ k. IfSome (L.rest k) (λ told. listed ≡ told))
@@ -101,7 +103,7 @@ fn write_listing<R: Threads + Sync, K: Sink, W: Watch + Sync>(
     watch: &W,
 ) -> Result<u64, TriageFault>
     requires { K.has_failed writer.old ≡ false }
-    ensures written { IsWritten indexed.now listed.now asked.entry (K.taken writer.old) (K.taken writer.new) result }
+    ensures written { IsWritten indexed.now (option_map (λ v. v.items) listed.now) asked.entry (K.taken writer.old) (K.taken writer.new) result }
     ensures failed { K.has_failed writer.new ≡ true → result ≡ Err (Replay Write) }
     ensures write { result ≡ Err (Replay Write) → K.has_failed writer.new ≡ true }
 {
@@ -122,7 +124,7 @@ fn read_known<L: Source + Drop>(
     known: Option<L>,
 ) -> Result<Option<Vec<u8>>, TriageFault>
     requires { IfSome known (λ k. L.has_failed k ≡ false) }
-    ensures read { IfOk result (λ listed. IsKnownRead known listed) }
+    ensures read { IfOk result (IsKnownRead L.rest known) }
     ensures unread { IfErr result (λ fault. IfSome known (λ k. IsKnownUnread (L.rest k) fault)) }
     ensures given { IfErr result (λ fault. known ≢ None) }
 {
@@ -144,8 +146,7 @@ fn text_of<R: Threads + Sync, W: Watch + Sync>(
     asked: Asked<'_>,
     watch: &W,
 ) -> Result<(Vec<u8>, u64), TriageFault>
-    ensures listing { IfOk result (λ made. (known : Option (List (ℕ × ℕ))) × IsGiven listed.now known
-        × IsListing indexed.now known asked.entry made.1 made.0.items) }
+    ensures listing { IfOk result (λ made. IsListing indexed.now (option_map (λ v. v.items) listed.now) asked.entry made.1 made.0.items) }
     ensures fault { IfErr result (IsUntold indexed.now) }
 {
     let must = match Must::new(alloc, indexed) {
@@ -179,8 +180,8 @@ fn told(
     requires clocks { clocks.now ≡ indexed.now }
     requires must { must.now ≡ indexed.now }
     requires found { AreVerdicts indexed.now found.now.places.numbers.items asked.tries asked.apart found.now.verdicts.items }
-    ensures { IfOk result (λ made. (known : Option (List (ℕ × ℕ))) × IsGiven listed.now known
-        × IsListing indexed.now known asked.entry made.1 made.0.items) }
+    requires numbered { AreNumbered indexed.now (length indexed.now.events) found.now.places.locations.keys found.now.places.numbers.items }
+    ensures { IfOk result (λ made. IsListing indexed.now (option_map (λ v. v.items) listed.now) asked.entry made.1 made.0.items) }
 {
     let known = known_in(alloc, &found.places, listed)?;
     let mut text = Vec::new(alloc);
@@ -262,6 +263,7 @@ fn found_of<R: Threads + Sync, W: Watch + Sync>(
     requires clocks { clocks.now ≡ indexed.now }
     requires must { must.now ≡ indexed.now }
     ensures found { IfOk result (λ found. AreVerdicts indexed.now found.places.numbers.items asked.entry.tries asked.entry.apart found.verdicts.items) }
+    ensures numbered { IfOk result (λ found. AreNumbered indexed.now (length indexed.now.events) found.places.locations.keys found.places.numbers.items) }
     ensures fault { IfErr result (IsUntold indexed.now) }
 {
     match verdicts_of(
@@ -287,7 +289,7 @@ fn known_in(
     places: &Places,
     listed: &Option<Vec<u8>>,
 ) -> Result<Option<Known>, OutOfMemory>
-    ensures { IfOk result (λ known. IsGiven listed.now (known_places known)) }
+    ensures { IfOk result (λ known. IsGiven places.now.locations.keys (option_map (λ v. v.items) listed.now) (known_places known)) }
 {
     match listed {
         Some(text) => Ok(Some(known_of(alloc, places, text.as_slice())?)),

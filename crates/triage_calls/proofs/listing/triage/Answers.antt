@@ -1,6 +1,7 @@
-use Rattle.std.proofs.Common.{Err, ap}
+use Rattle.std.proofs.Common.{Err, List, Option, ap, subst, ℕ}
 use Rattle.client_scripts.specs.declared.fault.ReplayFault.{ReplayFault}
-use Rattle.triage_calls.proofs.AnswerLemmas.{given_same, known-triaged, listed_bytes, of_trace_fault, unread-triaged, written-triaged}
+use Rattle.triage_calls.proofs.AnswerLemmas.{known-triaged, listed_bytes, listed_text, of_trace_fault, unread-triaged, written-triaged}
+use Rattle.triage_calls.specs.Answers.{IsWritten}
 use Rattle.triage_calls.proofs.listing.triage.Goals as goal
 
 pub returns-in-Err-clause-triaged : goal.returns-in-Err-clause-triaged
@@ -24,11 +25,12 @@ returns-in-Err-read_known-clause-triaged g c =
 pub returns-clause-triaged : goal.returns-clause-triaged
 returns-clause-triaged g c =
     let read = c.in-Ok.ensures.read in
-    let listed = listed_bytes g.L.Source.rest c.args.known in (
+    let listed = listed_text g.L.Source.rest c.args.known c.in-Ok-read_known.listed c.in-Ok-read_known.ensures.read in (
       read.0,
       listed.0,
       read.1,
       listed.1,
-      written-triaged read.0 listed.0 c.args.known c.args.asked c.in-Ok.indexed c.in-Ok-read_known.listed (g.K.Sink.taken c.args.writer.now) (g.K.Sink.taken c.write_listing.new.writer) read.2
-          (given_same c.args.known c.in-Ok-read_known.listed c.in-Ok-read_known.ensures.read) c.write_listing.result c.write_listing.ensures.written,
+      written-triaged read.0 listed.0 c.args.known c.args.asked c.in-Ok.indexed (g.K.Sink.taken c.args.writer.now) (g.K.Sink.taken c.write_listing.new.writer) read.2 c.write_listing.result
+          (subst (λ (t : Option (List ℕ)). IsWritten c.in-Ok.indexed t c.args.asked (g.K.Sink.taken c.args.writer.now) (g.K.Sink.taken c.write_listing.new.writer) c.write_listing.result) listed.2
+          c.write_listing.ensures.written),
     )
