@@ -128,6 +128,23 @@ def free_places(events, threads):
     return [f"T{chance.randrange(threads)}|{chance.choice(kinds)}(x{chance.randrange(1_000)})|p{chance.randrange(200)}" for _ in range(events)]
 
 
+def shared_places(events, threads):
+    """Reads and writes of 256 variables at 200 places, under no lock: nearly all pairs are forced, since most reads see another thread's write."""
+    chance = random.Random(9)
+    return [f"T{chance.randrange(threads)}|{chance.choice('rw')}(x{chance.randrange(256)})|p{chance.randrange(200)}" for _ in range(events)]
+
+
+def scattered_places(events, threads):
+    """Sections of 64 locks, each with four accesses of any of 4,096 variables: nearly each access is of a class of its own."""
+    chance = random.Random(10)
+    lines = []
+    while len(lines) + 6 <= events:
+        thread, lock = chance.randrange(threads), chance.randrange(64)
+        accesses = [f"T{thread}|{chance.choice('rw')}(x{chance.randrange(4_096)})|p{chance.randrange(200)}" for _ in range(4)]
+        lines += [f"T{thread}|acq(l{lock})|p", *accesses, f"T{thread}|rel(l{lock})|p"]
+    return lines
+
+
 def crowded_places(events, threads):
     """Reads and writes of one variable at 1,400 places."""
     chance = random.Random(8)
@@ -144,6 +161,8 @@ def write_places(folder):
     for events, threads in ((EVENTS, 16), (MOST_EVENTS, 16), (MOST_EVENTS, 256)):
         write_trace(folder, f"guarded_{threads}_{events}", guarded_places(events, threads))
         write_trace(folder, f"free_{threads}_{events}", free_places(events, threads))
+        write_trace(folder, f"shared_{threads}_{events}", shared_places(events, threads))
+        write_trace(folder, f"scattered_{threads}_{events}", scattered_places(events, threads))
     for events in (EVENTS, MOST_EVENTS):
         write_trace(folder, f"crowded_16_{events}", crowded_places(events, 16))
     write_trace(folder, f"one_writing_{sized(100_000)}", one_writing_place(sized(100_000)))
