@@ -18,36 +18,57 @@ use std::alloc::Global;
 
 // Whether each of the commands makes the schedule of the name at its place.
 fn are_fresh(commands: &[Command], names: &[Name]) -> bool {
-    if commands.len() != names.len() {
-        return false;
-    }
+    let mut are_right = commands.len() == names.len();
     for at in 0..commands.len() {
-        match commands[at] {
-            Command::Fresh { name } => {
-                if name != names[at] {
-                    return false;
-                }
-            }
-            _ => return false,
-        }
+        are_right = are_right
+            && match commands[at] {
+                Command::Fresh { name } => names.get(at) == Some(&name),
+                _ => false,
+            };
     }
-    true
+    are_right
+}
+
+// Whether a list keeps the items that are pushed to it, each at a second call where memory was wanting at the first.
+fn are_names_kept(alloc: Global, wanted: &[Name]) -> bool {
+    let mut names = Names::new(alloc);
+    let mut are_taken = true;
+    for name in wanted {
+        are_taken = are_taken && (names.push(*name).is_ok() || names.push(*name).is_ok());
+    }
+    are_taken && names.items() == wanted
+}
+
+fn are_commands_kept(alloc: Global, wanted: &[Command], names: &[Name]) -> bool {
+    let mut commands = Commands::new(alloc);
+    let mut are_taken = true;
+    for command in wanted {
+        are_taken = are_taken
+            && (commands.push(*command).is_ok() || commands.push(*command).is_ok());
+    }
+    are_taken && are_fresh(commands.items(), names)
+}
+
+fn are_lists_kept(alloc: Global) -> Option<bool> {
+    let one = name_of(b'A')?;
+    let two = name_of(b'B')?;
+    let names = [one, two, one, two, one];
+    let commands = [
+        Command::Fresh { name: one },
+        Command::Fresh { name: two },
+        Command::Fresh { name: one },
+        Command::Fresh { name: two },
+        Command::Fresh { name: one },
+    ];
+    Some(
+        are_names_kept(alloc, names.as_slice())
+            && are_commands_kept(alloc, commands.as_slice(), names.as_slice()),
+    )
 }
 
 #[test]
 fn memory_lists_of_names_and_commands_keep_what_they_have(rt: HostRuntime) {
-    let (Some(one), Some(two)) = (name_of(b'A'), name_of(b'B')) else {
-        panic!(rt; "no name")
-    };
-    let mut names = Names::new(rt.alloc());
-    let mut commands = Commands::new(rt.alloc());
-    for name in [one, two, one, two, one] {
-        let fresh = Command::Fresh { name };
-        assert!(rt; names.push(name).is_ok() || names.push(name).is_ok());
-        assert!(rt; commands.push(fresh).is_ok() || commands.push(fresh).is_ok());
-    }
-    assert!(rt; names.items() == [one, two, one, two, one].as_slice());
-    assert!(rt; are_fresh(commands.items(), &[one, two, one, two, one]));
+    assert_eq!(rt; are_lists_kept(rt.alloc()), Some(true));
 }
 
 // The rows with no schedule.
@@ -115,7 +136,13 @@ fn taken_back_again(rows: &mut Workspace, indexed: &Indexed, inverse: Inverse) -
     let before = rows.len();
     match rows.take_back(indexed, inverse) {
         Ok(()) => true,
-        Err((inverse, _)) => rows.len() == before && rows.take_back(indexed, inverse).is_ok(),
+        Err((inverse, _)) => {
+            let is_left = rows.len() == before;
+            match rows.take_back(indexed, inverse) {
+                Ok(()) => is_left,
+                Err(_) => false,
+            }
+        }
     }
 }
 
@@ -155,20 +182,6 @@ fn is_dropped_and_back(alloc: Global, indexed: &Indexed, one: Name, two: Name) -
     )
 }
 
-#[test]
-fn memory_a_drop_is_taken_back(rt: HostRuntime) {
-    let (Some(one), Some(two)) = (name_of(b'A'), name_of(b'B')) else {
-        panic!(rt; "no name")
-    };
-    let Some(indexed) = indexed_again(rt.alloc()) else {
-        panic!(rt; "no index")
-    };
-    assert_eq!(rt;
-        is_dropped_and_back(rt.alloc(), &indexed, one, two),
-        Some(true)
-    );
-}
-
 // The same of a batch.
 fn all_applied_again(
     rows: &mut Workspace,
@@ -206,7 +219,11 @@ fn all_taken_back_again(rows: &mut Workspace, indexed: &Indexed, inverses: Inver
     match rows.take_back_all(indexed, inverses) {
         Ok(()) => true,
         Err((inverses, _)) => {
-            rows.len() == before && rows.take_back_all(indexed, inverses).is_ok()
+            let is_left = rows.len() == before;
+            match rows.take_back_all(indexed, inverses) {
+                Ok(()) => is_left,
+                Err(_) => false,
+            }
         }
     }
 }
@@ -245,20 +262,6 @@ fn are_dropped_and_back(alloc: Global, indexed: &Indexed, one: Name, two: Name) 
     )
 }
 
-#[test]
-fn memory_a_batch_is_taken_back_whole(rt: HostRuntime) {
-    let (Some(one), Some(two)) = (name_of(b'A'), name_of(b'B')) else {
-        panic!(rt; "no name")
-    };
-    let Some(indexed) = indexed_again(rt.alloc()) else {
-        panic!(rt; "no index")
-    };
-    assert_eq!(rt;
-        are_dropped_and_back(rt.alloc(), &indexed, one, two),
-        Some(true)
-    );
-}
-
 // The schedule of these events; None where memory was wanting.
 fn listed(alloc: Global, indexed: &Indexed, events: &[u32]) -> Option<Schedule>
     ensures { IfSome result (λ s. s.trace ≡ indexed.now) }
@@ -287,7 +290,13 @@ fn is_put_up_again(board: &mut Board, indexed: &Indexed, schedule: Schedule) -> 
     }
     match board.push(0, 5, schedule) {
         Ok(()) => true,
-        Err((schedule, _)) => board.len() == 0 && board.push(0, 5, schedule).is_ok(),
+        Err((schedule, _)) => {
+            let is_left = board.len() == 0;
+            match board.push(0, 5, schedule) {
+                Ok(()) => is_left,
+                Err(_) => false,
+            }
+        }
     }
 }
 
@@ -301,10 +310,41 @@ fn is_on_the_board(alloc: Global, indexed: &Indexed) -> Option<bool> {
     Some(first == 0 && second == 5 && schedule.events() == [3, 4].as_slice())
 }
 
+// What is asked of the trace of one lock.
+#[derive(Clone, Copy)]
+enum Question {
+    Drop,
+    Batch,
+    Proposal,
+}
+
+fn is_right_on(alloc: Global, indexed: &Indexed, question: Question) -> Option<bool> {
+    let one = name_of(b'A')?;
+    let two = name_of(b'B')?;
+    match question {
+        Question::Drop => is_dropped_and_back(alloc, indexed, one, two),
+        Question::Batch => are_dropped_and_back(alloc, indexed, one, two),
+        Question::Proposal => is_on_the_board(alloc, indexed),
+    }
+}
+
+// One function owns the index, and makes one call with it: how it is dropped is proved once.
+fn is_right(alloc: Global, question: Question) -> Option<bool> {
+    let indexed = indexed_again(alloc)?;
+    is_right_on(alloc, &indexed, question)
+}
+
+#[test]
+fn memory_a_drop_is_taken_back(rt: HostRuntime) {
+    assert_eq!(rt; is_right(rt.alloc(), Question::Drop), Some(true));
+}
+
+#[test]
+fn memory_a_batch_is_taken_back_whole(rt: HostRuntime) {
+    assert_eq!(rt; is_right(rt.alloc(), Question::Batch), Some(true));
+}
+
 #[test]
 fn memory_a_proposal_is_put_on_the_board(rt: HostRuntime) {
-    let Some(indexed) = indexed_again(rt.alloc()) else {
-        panic!(rt; "no index")
-    };
-    assert_eq!(rt; is_on_the_board(rt.alloc(), &indexed), Some(true));
+    assert_eq!(rt; is_right(rt.alloc(), Question::Proposal), Some(true));
 }

@@ -32,34 +32,32 @@ fn is_put_under_both(alloc: Global, one: Name, two: Name) -> Option<bool> {
         length: 1,
         to: two,
     };
-    if touches.push(3, &branch).is_err() {
-        if !are_under(&touches, &one, &two, false) || touches.push(3, &branch).is_err() {
-            return Some(false);
-        }
-    }
-    Some(are_under(&touches, &one, &two, true))
+    let is_put = touches.push(3, &branch).is_ok()
+        || are_under(&touches, &one, &two, false) && touches.push(3, &branch).is_ok();
+    Some(is_put && are_under(&touches, &one, &two, true))
 }
 
 fn are_put_under_both(alloc: Global, one: Name, two: Name) -> Option<bool> {
     let mut touches = touches_of(alloc)?;
     let commands = [Command::Fresh { name: one }, Command::Fresh { name: two }];
-    if touches.push_all(3, commands.as_slice()).is_err() {
-        if !are_under(&touches, &one, &two, false)
-            || touches.push_all(3, commands.as_slice()).is_err()
-        {
-            return Some(false);
-        }
-    }
-    Some(are_under(&touches, &one, &two, true))
+    let is_put = touches.push_all(3, commands.as_slice()).is_ok()
+        || are_under(&touches, &one, &two, false)
+            && touches.push_all(3, commands.as_slice()).is_ok();
+    Some(is_put && are_under(&touches, &one, &two, true))
+}
+
+fn are_entries_put(alloc: Global) -> Option<bool> {
+    let one = name_of(b'A')?;
+    let two = name_of(b'B')?;
+    Some(
+        is_put_under_both(alloc, one, two) == Some(true)
+            && are_put_under_both(alloc, one, two) == Some(true),
+    )
 }
 
 #[test]
 fn memory_an_entry_is_put_under_all_names_or_none(rt: HostRuntime) {
-    let (Some(one), Some(two)) = (name_of(b'A'), name_of(b'B')) else {
-        panic!(rt; "no name")
-    };
-    assert_eq!(rt; is_put_under_both(rt.alloc(), one, two), Some(true));
-    assert_eq!(rt; are_put_under_both(rt.alloc(), one, two), Some(true));
+    assert_eq!(rt; are_entries_put(rt.alloc()), Some(true));
 }
 
 fn clients_of(alloc: Global) -> Option<Clients>
@@ -82,12 +80,9 @@ fn clients_again(alloc: Global) -> Option<Clients>
 
 fn is_put_to_a_client(alloc: Global) -> Option<bool> {
     let mut clients = clients_again(alloc)?;
-    if clients.push(32, 3).is_err() {
-        if clients.last(32).is_some() || clients.push(32, 3).is_err() {
-            return Some(false);
-        }
-    }
-    Some(clients.last(32) == Some(3) && clients.last(31).is_none())
+    let is_put = clients.push(32, 3).is_ok()
+        || clients.last(32).is_none() && clients.push(32, 3).is_ok();
+    Some(is_put && clients.last(32) == Some(3) && clients.last(31).is_none())
 }
 
 #[test]

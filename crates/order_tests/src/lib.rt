@@ -9,20 +9,12 @@ mod fixtures;
 #[cfg(test)]
 mod in_order_tests;
 #[cfg(test)]
-mod index_tests;
-#[cfg(test)]
-mod large_tests;
-#[cfg(test)]
-mod memory_tests;
+mod list_tests;
 #[cfg(test)]
 mod must_tests;
 #[cfg(test)]
-mod printing_tests;
+mod questions;
 #[cfg(test)]
 mod schedule_tests;
 #[cfg(test)]
-mod search_tests;
-#[cfg(test)]
 mod text_tests;
-#[cfg(test)]
-mod worked_tests;

@@ -1,38 +1,27 @@
-//! What no clause says of must-before: that its calls answer where there is memory.
-ghost use Rattle.std.specs.Prelude.{◌≡◌, ◌<◌, length, IfSome};
+//! What no clause says of must-before: that its calls answer where there is memory, and so that of a list's size, which is told by it.
+ghost use Rattle.std.specs.Prelude.{◌≡◌};
 
-use crate::fixtures::indexed_again;
+use crate::fixtures::{acquires_of, must_of};
+use crate::questions::{Question, first_wrong};
 use event_index::Indexed;
+use in_order::{InOrderRefusal, in_order_size};
 use must_order::{Chain, Must, Reason};
 use std::alloc::Global;
 
-// A thread takes a lock and forks another one, which reads what the first wrote before.
-const FORK_AFTER_WRITE: &[u8] = b"M|w(x)|1\nM|acq(l)|2\nM|fork(W)|3\nW|r(x)|4";
-
-fn must_of(alloc: Global, indexed: &Indexed) -> Option<Must>
-    ensures { IfSome result (λ must. must ≡ indexed.now) }
+// Whether the thread of the event holds these locks before it.
+fn are_held(
+    alloc: Global,
+    must: &Must,
+    indexed: &Indexed,
+    event: u32,
+    wanted: &[u32],
+) -> Option<bool>
+    requires { must.now ≡ indexed.now }
 {
-    match Must::new(alloc, indexed) {
-        Ok(must) => Some(must),
-        Err(_) => None,
+    if event >= indexed.len() {
+        return Some(false);
     }
-}
-
-pub(crate) fn must_again(alloc: Global, indexed: &Indexed) -> Option<Must>
-    ensures { IfSome result (λ must. must ≡ indexed.now) }
-{
-    match must_of(alloc, indexed) {
-        Some(must) => Some(must),
-        None => must_of(alloc, indexed),
-    }
-}
-
-// Whether the thread of event 2 holds these locks before it; None where memory was wanting.
-fn holds(alloc: Global, must: &Must, indexed: &Indexed, wanted: &[u32]) -> Option<bool>
-    requires trace { must.now ≡ indexed.now }
-    requires event { 2 < length must.now.events }
-{
-    match must.locks_held(alloc, indexed, 2) {
+    match must.locks_held(alloc, indexed, event) {
         Ok(locks) => Some(locks.as_slice() == wanted),
         Err(_) => None,
     }
@@ -57,11 +46,13 @@ fn is_chain(chains: &[Chain]) -> bool {
     }
 }
 
-// The same of why the first event is must-before the last.
+// The same of why the first event is must-before the fourth.
 fn is_reasoned(alloc: Global, must: &Must, indexed: &Indexed) -> Option<bool>
-    requires trace { must.now ≡ indexed.now }
-    requires event { 3 < length must.now.events }
+    requires { must.now ≡ indexed.now }
 {
+    if indexed.len() < 4 {
+        return Some(false);
+    }
     match must.reasons(alloc, indexed, 0, 3) {
         Ok(Some(chains)) => Some(is_chain(chains.as_slice())),
         Ok(None) => Some(false),
@@ -69,27 +60,47 @@ fn is_reasoned(alloc: Global, must: &Must, indexed: &Indexed) -> Option<bool>
     }
 }
 
-fn are_told_again(alloc: Global, indexed: &Indexed) -> Option<bool> {
-    let must = must_again(alloc, indexed)?;
-    if indexed.len() != 4 {
-        return Some(false);
+// Whether the list of the pair has so many events of so many threads.
+fn is_sized(
+    alloc: Global,
+    must: &Must,
+    indexed: &Indexed,
+    pair: (u32, u32),
+    wanted: (u32, u32),
+) -> Option<bool>
+    requires { must.now ≡ indexed.now }
+{
+    let acquires = acquires_of(alloc, indexed)?;
+    match in_order_size(alloc, indexed, must, &acquires, pair.0, pair.1) {
+        Ok(size) => Some(size == wanted),
+        Err(InOrderRefusal::OutOfMemory) => None,
+        Err(_) => Some(false),
     }
-    let are_held = match holds(alloc, &must, indexed, &[0]) {
-        Some(are_held) => are_held,
-        None => holds(alloc, &must, indexed, &[0])?,
-    };
-    let is_reasoned = match is_reasoned(alloc, &must, indexed) {
-        Some(is_right) => is_right,
-        None => is_reasoned(alloc, &must, indexed)?,
-    };
-    Some(are_held && is_reasoned)
 }
 
-fn are_told_again_on(alloc: Global, text: &[u8]) -> Option<bool> {
-    are_told_again(alloc, &indexed_again(alloc, text)?)
+pub(crate) fn is_told_by_must(
+    alloc: Global,
+    indexed: &Indexed,
+    question: Question,
+) -> Option<bool> {
+    let must = must_of(alloc, indexed)?;
+    match question {
+        Question::Held(event, locks) => are_held(alloc, &must, indexed, event, locks),
+        Question::Reasons => is_reasoned(alloc, &must, indexed),
+        Question::Size(pair, wanted) => is_sized(alloc, &must, indexed, pair, wanted),
+        _ => Some(false),
+    }
 }
+
+// A thread takes a lock and forks another one, which reads what the first wrote before.
+const FORK_AFTER_WRITE: &[u8] = b"M|w(x)|1\nM|acq(l)|2\nM|fork(W)|3\nW|r(x)|4";
+
+const ROWS: &[(&[u8], Question)] = &[
+    (FORK_AFTER_WRITE, Question::Held(2, &[0])),
+    (FORK_AFTER_WRITE, Question::Reasons),
+];
 
 #[test]
 fn memory_reasons_are_told_when_asked_again(rt: HostRuntime) {
-    assert_eq!(rt; are_told_again_on(rt.alloc(), FORK_AFTER_WRITE), Some(true));
+    assert_eq!(rt; first_wrong(rt.alloc(), ROWS), None);
 }

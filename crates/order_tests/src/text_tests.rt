@@ -1,134 +1,143 @@
-//! What no clause says and the program does not print: which numbers, names and locations a text gives to its events, and that
-//! a trace keeps the hashers of its text. Which texts are refused, and for what, is in `tests/judge_texts.py`.
-use crate::fixtures::raw_of;
-use rapid_text::{Event, Op, RawTrace, TextKeyed, is_a_blank, trim, trim_start};
+//! What no clause says and the program does not print: which numbers a text gives to its events, which text is canonical, where sections
+//! end, and that a trace keeps the hashers of its text; and that a trace is read, checked, indexed and printed where there is memory.
+//! Which texts are refused, and for what, is in `tests/judge_texts.py`.
+use crate::fixtures::{ONE_LOCK, TWO_PAIRS};
+use crate::questions::{Question, first_wrong};
+use event_index::Indexed;
+use rapid_text::{Event, Op, TextKeyed, print};
 use std::alloc::Global;
 use std::hash::{BuildHasher, Hasher};
 
-// The numbers of events, threads, variables and locks.
-fn counts(trace: &RawTrace) -> [u32; 4] {
-    [
-        trace.len(),
-        trace.threads(),
-        trace.variables(),
-        trace.locks(),
-    ]
-}
-
-fn event_at(trace: &RawTrace, event: u32) -> Option<Event> {
-    if event < trace.len() {
-        Some(trace.event(event))
-    } else {
-        None
+pub(crate) fn is_printed(alloc: Global, indexed: &Indexed, canonical: &[u8]) -> Option<bool> {
+    match print(alloc, indexed.trace().raw()) {
+        Ok(printed) => Some(printed.items() == canonical),
+        Err(_) => None,
     }
 }
 
-fn is_thread(trace: &RawTrace, thread: u32, name: &[u8]) -> bool {
-    thread < trace.threads() && trace.thread_name(thread) == name
-}
-
-fn is_variable(trace: &RawTrace, variable: u32, name: &[u8]) -> bool {
-    variable < trace.variables() && trace.variable_name(variable) == name
-}
-
-fn is_lock(trace: &RawTrace, lock: u32, name: &[u8]) -> bool {
-    lock < trace.locks() && trace.lock_name(lock) == name
-}
-
-fn is_location(trace: &RawTrace, event: u32, location: &[u8]) -> bool {
-    event < trace.len() && trace.location(event) == location
-}
-
-fn is_event(trace: &RawTrace, event: u32, thread: u32, op: Op) -> bool {
-    event_at(trace, event) == Some(Event { thread, op })
-}
-
-fn are_two_events(trace: &RawTrace) -> bool {
-    counts(trace) == [2, 2, 1, 0]
-        && is_event(trace, 0, 0, Op::Write(0))
-        && is_event(trace, 1, 1, Op::Read(0))
-        && is_thread(trace, 0, b"T1")
-        && is_thread(trace, 1, b"T2")
-        && is_variable(trace, 0, b"x")
-        && is_location(trace, 0, b"1")
-        && is_location(trace, 1, b"")
-}
-
-fn tells_two_events(alloc: Global, text: &[u8]) -> bool {
-    match raw_of(alloc, text) {
-        Some(trace) => are_two_events(&trace),
-        None => false,
+// Whether the trace has these events and no more.
+pub(crate) fn are_events(indexed: &Indexed, events: &[Event]) -> bool {
+    let raw = indexed.trace().raw();
+    let mut are_right = raw.len() as usize == events.len();
+    for event in 0..raw.len() {
+        are_right = are_right && events.get(event as usize) == Some(&raw.event(event));
     }
+    are_right
 }
 
-#[test]
-fn two_events_with_names_and_locations(rt: HostRuntime) {
-    let text = b"T1|w(x)|1\r\n\r\nT1|begin(b)|2\r\nT2| r( x ) ";
-    assert!(rt; tells_two_events(rt.alloc(), text));
-}
-
-fn are_numbered_apart(trace: &RawTrace) -> bool {
-    counts(trace) == [7, 3, 2, 2]
-        && is_event(trace, 2, 0, Op::Fork(1))
-        && is_event(trace, 3, 2, Op::Acquire(1))
-        && is_event(trace, 4, 0, Op::Read(1))
-        && is_event(trace, 5, 2, Op::Join(1))
-        && is_event(trace, 6, 1, Op::Release(0))
-        && is_lock(trace, 0, b"n")
-        && is_lock(trace, 1, b"m")
-        && is_thread(trace, 2, b"a")
-        && is_location(trace, 3, b"x|y")
-}
-
-fn numbers_apart(alloc: Global, text: &[u8]) -> bool {
-    match raw_of(alloc, text) {
-        Some(trace) => are_numbered_apart(&trace),
-        None => false,
+// Whether the events have these ends of sections, and there are no more events.
+pub(crate) fn are_sections(indexed: &Indexed, ends: &[Option<u32>]) -> bool {
+    let mut are_right = indexed.len() as usize == ends.len();
+    for event in 0..indexed.len() {
+        are_right = are_right && ends.get(event as usize) == Some(&indexed.section(event));
     }
-}
-
-#[test]
-fn names_are_numbered_apart_by_first_use(rt: HostRuntime) {
-    let text = b"b|acq(n)|\nb|w(n)|\nb|fork(n)|\na|acq(m)|x|y\nb|r(m)|\na|join(n)|\nn|rel(n)|\n";
-    assert!(rt; numbers_apart(rt.alloc(), text));
-}
-
-fn is_a_write_nowhere(trace: &RawTrace, variable: &[u8]) -> bool {
-    is_variable(trace, 0, variable) && is_location(trace, 0, b"")
-}
-
-fn tells_a_write_nowhere(alloc: Global, text: &[u8], variable: &[u8]) -> bool {
-    match raw_of(alloc, text) {
-        Some(trace) => is_a_write_nowhere(&trace, variable),
-        None => false,
-    }
-}
-
-#[test]
-fn a_name_keeps_its_own_parentheses_and_a_location_may_be_empty(rt: HostRuntime) {
-    assert!(rt; tells_a_write_nowhere(rt.alloc(), b"T1|w(f(x))|", b"f(x)"));
-}
-
-#[test]
-fn blanks_are_space_tab_and_carriage_return(rt: HostRuntime) {
-    assert!(rt; trim(b" \t\ra b\r ") == b"a b".as_slice());
-    assert!(rt; trim_start(b" \t\ra b\r ") == b"a b\r ".as_slice());
-    assert!(rt; trim(b"\x0b\x0c").len() == 2);
-    assert!(rt; is_a_blank(b'\r') && !is_a_blank(b'\n'));
+    are_right
 }
 
 // What the hashers make of nothing: it tells them apart.
-fn kept_by(alloc: Global, text: &[u8]) -> Option<u64> {
-    match raw_of(alloc, text) {
-        Some(trace) => Some(trace.keyed().build_hasher().finish()),
-        None => None,
-    }
+pub(crate) fn has_hashers_of(indexed: &Indexed, text: &[u8]) -> bool {
+    let kept = indexed.trace().raw().keyed().build_hasher().finish();
+    kept == TextKeyed::of(text).build_hasher().finish()
 }
 
+const EVERY_OPERATION: &[u8] =
+    b"M|w(x)|1\nM|acq(l)|2\nM|rel(l)|3\nM|fork(W)|4\nW|r(x)|5\nM|join(W)|6\n";
+
+const TWO_LINES: &[u8] = b"T1|w(x)|1\nT2|r(x)|\n";
+
+const CROSSED: &[u8] = b"A|w(x)|\nB|w(y)|\nA|r(y)|3\nB|r(x)|\n";
+
+const SPACED: &[u8] = b"T1|w(x)|1\r\n\r\nT1|begin(b)|2\r\nT2| r( x ) ";
+
+// Names that are also used of other kinds, each numbered by its first use among those of its kind.
+const NUMBERED: &[u8] =
+    b"b|acq(n)|\nb|w(n)|\nb|fork(n)|\na|acq(m)|x|y\nb|r(m)|\na|join(n)|\nb|rel(n)|\n";
+
+const NUMBERS: [Event; 7] = [
+    Event {
+        thread: 0,
+        op: Op::Acquire(0),
+    },
+    Event {
+        thread: 0,
+        op: Op::Write(0),
+    },
+    Event {
+        thread: 0,
+        op: Op::Fork(1),
+    },
+    Event {
+        thread: 2,
+        op: Op::Acquire(1),
+    },
+    Event {
+        thread: 0,
+        op: Op::Read(1),
+    },
+    Event {
+        thread: 2,
+        op: Op::Join(1),
+    },
+    Event {
+        thread: 0,
+        op: Op::Release(0),
+    },
+];
+
+const TWO_EVENTS: [Event; 2] = [
+    Event {
+        thread: 0,
+        op: Op::Write(0),
+    },
+    Event {
+        thread: 1,
+        op: Op::Read(0),
+    },
+];
+
+const TWO_LOCKS: &[u8] =
+    b"A|acq(l)|\nA|acq(m)|\nA|acq(l)|\nA|rel(m)|\nA|rel(l)|\nA|rel(l)|\nB|acq(l)|\nA|acq(m)|";
+
+const TAKEN_TWICE: &[u8] = b"T1|acq(l)|\nT1|acq(l)|\nT1|rel(l)|\nT1|rel(l)|";
+
+const ROWS: &[(&[u8], Question)] = &[
+    (ONE_LOCK, Question::Text(ONE_LOCK)),
+    (SPACED, Question::Text(TWO_LINES)),
+    (TWO_LINES, Question::Text(TWO_LINES)),
+    (b"", Question::Text(b"")),
+    (b"|end|7\n\n  \t\r\n", Question::Text(b"")),
+    (EVERY_OPERATION, Question::Text(EVERY_OPERATION)),
+    (b"T1|w(f(x))|", Question::Text(b"T1|w(f(x))|\n")),
+    (
+        b" T 1 | w ( a b ) | x | y ",
+        Question::Text(b"T 1|w(a b)|x | y\n"),
+    ),
+    (CROSSED, Question::Text(CROSSED)),
+    // A vertical tab and a form feed are no blanks.
+    (
+        b"\x0bT|w(x\x0c)|\x0b",
+        Question::Text(b"\x0bT|w(x\x0c)|\x0b\n"),
+    ),
+    (NUMBERED, Question::Text(NUMBERED)),
+    (NUMBERED, Question::Events(&NUMBERS)),
+    (SPACED, Question::Events(&TWO_EVENTS)),
+    (
+        ONE_LOCK,
+        Question::Sections(&[None, Some(2), None, Some(4), None, None]),
+    ),
+    (
+        TWO_LOCKS,
+        Question::Sections(&[Some(5), Some(3), Some(4), None, None, None, None, None]),
+    ),
+    (
+        TAKEN_TWICE,
+        Question::Sections(&[Some(3), Some(2), None, None]),
+    ),
+    (TWO_PAIRS, Question::Hashers(TWO_PAIRS, true)),
+    (TWO_PAIRS, Question::Hashers(ONE_LOCK, false)),
+];
+
 #[test]
-fn a_trace_keeps_the_hashers_of_its_text(rt: HostRuntime) {
-    let text = b"T1|w(x)|1";
-    let kept = kept_by(rt.alloc(), text);
-    assert!(rt; kept == Some(TextKeyed::of(text).build_hasher().finish()));
-    assert!(rt; kept != Some(TextKeyed::of(b"T1|w(y)|1").build_hasher().finish()));
+fn memory_a_trace_is_read_checked_indexed_and_printed(rt: HostRuntime) {
+    assert_eq!(rt; first_wrong(rt.alloc(), ROWS), None);
 }

@@ -1,0 +1,101 @@
+//! What the tests ask of traces, each question with the answer that is wanted. A question that met want of memory is asked once more, and
+//! then has to be answered. One function owns the index of a trace, for all questions: how it is dropped is proved once.
+
+use crate::clock_tests::is_told_by_clocks;
+use crate::fixtures::indexed_of;
+use crate::in_order_tests::{are_free, is_in_order, is_turned};
+use crate::must_tests::is_told_by_must;
+use crate::schedule_tests::{is_changed_and_cut, is_found, is_listed};
+use crate::text_tests::{are_events, are_sections, has_hashers_of, is_printed};
+use event_index::Indexed;
+use rapid_text::Event;
+use schedule::Disabled;
+use std::alloc::Global;
+use witness_search::SliceRefusal;
+
+type Numbers = &'static [u32];
+
+type Pair = (u32, u32);
+
+#[derive(Clone, Copy)]
+pub(crate) enum Question {
+    // The canonical text.
+    Text(&'static [u8]),
+    // All events.
+    Events(&'static [Event]),
+    // Where the section of each event ends.
+    Sections(&'static [Option<u32>]),
+    // Whether the hashers are those of this text.
+    Hashers(&'static [u8], bool),
+    // Which of these pairs of events are in order.
+    Ordered(&'static [(u32, u32, bool)]),
+    // The first candidates up to a limit.
+    Candidates(u32, &'static [Pair]),
+    // The slice of a pair, or why it has none.
+    Slice(Pair, Result<Numbers, SliceRefusal>),
+    // What a greedy search finds from a list on, with a budget.
+    Search(Numbers, Pair, u32, Option<Numbers>),
+    // Whether a list is taken, or where and why it is refused.
+    List(Numbers, Option<(u32, Disabled)>),
+    // Calls on a schedule that is grown, and cut.
+    Schedule,
+    // Which locks the thread of an event holds before it.
+    Held(u32, Numbers),
+    // The chains from the first event to the fourth.
+    Reasons,
+    // The size of the pair's list in the order of the trace.
+    Size(Pair, Pair),
+    // That list.
+    InOrder(Pair, Numbers),
+    // What a search beyond that order finds for the pair.
+    Turned(Pair, Numbers),
+    // A list of two events that wait for no other.
+    Free(Numbers),
+}
+
+// Whether the trace answers so; None where memory was wanting, here and in the functions that are asked.
+fn is_answered_on(alloc: Global, indexed: &Indexed, question: Question) -> Option<bool> {
+    match question {
+        Question::Text(canonical) => is_printed(alloc, indexed, canonical),
+        Question::Events(events) => Some(are_events(indexed, events)),
+        Question::Sections(ends) => Some(are_sections(indexed, ends)),
+        Question::Hashers(text, wanted) => Some(has_hashers_of(indexed, text) == wanted),
+        Question::Ordered(..) | Question::Candidates(..) | Question::Slice(..) => {
+            is_told_by_clocks(alloc, indexed, question)
+        },
+        Question::Search(start, pair, budget, wanted) => {
+            is_found(alloc, indexed, start, pair, budget, wanted)
+        },
+        Question::List(events, fault) => is_listed(alloc, indexed, events, fault),
+        Question::Schedule => is_changed_and_cut(alloc, indexed),
+        Question::Held(..) | Question::Reasons | Question::Size(..) => {
+            is_told_by_must(alloc, indexed, question)
+        },
+        Question::InOrder(pair, wanted) => is_in_order(alloc, indexed, pair, wanted),
+        Question::Turned(pair, wanted) => is_turned(alloc, indexed, pair, wanted),
+        Question::Free(list) => are_free(alloc, indexed, list),
+    }
+}
+
+fn is_answered(alloc: Global, text: &[u8], question: Question) -> Option<bool> {
+    let indexed = indexed_of(alloc, text)?;
+    is_answered_on(alloc, &indexed, question)
+}
+
+fn is_answered_again(alloc: Global, text: &[u8], question: Question) -> bool {
+    match is_answered(alloc, text, question) {
+        Some(is_right) => is_right,
+        None => is_answered(alloc, text, question) == Some(true),
+    }
+}
+
+// The first question of the table, each of the trace that a text tells, which is answered otherwise.
+pub(crate) fn first_wrong(alloc: Global, rows: &[(&'static [u8], Question)]) -> Option<usize> {
+    for at in 0..rows.len() {
+        let (text, question) = rows[at];
+        if !is_answered_again(alloc, text, question) {
+            return Some(at);
+        }
+    }
+    None
+}
