@@ -1,52 +1,31 @@
-//! What no clause says of the door before the lock: that each call leaves it, however it was answered, so that all threads
-//! end; and that those who wait behind a call that is held up take next to nothing of the processors' time.
-use crate::seat_tests::{seats_of, seats_with_room};
+//! What no clause says of the door before the lock: that those who wait behind a call that is held up take next to nothing of the
+//! processors' time.
+use crate::fixtures::seats_at_last;
 use client_scripts::{FromRead, read_input};
 use inverse_log::Call;
-use std::alloc::{AllocError, Global};
+use std::alloc::Global;
 use std::fs::File;
 use std::sync::Wait;
 use std::sync::atomic::{AtomicU64, Ordering};
-use std::test::Fail;
 use std::thread;
+use std::thread::Threads;
 use std::time::Duration;
 use workspace_lock::{Gate, Seat, Seats};
 
-// The seats that are in.
-fn take_all(alloc: Global, seats: &mut Seats) -> Result<Vec<Seat>, AllocError> {
-    let mut own = Vec::new(alloc);
+// The 32 seats that are in.
+fn take_all(alloc: Global, seats: &mut Seats) -> Option<Vec<Seat>> {
+    let mut own = match Vec::with_capacity(alloc, 32) {
+        Ok(own) => own,
+        Err(_) => return None,
+    };
     for _ in 0..32u32 {
         if let Some(seat) = seats.take() {
-            own.push(seat)?;
+            if own.push(seat).is_err() {
+                return None;
+            }
         }
     }
-    Ok(own)
-}
-
-// A hundred calls that are refused, since there is nothing to undo, and a hundred that are answered. How many were made.
-fn calls_of_both_kinds<R: Wait>(rt: &R, mut seat: Seat) -> u32 {
-    for _ in 0..100u32 {
-        let _ = seat.run(rt, &Call::Undo);
-        let _ = seat.run(rt, &Call::List);
-    }
-    seat.turns()
-}
-
-#[test]
-fn all_seats_come_through_a_door_of_any_room(rt: HostRuntime) -> Result<(), Fail> {
-    for room in [0, 1, 2, 7, 32u32] {
-        let Some(mut seats) = seats_with_room(rt.alloc(), 8, room) else {
-            panic!(rt; "not opened")
-        };
-        let own = take_all(rt.alloc(), &mut seats)?;
-        let run = |seat: Seat| -> u32 { calls_of_both_kinds(&rt, seat) };
-        let made = thread::map_vec(&rt, own, &run)?;
-        assert_eq!(rt; made.len(), 8);
-        for turns in made {
-            assert_eq!(rt; turns, 200);
-        }
-    }
-    Ok(())
+    Some(own)
 }
 
 // A gate that is shut for a second once it has said that its turn is held.
@@ -81,45 +60,76 @@ fn call_at_the_gate<R: Wait>(rt: &R, mut seat: Seat, is_held: &AtomicU64) -> boo
     seat.run(rt, &Call::List).is_ok()
 }
 
-// The processors' time that the process has taken, in hundredths of a second: two fields of a text of the system, the twelfth
-// and thirteenth behind the program's name.
-fn processors_time(rt: &HostRuntime) -> Option<u64> {
-    let Ok(file) = File::open(rt, "/proc/self/stat") else {
-        return None;
-    };
-    let Ok(text) = read_input(rt.alloc(), &mut FromRead::new(file), 1) else {
-        return None;
-    };
-    let Ok(words) = str::from_utf8(text.as_slice()) else {
-        return None;
-    };
-    let (_, behind) = words.rsplit_once(')')?;
+// The twelfth and thirteenth field behind the program's name in this text of the system, as a sum.
+fn time_in(text: &str) -> Option<u64> {
+    let (_, behind) = text.rsplit_once(')')?;
     let mut fields = behind.split_ascii_whitespace().skip(11);
-    let (Ok(own), Ok(systems)) = (fields.next()?.parse::<u64>(), fields.next()?.parse::<u64>())
-    else {
-        return None;
-    };
-    Some(own.saturating_add(systems))
+    match (fields.next()?.parse::<u64>(), fields.next()?.parse::<u64>()) {
+        (Ok(own), Ok(systems)) => Some(own.saturating_add(systems)),
+        _ => None,
+    }
+}
+
+fn time_in_bytes(bytes: &[u8]) -> Option<u64> {
+    match str::from_utf8(bytes) {
+        Ok(text) => time_in(text),
+        Err(_) => None,
+    }
+}
+
+fn time_in_file(alloc: Global, file: File) -> Option<u64> {
+    match read_input(alloc, &mut FromRead::new(file), 1) {
+        Ok(bytes) => time_in_bytes(bytes.as_slice()),
+        Err(_) => None,
+    }
+}
+
+// The processors' time that the process has taken, in hundredths of a second.
+fn processors_time(rt: &HostRuntime) -> Option<u64> {
+    match File::open(rt, "/proc/self/stat") {
+        Ok(file) => time_in_file(rt.alloc(), file),
+        Err(_) => None,
+    }
+}
+
+// Makes a call of each seat at once, in a thread each. Whether all were accepted.
+fn are_done_at_the_gate<R: Threads + Wait + Sync>(rt: &R, own: Vec<Seat>) -> bool {
+    let is_held = AtomicU64::new(0);
+    let run = |seat: Seat| -> bool { call_at_the_gate(rt, seat, &is_held) };
+    match thread::map_vec(rt, own, &run) {
+        Ok(done) => done.len() == 32 && !done.as_slice().contains(&false),
+        Err(_) => false,
+    }
+}
+
+fn is_idle_at_the_gate<R: Threads + Wait + Sync>(
+    rt: &R,
+    system: &HostRuntime,
+    own: Vec<Seat>,
+) -> bool {
+    let before = processors_time(system);
+    let are_done = are_done_at_the_gate(rt, own);
+    match (before, processors_time(system)) {
+        (Some(before), Some(after)) => are_done && after.saturating_sub(before) <= 10,
+        _ => false,
+    }
+}
+
+fn are_all_idle<R: Threads + Wait + Sync>(rt: &R, system: &HostRuntime, seats: &mut Seats) -> bool {
+    match take_all(system.alloc(), seats) {
+        Some(own) => is_idle_at_the_gate(rt, system, own),
+        None => false,
+    }
+}
+
+fn is_gate_idle<R: Threads + Wait + Sync>(rt: &R, system: &HostRuntime) -> bool {
+    match seats_at_last(system.alloc(), 32, None) {
+        Some(mut seats) => are_all_idle(rt, system, &mut seats),
+        None => false,
+    }
 }
 
 #[test]
-fn a_gate_that_stays_shut_costs_no_processor_time(rt: HostRuntime) -> Result<(), Fail> {
-    let Some(mut seats) = seats_of(rt.alloc(), 32) else {
-        panic!(rt; "not opened")
-    };
-    let own = take_all(rt.alloc(), &mut seats)?;
-    let is_held = AtomicU64::new(0);
-    let before = processors_time(&rt);
-    let run = |seat: Seat| -> bool { call_at_the_gate(&rt, seat, &is_held) };
-    let done = thread::map_vec(&rt, own, &run)?;
-    let after = processors_time(&rt);
-    assert_eq!(rt; done.len(), 32);
-    for done in done {
-        assert!(rt; done);
-    }
-    let (Some(before), Some(after)) = (before, after) else {
-        panic!(rt; "the system tells no time")
-    };
-    assert!(rt; after.saturating_sub(before) <= 10);
-    Ok(())
+fn a_gate_that_stays_shut_costs_no_processor_time(rt: HostRuntime) {
+    assert!(rt; is_gate_idle(&rt, &rt));
 }

@@ -1,10 +1,8 @@
-//! Readers and writers in memory that fail, or are interrupted, when a test wants them to.
+//! A reader and a writer in memory that fail when a test wants them to.
 ghost use Rattle.std.specs.Prelude.{◌≡◌, false};
 
 use client_scripts::{Failed, Sink, Source};
 use std::alloc::Global;
-use std::io;
-use std::io::ErrorKind;
 
 /// A reader that gives three bytes at a time and fails at one of its reads.
 #[derive(Drop)]
@@ -70,53 +68,5 @@ pub(crate) fn with_room(alloc: Global, room: usize) -> Full
         taken: Vec::new(alloc),
         room,
         failed: false,
-    }
-}
-
-/// More room than any of these tests needs.
-pub(crate) const AMPLE: usize = 100_000;
-
-/// One of std's readers, whose first calls a signal interrupts.
-#[derive(Drop)]
-pub(crate) struct InterruptedReader<'a> {
-    pub(crate) left: &'a [u8],
-    pub(crate) interrupts: u32,
-}
-
-impl<'a> io::Read for InterruptedReader<'a> {
-    fn read(&mut self, buf: &mut [u8]) -> io::Result<usize> {
-        if self.interrupts > 0 {
-            self.interrupts -= 1;
-            return Err(io::Error::from(ErrorKind::Interrupted));
-        }
-        let count = self.left.len().min(buf.len());
-        let (front, rest) = self.left.split_at(count);
-        buf[..count].copy_from_slice(front);
-        self.left = rest;
-        Ok(count)
-    }
-}
-
-/// One of std's writers, whose first calls a signal interrupts and whose `flush` may fail.
-#[derive(Drop)]
-pub(crate) struct InterruptedWriter {
-    pub(crate) interrupts: u32,
-    pub(crate) flush_fails: bool,
-}
-
-impl io::Write for InterruptedWriter {
-    fn write(&mut self, buf: &[u8]) -> io::Result<usize> {
-        if self.interrupts > 0 {
-            self.interrupts -= 1;
-            return Err(io::Error::from(ErrorKind::Interrupted));
-        }
-        Ok(buf.len())
-    }
-
-    fn flush(&mut self) -> io::Result<()> {
-        if self.flush_fails {
-            return Err(io::Error::from(ErrorKind::Other));
-        }
-        Ok(())
     }
 }

@@ -1,55 +1,134 @@
-//! What the tests start from: the trace that a text tells, and an empty bench of it.
+//! What the tests start from: an empty bench of one trace, seats at it, and a script. Where memory was wanting each is made a second time,
+//! so that a test can be run with each of its allocations refused in turn, one in a run.
 
+use client_scripts::{Script, ScriptCause, ScriptRefusal, load, read_script};
 use event_index::Indexed;
 use inverse_log::Bench;
-use rapid_text::{RawTrace, parse};
 use std::alloc::Global;
 use std::sync::Arc;
-use trace_rules::{Trace, check};
+use workspace_lock::{OpenRefusal, Seat, Seats, open, open_with_room};
 
-// Two threads use one lock, and write one variable outside it.
+/// Two threads use one lock, and write one variable outside it.
 pub(crate) const ONE_LOCK: &[u8] =
     b"T1|w(x)|1\nT1|acq(l)|2\nT1|rel(l)|3\nT2|acq(l)|4\nT2|rel(l)|5\nT2|w(x)|6";
 
-// Each call stands in a function of its own, so that no proof carries along what another call promises; and each answer is
-// taken apart by a `match`, since `ok` has the check prove at length how what is left over is dropped.
-fn raw_of(alloc: Global, text: &[u8]) -> Option<RawTrace> {
-    match parse(alloc, text) {
-        Ok(raw) => Some(raw),
-        Err(_) => None,
-    }
-}
-
-fn trace_of(alloc: Global, raw: RawTrace) -> Option<Trace> {
-    match check(alloc, raw) {
-        Ok(trace) => Some(trace),
-        Err(_) => None,
-    }
-}
-
-fn index_of(alloc: Global, trace: Trace) -> Option<Indexed> {
-    match Indexed::new(alloc, trace) {
-        Ok(indexed) => Some(indexed),
-        Err(_) => None,
-    }
-}
-
-// The index of the trace that the text tells; None where the text or its trace is refused, or there is no memory.
-pub(crate) fn indexed_of(alloc: Global, text: &[u8]) -> Option<Indexed> {
-    index_of(alloc, trace_of(alloc, raw_of(alloc, text)?)?)
-}
-
-pub(crate) fn shared_of(alloc: Global, indexed: Indexed) -> Option<Arc<Indexed, Global>> {
+// Each answer is taken apart by a `match`, in a function of its own: the check proves at each way out how all that is owned is dropped.
+fn shared_of(alloc: Global, indexed: Indexed) -> Option<Arc<Indexed, Global>> {
     match Arc::new(alloc, indexed) {
         Ok(shared) => Some(shared),
         Err(_) => None,
     }
 }
 
-// An empty bench of the trace that the text tells; None as by `indexed_of`.
-pub(crate) fn bench_of(alloc: Global, text: &[u8]) -> Option<Bench> {
-    match Bench::new(alloc, shared_of(alloc, indexed_of(alloc, text)?)?) {
+fn shared_once(alloc: Global) -> Option<Arc<Indexed, Global>> {
+    match load(alloc, ONE_LOCK) {
+        Ok(indexed) => shared_of(alloc, indexed),
+        Err(_) => None,
+    }
+}
+
+fn shared_at_last(alloc: Global) -> Option<Arc<Indexed, Global>> {
+    match shared_once(alloc) {
+        Some(shared) => Some(shared),
+        None => shared_once(alloc),
+    }
+}
+
+fn bench_once(alloc: Global, shared: Arc<Indexed, Global>) -> Option<Bench> {
+    match Bench::new(alloc, shared) {
         Ok(bench) => Some(bench),
         Err(_) => None,
+    }
+}
+
+// A bench of the index; at the second try of the index that came back.
+fn bench_on(alloc: Global, shared: Arc<Indexed, Global>) -> Option<Bench> {
+    match Bench::new(alloc, shared) {
+        Ok(bench) => Some(bench),
+        Err((shared, _)) => bench_once(alloc, shared),
+    }
+}
+
+/// An empty bench.
+pub(crate) fn bench_at_last(alloc: Global) -> Option<Bench> {
+    match shared_at_last(alloc) {
+        Some(shared) => bench_on(alloc, shared),
+        None => None,
+    }
+}
+
+fn script_once(alloc: Global, text: &[u8]) -> Option<Script> {
+    match read_script(alloc, text) {
+        Ok(script) => Some(script),
+        Err(_) => None,
+    }
+}
+
+/// The script; where memory was wanting, for which no line is named, at a second reading.
+pub(crate) fn script_at_last(alloc: Global, text: &[u8]) -> Option<Script> {
+    match read_script(alloc, text) {
+        Ok(script) => Some(script),
+        Err(
+            ScriptRefusal {
+                line: 0,
+                why: ScriptCause::OutOfMemory,
+            },
+        ) => script_once(alloc, text),
+        Err(_) => None,
+    }
+}
+
+// Seats at the bench, behind a door with so much room, or with as much as is best.
+fn opened(
+    alloc: Global,
+    bench: Bench,
+    clients: u32,
+    room: Option<u32>,
+) -> Result<Seats, (Bench, OpenRefusal)> {
+    match room {
+        Some(room) => open_with_room(alloc, bench, clients, room),
+        None => open(alloc, bench, clients),
+    }
+}
+
+fn seats_once(alloc: Global, bench: Bench, clients: u32, room: Option<u32>) -> Option<Seats> {
+    match opened(alloc, bench, clients, room) {
+        Ok(seats) => Some(seats),
+        Err(_) => None,
+    }
+}
+
+// The same. Where it was refused for memory the bench came back: then once more.
+fn seats_on(alloc: Global, bench: Bench, clients: u32, room: Option<u32>) -> Option<Seats> {
+    match opened(alloc, bench, clients, room) {
+        Ok(seats) => Some(seats),
+        Err((bench, OpenRefusal::OutOfMemory)) => seats_once(alloc, bench, clients, room),
+        Err(_) => None,
+    }
+}
+
+/// Seats for so many clients at an empty bench.
+pub(crate) fn seats_at_last(alloc: Global, clients: u32, room: Option<u32>) -> Option<Seats> {
+    match bench_at_last(alloc) {
+        Some(bench) => seats_on(alloc, bench, clients, room),
+        None => None,
+    }
+}
+
+fn both(one: Option<Seat>, two: Option<Seat>) -> Option<(Seat, Seat)> {
+    match (one, two) {
+        (Some(one), Some(two)) => Some((one, two)),
+        _ => None,
+    }
+}
+
+/// Two seats at an empty bench.
+pub(crate) fn two_seats(alloc: Global, room: Option<u32>) -> Option<(Seat, Seat)> {
+    match seats_at_last(alloc, 2, room) {
+        Some(mut seats) => {
+            let one = seats.take();
+            both(one, seats.take())
+        }
+        None => None,
     }
 }

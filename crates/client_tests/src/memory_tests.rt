@@ -1,101 +1,20 @@
-//! What no clause says of refused memory: that a script is read, a bench made and each text appended where there is memory, and that
-//! made again, on what came back, each call gives its answer. Each test can be run with each of its allocations refused in turn, one in
-//! a run.
-use crate::fixtures::{ONE_LOCK, indexed_of, shared_of};
-use crate::seat_line_tests::{index_at_last, is_behind};
-use crate::undo_tests::{bench_again, call_twice};
-use client_scripts::{ReplayFault, Script, ScriptCause, ScriptRefusal, fault_text, read_script};
+//! What no clause says of refused memory: that a script is read, a bench made, a call answered and each text appended where there is memory,
+//! and that made again, on what came back or was left, each gives its answer; and how often the bench says that its rows were changed.
+//! Each test named `memory_` can be run with each of its allocations refused in turn, one in a run.
+use crate::fixtures::{bench_at_last, script_at_last};
+use client_scripts::{ReplayFault, Script, ScriptCause, ScriptRefusal, fault_text};
 use event_index::{Indexed, Pairs};
-use inverse_log::{Bench, Call, Refusal, Reply};
-use moves::{Command, Name};
-use report::{candidates, info, log, refusal, reply};
+use inverse_log::{Bench, Call, Refusal, Reply, SeatRefusal};
+use moves::Workspace;
+use report::{candidates, info, log, refusal, reply, seat_refusal};
 use std::alloc::Global;
-use std::sync::Arc;
 
-// The script of the text; None where memory was wanting, for which no line is named.
-fn script_of(alloc: Global, text: &[u8]) -> Result<Option<Script>, ScriptRefusal> {
-    match read_script(alloc, text) {
-        Ok(script) => Ok(Some(script)),
-        Err(refusal) => {
-            let no_memory = ScriptRefusal {
-                line: 0,
-                why: ScriptCause::OutOfMemory,
-            };
-            if refusal == no_memory {
-                Ok(None)
-            } else {
-                Err(refusal)
-            }
-        }
-    }
-}
-
-// Whether so many calls are read, at a second reading where memory was wanting at the first.
-fn has_calls_again(alloc: Global, text: &[u8], count: usize) -> bool {
-    match script_of(alloc, text) {
-        Ok(Some(script)) => script.len() == count,
-        Ok(None) => match script_of(alloc, text) {
-            Ok(Some(script)) => script.len() == count,
-            _ => false,
-        },
-        Err(_) => false,
-    }
-}
-
-#[test]
-fn memory_a_script_is_read_when_asked_again(rt: HostRuntime) {
-    let text =
-        b"1 new A\n1 batch add A 3 ; new B\n2 propose 0 5 3 4\n\n32 undo 4\n1 undo\n1 list\n";
-    assert!(rt; has_calls_again(rt.alloc(), text.as_slice(), 6));
-}
-
-fn shared_again(alloc: Global) -> Option<Arc<Indexed, Global>> {
-    match shared_of(alloc, indexed_of(alloc, ONE_LOCK)?) {
-        Some(shared) => Some(shared),
-        None => shared_of(alloc, indexed_of(alloc, ONE_LOCK)?),
-    }
-}
-
-fn bench_on(alloc: Global, shared: Arc<Indexed, Global>) -> Option<Bench> {
-    match Bench::new(alloc, shared) {
-        Ok(bench) => Some(bench),
-        Err(_) => None,
-    }
-}
-
-// An empty bench, made at a second call where memory was wanting at the first, of the index that came back.
-fn bench_on_again(alloc: Global, shared: Arc<Indexed, Global>) -> Option<Bench> {
-    match Bench::new(alloc, shared) {
-        Ok(bench) => Some(bench),
-        Err((shared, _)) => bench_on(alloc, shared),
-    }
-}
-
-// Whether it is a bench of the six events that has no entry.
-fn is_begun_again(alloc: Global, shared: Arc<Indexed, Global>) -> bool {
-    match bench_on_again(alloc, shared) {
-        Some(bench) => bench.log_len() == 0 && bench.indexed().len() == 6,
-        None => false,
-    }
-}
-
-#[test]
-fn memory_a_bench_gives_its_index_back(rt: HostRuntime) {
-    let shared = match shared_again(rt.alloc()) {
-        Some(shared) => Some(shared),
-        None => shared_again(rt.alloc()),
-    };
-    let Some(shared) = shared else {
-        panic!(rt; "no index")
-    };
-    assert!(rt; is_begun_again(rt.alloc(), shared));
-}
-
-// A text that a call appends.
+/// A text that a call appends.
 #[derive(Clone, Copy)]
 enum Text<'a> {
     Reply(&'a Reply),
     Refusal(&'a Indexed, &'a Refusal),
+    SeatRefusal(&'a Indexed, &'a SeatRefusal),
     Info(&'a Indexed),
     NoCandidates(&'a Indexed),
     Log(&'a Bench),
@@ -103,71 +22,229 @@ enum Text<'a> {
 }
 
 // Appends the text, and says whether there was memory for it.
-fn append(text: Text<'_>, alloc: Global, out: &mut Vec<u8>) -> bool {
+fn append(text: Text<'_>, out: &mut Vec<u8>) -> bool {
     match text {
         Text::Reply(told) => reply(told, out).is_ok(),
         Text::Refusal(indexed, why) => refusal(indexed, why, out).is_ok(),
+        Text::SeatRefusal(indexed, why) => seat_refusal(indexed, why, out).is_ok(),
         Text::Info(indexed) => info(indexed, out).is_ok(),
-        Text::NoCandidates(indexed) => candidates(indexed, &Pairs::new(alloc), out).is_ok(),
+        Text::NoCandidates(indexed) => {
+            candidates(indexed, &Pairs::new(*out.allocator()), out).is_ok()
+        }
         Text::Log(bench) => log(bench, out).is_ok(),
         Text::Fault(fault) => fault_text(fault, out).is_ok(),
     }
 }
 
-// Whether the text stands behind what was there, at a second call where memory was wanting at the first, which left what was there.
-fn is_appended_again(text: Text<'_>, alloc: Global, wanted: &[u8]) -> bool {
-    let mut out = Vec::new(alloc);
-    if out.push(b'>').is_err() && out.push(b'>').is_err() {
-        return false;
-    }
-    if append(text, alloc, &mut out) {
-        return is_behind(out.as_slice(), wanted);
-    }
-    is_behind(out.as_slice(), b"")
-        && append(text, alloc, &mut out)
-        && is_behind(out.as_slice(), wanted)
+// The same, once more where memory was wanting, which left what stood there.
+fn append_at_last(text: Text<'_>, out: &mut Vec<u8>) -> bool {
+    append(text, out) || append(text, out)
 }
 
-// Whether the texts on a trace and on a bench of one entry are these.
-fn are_appended_again(alloc: Global, indexed: &Indexed, bench: &Bench, name: Name) -> bool {
-    let rests_on = Refusal::RestsOn { entry: 2, name };
-    let undone = Reply::Undone {
-        number: 3,
-        entry: 1,
+// Makes the call; where memory was wanting, once more, as the refusal has changed nothing.
+fn answer_at_last(bench: &mut Bench, client: u32, call: &Call) -> Result<Reply, Refusal> {
+    if client == 0 || client > 32 {
+        return Err(Refusal::LogFull);
+    }
+    match bench.call(client, call) {
+        Err(Refusal::OutOfMemory) => bench.call(client, call),
+        answer => answer,
+    }
+}
+
+/// Makes the call and appends the line of its answer, each once more where memory was wanting.
+pub(crate) fn append_answer(
+    bench: &mut Bench,
+    client: u32,
+    call: &Call,
+    out: &mut Vec<u8>,
+) -> bool {
+    match answer_at_last(bench, client, call) {
+        Ok(told) => append_at_last(Text::Reply(&told), out),
+        Err(why) => append_at_last(Text::Refusal(bench.indexed(), &why), out),
+    }
+}
+
+fn append_answers(bench: &mut Bench, script: &Script, out: &mut Vec<u8>) -> bool {
+    let mut are_told = true;
+    for at in 0..script.len() {
+        let call = script.call(at);
+        are_told = append_answer(bench, script.client(at), call.get(), out) && are_told;
+    }
+    are_told
+}
+
+fn has_answers(alloc: Global, bench: &mut Bench, script: &Script, lines: &[u8]) -> bool {
+    let mut out = Vec::new(alloc);
+    append_answers(bench, script, &mut out) && out.as_slice() == lines
+}
+
+// A script, the lines of its answers, and how many changes and proposals the bench then counts.
+type Row = (&'static [u8], &'static [u8], u64, usize);
+
+fn is_right(alloc: Global, bench: &mut Bench, row: Row) -> bool {
+    let (text, lines, edits, proposals) = row;
+    let are_answered = match script_at_last(alloc, text) {
+        Some(script) => has_answers(alloc, bench, &script, lines),
+        None => false,
     };
-    let refused = ReplayFault::Script(ScriptRefusal {
+    are_answered && bench.edits() == edits && bench.board().len() == proposals
+}
+
+fn are_right(alloc: Global, bench: &mut Bench, rows: &[Row]) -> bool {
+    let mut are_right = true;
+    for row in rows {
+        are_right = is_right(alloc, bench, *row) && are_right;
+    }
+    are_right
+}
+
+fn is_right_at_first(alloc: Global, row: Row) -> bool {
+    match bench_at_last(alloc) {
+        Some(mut bench) => is_right(alloc, &mut bench, row),
+        None => false,
+    }
+}
+
+const REFUSED_UNDO: Row = (
+    b"1 new A\n1 add A 3\n2 branch A 1 B\n1 undo\n1 undo\n2 undo\n1 undo\n1 show A\n",
+    b"0: done\n1: done\n2: done\nrefused 52 rests on 2 A\nrefused 52 rests on 2 A\n3: undone 2\n4: undone 1\nshown\n",
+    5,
+    0,
+);
+
+const UNDO_BY_NUMBER: Row = (
+    b"1 new A\n1 new B\n1 add A 0\n1 undo 1\n1 list\n1 undo 0\n1 undo 1\n1 undo 3\n2 undo 2\n1 undo 4\n1 undo 2\n1 undo\n1 list\n",
+    b"0: done\n1: done\n2: done\n3: undone 1\nnames A\nrefused 52 rests on 2 A\nrefused 59 not live\nrefused 58 not own\nrefused 58 not own\nrefused 57 no such entry\n4: undone 2\n5: undone 0\nnames\n",
+    6,
+    0,
+);
+
+const BACK_AND_SWAP: Row = (
+    b"1 new A\n1 add A 3\n1 add A 0\n1 swap A 0\n1 back A\n1 undo\n1 undo\n1 show A\n",
+    b"0: done\n1: done\n2: done\n3: done\n4: done\n5: undone 4\n6: undone 3\nshown 3 0\n",
+    7,
+    0,
+);
+
+const BATCHES: Row = (
+    b"1 batch new A ; add A 3 ; new B\n1 list\n2 add B 0\n1 undo\n2 undo\n1 undo\n1 list\n1 batch new A ; add A 4\n1 new A\n1 batch drop A ; new B ; new A\n1 list\n1 undo\n1 list\n",
+    b"0: done\nnames A B\n1: done\nrefused 52 rests on 1 B\n2: undone 1\n3: undone 0\nnames\nrefused 70 at 1 46 22 not next\n4: done\n5: done\nnames B A\n6: undone 5\nnames A\n",
+    15,
+    0,
+);
+
+const DROPPED: Row = (
+    b"1 new A\n1 new B\n1 drop A\n2 new C\n1 undo\n1 list\n",
+    b"0: done\n1: done\n2: done\n3: done\n4: undone 2\nnames A B C\n",
+    5,
+    0,
+);
+
+const PROPOSED: Row = (
+    b"1 new A\n1 add A 0\n2 propose 0 5 3 4\n2 propose 0 5 3 5\n2 propose 0 5 3\n2 undo\n1 adopt A 1\n1 adopt A 0\n1 show A\n1 races A\n1 undo\n1 show A\n",
+    b"0: done\n1: done\n2: proposed 0\nrefused 53 not a reordering at 1\nrefused 54 not shown\nrefused 51 nothing to undo\nrefused 44 no such proposal\n3: done\nshown 3 4\npairs 0-5\n4: undone 3\nshown 0\n",
+    4,
+    1,
+);
+
+#[test]
+fn memory_calls_are_answered_when_made_again(rt: HostRuntime) {
+    for row in [
+        REFUSED_UNDO,
+        UNDO_BY_NUMBER,
+        BACK_AND_SWAP,
+        BATCHES,
+        DROPPED,
+        PROPOSED,
+    ] {
+        assert!(rt; is_right_at_first(rt.alloc(), row));
+    }
+}
+
+// Whether the row at this place is the name's, with this birth and these events.
+fn is_row(workspace: &Workspace, at: usize, name: u8, born: u64, events: &[u32]) -> bool {
+    if at >= workspace.len() {
+        return false;
+    }
+    let (of, birth, schedule) = workspace.row(at);
+    of.bytes() == [name].as_slice() && birth.entry() == born && schedule.events() == events
+}
+
+// Whether the scripts, each on the bench that the one before has left, are answered so, and a row that was dropped has its birth again.
+fn are_counted(alloc: Global, rows: &[Row]) -> bool {
+    match bench_at_last(alloc) {
+        Some(mut bench) => {
+            are_right(alloc, &mut bench, rows)
+                && bench.workspace().len() == 2
+                && is_row(bench.workspace(), 0, b'A', 0, &[3, 4])
+                && is_row(bench.workspace(), 1, b'B', 2, &[])
+        }
+        None => false,
+    }
+}
+
+#[test]
+fn each_change_is_counted_once(rt: HostRuntime) {
+    let rows: [Row; 14] = [
+        (b"1 new A\n", b"0: done\n", 1, 0),
+        (b"1 add A 3\n", b"1: done\n", 2, 0),
+        (b"2 branch A 1 B\n", b"2: done\n", 3, 0),
+        (b"1 undo\n", b"refused 52 rests on 2 A\n", 3, 0),
+        (b"1 propose 0 5 3 4\n", b"3: proposed 0\n", 3, 1),
+        (b"1 propose 0 5 3\n", b"refused 54 not shown\n", 3, 1),
+        (b"1 adopt A 0\n", b"4: done\n", 4, 1),
+        (b"2 back B\n", b"5: done\n", 5, 1),
+        (b"2 drop B\n", b"6: done\n", 6, 1),
+        (b"1 swap A 0\n", b"refused 47 29 dependent\n", 6, 1),
+        (b"2 undo\n", b"7: undone 6\n", 7, 1),
+        (b"1 show A\n", b"shown 3 4\n", 7, 1),
+        (b"1 batch back A ; new C ; drop C\n", b"8: done\n", 10, 1),
+        (b"1 undo\n", b"9: undone 8\n", 13, 1),
+    ];
+    assert!(rt; are_counted(rt.alloc(), rows.as_slice()));
+}
+
+// Appends texts of the bench, of its trace and of faults.
+fn append_texts(bench: &Bench, out: &mut Vec<u8>) -> bool {
+    let why = ReplayFault::Script(ScriptRefusal {
         line: 2,
         why: ScriptCause::BadWord,
     });
-    let counts = b"events 6\nthreads 2\nvariables 1\nlocks 1\nthread 0 T1 3\nthread 1 T2 3\n";
-    is_appended_again(Text::Reply(&undone), alloc, b"3: undone 1\n")
-        && is_appended_again(
-            Text::Refusal(indexed, &rests_on),
-            alloc,
-            b"refused 52 rests on 2 A\n",
-        )
-        && is_appended_again(Text::Info(indexed), alloc, counts)
-        && is_appended_again(Text::NoCandidates(indexed), alloc, b"candidates 0\n")
-        && is_appended_again(Text::Log(bench), alloc, b"log 1\n0 1 new A\n")
-        && is_appended_again(Text::Fault(&refused), alloc, b"script line 2: 81 bad word")
+    let spent = SeatRefusal::SeatSpent;
+    let refused = SeatRefusal::Bench(Refusal::NotShown);
+    let mut are_told = true;
+    for text in [
+        Text::SeatRefusal(bench.indexed(), &spent),
+        Text::SeatRefusal(bench.indexed(), &refused),
+        Text::Info(bench.indexed()),
+        Text::NoCandidates(bench.indexed()),
+        Text::Log(bench),
+        Text::Fault(&why),
+    ] {
+        are_told = append_at_last(text, out) && are_told;
+    }
+    are_told
 }
 
-// The same, once the entry was made.
-fn is_each_appended_again(alloc: Global, indexed: &Indexed, bench: &mut Bench, name: Name) -> bool {
-    match call_twice(bench, 1, &Call::Do(Command::Fresh { name })) {
-        Ok(_) => are_appended_again(alloc, indexed, bench, name),
-        Err(_) => false,
+const BEGUN: Row = (b"1 new A\n1 add A 3\n", b"0: done\n1: done\n", 2, 0);
+
+const TEXTS: &[u8] =
+    b"refused 73 seat spent\nrefused 54 not shown\nevents 6\nthreads 2\nvariables 1\nlocks 1\nthread 0 T1 3\nthread 1 T2 3\ncandidates 0\nlog 2\n0 1 new A\n1 1 add A 3\nscript line 2: 81 bad word";
+
+fn has_texts(alloc: Global, bench: &Bench) -> bool {
+    let mut out = Vec::new(alloc);
+    append_texts(bench, &mut out) && out.as_slice() == TEXTS
+}
+
+fn are_texts_right(alloc: Global) -> bool {
+    match bench_at_last(alloc) {
+        Some(mut bench) => is_right(alloc, &mut bench, BEGUN) && has_texts(alloc, &bench),
+        None => false,
     }
 }
 
 #[test]
 fn memory_texts_are_appended_when_asked_again(rt: HostRuntime) {
-    let alloc = rt.alloc();
-    let (Some(indexed), Some(mut bench)) = (index_at_last(alloc), bench_again(alloc)) else {
-        panic!(rt; "no bench")
-    };
-    let Ok(name) = Name::new(b"A") else {
-        panic!(rt; "no name")
-    };
-    assert!(rt; is_each_appended_again(alloc, &indexed, &mut bench, name));
+    assert!(rt; are_texts_right(rt.alloc()));
 }

@@ -1,212 +1,169 @@
-//! What no clause says of seats in one thread: that all of them are served, and that a call for which there was no memory
-//! is answered when it is made again.
-ghost use Rattle.std.specs.Prelude.{◌≡◌};
-
-use crate::fixtures::{ONE_LOCK, bench_of};
-use inverse_log::{Bench, Call, Refusal, Reply};
-use moves::{Command, Name};
+//! What no clause says of seats in one thread: that a call for which there was no memory is answered when it is made again, and the others
+//! go on meanwhile. Each test can be run with each of its allocations refused in turn, one in a run.
+use crate::fixtures::{bench_at_last, script_at_last, two_seats};
+use crate::memory_tests::append_answer;
+use client_scripts::{Script, run_seat};
+use event_index::Indexed;
+use inverse_log::{Bench, Call, Refusal, SeatRefusal};
 use std::alloc::Global;
 use std::sync::Wait;
-use std::test::Fail;
-use workspace_lock::{CloseRefusal, OpenRefusal, Seat, SeatRefusal, Seats, open, open_with_room};
-
-fn opened(alloc: Global, bench: Bench, clients: u32) -> Option<Seats> {
-    match open(alloc, bench, clients) {
-        Ok(seats) => Some(seats),
-        Err(_) => None,
-    }
-}
-
-// Seats at an empty bench of the trace.
-pub(crate) fn seats_of(alloc: Global, clients: u32) -> Option<Seats> {
-    match bench_of(alloc, ONE_LOCK) {
-        Some(bench) => opened(alloc, bench, clients),
-        None => None,
-    }
-}
-
-// The same, behind a door with so much room.
-pub(crate) fn seats_with_room(alloc: Global, clients: u32, room: u32) -> Option<Seats> {
-    match bench_of(alloc, ONE_LOCK) {
-        Some(bench) => match open_with_room(alloc, bench, clients, room) {
-            Ok(seats) => Some(seats),
-            Err(_) => None,
-        },
-        None => None,
-    }
-}
-
-// The schedule that a client changes, and the event that it adds and takes off.
-#[derive(Clone, Copy)]
-pub(crate) struct Own {
-    pub(crate) name: Name,
-    pub(crate) event: u32,
-}
-
-impl Own {
-    fn new_schedule(&self) -> Call {
-        Call::Do(Command::Fresh { name: self.name })
-    }
-
-    fn add(&self) -> Call {
-        Call::Do(Command::Add {
-            name: self.name,
-            event: self.event,
-        })
-    }
-
-    fn back(&self) -> Call {
-        Call::Do(Command::Back { name: self.name })
-    }
-
-    fn show(&self) -> Call {
-        Call::Show(self.name)
-    }
-
-    // The new schedule, and then its event added and taken off in turn, by the call's number.
-    pub(crate) fn call_in_turn(&self, number: u32) -> Call {
-        if number == 0 {
-            self.new_schedule()
-        } else if number % 2 == 1 {
-            self.add()
-        } else {
-            self.back()
-        }
-    }
-}
-
-// A call through the seat was accepted.
-pub(crate) fn is_done<R: Wait>(rt: &R, seat: &mut Seat, call: &Call) -> bool
-    ensures { seat.new.site ≡ seat.old.site }
-{
-    seat.run(rt, call).is_ok()
-}
-
-// Whether the schedule is shown with its event alone.
-pub(crate) fn shows_its_event<R: Wait>(rt: &R, seat: &mut Seat, own: &Own) -> bool
-    ensures { seat.new.site ≡ seat.old.site }
-{
-    match seat.run(rt, &own.show()) {
-        Ok(Reply::Shown(events)) => events.items() == [own.event].as_slice(),
-        _ => false,
-    }
-}
-
-#[test]
-fn a_bad_count_is_refused(rt: HostRuntime) -> Result<(), Fail> {
-    for clients in [0, 33u32] {
-        let Some(bench) = bench_of(rt.alloc(), ONE_LOCK) else {
-            panic!(rt; "no bench")
-        };
-        let Err((bench, why)) = open(rt.alloc(), bench, clients) else {
-            panic!(rt; "opened")
-        };
-        assert!(rt; why == OpenRefusal::BadCount);
-        assert_eq!(rt; bench.log_len(), 0);
-    }
-    Ok(())
-}
-
-#[test]
-fn a_seat_that_is_out_keeps_the_seats_open(rt: HostRuntime) -> Result<(), Fail> {
-    let Some(mut seats) = seats_of(rt.alloc(), 32) else {
-        panic!(rt; "not opened")
-    };
-    let Some(mut one) = seats.take() else {
-        panic!(rt; "no seat")
-    };
-    assert_eq!(rt; one.number(), 1);
-    assert!(rt; one.run(&rt, &Call::Undo).is_err());
-    let Err((mut seats, why)) = seats.close() else {
-        panic!(rt; "closed")
-    };
-    assert!(rt; why == CloseRefusal::NotAll);
-    assert!(rt; seats.give(one).is_ok());
-    let Some(again) = seats.take() else {
-        panic!(rt; "no seat")
-    };
-    assert_eq!(rt; again.turns(), 1);
-    assert!(rt; seats.give(again).is_ok());
-    let Ok(bench) = seats.close() else {
-        panic!(rt; "not closed")
-    };
-    assert_eq!(rt; bench.log_len(), 0);
-    Ok(())
-}
+use workspace_lock::Seat;
 
 // Whether the refused call changed nothing, and the other seat is served.
 fn is_as_before<R: Wait>(rt: &R, other: &mut Seat, before: u64) -> bool {
-    if other.front() != before {
-        return false;
-    }
+    let is_unchanged = other.front() == before;
     let is_refused = other.run(rt, &Call::Undo).is_err();
-    is_refused && other.front() == before
+    is_unchanged && is_refused && other.front() == before
 }
 
 // The call, and if a growth was refused the same again: the first one changed nothing, and the other seat was served
 // meanwhile.
 fn is_done_at_last<R: Wait>(rt: &R, seat: &mut Seat, other: &mut Seat, call: &Call) -> bool {
     let before = other.front();
-    let Err(why) = seat.run(rt, call) else {
-        return true;
-    };
-    let wanted_memory = why == SeatRefusal::Bench(Refusal::OutOfMemory);
-    if !wanted_memory {
-        return false;
+    match seat.run(rt, call) {
+        Ok(_) => true,
+        Err(SeatRefusal::Bench(Refusal::OutOfMemory)) => {
+            is_as_before(rt, other, before) && seat.run(rt, call).is_ok()
+        }
+        Err(_) => false,
     }
-    if !is_as_before(rt, other, before) {
-        return false;
-    }
-    seat.run(rt, call).is_ok()
 }
 
-// Two seats at the bench. Where that was refused, it was for memory, and the bench came back as it was: then once more.
-fn opened_at_last(alloc: Global, bench: Bench) -> Option<Seats> {
-    match open(alloc, bench, 2) {
-        Ok(seats) => Some(seats),
-        Err((bench, why)) => {
-            if why == OpenRefusal::OutOfMemory && bench.log_len() == 0 {
-                opened(alloc, bench, 2)
-            } else {
-                None
-            }
+fn are_done_at_last<R: Wait>(rt: &R, one: &mut Seat, two: &mut Seat, script: &Script) -> bool {
+    let mut are_done = true;
+    for at in 0..script.len() {
+        let call = script.call(at);
+        are_done = is_done_at_last(rt, one, two, call.get()) && are_done;
+    }
+    are_done && two.front() == 4
+}
+
+fn does_each_at_last<R: Wait>(rt: &R, alloc: Global, one: &mut Seat, two: &mut Seat) -> bool {
+    let calls = b"1 new A\n1 add A 0\n1 show A\n1 list\n1 back A\n1 races A\n1 undo\n";
+    match script_at_last(alloc, calls) {
+        Some(script) => are_done_at_last(rt, one, two, &script),
+        None => false,
+    }
+}
+
+fn is_served_again<R: Wait>(rt: &R, alloc: Global) -> bool {
+    match two_seats(alloc, None) {
+        Some((mut one, mut two)) => does_each_at_last(rt, alloc, &mut one, &mut two),
+        None => false,
+    }
+}
+
+#[test]
+fn refused_memory_changes_nothing(rt: HostRuntime) {
+    assert!(rt; is_served_again(&rt, rt.alloc()));
+}
+
+/// Calls of one client, with a reply and a refusal of several kinds.
+const SCRIPT: &[u8] =
+    b"1 new A\n1 new A\n1 add A 3\n1 add A 1\n1 propose 0 5 3 4\n1 adopt A 0\n1 show A\n1 races A\n1 undo\n1 list\n1 propose 0 5 3\n";
+
+/// The line of a call for which there was no memory.
+const NO_MEMORY: &[u8] = b"refused 56 out of memory";
+
+fn append_no_memory(out: &mut Vec<u8>) -> bool {
+    out.extend_from_slice(b"refused 56 out of memory\n").is_ok()
+}
+
+// Appends what the script is to be told, on a bench of its own: the lines of its calls but those for which there was no memory, as these lines say,
+// and which are not made.
+fn append_told(bench: &mut Bench, script: &Script, lines: &[u8], out: &mut Vec<u8>) -> bool {
+    let mut told = lines.split(|byte| *byte == b'\n');
+    let mut are_told = true;
+    for at in 0..script.len() {
+        let call = script.call(at);
+        let is_appended = if told.next() == Some(NO_MEMORY) {
+            append_no_memory(out)
+        } else {
+            append_answer(bench, script.client(at), call.get(), out)
+        };
+        are_told = is_appended && are_told;
+    }
+    are_told
+}
+
+// A vector with room for all lines of the script, whatever they are.
+fn roomy_at_last(alloc: Global) -> Option<Vec<u8>> {
+    match Vec::with_capacity(alloc, 4096) {
+        Ok(out) => Some(out),
+        Err(_) => match Vec::with_capacity(alloc, 4096) {
+            Ok(out) => Some(out),
+            Err(_) => None,
         },
     }
 }
 
-fn bench_at_last(alloc: Global) -> Option<Bench> {
-    match bench_of(alloc, ONE_LOCK) {
-        Some(bench) => Some(bench),
-        None => bench_of(alloc, ONE_LOCK),
+fn is_told_so(alloc: Global, bench: &mut Bench, script: &Script, lines: &[u8]) -> bool {
+    match roomy_at_last(alloc) {
+        Some(mut out) => append_told(bench, script, lines, &mut out) && out.as_slice() == lines,
+        None => false,
     }
 }
 
-fn seats_at_last(alloc: Global) -> Option<Seats> {
-    match bench_at_last(alloc) {
-        Some(bench) => opened_at_last(alloc, bench),
+// The lines of the script, where they have room.
+fn lines_of<R: Wait>(
+    rt: &R,
+    alloc: Global,
+    seat: &mut Seat,
+    indexed: &Indexed,
+    script: &Script,
+) -> Option<Vec<u8>> {
+    match roomy_at_last(alloc) {
+        Some(mut out) => match run_seat(seat, rt, indexed, script, &mut out) {
+            Ok(()) => Some(out),
+            Err(_) => None,
+        },
         None => None,
     }
 }
 
-// Each of its allocations can be refused in turn, one in a run.
-#[test]
-fn refused_memory_changes_nothing(rt: HostRuntime) -> Result<(), Fail> {
-    let (Ok(name), Some(mut seats)) = (Name::new(b"A"), seats_at_last(rt.alloc())) else {
-        panic!(rt; "not opened")
+// Whether a script whose lines have room is told what became of each of its calls, also of one for which there was no memory.
+fn is_each_told<R: Wait>(
+    rt: &R,
+    alloc: Global,
+    seat: &mut Seat,
+    bench: &mut Bench,
+    script: &Script,
+) -> bool {
+    let is_told = match lines_of(rt, alloc, seat, bench.indexed(), script) {
+        Some(lines) => is_told_so(alloc, bench, script, lines.as_slice()),
+        None => false,
     };
-    let (Some(mut one), Some(mut two)) = (seats.take(), seats.take()) else {
-        panic!(rt; "no seat")
-    };
-    let own = Own { name, event: 0 };
-    for call in [
-        own.new_schedule(),
-        own.add(),
-        own.show(),
-        own.back(),
-        Call::Undo,
-    ] {
-        assert!(rt; is_done_at_last(&rt, &mut one, &mut two, &call));
+    is_told && seat.turns() == 11
+}
+
+// Whether the seat is served.
+fn is_served<R: Wait>(rt: &R, seat: &mut Seat) -> bool {
+    let is_run = seat.run(rt, &Call::List).is_ok() || seat.run(rt, &Call::List).is_ok();
+    is_run && seat.turns() > 11
+}
+
+fn tells_each<R: Wait>(rt: &R, alloc: Global, seat: &mut Seat, bench: &mut Bench) -> bool {
+    match script_at_last(alloc, SCRIPT) {
+        Some(script) => is_each_told(rt, alloc, seat, bench, &script) && is_served(rt, seat),
+        None => false,
     }
-    assert_eq!(rt; two.front(), 4);
-    Ok(())
+}
+
+fn tells_each_on<R: Wait>(rt: &R, alloc: Global, seat: &mut Seat) -> bool {
+    match bench_at_last(alloc) {
+        Some(mut bench) => tells_each(rt, alloc, seat, &mut bench),
+        None => false,
+    }
+}
+
+fn does_tell<R: Wait>(rt: &R, alloc: Global) -> bool {
+    match two_seats(alloc, None) {
+        Some((mut one, _)) => tells_each_on(rt, alloc, &mut one),
+        None => false,
+    }
+}
+
+#[test]
+fn refused_memory_is_told_to_a_script(rt: HostRuntime) {
+    assert!(rt; does_tell(&rt, rt.alloc()));
 }

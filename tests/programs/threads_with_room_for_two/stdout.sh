@@ -1,0 +1,6 @@
+# to each of eight clients 25 times that there is nothing to undo, and that there are no names
+for client in 1 2 3 4 5 6 7 8; do
+    echo "client $client"
+    for _ in $(seq 25); do printf 'refused 51 nothing to undo\nnames\n'; done
+done
+echo 'log 0'
