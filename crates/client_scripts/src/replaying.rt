@@ -1,5 +1,5 @@
 //! Replays a script on a trace: reads both, makes the script's calls, and writes the lines of their answers.
-ghost use Rattle.std.specs.Prelude.{◌≡◌, ◌≢◌, ◌⊎◌, ◌++◌, ◌≤◌, ℕ, List, [], true, false, is_err, is_ok, IfErr, IfOk, IfSome, OnOk, OnErr, Err};
+ghost use Rattle.std.specs.Prelude.{◌≡◌, ◌≢◌, ◌⊎◌, ◌++◌, ◌≤◌, ℕ, List, [], true, false, is_err, is_ok, IfErr, IfOk, IfSome, OnOk, OnErr, Ok, Err};
 ghost use Rattle.std.specs.Io.KnownBytes.{Appends};
 ghost use Rattle.inverse_log.specs.Answer.{answer_of, log_after};
 ghost use Rattle.client_scripts.specs.Replay.{AppendsPart, IsReplay, answer_text, of_joint, of_two};
@@ -7,6 +7,7 @@ ghost use Rattle.client_scripts.specs.Steps.{HandsOn, IsRun, IsScriptRun};
 ghost use Rattle.client_scripts.specs.declared.fault.ReadCause.{ReadCause};
 ghost use Rattle.client_scripts.specs.declared.fault.ReadCause.TheVariants.{Device};
 ghost use Rattle.client_scripts.specs.declared.fault.ReplayFault.TheVariants.{Write, Read};
+ghost use Rattle.script_language.specs.Scripts.{IsScript};
 ghost use Rattle.dependence.specs.Limits.{client_limit};
 
 use crate::fault::{ReplayFault, Tally};
@@ -137,8 +138,25 @@ fn replay_script<K: Sink>(
     ensures write { result ≡ Err Write → K.has_failed writer.new ≡ true }
 {
     let script = read_script(alloc, text)?;
+    replay_read(alloc, indexed, text, &script, writer)
+}
+
+/// Makes the calls of a script, which was read from the text, on a trace.
+fn replay_read<K: Sink>(
+    alloc: Global,
+    indexed: Indexed,
+    text: &[u8],
+    script: &Script,
+    writer: &mut K,
+) -> Result<Tally, ReplayFault>
+    requires read { IsScript text.now (Ok script.now) }
+    requires working { K.has_failed writer.old ≡ false }
+    ensures run { IsScriptRun indexed text.now (K.taken writer.old) (K.taken writer.new) result }
+    ensures failed { K.has_failed writer.new ≡ true → result ≡ Err Write }
+    ensures write { result ≡ Err Write → K.has_failed writer.new ≡ true }
+{
     let mut bench = open_bench(alloc, indexed, text)?;
-    run(alloc, &mut bench, &script, writer)
+    run(alloc, &mut bench, script, writer)
 }
 
 /// Reads a trace and a script, each whole; then makes the script's calls on the trace and writes the line of

@@ -1,6 +1,6 @@
 //! What no clause says of the door before the lock: that those who wait behind a call that is held up take next to nothing of the
 //! processors' time.
-use crate::fixtures::seats_at_last;
+use crate::fixtures::{is_accepted, is_reply, seats_at_last};
 use client_scripts::{FromRead, read_input};
 use inverse_log::Call;
 use std::alloc::Global;
@@ -12,20 +12,13 @@ use std::thread::Threads;
 use std::time::Duration;
 use workspace_lock::{Gate, Seat, Seats};
 
-// The 32 seats that are in.
-fn take_all(alloc: Global, seats: &mut Seats) -> Option<Vec<Seat>> {
-    let mut own = match Vec::with_capacity(alloc, 32) {
-        Ok(own) => own,
-        Err(_) => return None,
-    };
+// Takes the 32 seats that are in. One that had no place would be missed when the calls are counted.
+fn take_all(seats: &mut Seats, own: &mut Vec<Seat>) {
     for _ in 0..32u32 {
         if let Some(seat) = seats.take() {
-            if own.push(seat).is_err() {
-                return None;
-            }
+            drop(own.push(seat));
         }
     }
-    Some(own)
 }
 
 // A gate that is shut for a second once it has said that its turn is held.
@@ -47,26 +40,52 @@ impl<'a> Gate for StaysShut<'a> {
     }
 }
 
-// One call: through the gate by the first client, and by the others once its turn is held. Whether it was accepted.
-fn call_at_the_gate<R: Wait>(rt: &R, mut seat: Seat, is_held: &AtomicU64) -> bool {
-    if seat.number() == 1 {
-        return seat
-            .run_gated(rt, &Call::List, &mut StaysShut { is_held })
-            .is_ok();
-    }
+fn call_through_it<R: Wait>(rt: &R, seat: &mut Seat, call: &Call, is_held: &AtomicU64) -> bool {
+    is_reply(seat.run_gated(rt, call, &mut StaysShut { is_held }))
+}
+
+fn call_behind_it<R: Wait>(rt: &R, seat: &mut Seat, call: &Call, is_held: &AtomicU64) -> bool {
     for _ in 0..100u32 {
         is_held.park_timeout(rt, 0, Duration::from_millis(100));
     }
-    seat.run(rt, &Call::List).is_ok()
+    is_accepted(rt, seat, call)
+}
+
+// One call: through the gate by the first client, and by the others once its turn is held. Whether it was accepted.
+fn call_at_the_gate<R: Wait>(rt: &R, mut seat: Seat, is_held: &AtomicU64) -> bool {
+    let call = Call::List;
+    let is_accepted = if seat.number() == 1 {
+        call_through_it(rt, &mut seat, &call, is_held)
+    } else {
+        call_behind_it(rt, &mut seat, &call, is_held)
+    };
+    drop(call);
+    drop(seat);
+    is_accepted
+}
+
+fn number_in(field: Option<&str>) -> Option<u64> {
+    match field {
+        Some(field) => field.parse::<u64>().ok(),
+        None => None,
+    }
+}
+
+// The twelfth and thirteenth field of these, as a sum.
+fn time_of(behind: &str) -> Option<u64> {
+    let mut fields = behind.split_ascii_whitespace().skip(11);
+    let own = number_in(fields.next());
+    match (own, number_in(fields.next())) {
+        (Some(own), Some(systems)) => Some(own.saturating_add(systems)),
+        _ => None,
+    }
 }
 
 // The twelfth and thirteenth field behind the program's name in this text of the system, as a sum.
 fn time_in(text: &str) -> Option<u64> {
-    let (_, behind) = text.rsplit_once(')')?;
-    let mut fields = behind.split_ascii_whitespace().skip(11);
-    match (fields.next()?.parse::<u64>(), fields.next()?.parse::<u64>()) {
-        (Ok(own), Ok(systems)) => Some(own.saturating_add(systems)),
-        _ => None,
+    match text.rsplit_once(')') {
+        Some((_, behind)) => time_of(behind),
+        None => None,
     }
 }
 
@@ -116,9 +135,12 @@ fn is_idle_at_the_gate<R: Threads + Wait + Sync>(
 }
 
 fn are_all_idle<R: Threads + Wait + Sync>(rt: &R, system: &HostRuntime, seats: &mut Seats) -> bool {
-    match take_all(system.alloc(), seats) {
-        Some(own) => is_idle_at_the_gate(rt, system, own),
-        None => false,
+    match Vec::with_capacity(system.alloc(), 32) {
+        Ok(mut own) => {
+            take_all(seats, &mut own);
+            is_idle_at_the_gate(rt, system, own)
+        }
+        Err(_) => false,
     }
 }
 

@@ -3,26 +3,20 @@
 
 use client_scripts::{Script, ScriptCause, ScriptRefusal, load, read_script};
 use event_index::Indexed;
-use inverse_log::Bench;
+use inverse_log::{Bench, Call};
 use std::alloc::Global;
-use std::sync::Arc;
+use std::sync::{Arc, Wait};
 use workspace_lock::{OpenRefusal, Seat, Seats, open, open_with_room};
 
 /// Two threads use one lock, and write one variable outside it.
 pub(crate) const ONE_LOCK: &[u8] =
     b"T1|w(x)|1\nT1|acq(l)|2\nT1|rel(l)|3\nT2|acq(l)|4\nT2|rel(l)|5\nT2|w(x)|6";
 
-// Each answer is taken apart by a `match`, in a function of its own: the check proves at each way out how all that is owned is dropped.
-fn shared_of(alloc: Global, indexed: Indexed) -> Option<Arc<Indexed, Global>> {
-    match Arc::new(alloc, indexed) {
-        Ok(shared) => Some(shared),
-        Err(_) => None,
-    }
-}
-
+// What is large is dropped here by `ok`, and in the tests by `drop`: the check proves of each function and at each way out of it how all that
+// is owned there is dropped, part by part; but of these two, which are of any type, it has been proved.
 fn shared_once(alloc: Global) -> Option<Arc<Indexed, Global>> {
     match load(alloc, ONE_LOCK) {
-        Ok(indexed) => shared_of(alloc, indexed),
+        Ok(indexed) => Arc::new(alloc, indexed).ok(),
         Err(_) => None,
     }
 }
@@ -34,18 +28,11 @@ fn shared_at_last(alloc: Global) -> Option<Arc<Indexed, Global>> {
     }
 }
 
-fn bench_once(alloc: Global, shared: Arc<Indexed, Global>) -> Option<Bench> {
-    match Bench::new(alloc, shared) {
-        Ok(bench) => Some(bench),
-        Err(_) => None,
-    }
-}
-
 // A bench of the index; at the second try of the index that came back.
 fn bench_on(alloc: Global, shared: Arc<Indexed, Global>) -> Option<Bench> {
     match Bench::new(alloc, shared) {
         Ok(bench) => Some(bench),
-        Err((shared, _)) => bench_once(alloc, shared),
+        Err((shared, _)) => Bench::new(alloc, shared).ok(),
     }
 }
 
@@ -54,13 +41,6 @@ pub(crate) fn bench_at_last(alloc: Global) -> Option<Bench> {
     match shared_at_last(alloc) {
         Some(shared) => bench_on(alloc, shared),
         None => None,
-    }
-}
-
-fn script_once(alloc: Global, text: &[u8]) -> Option<Script> {
-    match read_script(alloc, text) {
-        Ok(script) => Some(script),
-        Err(_) => None,
     }
 }
 
@@ -73,7 +53,7 @@ pub(crate) fn script_at_last(alloc: Global, text: &[u8]) -> Option<Script> {
                 line: 0,
                 why: ScriptCause::OutOfMemory,
             },
-        ) => script_once(alloc, text),
+        ) => read_script(alloc, text).ok(),
         Err(_) => None,
     }
 }
@@ -91,19 +71,15 @@ fn opened(
     }
 }
 
-fn seats_once(alloc: Global, bench: Bench, clients: u32, room: Option<u32>) -> Option<Seats> {
-    match opened(alloc, bench, clients, room) {
-        Ok(seats) => Some(seats),
-        Err(_) => None,
-    }
-}
-
 // The same. Where it was refused for memory the bench came back: then once more.
 fn seats_on(alloc: Global, bench: Bench, clients: u32, room: Option<u32>) -> Option<Seats> {
     match opened(alloc, bench, clients, room) {
         Ok(seats) => Some(seats),
-        Err((bench, OpenRefusal::OutOfMemory)) => seats_once(alloc, bench, clients, room),
-        Err(_) => None,
+        Err((bench, OpenRefusal::OutOfMemory)) => opened(alloc, bench, clients, room).ok(),
+        Err((bench, OpenRefusal::BadCount)) => {
+            drop(bench);
+            None
+        }
     }
 }
 
@@ -131,4 +107,14 @@ pub(crate) fn two_seats(alloc: Global, room: Option<u32>) -> Option<(Seat, Seat)
         }
         None => None,
     }
+}
+
+/// Whether the answer is a reply.
+pub(crate) fn is_reply<T: Drop, E: Drop>(answer: Result<T, E>) -> bool {
+    answer.is_ok()
+}
+
+/// Whether the seat's call is accepted.
+pub(crate) fn is_accepted<R: Wait>(rt: &R, seat: &mut Seat, call: &Call) -> bool {
+    is_reply(seat.run(rt, call))
 }

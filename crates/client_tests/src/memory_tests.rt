@@ -23,17 +23,16 @@ enum Text<'a> {
 
 // Appends the text, and says whether there was memory for it.
 fn append(text: Text<'_>, out: &mut Vec<u8>) -> bool {
-    match text {
-        Text::Reply(told) => reply(told, out).is_ok(),
-        Text::Refusal(indexed, why) => refusal(indexed, why, out).is_ok(),
-        Text::SeatRefusal(indexed, why) => seat_refusal(indexed, why, out).is_ok(),
-        Text::Info(indexed) => info(indexed, out).is_ok(),
-        Text::NoCandidates(indexed) => {
-            candidates(indexed, &Pairs::new(*out.allocator()), out).is_ok()
-        }
-        Text::Log(bench) => log(bench, out).is_ok(),
-        Text::Fault(fault) => fault_text(fault, out).is_ok(),
-    }
+    let appended = match text {
+        Text::Reply(told) => reply(told, out),
+        Text::Refusal(indexed, why) => refusal(indexed, why, out),
+        Text::SeatRefusal(indexed, why) => seat_refusal(indexed, why, out),
+        Text::Info(indexed) => info(indexed, out),
+        Text::NoCandidates(indexed) => candidates(indexed, &Pairs::new(*out.allocator()), out),
+        Text::Log(bench) => log(bench, out),
+        Text::Fault(fault) => fault_text(fault, out),
+    };
+    appended.is_ok()
 }
 
 // The same, once more where memory was wanting, which left what stood there.
@@ -41,8 +40,27 @@ fn append_at_last(text: Text<'_>, out: &mut Vec<u8>) -> bool {
     append(text, out) || append(text, out)
 }
 
-// Makes the call; where memory was wanting, once more, as the refusal has changed nothing.
-fn answer_at_last(bench: &mut Bench, client: u32, call: &Call) -> Result<Reply, Refusal> {
+/// The line of a call for which there was no memory.
+const NO_MEMORY: &[u8] = b"refused 56 out of memory\n";
+
+// Whether the lines go on so behind these first bytes of them.
+fn is_no_memory(lines: &[u8], told: usize) -> bool {
+    match lines.get(told..) {
+        Some(rest) => rest.starts_with(NO_MEMORY),
+        None => false,
+    }
+}
+
+// Makes the call, unless it was refused for memory; where memory was wanting, once more, as the refusal has changed nothing.
+fn answer_at_last(
+    bench: &mut Bench,
+    client: u32,
+    call: &Call,
+    was_refused: bool,
+) -> Result<Reply, Refusal> {
+    if was_refused {
+        return Err(Refusal::OutOfMemory);
+    }
     if client == 0 || client > 32 {
         return Err(Refusal::LogFull);
     }
@@ -52,31 +70,37 @@ fn answer_at_last(bench: &mut Bench, client: u32, call: &Call) -> Result<Reply, 
     }
 }
 
-/// Makes the call and appends the line of its answer, each once more where memory was wanting.
-pub(crate) fn append_answer(
+// Makes the call and appends the line of its answer, each once more where memory was wanting. Where these lines, with which what was appended
+// begins, go on with a call for which there was no memory, so does what is appended.
+fn append_answer(
     bench: &mut Bench,
     client: u32,
     call: &Call,
+    lines: &[u8],
     out: &mut Vec<u8>,
 ) -> bool {
-    match answer_at_last(bench, client, call) {
+    let was_refused = is_no_memory(lines, out.len());
+    match answer_at_last(bench, client, call, was_refused) {
         Ok(told) => append_at_last(Text::Reply(&told), out),
         Err(why) => append_at_last(Text::Refusal(bench.indexed(), &why), out),
     }
 }
 
-fn append_answers(bench: &mut Bench, script: &Script, out: &mut Vec<u8>) -> bool {
+fn append_answers(bench: &mut Bench, script: &Script, lines: &[u8], out: &mut Vec<u8>) -> bool {
     let mut are_told = true;
     for at in 0..script.len() {
         let call = script.call(at);
-        are_told = append_answer(bench, script.client(at), call.get(), out) && are_told;
+        are_told = append_answer(bench, script.client(at), call.get(), lines, out) && are_told;
+        drop(call);
     }
     are_told
 }
 
-fn has_answers(alloc: Global, bench: &mut Bench, script: &Script, lines: &[u8]) -> bool {
+/// Whether the script is answered by these lines on the bench, but for those of its calls for which there was no memory, as the lines say,
+/// and which are not made.
+pub(crate) fn has_answers(alloc: Global, bench: &mut Bench, script: &Script, lines: &[u8]) -> bool {
     let mut out = Vec::new(alloc);
-    append_answers(bench, script, &mut out) && out.as_slice() == lines
+    append_answers(bench, script, lines, &mut out) && out.as_slice() == lines
 }
 
 // A script, the lines of its answers, and how many changes and proposals the bench then counts.
@@ -85,7 +109,11 @@ type Row = (&'static [u8], &'static [u8], u64, usize);
 fn is_right(alloc: Global, bench: &mut Bench, row: Row) -> bool {
     let (text, lines, edits, proposals) = row;
     let are_answered = match script_at_last(alloc, text) {
-        Some(script) => has_answers(alloc, bench, &script, lines),
+        Some(script) => {
+            let has_answers = has_answers(alloc, bench, &script, lines);
+            drop(script);
+            has_answers
+        }
         None => false,
     };
     are_answered && bench.edits() == edits && bench.board().len() == proposals
@@ -101,7 +129,11 @@ fn are_right(alloc: Global, bench: &mut Bench, rows: &[Row]) -> bool {
 
 fn is_right_at_first(alloc: Global, row: Row) -> bool {
     match bench_at_last(alloc) {
-        Some(mut bench) => is_right(alloc, &mut bench, row),
+        Some(mut bench) => {
+            let is_right = is_right(alloc, &mut bench, row);
+            drop(bench);
+            is_right
+        }
         None => false,
     }
 }
@@ -148,61 +180,73 @@ const PROPOSED: Row = (
     1,
 );
 
+const ROWS: &[Row] = &[
+    REFUSED_UNDO,
+    UNDO_BY_NUMBER,
+    BACK_AND_SWAP,
+    BATCHES,
+    DROPPED,
+    PROPOSED,
+];
+
 #[test]
 fn memory_calls_are_answered_when_made_again(rt: HostRuntime) {
-    for row in [
-        REFUSED_UNDO,
-        UNDO_BY_NUMBER,
-        BACK_AND_SWAP,
-        BATCHES,
-        DROPPED,
-        PROPOSED,
-    ] {
-        assert!(rt; is_right_at_first(rt.alloc(), row));
+    for row in ROWS {
+        assert!(rt; is_right_at_first(rt.alloc(), *row));
     }
 }
 
 // Whether the row at this place is the name's, with this birth and these events.
-fn is_row(workspace: &Workspace, at: usize, name: u8, born: u64, events: &[u32]) -> bool {
+fn is_row(workspace: &Workspace, at: usize, name: &[u8], born: u64, events: &[u32]) -> bool {
     if at >= workspace.len() {
         return false;
     }
     let (of, birth, schedule) = workspace.row(at);
-    of.bytes() == [name].as_slice() && birth.entry() == born && schedule.events() == events
+    let is_name = of.bytes() == name;
+    let has_events = schedule.events() == events;
+    is_name && has_events && birth.entry() == born
 }
 
-// Whether the scripts, each on the bench that the one before has left, are answered so, and a row that was dropped has its birth again.
+// Whether the workspace has these two rows: one that was dropped has its birth again.
+fn are_rows(workspace: &Workspace) -> bool {
+    let is_first = is_row(workspace, 0, b"A", 0, &[3, 4]);
+    let is_second = is_row(workspace, 1, b"B", 2, &[]);
+    workspace.len() == 2 && is_first && is_second
+}
+
+// Whether the scripts, each on the bench that the one before has left, are answered so, and leave these rows.
 fn are_counted(alloc: Global, rows: &[Row]) -> bool {
     match bench_at_last(alloc) {
         Some(mut bench) => {
-            are_right(alloc, &mut bench, rows)
-                && bench.workspace().len() == 2
-                && is_row(bench.workspace(), 0, b'A', 0, &[3, 4])
-                && is_row(bench.workspace(), 1, b'B', 2, &[])
+            let are_right = are_right(alloc, &mut bench, rows);
+            let are_counted = are_rows(bench.workspace()) && are_right;
+            drop(bench);
+            are_counted
         }
         None => false,
     }
 }
 
+const CHANGES: &[Row] = &[
+    (b"1 new A\n", b"0: done\n", 1, 0),
+    (b"1 add A 3\n", b"1: done\n", 2, 0),
+    (b"2 branch A 1 B\n", b"2: done\n", 3, 0),
+    (b"1 undo\n", b"refused 52 rests on 2 A\n", 3, 0),
+    (b"1 propose 0 5 3 4\n", b"3: proposed 0\n", 3, 1),
+    (b"1 propose 0 5 3\n", b"refused 54 not shown\n", 3, 1),
+    (b"1 adopt A 0\n", b"4: done\n", 4, 1),
+    (b"2 back B\n", b"5: done\n", 5, 1),
+    (b"2 drop B\n", b"6: done\n", 6, 1),
+    (b"1 swap A 0\n", b"refused 47 29 dependent\n", 6, 1),
+    (b"2 undo\n", b"7: undone 6\n", 7, 1),
+    (b"1 show A\n", b"shown 3 4\n", 7, 1),
+    (b"1 batch back A ; new C ; drop C\n", b"8: done\n", 10, 1),
+    (b"1 undo\n", b"9: undone 8\n", 13, 1),
+];
+
 #[test]
 fn each_change_is_counted_once(rt: HostRuntime) {
-    let rows: [Row; 14] = [
-        (b"1 new A\n", b"0: done\n", 1, 0),
-        (b"1 add A 3\n", b"1: done\n", 2, 0),
-        (b"2 branch A 1 B\n", b"2: done\n", 3, 0),
-        (b"1 undo\n", b"refused 52 rests on 2 A\n", 3, 0),
-        (b"1 propose 0 5 3 4\n", b"3: proposed 0\n", 3, 1),
-        (b"1 propose 0 5 3\n", b"refused 54 not shown\n", 3, 1),
-        (b"1 adopt A 0\n", b"4: done\n", 4, 1),
-        (b"2 back B\n", b"5: done\n", 5, 1),
-        (b"2 drop B\n", b"6: done\n", 6, 1),
-        (b"1 swap A 0\n", b"refused 47 29 dependent\n", 6, 1),
-        (b"2 undo\n", b"7: undone 6\n", 7, 1),
-        (b"1 show A\n", b"shown 3 4\n", 7, 1),
-        (b"1 batch back A ; new C ; drop C\n", b"8: done\n", 10, 1),
-        (b"1 undo\n", b"9: undone 8\n", 13, 1),
-    ];
-    assert!(rt; are_counted(rt.alloc(), rows.as_slice()));
+    assert!(rt; are_counted(rt.alloc(), CHANGES));
 }
 
 // Appends texts of the bench, of its trace and of faults.
@@ -214,7 +258,7 @@ fn append_texts(bench: &Bench, out: &mut Vec<u8>) -> bool {
     let spent = SeatRefusal::SeatSpent;
     let refused = SeatRefusal::Bench(Refusal::NotShown);
     let mut are_told = true;
-    for text in [
+    for text in &[
         Text::SeatRefusal(bench.indexed(), &spent),
         Text::SeatRefusal(bench.indexed(), &refused),
         Text::Info(bench.indexed()),
@@ -222,7 +266,7 @@ fn append_texts(bench: &Bench, out: &mut Vec<u8>) -> bool {
         Text::Log(bench),
         Text::Fault(&why),
     ] {
-        are_told = append_at_last(text, out) && are_told;
+        are_told = append_at_last(*text, out) && are_told;
     }
     are_told
 }
@@ -239,7 +283,12 @@ fn has_texts(alloc: Global, bench: &Bench) -> bool {
 
 fn are_texts_right(alloc: Global) -> bool {
     match bench_at_last(alloc) {
-        Some(mut bench) => is_right(alloc, &mut bench, BEGUN) && has_texts(alloc, &bench),
+        Some(mut bench) => {
+            let is_right = is_right(alloc, &mut bench, BEGUN);
+            let are_right = has_texts(alloc, &bench) && is_right;
+            drop(bench);
+            are_right
+        }
         None => false,
     }
 }

@@ -1,9 +1,8 @@
 //! What no clause says of seats in one thread: that a call for which there was no memory is answered when it is made again, and the others
 //! go on meanwhile. Each test can be run with each of its allocations refused in turn, one in a run.
-use crate::fixtures::{bench_at_last, script_at_last, two_seats};
-use crate::memory_tests::append_answer;
+use crate::fixtures::{bench_at_last, is_accepted, script_at_last, two_seats};
+use crate::memory_tests::has_answers;
 use client_scripts::{Script, run_seat};
-use event_index::Indexed;
 use inverse_log::{Bench, Call, Refusal, SeatRefusal};
 use std::alloc::Global;
 use std::sync::Wait;
@@ -12,20 +11,37 @@ use workspace_lock::Seat;
 // Whether the refused call changed nothing, and the other seat is served.
 fn is_as_before<R: Wait>(rt: &R, other: &mut Seat, before: u64) -> bool {
     let is_unchanged = other.front() == before;
-    let is_refused = other.run(rt, &Call::Undo).is_err();
-    is_unchanged && is_refused && other.front() == before
+    let is_accepted = is_accepted(rt, other, &Call::Undo);
+    is_unchanged && !is_accepted && other.front() == before
+}
+
+// What became of a call.
+#[derive(Clone, Copy)]
+enum Outcome {
+    Done,
+    NoMemory,
+    Refused,
+}
+
+fn outcome_of<R: Wait>(rt: &R, seat: &mut Seat, call: &Call) -> Outcome {
+    let answer = seat.run(rt, call);
+    let outcome = match &answer {
+        Ok(_) => Outcome::Done,
+        Err(SeatRefusal::Bench(Refusal::OutOfMemory)) => Outcome::NoMemory,
+        Err(_) => Outcome::Refused,
+    };
+    drop(answer);
+    outcome
 }
 
 // The call, and if a growth was refused the same again: the first one changed nothing, and the other seat was served
 // meanwhile.
 fn is_done_at_last<R: Wait>(rt: &R, seat: &mut Seat, other: &mut Seat, call: &Call) -> bool {
     let before = other.front();
-    match seat.run(rt, call) {
-        Ok(_) => true,
-        Err(SeatRefusal::Bench(Refusal::OutOfMemory)) => {
-            is_as_before(rt, other, before) && seat.run(rt, call).is_ok()
-        }
-        Err(_) => false,
+    match outcome_of(rt, seat, call) {
+        Outcome::Done => true,
+        Outcome::NoMemory => is_as_before(rt, other, before) && is_accepted(rt, seat, call),
+        Outcome::Refused => false,
     }
 }
 
@@ -34,6 +50,7 @@ fn are_done_at_last<R: Wait>(rt: &R, one: &mut Seat, two: &mut Seat, script: &Sc
     for at in 0..script.len() {
         let call = script.call(at);
         are_done = is_done_at_last(rt, one, two, call.get()) && are_done;
+        drop(call);
     }
     are_done && two.front() == 4
 }
@@ -41,7 +58,11 @@ fn are_done_at_last<R: Wait>(rt: &R, one: &mut Seat, two: &mut Seat, script: &Sc
 fn does_each_at_last<R: Wait>(rt: &R, alloc: Global, one: &mut Seat, two: &mut Seat) -> bool {
     let calls = b"1 new A\n1 add A 0\n1 show A\n1 list\n1 back A\n1 races A\n1 undo\n";
     match script_at_last(alloc, calls) {
-        Some(script) => are_done_at_last(rt, one, two, &script),
+        Some(script) => {
+            let are_done = are_done_at_last(rt, one, two, &script);
+            drop(script);
+            are_done
+        }
         None => false,
     }
 }
@@ -62,63 +83,25 @@ fn refused_memory_changes_nothing(rt: HostRuntime) {
 const SCRIPT: &[u8] =
     b"1 new A\n1 new A\n1 add A 3\n1 add A 1\n1 propose 0 5 3 4\n1 adopt A 0\n1 show A\n1 races A\n1 undo\n1 list\n1 propose 0 5 3\n";
 
-/// The line of a call for which there was no memory.
-const NO_MEMORY: &[u8] = b"refused 56 out of memory";
-
-fn append_no_memory(out: &mut Vec<u8>) -> bool {
-    out.extend_from_slice(b"refused 56 out of memory\n").is_ok()
-}
-
-// Appends what the script is to be told, on a bench of its own: the lines of its calls but those for which there was no memory, as these lines say,
-// and which are not made.
-fn append_told(bench: &mut Bench, script: &Script, lines: &[u8], out: &mut Vec<u8>) -> bool {
-    let mut told = lines.split(|byte| *byte == b'\n');
-    let mut are_told = true;
-    for at in 0..script.len() {
-        let call = script.call(at);
-        let is_appended = if told.next() == Some(NO_MEMORY) {
-            append_no_memory(out)
-        } else {
-            append_answer(bench, script.client(at), call.get(), out)
-        };
-        are_told = is_appended && are_told;
-    }
-    are_told
-}
-
 // A vector with room for all lines of the script, whatever they are.
 fn roomy_at_last(alloc: Global) -> Option<Vec<u8>> {
     match Vec::with_capacity(alloc, 4096) {
         Ok(out) => Some(out),
-        Err(_) => match Vec::with_capacity(alloc, 4096) {
-            Ok(out) => Some(out),
-            Err(_) => None,
-        },
+        Err(_) => Vec::with_capacity(alloc, 4096).ok(),
     }
 }
 
-fn is_told_so(alloc: Global, bench: &mut Bench, script: &Script, lines: &[u8]) -> bool {
-    match roomy_at_last(alloc) {
-        Some(mut out) => append_told(bench, script, lines, &mut out) && out.as_slice() == lines,
-        None => false,
-    }
-}
-
-// The lines of the script, where they have room.
-fn lines_of<R: Wait>(
+// Whether it is told so in this vector, where the lines have room, as on a bench of its own.
+fn is_told_in<R: Wait>(
     rt: &R,
     alloc: Global,
     seat: &mut Seat,
-    indexed: &Indexed,
+    bench: &mut Bench,
     script: &Script,
-) -> Option<Vec<u8>> {
-    match roomy_at_last(alloc) {
-        Some(mut out) => match run_seat(seat, rt, indexed, script, &mut out) {
-            Ok(()) => Some(out),
-            Err(_) => None,
-        },
-        None => None,
-    }
+    out: &mut Vec<u8>,
+) -> bool {
+    let is_run = run_seat(seat, rt, bench.indexed(), script, out).is_ok();
+    is_run && has_answers(alloc, bench, script, out.as_slice())
 }
 
 // Whether a script whose lines have room is told what became of each of its calls, also of one for which there was no memory.
@@ -129,8 +112,8 @@ fn is_each_told<R: Wait>(
     bench: &mut Bench,
     script: &Script,
 ) -> bool {
-    let is_told = match lines_of(rt, alloc, seat, bench.indexed(), script) {
-        Some(lines) => is_told_so(alloc, bench, script, lines.as_slice()),
+    let is_told = match roomy_at_last(alloc) {
+        Some(mut out) => is_told_in(rt, alloc, seat, bench, script, &mut out),
         None => false,
     };
     is_told && seat.turns() == 11
@@ -138,20 +121,28 @@ fn is_each_told<R: Wait>(
 
 // Whether the seat is served.
 fn is_served<R: Wait>(rt: &R, seat: &mut Seat) -> bool {
-    let is_run = seat.run(rt, &Call::List).is_ok() || seat.run(rt, &Call::List).is_ok();
+    let is_run = is_accepted(rt, seat, &Call::List) || is_accepted(rt, seat, &Call::List);
     is_run && seat.turns() > 11
 }
 
 fn tells_each<R: Wait>(rt: &R, alloc: Global, seat: &mut Seat, bench: &mut Bench) -> bool {
     match script_at_last(alloc, SCRIPT) {
-        Some(script) => is_each_told(rt, alloc, seat, bench, &script) && is_served(rt, seat),
+        Some(script) => {
+            let is_each_told = is_each_told(rt, alloc, seat, bench, &script);
+            drop(script);
+            is_each_told && is_served(rt, seat)
+        }
         None => false,
     }
 }
 
 fn tells_each_on<R: Wait>(rt: &R, alloc: Global, seat: &mut Seat) -> bool {
     match bench_at_last(alloc) {
-        Some(mut bench) => tells_each(rt, alloc, seat, &mut bench),
+        Some(mut bench) => {
+            let are_told = tells_each(rt, alloc, seat, &mut bench);
+            drop(bench);
+            are_told
+        }
         None => false,
     }
 }

@@ -1,6 +1,6 @@
 //! What no clause says of seats in two threads: that `front` is answered while another seat has the turn, and no call is; and that what one
 //! thread did before it ended is there for the next, so that neither `front` nor a look is answered from a copy that the seat keeps.
-use crate::fixtures::two_seats;
+use crate::fixtures::{is_accepted, is_reply, two_seats};
 use inverse_log::{Call, Reply};
 use moves::{Command, Name};
 use std::alloc::Global;
@@ -79,28 +79,37 @@ fn gated_call<R: Wait>(rt: &R, mut seat: Seat, call: &Call, signals: &Signals) -
         was_front_told: false,
         has_run_returned: false,
     };
-    let is_done = seat.run_gated(rt, call, &mut gate).is_ok();
+    let is_done = is_reply(seat.run_gated(rt, call, &mut gate));
     let is_gate_right = gate.was_front_told && !gate.has_run_returned;
-    is_done && is_gate_right && seat.front() == 1 && seat.turns() == 1
+    let is_seen = seat.front() == 1 && seat.turns() == 1;
+    drop(seat);
+    is_done && is_gate_right && is_seen
 }
 
 // How many names there are.
 fn names_seen<R: Wait>(rt: &R, seat: &mut Seat) -> Option<u64> {
-    match seat.run(rt, &Call::List) {
+    let call = Call::List;
+    let answer = seat.run(rt, &call);
+    drop(call);
+    let names = match &answer {
         Ok(Reply::Listing(names)) => Some(names.items().len() as u64),
         _ => None,
-    }
+    };
+    drop(answer);
+    names
 }
 
 // What `front` answers while the other seat's turn is held, and how many names there are in the listing that is asked for then.
 fn calls_meanwhile<R: Wait>(rt: &R, mut seat: Seat, signals: &Signals) -> Option<(u64, u64)> {
     if !is_set_soon(rt, &signals.is_held, 500) {
+        drop(seat);
         return None;
     }
     let front = seat.front();
     set(&signals.was_front_told);
     let names = names_seen(rt, &mut seat);
     set(&signals.has_run_returned);
+    drop(seat);
     match names {
         Some(names) => Some((front, names)),
         None => None,
@@ -118,17 +127,22 @@ fn is_turn_held<R: Threads + Wait + Sync>(rt: &R, one: Seat, two: Seat, call: &C
     is_gate_right && seen == Some((0, 1))
 }
 
-// The same, of a call that makes a schedule.
-fn is_turn_held_of<R: Threads + Wait + Sync>(rt: &R, one: Seat, two: Seat) -> bool {
-    match new_schedule() {
-        Some(call) => is_turn_held(rt, one, two, &call),
+fn is_turn_held_behind<R: Threads + Wait + Sync>(
+    rt: &R,
+    alloc: Global,
+    room: u32,
+    call: &Call,
+) -> bool {
+    match two_seats(alloc, Some(room)) {
+        Some((one, two)) => is_turn_held(rt, one, two, call),
         None => false,
     }
 }
 
-fn is_turn_held_behind<R: Threads + Wait + Sync>(rt: &R, alloc: Global, room: u32) -> bool {
-    match two_seats(alloc, Some(room)) {
-        Some((one, two)) => is_turn_held_of(rt, one, two),
+// The same, of a call that makes a schedule.
+fn is_turn_held_of<R: Threads + Wait + Sync>(rt: &R, alloc: Global, room: u32) -> bool {
+    match new_schedule() {
+        Some(call) => is_turn_held_behind(rt, alloc, room, &call),
         None => false,
     }
 }
@@ -137,12 +151,14 @@ fn is_turn_held_behind<R: Threads + Wait + Sync>(rt: &R, alloc: Global, room: u3
 #[test]
 fn front_is_answered_and_no_call_while_another_holds_the_turn(rt: HostRuntime) {
     for room in [1, 32u32] {
-        assert!(rt; is_turn_held_behind(&rt, rt.alloc(), room));
+        assert!(rt; is_turn_held_of(&rt, rt.alloc(), room));
     }
 }
 
 fn one_call<R: Wait>(rt: &R, mut seat: Seat, call: &Call) -> bool {
-    seat.run(rt, call).is_ok()
+    let is_accepted = is_accepted(rt, &mut seat, call);
+    drop(seat);
+    is_accepted
 }
 
 // The first seat makes a call in a thread that has ended. Whether it was accepted.
@@ -179,22 +195,23 @@ fn sees<R: Threads + Wait + Sync>(
     is_done && before == Some(0) && answer(rt, two, asked) == Some(1)
 }
 
-fn sees_a_schedule<R: Threads + Wait + Sync>(
+// The same, behind a door with room for none, which is room for one.
+fn sees_what_was_done<R: Threads + Wait + Sync>(
     rt: &R,
-    one: Seat,
-    two: &mut Seat,
+    alloc: Global,
+    call: &Call,
     asked: Asked,
 ) -> bool {
-    match new_schedule() {
-        Some(call) => sees(rt, one, two, &call, asked),
+    match two_seats(alloc, Some(0)) {
+        Some((one, mut two)) => sees(rt, one, &mut two, call, asked),
         None => false,
     }
 }
 
-// The same, behind a door with room for none, which is room for one.
-fn sees_what_was_done<R: Threads + Wait + Sync>(rt: &R, alloc: Global, asked: Asked) -> bool {
-    match two_seats(alloc, Some(0)) {
-        Some((one, mut two)) => sees_a_schedule(rt, one, &mut two, asked),
+// The same, of a call that makes a schedule.
+fn sees_a_schedule<R: Threads + Wait + Sync>(rt: &R, alloc: Global, asked: Asked) -> bool {
+    match new_schedule() {
+        Some(call) => sees_what_was_done(rt, alloc, &call, asked),
         None => false,
     }
 }
@@ -202,11 +219,11 @@ fn sees_what_was_done<R: Threads + Wait + Sync>(rt: &R, alloc: Global, asked: As
 // The length of what the seat has seen already is an old one.
 #[test]
 fn front_from_a_copy(rt: HostRuntime) {
-    assert!(rt; sees_what_was_done(&rt, rt.alloc(), Asked::Front));
+    assert!(rt; sees_a_schedule(&rt, rt.alloc(), Asked::Front));
 }
 
 // The answer to a look that the seat made before is an old one.
 #[test]
 fn looks_from_a_copy(rt: HostRuntime) {
-    assert!(rt; sees_what_was_done(&rt, rt.alloc(), Asked::Names));
+    assert!(rt; sees_a_schedule(&rt, rt.alloc(), Asked::Names));
 }

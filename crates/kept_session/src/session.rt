@@ -104,7 +104,7 @@ fn open_log<D: Device + Drop>(
 fn begin<D: Device + Drop>(
     alloc: Global,
     mut bench: Bench,
-    mut log: KeptLog<D>,
+    log: KeptLog<D>,
     text: &[u8],
 ) -> Result<Session<D>, (SessionFault, D)>
     requires new { bench.log ≡ [] }
@@ -121,9 +121,29 @@ fn begin<D: Device + Drop>(
     ensures fault { IfErr result (λ e. IsOpenFault bench.trace (head_of D.seen log) (D.seen e.1) e.0) }
     ensures own_trace { IfErr result (λ e. e.0 ≢ OtherTrace) }
 {
-    if let Err(fault) = make_all(alloc, &mut bench, text) {
-        return Err((fault, log.device));
+    match make_all(alloc, &mut bench, text) {
+        Ok(()) => let_go(bench, log),
+        Err(fault) => Err((fault, log.device)),
     }
+}
+
+/// Lets the log's lock go; its lines stand for the log of the bench.
+fn let_go<D: Device + Drop>(
+    bench: Bench,
+    mut log: KeptLog<D>,
+) -> Result<Session<D>, (SessionFault, D)>
+    requires { IsAtWork D.seen D.may_leave bench.trace log bench.log }
+    ensures in_step { IfOk result (λ s. IsInStep D.seen D.may_leave bench.trace s.log s.bench.log) }
+    ensures trace { IfOk result (λ s. s.bench.trace ≡ bench.trace) }
+    ensures head { IfOk result (λ s. head_of D.seen s.log ≡ head_of D.seen log) }
+    ensures free { IfOk result (λ s. D.is_held s.log.device ≡ false) }
+    ensures found { IfOk result (λ s. D.found s.log.device ≡ D.found log.device) }
+    ensures same { IfOk result (λ s. lines_of D.seen s.log ≡ lines_of D.seen log) }
+    ensures found_err { IfErr result (λ e. D.found e.1 ≡ D.found log.device) }
+    ensures seen_err { IfErr result (λ e. D.seen e.1 ≡ D.seen log.device) }
+    ensures fault { IfErr result (λ e. IsOpenFault bench.trace (head_of D.seen log) (D.seen e.1) e.0) }
+    ensures own_trace { IfErr result (λ e. e.0 ≢ OtherTrace) }
+{
     match log.release() {
         Ok(()) => Ok(Session { bench, log }),
         Err(why) => Err((SessionFault::unwritten(why), log.device)),
@@ -173,10 +193,29 @@ impl<D: Device + Drop> Session<D> {
         // 102 is told of a file that does not begin with the head; 101 with the first line that adds no entry.
         ensures fault { IfErr result (λ e. IsOpenFault indexed head.now (D.seen e.1) e.0) }
     {
-        let bench = match new_bench(alloc, indexed) {
-            Ok(bench) => bench,
-            Err(why) => return Err((SessionFault::from(why), device)),
-        };
+        match new_bench(alloc, indexed) {
+            Ok(bench) => Session::open_on(alloc, bench, head, device),
+            Err(why) => Err((SessionFault::from(why), device)),
+        }
+    }
+
+    /// The same on a bench that has made no call.
+    fn open_on(
+        alloc: Global,
+        bench: Bench,
+        head: &[u8],
+        device: D,
+    ) -> Result<Session<D>, (SessionFault, D)>
+        requires new { bench.log ≡ [] }
+        ensures in_step { IfOk result (λ s. IsInStep D.seen D.may_leave bench.trace s.log s.bench.log) }
+        ensures trace { IfOk result (λ s. s.bench.trace ≡ bench.trace) }
+        ensures head { IfOk result (λ s. head_of D.seen s.log ≡ head.now) }
+        ensures free { IfOk result (λ s. D.is_held s.log.device ≡ false) }
+        ensures opened { IfOk result (λ s. IsOpened D.seen D.found head.now device s.log) }
+        ensures back { IfErr result (λ e. IsHandedBack D.seen D.found head.now device e.1) }
+        ensures other_trace { IfErr result (λ e. e.0 ≡ OtherTrace → D.found e.1 ≡ D.seen e.1 ∷ D.found device) }
+        ensures fault { IfErr result (λ e. IsOpenFault bench.trace head.now (D.seen e.1) e.0) }
+    {
         match open_log(alloc, device, head) {
             Ok((log, bytes)) => begin(alloc, bench, log, &bytes[head.len()..]),
             Err(refused) => Err(refused),

@@ -11,9 +11,9 @@ use Rattle.rapid_text.specs.declared.event.Op.TheVariants.{Read}
 use Rattle.least_pairs.specs.Going.{AreMore, HasCandidate, HasOpen, IsSound}
 use Rattle.least_pairs.specs.Lanes.{IsPlain, access_op, kind_at}
 use Rattle.least_pairs.specs.declared.lanes.Lane.{Lane}
-use Rattle.least_pairs.specs.declared.least.Least.{Least}
+use Rattle.least_notes.specs.declared.least.Least.{Least}
 use Rattle.least_pairs.specs.declared.leasts.Search.{Search}
-use Rattle.least_pairs.specs.declared.tries.Between.{Between}
+use Rattle.least_notes.specs.declared.tries.Between.{Between}
 use Rattle.least_pairs.proofs.HeldLemmas.{candidate_stays, open_stays, variable_stays, candidate_later, open_later, variable_later}
 use Rattle.least_pairs.proofs.LaneFacts.{lane_event, lane_rises}
 use Rattle.least_pairs.proofs.SeenLemmas.{at_place}

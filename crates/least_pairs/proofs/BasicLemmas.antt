@@ -1,5 +1,5 @@
 -- The order of pairs, what an access accesses, and rows of the same places.
-use Rattle.std.proofs.Common.{◌≡◌, ℕ, ◌<◌, ◌≤◌, ◌⊎◌, ◌==◌, Bool, true, false, true≢false, List, All, Some, slice_get, refl, sym, ◌∙◌, subst, arith, eq-eqb, eqb-true, inl, inr}
+use Rattle.std.proofs.Common.{◌≡◌, ℕ, ◌<◌, ◌≤◌, ◌⊎◌, ◌==◌, Bool, true, false, true≢false, List, All, Some, slice_get, refl, sym, subst, arith, eq-eqb, eqb-true, inl, inr}
 use Rattle.std.proofs.lemmas.Bool.{cases_order, or_cases, or_left}
 use Rattle.std.proofs.lemmas.List.Elements.{All-get_or}
 use Rattle.std.proofs.lemmas.Option.{get_or_from_slice_get, slice_get_within}
@@ -12,7 +12,7 @@ use Rattle.race_groups.specs.Kinds.{IsRow}
 use Rattle.race_groups.specs.declared.kinds.Row.{Row}
 use Rattle.race_groups.proofs.RowLemmas.{between_one}
 use Rattle.least_pairs.specs.Lanes.{access_op}
-use Rattle.least_pairs.specs.Pairs.{AreAt, IsUpTo}
+use Rattle.least_pairs.specs.Pairs.{AreAt}
 
 pub cases_le : (m n : ℕ) → (m ≤ n) ⊎ (n < m)
 cases_le m n = elim (cases_order m n) [
@@ -20,16 +20,6 @@ cases_le m n = elim (cases_order m n) [
   | inr (inl lt) ↦ inl (omega (arith, lt))
   | inr (inr gt) ↦ inr gt
 ]
-
--- the order of pairs
-pub IsUpTo-refl : (p : ℕ × ℕ) → IsUpTo p p
-IsUpTo-refl p = inr (refl, omega arith)
-
-pub IsUpTo-trans : (p q r : ℕ × ℕ) → IsUpTo p q → IsUpTo q r → IsUpTo p r
-IsUpTo-trans p q r (inl a) (inl b) = inl (omega (arith, a, b))
-IsUpTo-trans p q r (inl a) (inr b) = inl (omega (arith, a, b.0))
-IsUpTo-trans p q r (inr a) (inl b) = inl (omega (arith, a.0, b))
-IsUpTo-trans p q r (inr a) (inr b) = inr (a.0 ∙ b.0, omega (arith, a.1, b.1))
 
 -- a read or a write of a variable accesses it, and no other
 pub access_is : (w : Bool) (x : ℕ) → is_access x (access_op w x) ≡ true

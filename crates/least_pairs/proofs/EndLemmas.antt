@@ -15,11 +15,13 @@ use Rattle.race_groups.specs.Groups.{IsCountOf}
 use Rattle.race_groups.specs.Kinds.{IsRow}
 use Rattle.race_groups.specs.declared.kinds.Row.{Row}
 use Rattle.least_pairs.specs.Going.{AreHeldBelow, AreSoFar}
-use Rattle.least_pairs.specs.Noting.{HoldsTry, IsSoFar}
-use Rattle.least_pairs.specs.Pairs.{AreFirstTries, AreLeasts, HasPair, IsAhead, IsFit, IsLeastPair, IsOf, IsOpenOf, IsPair, IsUpTo, is_access_at}
-use Rattle.least_pairs.specs.declared.least.Least.{Least}
-use Rattle.least_pairs.specs.declared.tries.Between.{Between}
-use Rattle.least_pairs.specs.declared.tries.Try.{Try}
+use Rattle.least_notes.specs.Noting.{HoldsTry}
+use Rattle.least_pairs.specs.Noting.{IsSoFar}
+use Rattle.least_notes.specs.Order.{IsAhead, IsUpTo}
+use Rattle.least_pairs.specs.Pairs.{AreFirstTries, AreLeasts, HasPair, IsFit, IsLeastPair, IsOf, IsOpenOf, IsPair, is_access_at}
+use Rattle.least_notes.specs.declared.least.Least.{Least}
+use Rattle.least_notes.specs.declared.tries.Between.{Between}
+use Rattle.least_notes.specs.declared.tries.Try.{Try}
 use Rattle.least_pairs.specs.declared.wanted.Wanted.TheVariants.{Candidate}
 use Rattle.least_pairs.proofs.FirstLemmas.{named_access}
 use Rattle.least_pairs.proofs.RowLemmas.{no_candidate}

@@ -13,7 +13,6 @@ pub mod AccessLemmas
 pub mod LaneLemmas
 pub mod LinkLemmas
 pub mod StretchLemmas
-pub mod TryLemmas
 pub mod NotingLemmas
 pub mod UseLemmas
 pub mod BetweenLemmas

@@ -20,7 +20,7 @@ use Rattle.race_groups.proofs.ThreadLemmas.{All-before}
 use Rattle.least_pairs.specs.Going.{AreAllTaken, AreSoFar}
 use Rattle.least_pairs.specs.Noting.{IsCounting}
 use Rattle.least_pairs.specs.Pairs.{AreAt, HasPair, IsPair}
-use Rattle.least_pairs.specs.declared.least.Least.{Least}
+use Rattle.least_notes.specs.declared.least.Least.{Least}
 use Rattle.least_pairs.proofs.BasicLemmas.{one_row}
 
 -- what holds of all numbers below an end

@@ -21,11 +21,12 @@ use Rattle.race_groups.specs.declared.class.Class.{Class}
 use Rattle.race_groups.specs.declared.kinds.Row.{Row}
 use Rattle.race_groups.proofs.TellLemmas.{sharing_tells, shared_by_none}
 use Rattle.least_pairs.specs.Going.{AreSoFar, AreMore}
-use Rattle.least_pairs.specs.Noting.{AreTries, HoldsTry, HoldsUp, IsCandidateNoted, IsCounting, IsMore, IsOpenNoted, IsSoFar, IsVariableNoted}
+use Rattle.least_notes.specs.Noting.{AreTries, HoldsTry, HoldsUp, IsCandidateNoted, IsOpenNoted, IsVariableNoted}
+use Rattle.least_pairs.specs.Noting.{IsCounting, IsMore, IsSoFar}
 use Rattle.least_pairs.specs.Pairs.{HasPair, IsFit, IsOpenOf, IsPair, is_access_at}
-use Rattle.least_pairs.specs.declared.least.Least.{Least}
-use Rattle.least_pairs.specs.declared.tries.Between.{Between}
-use Rattle.least_pairs.specs.declared.tries.Try.{Try}
+use Rattle.least_notes.specs.declared.least.Least.{Least}
+use Rattle.least_notes.specs.declared.tries.Between.{Between}
+use Rattle.least_notes.specs.declared.tries.Try.{Try}
 use Rattle.least_pairs.specs.declared.wanted.Wanted.TheVariants.{Candidate, Open}
 
 -- Nothing was found yet.

@@ -11,7 +11,7 @@ use Rattle.least_pairs.specs.Pairs.{IsPair, is_access_at}
 use Rattle.rapid_text.specs.Recording.{Recording}
 use Rattle.race_groups.specs.declared.kinds.Row.{Row}
 use Rattle.least_pairs.specs.Going.{AreMore, IsHeld, IsTaken}
-use Rattle.least_pairs.specs.declared.least.Least.{Least}
+use Rattle.least_notes.specs.declared.least.Least.{Least}
 use Rattle.least_pairs.proofs.HeldLemmas.{candidate_stays, open_stays, variable_stays}
 use Rattle.least_pairs.proofs.WindowLemmas.{only_left}
 

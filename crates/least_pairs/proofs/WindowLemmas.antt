@@ -19,7 +19,7 @@ use Rattle.least_pairs.specs.Lanes.{access_op}
 use Rattle.least_pairs.specs.Pairs.{IsOf, IsPair, is_access_at}
 use Rattle.least_pairs.specs.declared.lanes.Lane.{Lane}
 use Rattle.least_pairs.specs.declared.leasts.Search.{Search}
-use Rattle.least_pairs.specs.declared.tries.Between.{Between}
+use Rattle.least_notes.specs.declared.tries.Between.{Between}
 use Rattle.least_pairs.proofs.LaneFacts.{lane_event, lane_thread}
 use Rattle.least_pairs.proofs.BasicLemmas.{access_is, access_one, cases_le}
 

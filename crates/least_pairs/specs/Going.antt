@@ -17,13 +17,14 @@ use Rattle.race_groups.specs.declared.class.Class.{Class}
 use Rattle.race_groups.specs.declared.kinds.Row.{Row}
 use Rattle.shb_clocks.specs.SharedRows.{len_of}
 use Rattle.least_pairs.specs.Lanes.{IsLane, IsStretch, kind_at}
-use Rattle.least_pairs.specs.Noting.{HoldsTry, HoldsUp, IsMore, IsSoFar}
+use Rattle.least_notes.specs.Noting.{HoldsTry, HoldsUp}
+use Rattle.least_pairs.specs.Noting.{IsMore, IsSoFar}
 use Rattle.least_pairs.specs.Pairs.{AreAt, AreGroups, IsOf, IsPair, is_access_at}
 use Rattle.least_pairs.specs.declared.lanes.Lane.{Lane}
-use Rattle.least_pairs.specs.declared.least.Least.{Least}
+use Rattle.least_notes.specs.declared.least.Least.{Least}
 use Rattle.least_pairs.specs.declared.leasts.Search.{Search}
 use Rattle.least_pairs.specs.declared.stretches.Stretch.{Stretch}
-use Rattle.least_pairs.specs.declared.tries.Between.{Between}
+use Rattle.least_notes.specs.declared.tries.Between.{Between}
 
 -- For each row, what was found so far.
 pub record AreSoFar (r : Recording) (place : ℕ → ℕ) (rows : List Row) (most x : ℕ) (leasts : List Least) : Type 0 where

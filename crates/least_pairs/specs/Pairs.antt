@@ -16,9 +16,10 @@ use Rattle.race_groups.specs.Groups.{is_between, IsCountOf}
 use Rattle.race_groups.specs.Kinds.{IsRow}
 use Rattle.race_groups.specs.declared.class.Class.{Class}
 use Rattle.race_groups.specs.declared.kinds.Row.{Row}
-use Rattle.least_pairs.specs.declared.least.Least.{Least}
-use Rattle.least_pairs.specs.declared.tries.Between.{Between}
-use Rattle.least_pairs.specs.declared.tries.Try.{Try}
+use Rattle.least_notes.specs.Order.{IsAhead, IsUpTo}
+use Rattle.least_notes.specs.declared.least.Least.{Least}
+use Rattle.least_notes.specs.declared.tries.Between.{Between}
+use Rattle.least_notes.specs.declared.tries.Try.{Try}
 use Rattle.least_pairs.specs.declared.wanted.Wanted.{Wanted}
 use Rattle.least_pairs.specs.declared.wanted.Wanted.TheVariants.{Candidate, Open, Any as AnyKind}
 
@@ -51,14 +52,6 @@ pub record IsFit (r : Recording) (place : ℕ → ℕ) (places : ℕ × ℕ) (wa
   pub pair : IsPair r.events a b
   pub at : AreAt place places a b
   pub kind : IsWanted r a b wanted
-
--- p is q, or stands before it: by the later event, and then by the earlier
-abbrev pub IsUpTo : ℕ × ℕ → ℕ × ℕ → Type 0
-IsUpTo p q = (p.0 < q.0) ⊎ ((p.0 ≡ q.0) × (p.1 ≤ q.1))
-
--- p stands before q
-abbrev pub IsAhead : ℕ × ℕ → ℕ × ℕ → Type 0
-IsAhead p q = (p.0 < q.0) ⊎ ((p.0 ≡ q.0) × (p.1 < q.1))
 
 -- the least pair of these places that is of the kind, and none where there is none
 abbrev pub IsLeastPair : Recording → (ℕ → ℕ) → ℕ × ℕ → Wanted → Option (ℕ × ℕ) → Type 0

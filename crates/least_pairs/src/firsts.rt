@@ -2,17 +2,17 @@
 ghost use Rattle.std.specs.Prelude.{◌≡◌, ◌∷◌, ◌++◌, [], ◌⊎◌, ◌≤◌, ℕ, true, filter, All, IfOk, IfSome, List, None, OnOk, Option, Some, length, slice_get, slice_index};
 ghost use Rattle.event_index.specs.Lookups.{before};
 ghost use Rattle.race_groups.specs.declared.kinds.Row.{Row as Counted};
-ghost use Rattle.least_pairs.specs.Noting.{HoldsUp};
+ghost use Rattle.least_notes.specs.Noting.{HoldsUp};
 ghost use Rattle.least_pairs.specs.Pairs.{AreAt, AreGroups, IsLeastPair, IsPair, is_access_at};
 ghost use Rattle.least_pairs.specs.Uses.{AreFirsts, AreFirstsHeld, AreFirstsNoted, AreRuns, AreUses, AreUsesHeld, HoldsBetween, IsAsked, IsBehind, IsFirstHeld, IsPairBetween, IsPairOf, IsUse};
 ghost use Rattle.least_pairs.specs.declared.uses.Use.{Use as Other};
 ghost use Rattle.least_pairs.specs.declared.wanted.Wanted.TheVariants.{Any as AnyKind};
 
 use crate::lanes::accesses_of;
-use crate::tries::{Pair, is_less};
 use crate::uses::{Index, Of, Use, are_of_one_thread, is_writing, note_use, runs_of};
 use event_index::Indexed;
 use indexmap::IndexMap;
+use least_notes::{Pair, is_less};
 use race_groups::{Classes, Groups};
 use rapid_text::OutOfMemory;
 use std::alloc::Global;

@@ -13,14 +13,13 @@ ghost use Rattle.least_pairs.specs.Lanes.{AreLanes, IsLane, IsPlain, IsStretch};
 ghost use Rattle.least_pairs.specs.Noted.{AreTrueNotes};
 ghost use Rattle.least_pairs.specs.Pairs.{AreAt, AreGroups, AreLeasts, IsOf, IsPair, is_access_at};
 ghost use Rattle.least_pairs.specs.declared.lanes.Lane.{Lane as Other};
-ghost use Rattle.least_pairs.specs.declared.least.Least.{Least as Found};
+ghost use Rattle.least_notes.specs.declared.least.Least.{Least as Found};
 
 use crate::lanes::{Lane, accesses_of, lanes_of};
-use crate::least::Least;
 use crate::noted::{Note, Noted};
 use crate::stretches::Stretch;
-use crate::tries::{Between, Try};
 use event_index::Indexed;
+use least_notes::{Between, Least, Try};
 use must_order::Must;
 use race_groups::{Classes, Groups, are_sharing};
 use rapid_text::OutOfMemory;
@@ -139,7 +138,7 @@ impl Search<'_> {
             candidates: Stretch::new(alloc),
             opens: Stretch::new(alloc),
             places: Vec::new(alloc),
-            noted: Noted::new(alloc, self.groups.rows.len())?,
+            noted: Noted::new(alloc, self.places, self.groups.rows.len())?,
         };
         for variable in 0..self.indexed.variables() {
             let of_variable = accesses[variable as usize].as_slice();

@@ -3,16 +3,12 @@
 
 mod firsts;
 mod lanes;
-mod least;
 mod leasts;
 mod noted;
 mod stretches;
-mod tries;
 mod uses;
 mod wanted;
 
 pub use firsts::firsts_of;
-pub use least::Least;
 pub use leasts::leasts_of;
-pub use tries::{Between, Pair, Try};
 pub use wanted::Wanted;

@@ -7,7 +7,10 @@ use rapid_text::OutOfMemory;
 use std::alloc::Global;
 
 // How many are noted at most.
-const MOST: usize = 1_048_576;
+const MOST: usize = 4_194_304;
+
+// How many slots there are at most for each pair of places.
+const SLOTS_A_PAIR: usize = 3;
 
 /// A candidate that was taken in: its variable, the places of its two events, and the later event.
 #[derive(Clone, Copy)]
@@ -30,15 +33,24 @@ const NOTHING: Note = Note {
 #[derive(Drop)]
 pub(crate) struct Noted {
     pub(crate) notes: Vec<Note>,
+    // How many places there are, where each two of them have a slot of their own; else 0.
+    width: usize,
 }
 
 impl Noted {
-    /// Nothing was noted yet; there are so many pairs of places.
-    pub(crate) fn new(alloc: Global, rows: usize) -> Result<Noted, OutOfMemory>
+    /// Nothing was noted yet. `places` has for each event the number of its place, and so many pairs of places conflict.
+    pub(crate) fn new(alloc: Global, places: &[u32], rows: usize) -> Result<Noted, OutOfMemory>
         ensures { IfOk result (λ noted. All IsNothing noted.notes.items) }
     {
+        let width = width_of(places, rows.saturating_mul(SLOTS_A_PAIR).min(MOST));
+        let slots = if width > 0 {
+            width.saturating_mul(width)
+        } else {
+            rows.min(MOST)
+        };
         Ok(Noted {
-            notes: vec![in alloc; NOTHING; rows.min(MOST)]?,
+            notes: vec![in alloc; NOTHING; slots]?,
+            width,
         })
     }
 
@@ -47,7 +59,8 @@ impl Noted {
         ensures { result ≡ true → (n : Other) × Contains self.now.notes.items n × (n.variable ≡ variable) × (n.first ≡ first) × (n.second ≡ second)
             × (n.later < later) }
     {
-        let Some(note) = self.notes.get(slot(first, second, self.notes.len())) else {
+        let at = slot(first, second, self.width, self.notes.len());
+        let Some(note) = self.notes.get(at) else {
             return false;
         };
         note.variable == variable
@@ -60,15 +73,35 @@ impl Noted {
     pub(crate) fn note(&mut self, note: Note)
         ensures { All (λ n. (n ≡ note) ⊎ Contains self.old.notes.items n) self.new.notes.items }
     {
-        let at = slot(note.first, note.second, self.notes.len());
+        let at = slot(note.first, note.second, self.width, self.notes.len());
         if let Some(slot) = self.notes.get_mut(at) {
             *slot = note;
         }
     }
 }
 
-// Where the candidates of two places are noted, in so many slots.
-fn slot(first: u32, second: u32, slots: usize) -> usize {
+// How many places there are, where so many slots are enough for each two of them; else 0.
+fn width_of(places: &[u32], slots: usize) -> usize {
+    let mut last = 0;
+    for place in places {
+        last = last.max(*place);
+    }
+    let width = (last as usize).saturating_add(1);
+    if width.saturating_mul(width) <= slots {
+        width
+    } else {
+        0
+    }
+}
+
+// Where the candidates of two places are noted, in so many slots. What a later event is compared with stands side by side where there is a
+// slot for each two of `width` places.
+fn slot(first: u32, second: u32, width: usize, slots: usize) -> usize {
+    if width > 0 {
+        return (second as usize)
+            .wrapping_mul(width)
+            .wrapping_add(first as usize);
+    }
     let mixed = u64::from(first).wrapping_mul(11_400_714_819_323_198_485) ^ u64::from(second);
     (mixed.wrapping_mul(11_400_714_819_323_198_485) >> 32) as usize % slots.max(1)
 }

@@ -9,8 +9,8 @@ use trace_rules::{Trace, check};
 // Two threads use one lock, and write one variable outside it.
 const ONE_LOCK: &[u8] = b"T1|w(x)|1\nT1|acq(l)|2\nT1|rel(l)|3\nT2|acq(l)|4\nT2|rel(l)|5\nT2|w(x)|6";
 
-// Each call stands in a function of its own, so that no proof carries along what another call promises; and each answer is
-// taken apart by a `match`, since `ok` has the check prove at length how what is left over is dropped.
+// Each call stands in a function of its own, so that no proof carries along what another call promises; and what is left over of its answer is
+// dropped by `ok`, of which it has been proved how it drops what is of any type.
 fn raw_of(alloc: Global) -> Option<RawTrace> {
     match parse(alloc, ONE_LOCK) {
         Ok(raw) => Some(raw),
@@ -19,17 +19,11 @@ fn raw_of(alloc: Global) -> Option<RawTrace> {
 }
 
 fn trace_of(alloc: Global, raw: RawTrace) -> Option<Trace> {
-    match check(alloc, raw) {
-        Ok(trace) => Some(trace),
-        Err(_) => None,
-    }
+    check(alloc, raw).ok()
 }
 
 fn index_of(alloc: Global, trace: Trace) -> Option<Indexed> {
-    match Indexed::new(alloc, trace) {
-        Ok(indexed) => Some(indexed),
-        Err(_) => None,
-    }
+    Indexed::new(alloc, trace).ok()
 }
 
 fn indexed_of(alloc: Global) -> Option<Indexed> {

@@ -71,16 +71,6 @@ fn memory_lists_of_names_and_commands_keep_what_they_have(rt: HostRuntime) {
     assert_eq!(rt; are_lists_kept(rt.alloc()), Some(true));
 }
 
-// The rows with no schedule.
-fn no_rows(alloc: Global) -> Option<Workspace>
-    ensures { IfSome result (λ w. w ≡ []) }
-{
-    match Workspace::empty(alloc) {
-        Ok(rows) => Some(rows),
-        Err(_) => None,
-    }
-}
-
 // Whether the names of the rows are these, told at a second call where memory was wanting at the first.
 fn are_named(rows: &Workspace, alloc: Global, wanted: &[Name]) -> bool {
     match rows.names(alloc) {
@@ -146,10 +136,47 @@ fn taken_back_again(rows: &mut Workspace, indexed: &Indexed, inverse: Inverse) -
     }
 }
 
-// Whether each command is applied, and the drop of a schedule is taken back.
-fn is_dropped_and_back(alloc: Global, indexed: &Indexed, one: Name, two: Name) -> Option<bool> {
-    let board = Board::empty(alloc);
-    let mut rows = no_rows(alloc)?;
+// Whether the command is applied.
+fn is_applied(
+    rows: &mut Workspace,
+    indexed: &Indexed,
+    board: &Board,
+    birth: Birth,
+    command: &Command,
+) -> bool
+    requires of_trace { IsOfTrace indexed.now rows.old }
+    requires board { IsBoardOf indexed.now board.now }
+    requires late { Below birth rows.old }
+    ensures of_trace { IsOfTrace indexed.now rows.new }
+    ensures late { Below (birth + 1) rows.new }
+{
+    match applied_again(rows, indexed, board, birth, command) {
+        Some(_) => true,
+        None => false,
+    }
+}
+
+// Whether these are the rows' names, and each name's schedule has these events.
+fn are_rows(
+    rows: &Workspace,
+    alloc: Global,
+    one: Name,
+    ones: &[u32],
+    two: Name,
+    twos: &[u32],
+) -> bool {
+    are_named(rows, alloc, &[one, two])
+        && has_events(rows, &one, ones)
+        && has_events(rows, &two, twos)
+}
+
+// Makes the schedule of the first name, with one event, and that of the second one from it.
+fn are_made(rows: &mut Workspace, indexed: &Indexed, board: &Board, one: Name, two: Name) -> bool
+    requires board { IsBoardOf indexed.now board.now }
+    requires empty { rows.old ≡ [] }
+    ensures of_trace { IsOfTrace indexed.now rows.new }
+    ensures late { Below (age 0 3) rows.new }
+{
     let fresh = Command::Fresh { name: one };
     let add = Command::Add {
         name: one,
@@ -160,26 +187,50 @@ fn is_dropped_and_back(alloc: Global, indexed: &Indexed, one: Name, two: Name) -
         length: 1,
         to: two,
     };
-    applied_again(&mut rows, indexed, &board, Birth::new(0, 0), &fresh)?;
-    applied_again(&mut rows, indexed, &board, Birth::new(0, 1), &add)?;
-    applied_again(&mut rows, indexed, &board, Birth::new(0, 2), &branch)?;
-    let inverse = applied_again(
-        &mut rows,
-        indexed,
-        &board,
-        Birth::new(0, 3),
-        &Command::Drop { name: one },
-    )?;
-    let is_dropped = are_named(&rows, alloc, &[two]);
-    let is_back = taken_back_again(&mut rows, indexed, inverse);
-    let is_named = are_named(&rows, alloc, &[one, two]);
-    Some(
-        is_dropped
-            && is_back
-            && is_named
-            && has_events(&rows, &one, &[3])
-            && has_events(&rows, &two, &[3]),
-    )
+    let is_fresh = is_applied(rows, indexed, board, Birth::new(0, 0), &fresh);
+    let is_added = is_applied(rows, indexed, board, Birth::new(0, 1), &add);
+    let is_branched = is_applied(rows, indexed, board, Birth::new(0, 2), &branch);
+    is_fresh && is_added && is_branched
+}
+
+// Whether the first name's schedule is dropped, and is back once that is taken back.
+fn is_drop_taken_back(
+    rows: &mut Workspace,
+    indexed: &Indexed,
+    board: &Board,
+    alloc: Global,
+    one: Name,
+    two: Name,
+) -> bool
+    requires of_trace { IsOfTrace indexed.now rows.old }
+    requires board { IsBoardOf indexed.now board.now }
+    requires late { Below (age 0 3) rows.old }
+{
+    let command = Command::Drop { name: one };
+    match applied_again(rows, indexed, board, Birth::new(0, 3), &command) {
+        Some(inverse) => {
+            let is_dropped = are_named(rows, alloc, &[two]);
+            taken_back_again(rows, indexed, inverse) && is_dropped
+        }
+        None => false,
+    }
+}
+
+// Whether each command is applied, and the drop of a schedule is taken back.
+fn is_dropped_and_back(
+    rows: &mut Workspace,
+    indexed: &Indexed,
+    board: &Board,
+    alloc: Global,
+    one: Name,
+    two: Name,
+) -> bool
+    requires board { IsBoardOf indexed.now board.now }
+    requires empty { rows.old ≡ [] }
+{
+    let is_made = are_made(rows, indexed, board, one, two);
+    let is_back = is_drop_taken_back(rows, indexed, board, alloc, one, two);
+    is_made && is_back && are_rows(rows, alloc, one, &[3], two, &[3])
 }
 
 // The same of a batch.
@@ -228,18 +279,38 @@ fn all_taken_back_again(rows: &mut Workspace, indexed: &Indexed, inverses: Inver
     }
 }
 
-// Whether two batches are applied, and the second one is taken back.
-fn are_dropped_and_back(alloc: Global, indexed: &Indexed, one: Name, two: Name) -> Option<bool> {
-    let board = Board::empty(alloc);
-    let mut rows = no_rows(alloc)?;
-    let made = [
-        Command::Fresh { name: one },
-        Command::Add {
-            name: one,
-            event: 3,
-        },
-        Command::Fresh { name: two },
-    ];
+// Whether the first batch is applied.
+fn is_batch_applied(
+    rows: &mut Workspace,
+    indexed: &Indexed,
+    board: &Board,
+    commands: &[Command],
+) -> bool
+    requires of_trace { IsOfTrace indexed.now rows.old }
+    requires board { IsBoardOf indexed.now board.now }
+    requires late { Below (age 0 0) rows.old }
+    requires few { length commands.now < 4294967296 }
+    ensures of_trace { IsOfTrace indexed.now rows.new }
+    ensures late { Below (age 1 0) rows.new }
+{
+    match all_applied_again(rows, indexed, board, 0, commands) {
+        Some(_) => true,
+        None => false,
+    }
+}
+
+fn is_batch_taken_back(
+    rows: &mut Workspace,
+    indexed: &Indexed,
+    board: &Board,
+    alloc: Global,
+    one: Name,
+    two: Name,
+) -> bool
+    requires of_trace { IsOfTrace indexed.now rows.old }
+    requires board { IsBoardOf indexed.now board.now }
+    requires late { Below (age 1 0) rows.old }
+{
     let changed = [
         Command::Drop { name: one },
         Command::Add {
@@ -248,18 +319,38 @@ fn are_dropped_and_back(alloc: Global, indexed: &Indexed, one: Name, two: Name) 
         },
         Command::Fresh { name: one },
     ];
-    all_applied_again(&mut rows, indexed, &board, 0, made.as_slice())?;
-    let inverses = all_applied_again(&mut rows, indexed, &board, 1, changed.as_slice())?;
-    let is_changed = are_named(&rows, alloc, &[two, one]) && has_events(&rows, &two, &[0]);
-    let is_back = all_taken_back_again(&mut rows, indexed, inverses);
-    let is_named = are_named(&rows, alloc, &[one, two]);
-    Some(
-        is_changed
-            && is_back
-            && is_named
-            && has_events(&rows, &one, &[3])
-            && has_events(&rows, &two, &[]),
-    )
+    match all_applied_again(rows, indexed, board, 1, changed.as_slice()) {
+        Some(inverses) => {
+            let is_changed = are_named(rows, alloc, &[two, one]) && has_events(rows, &two, &[0]);
+            all_taken_back_again(rows, indexed, inverses) && is_changed
+        }
+        None => false,
+    }
+}
+
+// Whether two batches are applied, and the second one is taken back.
+fn are_dropped_and_back(
+    rows: &mut Workspace,
+    indexed: &Indexed,
+    board: &Board,
+    alloc: Global,
+    one: Name,
+    two: Name,
+) -> bool
+    requires board { IsBoardOf indexed.now board.now }
+    requires empty { rows.old ≡ [] }
+{
+    let made = [
+        Command::Fresh { name: one },
+        Command::Add {
+            name: one,
+            event: 3,
+        },
+        Command::Fresh { name: two },
+    ];
+    let is_made = is_batch_applied(rows, indexed, board, made.as_slice());
+    let is_back = is_batch_taken_back(rows, indexed, board, alloc, one, two);
+    is_made && is_back && are_rows(rows, alloc, one, &[3], two, &[])
 }
 
 // The schedule of these events; None where memory was wanting.
@@ -300,14 +391,21 @@ fn is_put_up_again(board: &mut Board, indexed: &Indexed, schedule: Schedule) -> 
     }
 }
 
-fn is_on_the_board(alloc: Global, indexed: &Indexed) -> Option<bool> {
-    let schedule = listed_again(alloc, indexed, &[3, 4])?;
-    let mut board = Board::empty(alloc);
-    if !is_put_up_again(&mut board, indexed, schedule) || board.len() != 1 {
-        return Some(false);
+fn is_first_on_the_board(board: &Board) -> bool {
+    if board.len() != 1 {
+        return false;
     }
     let (first, second, schedule) = board.get(0);
-    Some(first == 0 && second == 5 && schedule.events() == [3, 4].as_slice())
+    first == 0 && second == 5 && schedule.events() == [3, 4].as_slice()
+}
+
+fn is_on_the_board(alloc: Global, indexed: &Indexed, board: &mut Board) -> bool {
+    match listed_again(alloc, indexed, &[3, 4]) {
+        Some(schedule) => {
+            is_put_up_again(board, indexed, schedule) && is_first_on_the_board(board)
+        }
+        None => false,
+    }
 }
 
 // What is asked of the trace of one lock.
@@ -318,33 +416,66 @@ enum Question {
     Proposal,
 }
 
-fn is_right_on(alloc: Global, indexed: &Indexed, question: Question) -> Option<bool> {
-    let one = name_of(b'A')?;
-    let two = name_of(b'B')?;
-    match question {
-        Question::Drop => is_dropped_and_back(alloc, indexed, one, two),
-        Question::Batch => are_dropped_and_back(alloc, indexed, one, two),
-        Question::Proposal => is_on_the_board(alloc, indexed),
+// From here down each function owns one thing, and hands it on: how it is dropped is proved once.
+fn is_right_in(
+    alloc: Global,
+    indexed: &Indexed,
+    board: &mut Board,
+    rows: &mut Workspace,
+    question: Question,
+) -> bool
+    requires board { board.old ≡ [] }
+    requires rows { rows.old ≡ [] }
+{
+    match (question, name_of(b'A'), name_of(b'B')) {
+        (Question::Drop, Some(one), Some(two)) => {
+            is_dropped_and_back(rows, indexed, board, alloc, one, two)
+        }
+        (Question::Batch, Some(one), Some(two)) => {
+            are_dropped_and_back(rows, indexed, board, alloc, one, two)
+        }
+        (Question::Proposal, _, _) => is_on_the_board(alloc, indexed, board),
+        _ => false,
     }
 }
 
-// One function owns the index, and makes one call with it: how it is dropped is proved once.
-fn is_right(alloc: Global, question: Question) -> Option<bool> {
-    let indexed = indexed_again(alloc)?;
-    is_right_on(alloc, &indexed, question)
+fn is_right_with(alloc: Global, indexed: &Indexed, board: &mut Board, question: Question) -> bool
+    requires { board.old ≡ [] }
+{
+    match Workspace::empty(alloc) {
+        Ok(mut rows) => is_right_in(alloc, indexed, board, &mut rows, question),
+        Err(_) => false,
+    }
+}
+
+fn is_right_on(alloc: Global, indexed: &Indexed, question: Question) -> bool {
+    let mut board = Board::empty(alloc);
+    is_right_with(alloc, indexed, &mut board, question)
+}
+
+// What is large is dropped by `drop`, of which it has been proved how it drops what is of any type.
+fn is_right(alloc: Global, question: Question) -> bool {
+    match indexed_again(alloc) {
+        Some(indexed) => {
+            let is_right = is_right_on(alloc, &indexed, question);
+            drop(indexed);
+            is_right
+        }
+        None => false,
+    }
 }
 
 #[test]
 fn memory_a_drop_is_taken_back(rt: HostRuntime) {
-    assert_eq!(rt; is_right(rt.alloc(), Question::Drop), Some(true));
+    assert!(rt; is_right(rt.alloc(), Question::Drop));
 }
 
 #[test]
 fn memory_a_batch_is_taken_back_whole(rt: HostRuntime) {
-    assert_eq!(rt; is_right(rt.alloc(), Question::Batch), Some(true));
+    assert!(rt; is_right(rt.alloc(), Question::Batch));
 }
 
 #[test]
 fn memory_a_proposal_is_put_on_the_board(rt: HostRuntime) {
-    assert_eq!(rt; is_right(rt.alloc(), Question::Proposal), Some(true));
+    assert!(rt; is_right(rt.alloc(), Question::Proposal));
 }

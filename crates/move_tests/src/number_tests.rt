@@ -8,16 +8,6 @@ use dependence::{Clients, Touches};
 use moves::{Command, Name};
 use std::alloc::Global;
 
-// No entries under any name.
-fn touches_of(alloc: Global) -> Option<Touches>
-    ensures { IfSome result (λ t. (x : List ℕ) → under t x ≡ []) }
-{
-    match Touches::empty(alloc) {
-        Ok(touches) => Some(touches),
-        Err(_) => None,
-    }
-}
-
 // Whether the entry 3 is under neither name, or under both.
 fn are_under(touches: &Touches, one: &Name, two: &Name, is_there: bool) -> bool {
     let wanted = if is_there { Some(3) } else { None };
@@ -25,39 +15,54 @@ fn are_under(touches: &Touches, one: &Name, two: &Name, is_there: bool) -> bool 
 }
 
 // Whether the entry is put under both names, at a second call where memory was wanting at the first, which changed nothing.
-fn is_put_under_both(alloc: Global, one: Name, two: Name) -> Option<bool> {
-    let mut touches = touches_of(alloc)?;
+fn is_put_under_both(touches: &mut Touches, one: Name, two: Name) -> bool
+    requires { (x : List ℕ) → under touches.old x ≡ [] }
+{
     let branch = Command::Branch {
         name: one,
         length: 1,
         to: two,
     };
     let is_put = touches.push(3, &branch).is_ok()
-        || are_under(&touches, &one, &two, false) && touches.push(3, &branch).is_ok();
-    Some(is_put && are_under(&touches, &one, &two, true))
+        || are_under(touches, &one, &two, false) && touches.push(3, &branch).is_ok();
+    is_put && are_under(touches, &one, &two, true)
 }
 
-fn are_put_under_both(alloc: Global, one: Name, two: Name) -> Option<bool> {
-    let mut touches = touches_of(alloc)?;
+fn are_put_under_both(touches: &mut Touches, one: Name, two: Name) -> bool
+    requires { (x : List ℕ) → under touches.old x ≡ [] }
+{
     let commands = [Command::Fresh { name: one }, Command::Fresh { name: two }];
     let is_put = touches.push_all(3, commands.as_slice()).is_ok()
-        || are_under(&touches, &one, &two, false)
+        || are_under(touches, &one, &two, false)
             && touches.push_all(3, commands.as_slice()).is_ok();
-    Some(is_put && are_under(&touches, &one, &two, true))
+    is_put && are_under(touches, &one, &two, true)
 }
 
-fn are_entries_put(alloc: Global) -> Option<bool> {
-    let one = name_of(b'A')?;
-    let two = name_of(b'B')?;
-    Some(
-        is_put_under_both(alloc, one, two) == Some(true)
-            && are_put_under_both(alloc, one, two) == Some(true),
-    )
+// The same with no entries under any name before, of one command and of two.
+fn is_entry_put(alloc: Global, one: Name, two: Name) -> bool {
+    match Touches::empty(alloc) {
+        Ok(mut touches) => is_put_under_both(&mut touches, one, two),
+        Err(_) => false,
+    }
+}
+
+fn is_batch_put(alloc: Global, one: Name, two: Name) -> bool {
+    match Touches::empty(alloc) {
+        Ok(mut touches) => are_put_under_both(&mut touches, one, two),
+        Err(_) => false,
+    }
+}
+
+fn are_entries_put(alloc: Global) -> bool {
+    match (name_of(b'A'), name_of(b'B')) {
+        (Some(one), Some(two)) => is_entry_put(alloc, one, two) && is_batch_put(alloc, one, two),
+        _ => false,
+    }
 }
 
 #[test]
 fn memory_an_entry_is_put_under_all_names_or_none(rt: HostRuntime) {
-    assert_eq!(rt; are_entries_put(rt.alloc()), Some(true));
+    assert!(rt; are_entries_put(rt.alloc()));
 }
 
 fn clients_of(alloc: Global) -> Option<Clients>
@@ -78,14 +83,22 @@ fn clients_again(alloc: Global) -> Option<Clients>
     }
 }
 
-fn is_put_to_a_client(alloc: Global) -> Option<bool> {
-    let mut clients = clients_again(alloc)?;
+fn is_put_in(clients: &mut Clients) -> bool
+    requires { (c : ℕ) → of_client clients.old c ≡ [] }
+{
     let is_put = clients.push(32, 3).is_ok()
         || clients.last(32).is_none() && clients.push(32, 3).is_ok();
-    Some(is_put && clients.last(32) == Some(3) && clients.last(31).is_none())
+    is_put && clients.last(32) == Some(3) && clients.last(31).is_none()
+}
+
+fn is_put_to_a_client(alloc: Global) -> bool {
+    match clients_again(alloc) {
+        Some(mut clients) => is_put_in(&mut clients),
+        None => false,
+    }
 }
 
 #[test]
 fn memory_an_entry_is_put_to_its_client(rt: HostRuntime) {
-    assert_eq!(rt; is_put_to_a_client(rt.alloc()), Some(true));
+    assert!(rt; is_put_to_a_client(rt.alloc()));
 }

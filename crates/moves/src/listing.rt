@@ -116,12 +116,29 @@ impl Listing {
         let mut copy = Listing::new(alloc, *self.births.hasher());
         for at in 0..self.len() {
             let (name, row) = self.row_of_trace_at(indexed, at);
-            let row = copy_of_row(row, alloc, indexed)?;
-            let Ok(()) = copy.put(name, row) else {
-                return Err(OutOfMemory);
-            };
+            copy.put_copy(alloc, indexed, name, row)?;
         }
         Ok(copy)
+    }
+
+    // Puts a copy of a row behind all others.
+    fn put_copy(
+        &mut self,
+        alloc: Global,
+        indexed: &Indexed,
+        name: Name,
+        row: &Row,
+    ) -> Result<(), OutOfMemory>
+        requires of_trace { row.now.schedule.trace ≡ indexed.now }
+        requires fresh { row_of self.old name ≡ None }
+        requires free { IsFree self.old name (Some row.now) }
+        ensures { OnOk result (self.new ≡ put_in name row.now self.old) }
+    {
+        let row = copy_of_row(row, alloc, indexed)?;
+        match self.put(name, row) {
+            Ok(()) => Ok(()),
+            Err(_) => Err(OutOfMemory),
+        }
     }
 
     /// Whether the name has a row.

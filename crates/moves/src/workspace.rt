@@ -1,5 +1,5 @@
 //! The workspace: named schedules, in the order in which they were made.
-ghost use Rattle.std.specs.Prelude.{◌≡◌, ◌+◌, ◌<◌, ℕ, [], length, slice_get, option_map, Some, None, false, OnOk, OnErr, IsOk, IfOk, IfErr, IfSome, IfNone};
+ghost use Rattle.std.specs.Prelude.{◌≡◌, ◌+◌, ◌<◌, ◌≤◌, ℕ, [], length, vec_len, vec_capacity, slice_get, option_map, Some, None, false, OnOk, OnErr, IsOk, IfOk, IfErr, IfSome, IfNone};
 ghost use Rattle.moves.specs.declared.row.Row.{Row as RowValue};
 ghost use Rattle.moves.specs.Rows.{Rows, row_of, IsListing, IsOfTrace, Below, names_of};
 ghost use Rattle.moves.specs.Boards.{IsBoardOf};
@@ -202,15 +202,57 @@ impl Workspace {
         requires few { length commands.now < 4294967296 }
         ensures { IsAppliedAll indexed.now board.now (age entry 0) commands.now self.old self.new result }
     {
-        let Ok(mut items) = Vec::with_capacity(self.alloc, commands.len()) else {
+        let Ok(items) = Vec::with_capacity(self.alloc, commands.len()) else {
             return Err(BatchRefusal::OutOfMemory);
         };
         if batch::builds_up(commands) {
             return batch::run_here(self, items, indexed, board, entry, commands);
         }
-        let Ok(mut copy) = self.copied(indexed) else {
-            return Err(BatchRefusal::OutOfMemory);
-        };
+        self.run_apart(items, indexed, board, entry, commands)
+    }
+
+    // On a copy.
+    fn run_apart(
+        &mut self,
+        items: Vec<Inverse>,
+        indexed: &Indexed,
+        board: &Board,
+        entry: u64,
+        commands: &[Command],
+    ) -> Result<Inverses, BatchRefusal>
+        requires of_trace { IsOfTrace indexed.now self.old }
+        requires board { IsBoardOf indexed.now board.now }
+        requires late { Below (age entry 0) self.old }
+        requires few { length commands.now < 4294967296 }
+        requires none { items.items ≡ [] }
+        requires room { vec_len items + length commands.now ≤ vec_capacity items }
+        ensures { IsAppliedAll indexed.now board.now (age entry 0) commands.now self.old self.new result }
+    {
+        match self.copied(indexed) {
+            Ok(copy) => self.run_on(copy, items, indexed, board, entry, commands),
+            Err(_) => Err(BatchRefusal::OutOfMemory),
+        }
+    }
+
+    // On this copy.
+    fn run_on(
+        &mut self,
+        mut copy: Workspace,
+        mut items: Vec<Inverse>,
+        indexed: &Indexed,
+        board: &Board,
+        entry: u64,
+        commands: &[Command],
+    ) -> Result<Inverses, BatchRefusal>
+        requires of_trace { IsOfTrace indexed.now self.old }
+        requires board { IsBoardOf indexed.now board.now }
+        requires late { Below (age entry 0) self.old }
+        requires few { length commands.now < 4294967296 }
+        requires copy { copy ≡ self.old }
+        requires none { items.items ≡ [] }
+        requires room { vec_len items + length commands.now ≤ vec_capacity items }
+        ensures { IsAppliedAll indexed.now board.now (age entry 0) commands.now self.old self.new result }
+    {
         batch::run(&mut copy, &mut items, indexed, board, entry, commands)?;
         *self = copy;
         Ok(Inverses { items })
@@ -277,14 +319,34 @@ impl Workspace {
         ensures err { OnErr result (self.new ≡ self.old) }
         ensures back { IfErr result (λ refused. refused.0 ≡ inverses) }
     {
-        let Ok(mut copy) = self.copied(indexed) else {
-            return Err((inverses, OutOfMemory));
-        };
-        let Ok(()) = batch::turn_back(&mut copy, self.alloc, indexed, &inverses.items) else {
-            return Err((inverses, OutOfMemory));
-        };
-        *self = copy;
-        Ok(())
+        match self.copied(indexed) {
+            Ok(copy) => self.turn_on(copy, indexed, inverses),
+            Err(_) => Err((inverses, OutOfMemory)),
+        }
+    }
+
+    // On this copy.
+    fn turn_on(
+        &mut self,
+        mut copy: Workspace,
+        indexed: &Indexed,
+        inverses: Inverses,
+    ) -> Result<(), (Inverses, OutOfMemory)>
+        requires of_trace { IsOfTrace indexed.now self.old }
+        requires steps { AreOfTrace indexed.now inverses }
+        requires fits { CanTurnAll inverses self.old }
+        requires copy { copy ≡ self.old }
+        ensures ok { OnOk result (IsTurnedAll inverses self.old self.new) }
+        ensures err { OnErr result (self.new ≡ self.old) }
+        ensures back { IfErr result (λ refused. refused.0 ≡ inverses) }
+    {
+        match batch::turn_back(&mut copy, self.alloc, indexed, &inverses.items) {
+            Ok(()) => {
+                *self = copy;
+                Ok(())
+            }
+            Err(_) => Err((inverses, OutOfMemory)),
+        }
     }
 
     // A workspace of its own with the same rows.

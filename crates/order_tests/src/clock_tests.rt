@@ -2,7 +2,7 @@
 //! is memory; in worked examples, of other limits than the program asks for, and of pairs that are turned round.
 ghost use Rattle.std.specs.Prelude.{◌≡◌};
 
-use crate::fixtures::{ONE_LOCK, TWO_PAIRS, clocks_of};
+use crate::fixtures::{ONE_LOCK, TWO_PAIRS};
 use crate::questions::{Question, first_wrong};
 use event_index::Indexed;
 use shb_clocks::Clocks;
@@ -61,17 +61,31 @@ fn is_slice(
     }
 }
 
+fn is_told_with(
+    alloc: Global,
+    clocks: &Clocks,
+    indexed: &Indexed,
+    question: Question,
+) -> Option<bool>
+    requires { clocks.now ≡ indexed.now }
+{
+    match question {
+        Question::Ordered(pairs) => Some(are_ordered(clocks, indexed, pairs)),
+        Question::Candidates(limit, wanted) => are_first(alloc, clocks, indexed, limit, wanted),
+        Question::Slice(pair, wanted) => is_slice(alloc, clocks, indexed, pair, wanted),
+        _ => Some(false),
+    }
+}
+
+// It owns the clocks and makes one call with them: how they are dropped is proved once.
 pub(crate) fn is_told_by_clocks(
     alloc: Global,
     indexed: &Indexed,
     question: Question,
 ) -> Option<bool> {
-    let clocks = clocks_of(alloc, indexed)?;
-    match question {
-        Question::Ordered(pairs) => Some(are_ordered(&clocks, indexed, pairs)),
-        Question::Candidates(limit, wanted) => are_first(alloc, &clocks, indexed, limit, wanted),
-        Question::Slice(pair, wanted) => is_slice(alloc, &clocks, indexed, pair, wanted),
-        _ => Some(false),
+    match Clocks::new(alloc, indexed) {
+        Ok(clocks) => is_told_with(alloc, &clocks, indexed, question),
+        Err(_) => None,
     }
 }
 

@@ -1,11 +1,6 @@
-//! What the tests start from: traces told by texts, and what is made of a trace.
-ghost use Rattle.std.specs.Prelude.{◌≡◌, IfSome};
-
+//! What the tests start from: traces told by texts.
 use event_index::Indexed;
-use in_order::Acquires;
-use must_order::Must;
 use rapid_text::{RawTrace, parse};
-use shb_clocks::Clocks;
 use std::alloc::Global;
 use trace_rules::{Trace, check};
 
@@ -17,8 +12,8 @@ pub(crate) const ONE_LOCK: &[u8] =
 pub(crate) const TWO_PAIRS: &[u8] = b"T1|w(x)|1\nT2|r(x)|2\nT2|w(z)|3\nT1|w(z)|4";
 
 // The trace that a text tells; None where memory was wanting. Each call stands in a function of its own, so that no proof carries along
-// what another call promises; and each answer is taken apart by a `match`, since `ok` has the check prove at length how what is left over is
-// dropped.
+// what another call promises; and where a second answer is left over it is dropped by `ok`, of which it has been proved how it drops what is
+// of any type.
 fn raw_of(alloc: Global, text: &[u8]) -> Option<RawTrace> {
     match parse(alloc, text) {
         Ok(raw) => Some(raw),
@@ -30,10 +25,7 @@ fn raw_of(alloc: Global, text: &[u8]) -> Option<RawTrace> {
 fn trace_of(alloc: Global, raw: RawTrace) -> Option<Trace> {
     match check(alloc, raw) {
         Ok(trace) => Some(trace),
-        Err((raw, _)) => match check(alloc, raw) {
-            Ok(trace) => Some(trace),
-            Err(_) => None,
-        },
+        Err((raw, _)) => check(alloc, raw).ok(),
     }
 }
 
@@ -41,40 +33,10 @@ fn trace_of(alloc: Global, raw: RawTrace) -> Option<Trace> {
 fn index_of(alloc: Global, trace: Trace) -> Option<Indexed> {
     match Indexed::new(alloc, trace) {
         Ok(indexed) => Some(indexed),
-        Err((trace, _)) => match Indexed::new(alloc, trace) {
-            Ok(indexed) => Some(indexed),
-            Err(_) => None,
-        },
+        Err((trace, _)) => Indexed::new(alloc, trace).ok(),
     }
 }
 
 pub(crate) fn indexed_of(alloc: Global, text: &[u8]) -> Option<Indexed> {
     index_of(alloc, trace_of(alloc, raw_of(alloc, text)?)?)
-}
-
-pub(crate) fn clocks_of(alloc: Global, indexed: &Indexed) -> Option<Clocks>
-    ensures { IfSome result (λ c. c ≡ indexed.now) }
-{
-    match Clocks::new(alloc, indexed) {
-        Ok(clocks) => Some(clocks),
-        Err(_) => None,
-    }
-}
-
-pub(crate) fn must_of(alloc: Global, indexed: &Indexed) -> Option<Must>
-    ensures { IfSome result (λ must. must ≡ indexed.now) }
-{
-    match Must::new(alloc, indexed) {
-        Ok(must) => Some(must),
-        Err(_) => None,
-    }
-}
-
-pub(crate) fn acquires_of(alloc: Global, indexed: &Indexed) -> Option<Acquires>
-    ensures { IfSome result (λ acquires. acquires ≡ indexed.now) }
-{
-    match Acquires::new(alloc, indexed) {
-        Ok(acquires) => Some(acquires),
-        Err(_) => None,
-    }
 }

@@ -1,10 +1,9 @@
 //! What no clause says of must-before: that its calls answer where there is memory, and so that of a list's size, which is told by it.
 ghost use Rattle.std.specs.Prelude.{◌≡◌};
 
-use crate::fixtures::{acquires_of, must_of};
 use crate::questions::{Question, first_wrong};
 use event_index::Indexed;
-use in_order::{InOrderRefusal, in_order_size};
+use in_order::{Acquires, InOrderRefusal, in_order_size};
 use must_order::{Chain, Must, Reason};
 use std::alloc::Global;
 
@@ -60,6 +59,24 @@ fn is_reasoned(alloc: Global, must: &Must, indexed: &Indexed) -> Option<bool>
     }
 }
 
+fn is_sized_by(
+    alloc: Global,
+    must: &Must,
+    acquires: &Acquires,
+    indexed: &Indexed,
+    pair: (u32, u32),
+    wanted: (u32, u32),
+) -> Option<bool>
+    requires must { must.now ≡ indexed.now }
+    requires acquires { acquires.now ≡ indexed.now }
+{
+    match in_order_size(alloc, indexed, must, acquires, pair.0, pair.1) {
+        Ok(size) => Some(size == wanted),
+        Err(InOrderRefusal::OutOfMemory) => None,
+        Err(_) => Some(false),
+    }
+}
+
 // Whether the list of the pair has so many events of so many threads.
 fn is_sized(
     alloc: Global,
@@ -70,25 +87,32 @@ fn is_sized(
 ) -> Option<bool>
     requires { must.now ≡ indexed.now }
 {
-    let acquires = acquires_of(alloc, indexed)?;
-    match in_order_size(alloc, indexed, must, &acquires, pair.0, pair.1) {
-        Ok(size) => Some(size == wanted),
-        Err(InOrderRefusal::OutOfMemory) => None,
-        Err(_) => Some(false),
+    match Acquires::new(alloc, indexed) {
+        Ok(acquires) => is_sized_by(alloc, must, &acquires, indexed, pair, wanted),
+        Err(_) => None,
     }
 }
 
+fn is_told_with(alloc: Global, must: &Must, indexed: &Indexed, question: Question) -> Option<bool>
+    requires { must.now ≡ indexed.now }
+{
+    match question {
+        Question::Held(event, locks) => are_held(alloc, must, indexed, event, locks),
+        Question::Reasons => is_reasoned(alloc, must, indexed),
+        Question::Size(pair, wanted) => is_sized(alloc, must, indexed, pair, wanted),
+        _ => Some(false),
+    }
+}
+
+// It owns must-before and makes one call with it: how that is dropped is proved once.
 pub(crate) fn is_told_by_must(
     alloc: Global,
     indexed: &Indexed,
     question: Question,
 ) -> Option<bool> {
-    let must = must_of(alloc, indexed)?;
-    match question {
-        Question::Held(event, locks) => are_held(alloc, &must, indexed, event, locks),
-        Question::Reasons => is_reasoned(alloc, &must, indexed),
-        Question::Size(pair, wanted) => is_sized(alloc, &must, indexed, pair, wanted),
-        _ => Some(false),
+    match Must::new(alloc, indexed) {
+        Ok(must) => is_told_with(alloc, &must, indexed, question),
+        Err(_) => None,
     }
 }
 

@@ -77,9 +77,16 @@ fn is_answered_on(alloc: Global, indexed: &Indexed, question: Question) -> Optio
     }
 }
 
+// What is large is dropped by `drop`, of which it has been proved how it drops what is of any type.
 fn is_answered(alloc: Global, text: &[u8], question: Question) -> Option<bool> {
-    let indexed = indexed_of(alloc, text)?;
-    is_answered_on(alloc, &indexed, question)
+    match indexed_of(alloc, text) {
+        Some(indexed) => {
+            let answer = is_answered_on(alloc, &indexed, question);
+            drop(indexed);
+            answer
+        }
+        None => None,
+    }
 }
 
 fn is_answered_again(alloc: Global, text: &[u8], question: Question) -> bool {

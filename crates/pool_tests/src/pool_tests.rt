@@ -14,42 +14,50 @@ use std::sync::atomic::{AtomicBool, Ordering};
 use std::sync::{Arc, Wait};
 use std::thread;
 use std::thread::Threads;
-use trace_rules::check;
+use trace_rules::{Trace, check};
 use witness_search::SliceRefusal;
 
 // Two threads use one lock, and write one variable outside it.
 const ONE_LOCK: &[u8] = b"T1|w(x)|1\nT1|acq(l)|2\nT1|rel(l)|3\nT2|acq(l)|4\nT2|rel(l)|5\nT2|w(x)|6";
 
-fn indexed_of(alloc: Global, text: &[u8]) -> Option<Indexed> {
-    let raw = match parse(alloc, text) {
-        Ok(raw) => raw,
-        Err(_) => return None,
-    };
-    let trace = match check(alloc, raw) {
-        Ok(trace) => trace,
-        Err(_) => return None,
-    };
-    match Indexed::new(alloc, trace) {
-        Ok(indexed) => Some(indexed),
+// What is large is dropped here by `ok` and `drop`, of which it has been proved how they drop what is of any type; and each function owns as
+// little as it can: the check proves of each, and at each way out of it, how all that is owned there is dropped.
+fn trace_of(alloc: Global, text: &[u8]) -> Option<Trace> {
+    match parse(alloc, text) {
+        Ok(raw) => check(alloc, raw).ok(),
         Err(_) => None,
     }
 }
 
-// The index of the trace and its clocks, to be shared.
-fn shared_of(alloc: Global, text: &[u8]) -> Option<(Arc<Indexed>, Arc<Clocks>)>
-    ensures { IfSome result (λ both. arc_value both.1 ≡ arc_value both.0) }
+fn indexed_of(alloc: Global, text: &[u8]) -> Option<Indexed> {
+    match trace_of(alloc, text) {
+        Some(trace) => Indexed::new(alloc, trace).ok(),
+        None => None,
+    }
+}
+
+fn shared_of(alloc: Global, text: &[u8]) -> Option<Arc<Indexed>> {
+    match indexed_of(alloc, text) {
+        Some(indexed) => Arc::new(alloc, indexed).ok(),
+        None => None,
+    }
+}
+
+fn shared_clocks(alloc: Global, clocks: Clocks) -> Option<Arc<Clocks>>
+    ensures { IfSome result (λ shared. arc_value shared ≡ clocks) }
 {
-    let indexed = indexed_of(alloc, text)?;
-    let clocks = match Clocks::new(alloc, &indexed) {
-        Ok(clocks) => clocks,
-        Err(_) => return None,
-    };
-    let indexed = match Arc::new(alloc, indexed) {
-        Ok(indexed) => indexed,
-        Err(_) => return None,
-    };
     match Arc::new(alloc, clocks) {
-        Ok(clocks) => Some((indexed, clocks)),
+        Ok(shared) => Some(shared),
+        Err(_) => None,
+    }
+}
+
+// The clocks of the index, to be shared.
+fn clocks_of(alloc: Global, indexed: &Indexed) -> Option<Arc<Clocks>>
+    ensures { IfSome result (λ clocks. arc_value clocks ≡ indexed.now) }
+{
+    match Clocks::new(alloc, indexed) {
+        Ok(clocks) => shared_clocks(alloc, clocks),
         Err(_) => None,
     }
 }
@@ -96,6 +104,36 @@ fn flag_of(alloc: Global, is_set: bool) -> Option<Arc<AtomicBool>> {
     }
 }
 
+fn pool_on<R: Threads + Wait + Clone + Send + Drop + 'static>(
+    rt: &R,
+    alloc: Global,
+    indexed: Arc<Indexed>,
+    gates: Vec<Holds>,
+) -> Option<Result<Pool<Holds>, StartRefusal>> {
+    match clocks_of(alloc, &indexed) {
+        Some(clocks) => Some(Pool::start(rt, alloc, indexed, clocks, gates)),
+        None => {
+            drop(indexed);
+            drop(gates);
+            None
+        }
+    }
+}
+
+fn pool_behind<R: Threads + Wait + Clone + Send + Drop + 'static>(
+    rt: &R,
+    alloc: Global,
+    gates: Vec<Holds>,
+) -> Option<Result<Pool<Holds>, StartRefusal>> {
+    match shared_of(alloc, ONE_LOCK) {
+        Some(indexed) => pool_on(rt, alloc, indexed, gates),
+        None => {
+            drop(gates);
+            None
+        }
+    }
+}
+
 // A pool of so many workers on the trace.
 fn pool_of<R: Threads + Wait + Clone + Send + Drop + 'static>(
     rt: &R,
@@ -103,9 +141,10 @@ fn pool_of<R: Threads + Wait + Clone + Send + Drop + 'static>(
     count: u32,
     is_open: &Arc<AtomicBool>,
 ) -> Option<Result<Pool<Holds>, StartRefusal>> {
-    let (indexed, clocks) = shared_of(alloc, ONE_LOCK)?;
-    let gates = gates_of(alloc, count, is_open)?;
-    Some(Pool::start(rt, alloc, indexed, clocks, gates))
+    match gates_of(alloc, count, is_open) {
+        Some(gates) => pool_behind(rt, alloc, gates),
+        None => None,
+    }
 }
 
 fn is_refused<R: Threads + Wait + Clone + Send + Drop + 'static>(

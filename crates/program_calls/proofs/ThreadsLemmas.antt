@@ -1,15 +1,15 @@
 -- What the steps of `threads` say of the whole.
-use Rattle.std.proofs.Common.{◌≡◌, ◌⊎◌, ℕ, suc, length, arith, List, Bool, false, is_err, OnOk, Option, Result, Ok, Err, refl, subst, sym, ap, ◌∙◌, inl, inr}
+use Rattle.std.proofs.Common.{◌≡◌, ◌⊎◌, ℕ, suc, length, arith, List, Bool, true, false, IfOk, IfErr, Option, Result, Ok, Err, refl, subst, sym, ap, ◌∙◌, inl, inr}
 use Rattle.rapid_text.specs.Recording.{Recording}
 use Rattle.client_scripts.specs.Replay.{IsFault, IsShort, of_trace}
 use Rattle.client_scripts.specs.Steps.{IsInput}
 use Rattle.client_scripts.specs.Traces.{trace_of}
 use Rattle.client_scripts.specs.declared.fault.ReplayFault.{ReplayFault}
-use Rattle.client_scripts.specs.declared.fault.ReplayFault.TheVariants.{Read, OutOfMemory}
+use Rattle.client_scripts.specs.declared.fault.ReplayFault.TheVariants.{Read, Write, OutOfMemory}
 use Rattle.client_scripts.specs.declared.fault.ReadCause.TheVariants.{Device}
 use Rattle.client_scripts.proofs.CallerLemmas.{input-fault, load-fault}
 use Rattle.program_calls.specs.ScriptInputs.{IsFirstFault, IsScriptFault, IsTold}
-use Rattle.program_calls.specs.Threads.{StopsRun}
+use Rattle.program_calls.specs.Threads.{IsRunFault, StopsRun}
 use Rattle.program_calls.specs.declared.fault.BenchFault.{BenchFault}
 use Rattle.program_calls.specs.declared.fault.BenchFault.TheVariants.{Replay}
 
@@ -32,10 +32,21 @@ pub loaded : (bytes read : List ℕ) (trace : Recording) → read ≡ bytes → 
 loaded bytes read trace same (inl e) = absurd (cc e)
 loaded bytes read trace same (inr h) = ap trace_of (sym same) ∙ h
 
--- what holds of an `Ok` holds where there is no error
-pub where_no_err : {A E P : Type 0} (r : Result A E) → is_err r ≡ false → OnOk r P → P
-where_no_err (Ok a) none h = h
-where_no_err (Err e) none h = absurd (cc none)
+pub loads : (rest : Option (List ℕ)) (bytes read : List ℕ) (r : Result Recording ReplayFault) → read ≡ bytes → IsShort bytes → IsTold rest bytes
+    → (r ≡ Err OutOfMemory) ⊎ (trace_of read ≡ r)
+    → IfOk r (λ trace. (told : List ℕ) × IsTold rest told × IsShort told × (trace_of told ≡ Ok trace))
+loads rest bytes read (Ok trace) same short told h = (bytes, told, short, loaded bytes read trace same h)
+loads rest bytes read (Err fault) same short told h = tt
+
+-- and what was not loaded is at fault
+pub stopped-loads : (rest : Option (List ℕ)) (bytes read : List ℕ) (r : Result Recording ReplayFault) → read ≡ bytes → IsShort bytes → IsTold rest bytes
+    → (r ≡ Err OutOfMemory) ⊎ (trace_of read ≡ r)
+    → IfErr r (λ fault. (rests : List (Option (List ℕ))) (workers : ℕ) (failed : Bool) → StopsRun rest rests workers failed (Replay fault))
+stopped-loads rest bytes read (Ok trace) same short told h = tt
+stopped-loads rest bytes read (Err fault) same short told (inl memory) =
+    λ rests workers failed. stopped-load rest rests workers failed bytes fault short told (inl (cc memory))
+stopped-loads rest bytes read (Err fault) same short told (inr is) =
+    λ rests workers failed. stopped-load rest rests workers failed bytes fault short told (inr (ap trace_of (sym same) ∙ is))
 
 -- one answer has one fault
 pub err_is : {A E : Type 0} (a b : E) (r : Result A E) → r ≡ Err a → r ≡ Err b → a ≡ b
@@ -47,3 +58,17 @@ pub not_the_trace : (rests : List (Option (List ℕ))) (fault : BenchFault) → 
 not_the_trace rests fault h e =
     let place = subst (λ f. IsScriptFault (suc (length h.before)) h.rest f) e h.at_fault in
     absurd (omega (arith, place))
+
+-- why a run on a trace that was read stopped
+abbrev pub StopsRead : List (Option (List ℕ)) → ℕ → Bool → BenchFault → Type 0
+StopsRead rests workers failed fault = ((fault ≡ Replay Write) × (failed ≡ true)) ⊎ IsRunFault workers fault ⊎ IsFirstFault rests fault
+
+module _ (rest : Option (List ℕ)) (rests : List (Option (List ℕ))) (workers : ℕ) (failed : Bool) (bytes : List ℕ) (trace : Recording) where
+  stopped-read : (fault : BenchFault) → IsTold rest bytes → IsShort bytes → trace_of bytes ≡ Ok trace → StopsRead rests workers failed fault → StopsRun rest rests workers failed fault
+  stopped-read fault told short is (inl write) = inr (inl write)
+  stopped-read fault told short is (inr (inl run)) = inr (inr (inl run))
+  stopped-read fault told short is (inr (inr first)) = stopped-scripts rest rests workers failed bytes trace fault short told is first
+
+  pub stopped-all : {A : Type 0} (r : Result A BenchFault) → IsTold rest bytes → IsShort bytes → trace_of bytes ≡ Ok trace → IfErr r (StopsRead rests workers failed) → IfErr r (StopsRun rest rests workers failed)
+  stopped-all (Ok a) told short is h = tt
+  stopped-all (Err fault) told short is h = stopped-read fault told short is h

@@ -3,6 +3,7 @@ ghost use Rattle.std.specs.Prelude.{◌≡◌, ◌≢◌, ℕ, List, false, true
 ghost use Rattle.client_scripts.specs.declared.fault.ReadCause.{ReadCause};
 ghost use Rattle.client_scripts.specs.declared.fault.ReadCause.TheVariants.{Device};
 ghost use Rattle.client_scripts.specs.declared.fault.ReplayFault.TheVariants.{Write, Read};
+ghost use Rattle.client_scripts.specs.Replay.{IsShort};
 ghost use Rattle.program_calls.specs.Info.{AppendsCandidates, IsInfo, IsWritten};
 ghost use Rattle.program_calls.specs.declared.fault.BenchFault.TheVariants.{Replay};
 
@@ -45,6 +46,25 @@ fn write_info<K: Sink>(alloc: Global, indexed: &Indexed, writer: &mut K) -> Resu
     Ok(())
 }
 
+/// Writes what the trace of a text holds.
+fn info_of<K: Sink>(alloc: Global, text: &[u8], writer: &mut K) -> Result<(), BenchFault>
+    requires short { IsShort text.now }
+    requires writer { K.has_failed writer.old ≡ false }
+    ensures info { IsInfo text.now (K.taken writer.old) (K.taken writer.new) result }
+    ensures input { (input : ℕ) (why : ReadCause) → result ≢ Err (Replay (Read input why)) }
+    ensures write { result ≡ Err (Replay Write) → K.has_failed writer.new ≡ true }
+    ensures write_failed { K.has_failed writer.new ≡ true → result ≡ Err (Replay Write) }
+{
+    let indexed = match load(alloc, text) {
+        Ok(indexed) => indexed,
+        Err(fault) => return Err(BenchFault::Replay(fault)),
+    };
+    match write_info(alloc, &indexed, writer) {
+        Ok(()) => Ok(()),
+        Err(fault) => Err(BenchFault::Replay(fault)),
+    }
+}
+
 /// Reads a trace text, whole, and writes how many events, threads, variables and locks the trace has, for
 /// each thread its number, its name and the number of its events, and the first 1,000 candidates for races.
 ///
@@ -69,16 +89,8 @@ pub fn info<S: Source, K: Sink>(
     ensures write { result ≡ Err (Replay Write) → K.has_failed writer.new ≡ true }
     ensures write_failed { K.has_failed writer.new ≡ true → result ≡ Err (Replay Write) }
 {
-    let bytes = match read_input(alloc, reader, 1) {
-        Ok(bytes) => bytes,
-        Err(fault) => return Err(BenchFault::Replay(fault)),
-    };
-    let indexed = match load(alloc, &bytes) {
-        Ok(indexed) => indexed,
-        Err(fault) => return Err(BenchFault::Replay(fault)),
-    };
-    match write_info(alloc, &indexed, writer) {
-        Ok(()) => Ok(()),
+    match read_input(alloc, reader, 1) {
+        Ok(bytes) => info_of(alloc, &bytes, writer),
         Err(fault) => Err(BenchFault::Replay(fault)),
     }
 }

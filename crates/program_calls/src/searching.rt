@@ -114,10 +114,12 @@ fn propose<R: Wait>(rt: &R, seat: &mut Seat, found: Found) -> Result<(), OutOfMe
         second,
         events,
     };
-    match seat.run(rt, &call) {
+    let outcome = match seat.run(rt, &call) {
         Err(SeatRefusal::Bench(Refusal::OutOfMemory)) => Err(OutOfMemory),
         _ => Ok(()),
-    }
+    };
+    drop(call);
+    outcome
 }
 
 /// Proposes the witnesses for these pairs as they come.

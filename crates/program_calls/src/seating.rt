@@ -154,9 +154,21 @@ fn append_log(seats: Seats, out: &mut Vec<u8>) -> Result<(), OutOfMemory>
     ensures { OnOk result ((bench : Benched) × Closes seats bench × (out.new.items ≡ out.old.items ++ log_text bench.log)) }
 {
     match seats.close() {
-        Ok(bench) => report::log(&bench, out),
-        Err(_) => Err(OutOfMemory),
+        Ok(bench) => append_log_of(bench, out),
+        Err((seats, _)) => {
+            drop(seats);
+            Err(OutOfMemory)
+        }
     }
+}
+
+/// The log of a bench that is done with.
+fn append_log_of(bench: Bench, out: &mut Vec<u8>) -> Result<(), OutOfMemory>
+    ensures { OnOk result (out.new.items ≡ out.old.items ++ log_text bench.log) }
+{
+    let outcome = report::log(&bench, out);
+    drop(bench);
+    outcome
 }
 
 /// A bench of the trace with an empty log, and a seat for each of so many clients behind a door with so much room.
@@ -169,10 +181,32 @@ fn open_seats(
 ) -> Result<Seats, OutOfMemory>
     ensures { IfOk result (λ s. Opened (fresh_bench (arc_value indexed.now)) clients s) }
 {
-    let theirs = Arc::try_clone(indexed)?;
-    let Ok(bench) = Bench::keyed(alloc, theirs, names) else {
-        return Err(OutOfMemory);
-    };
+    match Arc::try_clone(indexed) {
+        Ok(theirs) => open_on(alloc, theirs, names, clients, room),
+        Err(_) => Err(OutOfMemory),
+    }
+}
+
+/// The same on a share of the trace.
+fn open_on(
+    alloc: Global,
+    indexed: Arc<Indexed, Global>,
+    names: TextKeyed,
+    clients: u32,
+    room: u32,
+) -> Result<Seats, OutOfMemory>
+    ensures { IfOk result (λ s. Opened (fresh_bench (arc_value indexed)) clients s) }
+{
+    match Bench::keyed(alloc, indexed, names) {
+        Ok(bench) => open_at(alloc, bench, clients, room),
+        Err(_) => Err(OutOfMemory),
+    }
+}
+
+/// The same at a bench.
+fn open_at(alloc: Global, bench: Bench, clients: u32, room: u32) -> Result<Seats, OutOfMemory>
+    ensures { IfOk result (λ s. Opened bench clients s) }
+{
     match open_with_room(alloc, bench, clients, room) {
         Ok(seats) => Ok(seats),
         Err(_) => Err(OutOfMemory),

@@ -1,16 +1,21 @@
 //! Runs several scripts on one trace at once: reads all texts, runs the scripts, and writes what they were told.
-ghost use Rattle.std.specs.Prelude.{◌≡◌, ◌<◌, ◌≤◌, ℕ, List, All, false, true, map, vec_len, IfErr, OnErr, OnOk, Err};
+ghost use Rattle.std.specs.Prelude.{◌≡◌, ◌≢◌, ◌⊎◌, ◌<◌, ◌≤◌, ℕ, List, Option, Bool, All, false, true, map, vec_len, IfErr, IfOk, OnErr, OnOk, Ok, Err};
 ghost use Rattle.std.specs.Io.KnownBytes.{Appends};
+ghost use Rattle.script_language.specs.Scripts.{Asked};
+ghost use Rattle.client_scripts.specs.Replay.{IsShort};
+ghost use Rattle.client_scripts.specs.Traces.{trace_of};
 ghost use Rattle.client_scripts.specs.declared.fault.ReplayFault.TheVariants.{Write, Read};
 ghost use Rattle.client_scripts.specs.declared.fault.ReadCause.TheVariants.{Device};
-ghost use Rattle.program_calls.specs.ScriptInputs.{IsTold};
-ghost use Rattle.program_calls.specs.Threads.{RunsTogether, StopsRun};
+ghost use Rattle.program_calls.specs.ScriptInputs.{AreScripts, IsFirstFault, IsTold};
+ghost use Rattle.program_calls.specs.Threads.{IsRunFault, RunsTogether, StopsRun};
+ghost use Rattle.program_calls.specs.Told.{AreTold};
 ghost use Rattle.program_calls.specs.declared.fault.BenchFault.TheVariants.{Replay, TooManyScripts};
 
 use crate::fault::BenchFault;
-use crate::inputs::{MAX_SCRIPTS, read_scripts};
+use crate::inputs::{MAX_SCRIPTS, Scripts, read_scripts};
 use crate::seating::run_scripts;
 use client_scripts::{ReplayFault, Sink, Source, load, read_input, write_all};
+use event_index::Indexed;
 use std::alloc::Global;
 use std::sync::Wait;
 use std::thread::Threads;
@@ -61,27 +66,95 @@ pub fn threads_with_room<
     if scripts.len() > MAX_SCRIPTS {
         return Err(BenchFault::TooManyScripts);
     }
-    let text = match read_input(alloc, trace, 1) {
-        Ok(text) => text,
-        Err(fault) => return Err(BenchFault::Replay(fault)),
-    };
-    let indexed = match load(alloc, &text) {
-        Ok(indexed) => indexed,
-        Err(fault) => return Err(BenchFault::Replay(fault)),
-    };
-    let read = match read_scripts(alloc, scripts) {
-        Ok(read) => read,
-        Err(fault) => return Err(fault),
-    };
-    let names = read.keyed();
-    let told = match run_scripts(rt, alloc, indexed, names, read.scripts, workers, room) {
-        Ok(told) => told,
-        Err(fault) => return Err(fault),
-    };
-    if write_all(writer, &told).is_err() {
-        return Err(BenchFault::Replay(ReplayFault::Write));
+    match trace_from(alloc, trace) {
+        Ok(indexed) => run_on(rt, alloc, indexed, scripts, workers, room, writer),
+        Err(fault) => Err(BenchFault::Replay(fault)),
     }
-    Ok(())
+}
+
+/// Reads a trace, whole, and makes its tables.
+fn trace_from<S: Source>(alloc: Global, trace: &mut S) -> Result<Indexed, ReplayFault>
+    requires { S.has_failed trace.old ≡ false }
+    ensures loaded { IfOk result (λ indexed. (bytes : List ℕ) × IsTold (S.rest trace.old) bytes × IsShort bytes × (trace_of bytes ≡ Ok indexed)) }
+    ensures device { result ≡ Err (Read 1 Device) → S.has_failed trace.new ≡ true }
+    ensures read_failed { S.has_failed trace.new ≡ true → result ≡ Err (Read 1 Device) }
+    ensures fault { IfErr result (λ fault. (rests : List (Option (List ℕ))) (workers : ℕ) (failed : Bool)
+        → StopsRun (S.rest trace.old) rests workers failed (Replay fault)) }
+{
+    match read_input(alloc, trace, 1) {
+        Ok(text) => load(alloc, &text),
+        Err(fault) => Err(fault),
+    }
+}
+
+/// Runs scripts, which are read first, on a trace, and writes what they were told.
+fn run_on<R: Threads + Wait + Sync + Clone + Send + Drop + 'static, Q: Source + Drop, K: Sink>(
+    rt: &R,
+    alloc: Global,
+    indexed: Indexed,
+    scripts: Vec<Q>,
+    workers: u32,
+    room: u32,
+    writer: &mut K,
+) -> Result<(), BenchFault>
+    requires scripts { All (λ q. Q.has_failed q ≡ false) scripts.items }
+    requires some { (0 < vec_len scripts) × (vec_len scripts ≤ 31) }
+    requires workers { workers ≤ 16 }
+    requires writer { K.has_failed writer.old ≡ false }
+    ensures unwritten { OnErr result (K.has_failed writer.new ≡ false → K.taken writer.new ≡ K.taken writer.old) }
+    ensures write_failed { K.has_failed writer.new ≡ true → result ≡ Err (Replay Write) }
+    ensures device { result ≢ Err (Replay (Read 1 Device)) }
+    ensures told { OnOk result ((asked : List (List Asked)) × AreScripts 1 (map (λ q. Q.rest q) scripts.items) asked
+        × (text : List ℕ) × AreTold indexed asked workers text × Appends (K.taken writer.old) (K.taken writer.new) text) }
+    ensures few { result ≢ Err TooManyScripts }
+    ensures fault { IfErr result (λ fault. ((fault ≡ Replay Write) × (K.has_failed writer.new ≡ true))
+        ⊎ IsRunFault workers fault ⊎ IsFirstFault (map (λ q. Q.rest q) scripts.items) fault) }
+{
+    match read_scripts(alloc, scripts) {
+        Ok(read) => run_read(rt, alloc, indexed, read, workers, room, writer),
+        Err(fault) => {
+            drop(indexed);
+            Err(fault)
+        }
+    }
+}
+
+/// The same of scripts that were read.
+fn run_read<R: Threads + Wait + Sync + Clone + Send + Drop + 'static, K: Sink>(
+    rt: &R,
+    alloc: Global,
+    indexed: Indexed,
+    read: Scripts,
+    workers: u32,
+    room: u32,
+    writer: &mut K,
+) -> Result<(), BenchFault>
+    requires some { (0 < vec_len read.scripts) × (vec_len read.scripts ≤ 31) }
+    requires workers { workers ≤ 16 }
+    requires writer { K.has_failed writer.old ≡ false }
+    ensures unwritten { OnErr result (K.has_failed writer.new ≡ false → K.taken writer.new ≡ K.taken writer.old) }
+    ensures write_failed { K.has_failed writer.new ≡ true → result ≡ Err (Replay Write) }
+    ensures told { OnOk result ((text : List ℕ) × AreTold indexed read.scripts.items workers text × Appends (K.taken writer.old) (K.taken writer.new) text) }
+    ensures fault { IfErr result (λ fault. ((fault ≡ Replay Write) × (K.has_failed writer.new ≡ true)) ⊎ IsRunFault workers fault) }
+{
+    let names = read.keyed();
+    match run_scripts(rt, alloc, indexed, names, read.scripts, workers, room) {
+        Ok(told) => write_told(&told, writer),
+        Err(fault) => Err(fault),
+    }
+}
+
+/// Writes what the scripts were told.
+fn write_told<K: Sink>(told: &[u8], writer: &mut K) -> Result<(), BenchFault>
+    requires { K.has_failed writer.old ≡ false }
+    ensures told { OnOk result (Appends (K.taken writer.old) (K.taken writer.new) told.now) }
+    ensures write_failed { K.has_failed writer.new ≡ true → result ≡ Err (Replay Write) }
+    ensures fault { IfErr result (λ fault. (fault ≡ Replay Write) × (K.has_failed writer.new ≡ true)) }
+{
+    match write_all(writer, told) {
+        Ok(()) => Ok(()),
+        Err(_) => Err(BenchFault::Replay(ReplayFault::Write)),
+    }
 }
 
 /// The same with the room that is fastest.

@@ -5,9 +5,8 @@ ghost use Rattle.std.specs.Prelude.{◌≤◌};
 use client_scripts::{FromRead, FromWrite, ReadCause, ReplayFault, ScriptCause, ScriptRefusal};
 use program_calls::{BenchFault, bench_fault_text, info, threads};
 use rapid_text::{TextCause, TextRefusal};
-use std::alloc::{AllocError, Global};
+use std::alloc::Global;
 use std::sync::Wait;
-use std::test::Fail;
 use std::thread::Threads;
 use trace_rules::{RuleCause, RuleRefusal};
 
@@ -19,27 +18,25 @@ const ONE_LOCK: &[u8] =
 const TWO_PAIRS: &[u8] =
     b"events 4\nthreads 2\nvariables 2\nlocks 0\nthread 0 T1 2\nthread 1 T2 2\ncandidates 2\ncandidate 0 1 x\ncandidate 2 3 z\n";
 
-/// What `info` answers of a text, with what it has written.
-fn info_of(alloc: Global, text: &[u8]) -> (Result<(), BenchFault>, Vec<u8>) {
+/// Whether `info` answers this of a text, and has written just this.
+fn info_gives(alloc: Global, text: &[u8], wanted: Result<(), BenchFault>, output: &[u8]) -> bool {
     let mut written = Vec::new(alloc);
     let answer = info(
         alloc,
         &mut FromRead::new(text),
         &mut FromWrite::new(&mut written),
     );
-    (answer, written)
+    answer == wanted && written.as_slice() == output
 }
 
 /// Whether `info` has written just this.
 fn prints(alloc: Global, text: &[u8], wanted: &[u8]) -> bool {
-    let (answer, written) = info_of(alloc, text);
-    answer == Ok(()) && written.as_slice() == wanted
+    info_gives(alloc, text, Ok(()), wanted)
 }
 
 /// Whether `info` answers this fault, and has written nothing.
 fn stops(alloc: Global, text: &[u8], wanted: ReplayFault) -> bool {
-    let (answer, written) = info_of(alloc, text);
-    answer == Err(BenchFault::Replay(wanted)) && written.is_empty()
+    info_gives(alloc, text, Err(BenchFault::Replay(wanted)), b"")
 }
 
 #[test]
@@ -63,29 +60,46 @@ fn what_a_trace_holds(rt: HostRuntime) {
     assert!(rt; stops(rt.alloc(), b"T1|acq(l)|\nT2|acq(l)|", held));
 }
 
-/// What `threads` answers of one script on a trace, beside so many workers, with what it has written.
+/// What `threads` answers of one script on a trace, beside so many workers; none where there is no memory for the script.
 fn threads_of<R: Threads + Wait + Sync + Clone + Send + Drop + 'static>(
     rt: &R,
     alloc: Global,
     trace: &[u8],
     script: &[u8],
     workers: u32,
-) -> Result<(Result<(), BenchFault>, Vec<u8>), AllocError>
+    written: &mut Vec<u8>,
+) -> Option<Result<(), BenchFault>>
     requires { workers ≤ 16 }
 {
-    let mut trace = FromRead::new(trace);
     let mut scripts = Vec::new(alloc);
-    scripts.push(FromRead::new(script))?;
+    match scripts.push(FromRead::new(script)) {
+        Ok(()) => Some(threads(
+            rt,
+            alloc,
+            &mut FromRead::new(trace),
+            scripts,
+            workers,
+            &mut FromWrite::new(written),
+        )),
+        Err(_) => None,
+    }
+}
+
+/// Whether `threads` answers this beside so many workers, and has written just this.
+fn threads_write<R: Threads + Wait + Sync + Clone + Send + Drop + 'static>(
+    rt: &R,
+    alloc: Global,
+    trace: &[u8],
+    script: &[u8],
+    workers: u32,
+    wanted: Result<(), BenchFault>,
+    text: &[u8],
+) -> bool
+    requires { workers ≤ 16 }
+{
     let mut written = Vec::new(alloc);
-    let answer = threads(
-        rt,
-        alloc,
-        &mut trace,
-        scripts,
-        workers,
-        &mut FromWrite::new(&mut written),
-    );
-    Ok((answer, written))
+    let answer = threads_of(rt, alloc, trace, script, workers, &mut written);
+    answer == Some(wanted) && written.as_slice() == text
 }
 
 /// Whether `threads` answers this without workers, and has written just this.
@@ -96,10 +110,7 @@ fn threads_give<R: Threads + Wait + Sync + Clone + Send + Drop + 'static>(
     wanted: Result<(), BenchFault>,
     text: &[u8],
 ) -> bool {
-    match threads_of(rt, alloc, ONE_LOCK, script, 0) {
-        Ok((answer, written)) => answer == wanted && written.as_slice() == text,
-        Err(_) => false,
-    }
+    threads_write(rt, alloc, ONE_LOCK, script, 0, wanted, text)
 }
 
 /// A script that is refused.
@@ -131,10 +142,7 @@ fn worker_gives<R: Threads + Wait + Sync + Clone + Send + Drop + 'static>(
     script: &[u8],
     text: &[u8],
 ) -> bool {
-    match threads_of(rt, alloc, trace, script, 1) {
-        Ok((answer, written)) => answer == Ok(()) && written.as_slice() == text,
-        Err(_) => false,
-    }
+    threads_write(rt, alloc, trace, script, 1, Ok(()), text)
 }
 
 #[test]
@@ -146,16 +154,28 @@ fn a_worker_slices_and_a_further_client_proposes(rt: HostRuntime) {
     assert!(rt; worker_gives(&rt, rt.alloc(), ONE_LOCK, b"1 new A\n", alone));
 }
 
-/// Whether the fault's text and its message are these.
-fn is_told(alloc: Global, fault: BenchFault, wanted: &str) -> Result<bool, Fail> {
+/// Whether the fault's text is this.
+fn is_text(alloc: Global, fault: &BenchFault, wanted: &str) -> bool {
     let mut text = Vec::new(alloc);
-    bench_fault_text(&fault, &mut text)?;
-    let message = format!(in alloc; "{fault}")?;
-    Ok(text.as_slice() == wanted.as_bytes() && message.as_str() == wanted)
+    let is_written = bench_fault_text(fault, &mut text).is_ok();
+    is_written && text.as_slice() == wanted.as_bytes()
+}
+
+/// Whether its message is this.
+fn is_message(alloc: Global, fault: &BenchFault, wanted: &str) -> bool {
+    match format!(in alloc; "{fault}") {
+        Ok(message) => message.as_str() == wanted,
+        Err(_) => false,
+    }
+}
+
+/// Whether the fault's text and its message are these.
+fn is_told(alloc: Global, fault: &BenchFault, wanted: &str) -> bool {
+    is_text(alloc, fault, wanted) && is_message(alloc, fault, wanted)
 }
 
 #[test]
-fn texts_of_faults(rt: HostRuntime) -> Result<(), Fail> {
+fn texts_of_faults(rt: HostRuntime) {
     let unread = BenchFault::Replay(ReplayFault::Read {
         input: 3,
         why: ReadCause::Device,
@@ -167,16 +187,15 @@ fn texts_of_faults(rt: HostRuntime) -> Result<(), Fail> {
             why: ScriptCause::BadClient,
         },
     };
-    assert!(rt; is_told(rt.alloc(), unread, "read failed")?);
-    assert!(rt; is_told(rt.alloc(), second, "script 2 line 12: 83 bad client")?);
+    assert!(rt; is_told(rt.alloc(), &unread, "read failed"));
+    assert!(rt; is_told(rt.alloc(), &second, "script 2 line 12: 83 bad client"));
     assert!(rt;
         is_told(
             rt.alloc(),
-            refused(0, ScriptCause::OutOfMemory),
+            &refused(0, ScriptCause::OutOfMemory),
             "out of memory"
-        )?
+        )
     );
-    assert!(rt; is_told(rt.alloc(), BenchFault::NoThread, "no thread")?);
-    assert!(rt; is_told(rt.alloc(), BenchFault::TooManyScripts, "too many scripts")?);
-    Ok(())
+    assert!(rt; is_told(rt.alloc(), &BenchFault::NoThread, "no thread"));
+    assert!(rt; is_told(rt.alloc(), &BenchFault::TooManyScripts, "too many scripts"));
 }

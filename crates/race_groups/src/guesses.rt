@@ -3,35 +3,39 @@ use crate::class::Class;
 use rapid_text::OutOfMemory;
 use std::alloc::Global;
 
-// How many guesses there are at most. Below 1,448 places each pair of them has its own.
-const MOST: usize = 1_048_576;
+// How many guesses there are at most. Below 1,449 places each two of them have their own, in either order.
+const MOST: usize = 2_097_152;
 
 /// Where rows were found, the last one for each slot. A guess is compared with the row before it is believed, so that a wrong
 /// one costs a look-up and nothing else.
 #[derive(Drop)]
 pub(crate) struct Guesses {
     rows: Vec<u32>,
+    // How many places there are.
+    width: usize,
 }
 
 impl Guesses {
     /// Room for the pairs of the classes' places.
     pub(crate) fn new(alloc: Global, infos: &[Class]) -> Result<Guesses, OutOfMemory> {
-        let last = last_place(infos);
-        let size = pair_number((last, last)).saturating_add(1).min(MOST);
+        let width = (last_place(infos) as usize).saturating_add(1);
+        let size = width.saturating_mul(width).min(MOST);
         Ok(Guesses {
             rows: vec![in alloc; 0u32; size]?,
+            width,
         })
     }
 
-    /// Where the row of the two places may stand, the lesser first.
-    pub(crate) fn guess(&self, places: (u32, u32)) -> Option<usize> {
-        let row = self.rows.as_slice().get(slot(places))?;
+    /// Where the row of the places of an earlier and a later event may stand.
+    pub(crate) fn guess(&self, earlier: u32, later: u32) -> Option<usize> {
+        let row = self.rows.as_slice().get(slot(earlier, later, self.width))?;
         Some(*row as usize)
     }
 
     /// Notes where it stands.
-    pub(crate) fn note(&mut self, places: (u32, u32), at: usize) {
-        if let Some(row) = self.rows.as_mut_slice().get_mut(slot(places)) {
+    pub(crate) fn note(&mut self, earlier: u32, later: u32, at: usize) {
+        let slot = slot(earlier, later, self.width);
+        if let Some(row) = self.rows.as_mut_slice().get_mut(slot) {
             *row = u32::try_from(at).unwrap_or(0);
         }
     }
@@ -46,12 +50,10 @@ fn last_place(infos: &[Class]) -> u32 {
     last
 }
 
-fn slot(places: (u32, u32)) -> usize {
-    pair_number(places) % MOST
-}
-
-// The number of the pair among those in rising order of the greater place, and then of the lesser.
-fn pair_number(places: (u32, u32)) -> usize {
-    let second = places.1 as usize;
-    (second.wrapping_mul(second + 1) / 2).wrapping_add(places.0 as usize)
+// What a later event is counted with stands side by side.
+fn slot(earlier: u32, later: u32, width: usize) -> usize {
+    let number = (later as usize)
+        .wrapping_mul(width)
+        .wrapping_add(earlier as usize);
+    number % MOST
 }

@@ -62,7 +62,7 @@ impl Groups {
             → is_between row.places.0 row.places.1 first second ≡ false }
     {
         let places = ordered(first, second);
-        if let Some(at) = self.guesses.guess(places) {
+        if let Some(at) = self.guesses.guess(first, second) {
             if is_row(self.rows.as_slice(), at, places) {
                 return Some(at);
             }
@@ -85,7 +85,9 @@ fn is_row(rows: &[Row], at: usize, places: (u32, u32)) -> bool
 fn guesses_of(alloc: Global, classes: &Classes, rows: &[Row]) -> Result<Guesses, OutOfMemory> {
     let mut guesses = Guesses::new(alloc, classes.infos.as_slice())?;
     for at in 0..rows.len() {
-        guesses.note(rows[at].places, at);
+        let places = rows[at].places;
+        guesses.note(places.0, places.1, at);
+        guesses.note(places.1, places.0, at);
     }
     Ok(guesses)
 }

@@ -98,7 +98,7 @@ pub(crate) fn add(
     ensures rows { OnOk result (AreRows rows.new) }
 {
     let key = ordered(first, second);
-    match guessed_at(rows, guesses, key) {
+    match guessed_at(rows, guesses, first, second, key) {
         Some(at) => grow(rows, at, more),
         None => {
             rows.insert(key, more)?;
@@ -107,18 +107,24 @@ pub(crate) fn add(
     Ok(())
 }
 
-// Where the row of a pair of places stands, the lesser first. It is looked up only where it was not guessed.
-fn guessed_at(rows: &Rows, guesses: &mut Guesses, places: (u32, u32)) -> Option<usize>
+// Where the row of the places of an earlier and a later event stands. It is looked up only where it was not guessed.
+fn guessed_at(
+    rows: &Rows,
+    guesses: &mut Guesses,
+    earlier: u32,
+    later: u32,
+    places: (u32, u32),
+) -> Option<usize>
     ensures found { IfSome result (λ at. (v : Sums) × (slice_get rows.now.entries at ≡ Some (places, v)) × (get same_places rows.now places ≡ Some v)) }
     ensures none { result ≡ None → get same_places rows.now places ≡ None }
 {
-    if let Some(at) = guesses.guess(places) {
+    if let Some(at) = guesses.guess(earlier, later) {
         if is_at(rows, at, places) {
             return Some(at);
         }
     }
     let at = row_at(rows, places)?;
-    guesses.note(places, at);
+    guesses.note(earlier, later, at);
     Some(at)
 }
 

@@ -1,15 +1,17 @@
 //! Accesses as objects.
-ghost use Rattle.std.specs.Prelude.{◌≡◌, ◌<◌, ◌++◌, ◌∷◌, [], IfOk, OnOk, length, map};
+ghost use Rattle.std.specs.Prelude.{◌≡◌, ◌<◌, ◌++◌, ◌∷◌, [], codes, IfOk, OnOk, length, map};
 ghost use Rattle.rapid_text.specs.Canonical.{name_at};
 ghost use Rattle.rapid_text.specs.Recording.{IsNamedOp};
-ghost use Rattle.serde_json.specs.View.{view};
+ghost use Rattle.serde_json.specs.Data.{Data, object, put as with_member};
+ghost use Rattle.serde_json.specs.View.{members_view, view};
 ghost use Rattle.race_triage.specs.Texts.{held_locks};
-ghost use Rattle.race_json.specs.Objects.{access_at, access_object, accesses, lock_names, op_name, op_word, text};
+ghost use Rattle.race_json.specs.Objects.{access_at, access_object, accesses, lock_names, op_name, op_word};
 
+use crate::members::{object_with, put_number, put_text, put_word, text_of};
 use event_index::Indexed;
 use must_order::Must;
 use rapid_text::{Op, OutOfMemory, RawTrace};
-use serde_json::{Value, json};
+use serde_json::{Map, Value};
 use std::alloc::{AllocError, Global};
 
 /// The two accesses of a pair.
@@ -85,14 +87,41 @@ fn named(
 ) -> Result<Value, AllocError>
     ensures { IfOk result (λ access. view access ≡ access_object event (view holds) location.now operation.now thread.now variable.now) }
 {
-    json!(in alloc; {
-        "event": event,
-        "thread": text_of(alloc, thread)?,
-        "operation": operation,
-        "variable": text_of(alloc, variable)?,
-        "location": text_of(alloc, location)?,
-        "holds": holds
-    })
+    let mut members = Map::new(alloc);
+    match put_names(
+        &mut members,
+        alloc,
+        event,
+        location,
+        operation,
+        thread,
+        variable,
+    ) {
+        Ok(()) => object_with(alloc, members, "holds", holds),
+        Err(refused) => Err(refused),
+    }
+}
+
+/// Puts the members of an access but the locks that its thread holds.
+fn put_names(
+    members: &mut Map<String, Value>,
+    alloc: Global,
+    event: u32,
+    location: &[u8],
+    operation: &str,
+    thread: &[u8],
+    variable: &[u8],
+) -> Result<(), AllocError>
+    requires { members.old.entries ≡ [] }
+    ensures { OnOk result ((holds : Data) → object (with_member (codes "holds") holds (members_view members.new.entries))
+        ≡ access_object event holds location.now operation.now thread.now variable.now) }
+{
+    put_number(members, alloc, "event", u64::from(event))?;
+    put_text(members, alloc, "thread", thread)?;
+    put_word(members, alloc, "operation", operation)?;
+    put_text(members, alloc, "variable", variable)?;
+    put_text(members, alloc, "location", location)?;
+    Ok(())
 }
 
 /// The names of the locks that the event's thread holds before it.
@@ -127,13 +156,6 @@ fn lock_name(indexed: &Indexed, lock: u32) -> &[u8]
     } else {
         b""
     }
-}
-
-/// Bytes from outside as a text: what is no UTF-8 becomes U+FFFD.
-fn text_of(alloc: Global, bytes: &[u8]) -> Result<Value, AllocError>
-    ensures { IfOk result (λ value. view value ≡ text bytes.now) }
-{
-    Ok(Value::String(String::from_utf8_lossy(alloc, bytes)?))
 }
 
 fn word_of(op: Op) -> &'static str

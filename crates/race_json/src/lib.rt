@@ -3,6 +3,7 @@
 
 mod accesses;
 mod lines;
+mod members;
 mod objects;
 
 pub use lines::triage_json;

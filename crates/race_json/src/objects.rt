@@ -1,35 +1,52 @@
 //! What was found, as objects.
-ghost use Rattle.std.specs.Prelude.{◌≡◌, IfOk};
-ghost use Rattle.serde_json.specs.View.{view};
+ghost use Rattle.std.specs.Prelude.{◌≡◌, [], codes, IfOk, OnOk};
+ghost use Rattle.serde_json.specs.Data.{Data, object, put as with_member};
+ghost use Rattle.serde_json.specs.View.{members_view, view};
 ghost use Rattle.race_json.specs.Objects.{apart_object, counts_object, how_word, left_out_object, race_object, told_object, undecided_object, verdict_object};
 
 use crate::accesses::accesses_of;
+use crate::members::{object_with, put_number, put_word};
 use event_index::Indexed;
 use explain_report::How;
 use must_order::Must;
 use race_triage::{Outcome, Totals, Verdict};
 use rapid_text::OutOfMemory;
-use serde_json::{Value, json};
+use serde_json::{Map, Value, json};
 use std::alloc::{AllocError, Global};
 
 /// The counts of the whole trace.
 pub(crate) fn counts_of(alloc: Global, totals: &Totals) -> Result<Value, AllocError>
     ensures { IfOk result (λ object. view object ≡ counts_object totals.now) }
 {
-    json!(in alloc; {
-        "kind": "counts",
-        "events": totals.events,
-        "threads": totals.threads,
-        "pairs": totals.pairs,
-        "candidates": totals.candidates,
-        "open": totals.open_pairs,
-        "guarded": totals.guarded,
-        "forced": totals.forced,
-        "places": totals.places,
-        "races": totals.races,
-        "undecided": totals.undecided,
-        "apart": totals.apart
-    })
+    let mut members = Map::new(alloc);
+    match put_counts(&mut members, alloc, totals) {
+        Ok(()) => Ok(Value::Object(members)),
+        Err(refused) => Err(refused),
+    }
+}
+
+/// Puts the members of the counts.
+fn put_counts(
+    members: &mut Map<String, Value>,
+    alloc: Global,
+    totals: &Totals,
+) -> Result<(), AllocError>
+    requires { members.old.entries ≡ [] }
+    ensures { OnOk result (object (members_view members.new.entries) ≡ counts_object totals.now) }
+{
+    put_word(members, alloc, "kind", "counts")?;
+    put_number(members, alloc, "events", totals.events)?;
+    put_number(members, alloc, "threads", totals.threads)?;
+    put_number(members, alloc, "pairs", totals.pairs)?;
+    put_number(members, alloc, "candidates", totals.candidates)?;
+    put_number(members, alloc, "open", totals.open_pairs)?;
+    put_number(members, alloc, "guarded", totals.guarded)?;
+    put_number(members, alloc, "forced", totals.forced)?;
+    put_number(members, alloc, "places", totals.places)?;
+    put_number(members, alloc, "races", totals.races)?;
+    put_number(members, alloc, "undecided", totals.undecided)?;
+    put_number(members, alloc, "apart", totals.apart)?;
+    Ok(())
 }
 
 /// How many verdicts were left out, and why.
@@ -58,6 +75,22 @@ pub(crate) fn verdict_of(
 fn told_of(alloc: Global, verdict: &Verdict, accesses: Value) -> Result<Value, AllocError>
     ensures { IfOk result (λ object. view object ≡ told_object verdict.now (view accesses)) }
 {
+    let mut members = Map::new(alloc);
+    match put_told(&mut members, alloc, verdict) {
+        Ok(()) => object_with(alloc, members, "accesses", accesses),
+        Err(refused) => Err(refused),
+    }
+}
+
+/// Puts the members of a verdict but its accesses.
+fn put_told(
+    members: &mut Map<String, Value>,
+    alloc: Global,
+    verdict: &Verdict,
+) -> Result<(), AllocError>
+    requires { members.old.entries ≡ [] }
+    ensures { OnOk result ((both : Data) → object (with_member (codes "accesses") both (members_view members.new.entries)) ≡ told_object verdict.now both) }
+{
     let pairs = verdict.pairs();
     let variables = verdict.variables;
     match verdict.outcome {
@@ -65,59 +98,63 @@ fn told_of(alloc: Global, verdict: &Verdict, accesses: Value) -> Result<Value, A
             how,
             events,
             threads,
-        } => race_of(alloc, how, events, threads, pairs, variables, accesses),
-        Outcome::Undecided { tried } => undecided_of(alloc, tried, pairs, variables, accesses),
-        Outcome::Apart => apart_of(alloc, pairs, accesses),
+        } => put_race(members, alloc, how, events, threads, pairs, variables),
+        Outcome::Undecided { tried } => put_undecided(members, alloc, tried, pairs, variables),
+        Outcome::Apart => put_apart(members, alloc, pairs),
     }
 }
 
-/// A race.
-fn race_of(
+/// Puts the members of a race.
+fn put_race(
+    members: &mut Map<String, Value>,
     alloc: Global,
     how: How,
     events: u32,
     threads: u32,
     pairs: u64,
     variables: u32,
-    accesses: Value,
-) -> Result<Value, AllocError>
-    ensures { IfOk result (λ object. view object ≡ race_object how events threads pairs variables (view accesses)) }
+) -> Result<(), AllocError>
+    requires { members.old.entries ≡ [] }
+    ensures { OnOk result ((both : Data)
+        → object (with_member (codes "accesses") both (members_view members.new.entries)) ≡ race_object how events threads pairs variables both) }
 {
-    json!(in alloc; {
-        "kind": "race",
-        "how": word_of(how),
-        "pairs": pairs,
-        "variables": variables,
-        "events": events,
-        "threads": threads,
-        "accesses": accesses
-    })
+    put_word(members, alloc, "kind", "race")?;
+    put_word(members, alloc, "how", word_of(how))?;
+    put_number(members, alloc, "pairs", pairs)?;
+    put_number(members, alloc, "variables", u64::from(variables))?;
+    put_number(members, alloc, "events", u64::from(events))?;
+    put_number(members, alloc, "threads", u64::from(threads))?;
+    Ok(())
 }
 
-/// What is undecided.
-fn undecided_of(
+/// Puts the members of what is undecided.
+fn put_undecided(
+    members: &mut Map<String, Value>,
     alloc: Global,
     tried: u32,
     pairs: u64,
     variables: u32,
-    accesses: Value,
-) -> Result<Value, AllocError>
-    ensures { IfOk result (λ object. view object ≡ undecided_object tried pairs variables (view accesses)) }
+) -> Result<(), AllocError>
+    requires { members.old.entries ≡ [] }
+    ensures { OnOk result ((both : Data)
+        → object (with_member (codes "accesses") both (members_view members.new.entries)) ≡ undecided_object tried pairs variables both) }
 {
-    json!(in alloc; {
-        "kind": "undecided",
-        "pairs": pairs,
-        "variables": variables,
-        "tried": tried,
-        "accesses": accesses
-    })
+    put_word(members, alloc, "kind", "undecided")?;
+    put_number(members, alloc, "pairs", pairs)?;
+    put_number(members, alloc, "variables", u64::from(variables))?;
+    put_number(members, alloc, "tried", u64::from(tried))?;
+    Ok(())
 }
 
-/// What is apart.
-fn apart_of(alloc: Global, pairs: u64, accesses: Value) -> Result<Value, AllocError>
-    ensures { IfOk result (λ object. view object ≡ apart_object pairs (view accesses)) }
+/// Puts the members of what is apart.
+fn put_apart(members: &mut Map<String, Value>, alloc: Global, pairs: u64) -> Result<(), AllocError>
+    requires { members.old.entries ≡ [] }
+    ensures { OnOk result ((both : Data)
+        → object (with_member (codes "accesses") both (members_view members.new.entries)) ≡ apart_object pairs both) }
 {
-    json!(in alloc; {"kind": "apart", "pairs": pairs, "accesses": accesses})
+    put_word(members, alloc, "kind", "apart")?;
+    put_number(members, alloc, "pairs", pairs)?;
+    Ok(())
 }
 
 fn word_of(how: How) -> &'static str

@@ -47,13 +47,10 @@ pub fn chosen_of(
         apart verdicts.now.verdicts.items) }
 {
     let all = verdicts.verdicts.as_slice();
-    let races = of_part(alloc, all, Part::Races)?;
-    let open = of_part(alloc, all, Part::Open)?;
-    let never = never_of(alloc, all, apart)?;
     let mut chosen = nothing(alloc, known.is_some(), filters.is_any());
-    chosen.choose(indexed, races.as_slice(), known, filters)?;
-    chosen.choose(indexed, open.as_slice(), known, filters)?;
-    chosen.choose(indexed, never.as_slice(), known, filters)?;
+    chosen.choose(indexed, all, Part::Races, known, filters)?;
+    chosen.choose(indexed, all, Part::Open, known, filters)?;
+    chosen.choose(indexed, never_of(all, apart), Part::Never, known, filters)?;
     Ok(chosen)
 }
 
@@ -73,21 +70,40 @@ fn nothing(alloc: Global, is_known: bool, is_any: bool) -> Chosen
 }
 
 impl Chosen {
-    // Chooses among some verdicts.
+    // Chooses among the verdicts of one part.
     fn choose(
         &mut self,
         indexed: &Indexed,
-        some: &[Verdict],
+        all: &[Verdict],
+        part: Part,
         known: &Option<Known>,
         filters: Filters<'_>,
     ) -> Result<(), OutOfMemory>
         ensures { OnOk result (AreConsidered indexed.now (known_places known.now) (map (λ t. t.now) filters.entry.only.now) (map (λ t. t.now) filters.entry.hide.now)
-            some.now self.old self.new) }
+            (filter (is_of part) all.now) self.old self.new) }
     {
-        for verdict in some {
-            self.consider(indexed, verdict, known, filters)?;
+        for verdict in all {
+            self.consider_of(indexed, verdict, part, known, filters)?;
         }
         Ok(())
+    }
+
+    // The same of one verdict.
+    fn consider_of(
+        &mut self,
+        indexed: &Indexed,
+        verdict: &Verdict,
+        part: Part,
+        known: &Option<Known>,
+        filters: Filters<'_>,
+    ) -> Result<(), OutOfMemory>
+        ensures { OnOk result (AreConsidered indexed.now (known_places known.now) (map (λ t. t.now) filters.entry.only.now) (map (λ t. t.now) filters.entry.hide.now)
+            (filter (is_of part) (verdict.now ∷ [])) self.old self.new) }
+    {
+        if !belongs(verdict, part) {
+            return Ok(());
+        }
+        self.consider(indexed, verdict, known, filters)
     }
 
     // Takes the verdict, or counts what left it out.
@@ -128,28 +144,11 @@ fn one_more(count: Option<u64>) -> Option<u64>
     }
 }
 
-// The verdicts that are apart, where they are asked for.
-fn never_of(alloc: Global, all: &[Verdict], apart: bool) -> Result<Vec<Verdict>, OutOfMemory>
-    ensures { IfOk result (λ some. some.items ≡ cond apart (filter (is_of Never) all.now) []) }
+// Where verdicts that are apart are looked for.
+fn never_of(all: &[Verdict], apart: bool) -> &[Verdict]
+    ensures { result.now ≡ cond apart all.now [] }
 {
-    if apart {
-        of_part(alloc, all, Part::Never)
-    } else {
-        Ok(Vec::new(alloc))
-    }
-}
-
-// The verdicts of one part.
-fn of_part(alloc: Global, all: &[Verdict], part: Part) -> Result<Vec<Verdict>, OutOfMemory>
-    ensures { IfOk result (λ some. some.items ≡ filter (is_of part) all.now) }
-{
-    let mut some = Vec::new(alloc);
-    for verdict in all {
-        if belongs(verdict, part) {
-            some.push(*verdict)?;
-        }
-    }
-    Ok(some)
+    if apart { all } else { &[] }
 }
 
 /// Whether the verdict belongs to the part.

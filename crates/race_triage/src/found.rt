@@ -7,7 +7,8 @@ ghost use Rattle.race_triage.specs.Verdicts.{IsFound};
 
 use crate::tables::Tables;
 use crate::verdicts::{MAX_PLACES, TriageRefusal};
-use least_pairs::{Least, Pair, firsts_of, leasts_of};
+use least_notes::{Least, Pair};
+use least_pairs::{firsts_of, leasts_of};
 use race_groups::{Classes, Groups, RowsRefusal, groups_of};
 use std::alloc::Global;
 
@@ -49,7 +50,30 @@ pub(crate) fn found_of(
         → AreTooMany tables.entry.indexed.now.events (slice_index tables.entry.places.now) MAX_PLACES }
 {
     let classes = Classes::of(alloc, tables.indexed, tables.places)?;
-    let groups = counted(alloc, tables, &classes)?;
+    found_by(alloc, tables, &classes, tries, apart)
+}
+
+// The same by the classes of the trace's events.
+fn found_by(
+    alloc: Global,
+    tables: Tables<'_>,
+    classes: &Classes,
+    tries: u32,
+    apart: bool,
+) -> Result<Found, TriageRefusal>
+    requires clocks { tables.clocks.now ≡ tables.indexed.now }
+    requires must { tables.must.now ≡ tables.indexed.now }
+    requires places { length tables.places.now ≡ length tables.indexed.now.events }
+    requires classes { AreClasses tables.indexed.now.events (slice_index tables.places.now) classes.now.numbers.items classes.now.infos.items }
+    requires few { length classes.now.infos.items ≤ 1048576 }
+    requires members { AreMembers classes.now.infos.items classes.now.members.items }
+    requires locks { AreLocks tables.indexed.now.events classes.now.lists.keys classes.now.numbers.items classes.now.infos.items }
+    ensures found { IfOk result (IsFound tables.entry.indexed.now (slice_index tables.entry.places.now) tries apart) }
+    ensures complete { IfOk result (λ found. AreComplete tables.entry.indexed.now.events (slice_index tables.entry.places.now) found.groups.rows.items) }
+    ensures too_many { result ≡ Err TriageRefusal.TooMany
+        → AreTooMany tables.entry.indexed.now.events (slice_index tables.entry.places.now) MAX_PLACES }
+{
+    let groups = counted(alloc, tables, classes)?;
     // One at least, so that the least open pair is among them.
     let most = tries.max(1) as usize;
     let leasts = leasts_of(
@@ -58,12 +82,12 @@ pub(crate) fn found_of(
         tables.places,
         tables.clocks,
         tables.must,
-        &classes,
+        classes,
         &groups,
         most,
     )?;
     let firsts = if apart {
-        firsts_of(alloc, tables.indexed, tables.places, &classes, &groups)?
+        firsts_of(alloc, tables.indexed, tables.places, classes, &groups)?
     } else {
         Vec::new(alloc)
     };

@@ -8,7 +8,7 @@ ghost use Rattle.race_triage.specs.Verdicts.{AreNotFound, AreOpenPairs, IsShownF
 use crate::places::small;
 use crate::tables::Tables;
 use crate::verdicts::{Outcome, Verdict};
-use least_pairs::{Least, Pair, Try};
+use least_notes::{Least, Pair, Try};
 use must_order::apart_is_never_shown;
 use race_groups::Row;
 use rapid_text::OutOfMemory;

@@ -144,18 +144,69 @@ pub fn triage<R: Threads + Sync, W: Watch + Sync>(
         → (numbers : List ℕ) × AreNumbers indexed.now numbers × AreTooMany indexed.now.events (slice_index numbers) MAX_PLACES }
 {
     let places = Places::of(alloc, indexed)?;
+    let numbers = places.numbers.as_slice();
+    let verdicts = verdicts_at(
+        rt, alloc, indexed, clocks, must, numbers, tries, apart, workers, watch,
+    )?;
+    Ok(Verdicts { verdicts, places })
+}
+
+// The verdicts, where the places have these numbers.
+fn verdicts_at<R: Threads + Sync, W: Watch + Sync>(
+    rt: &R,
+    alloc: Global,
+    indexed: &Indexed,
+    clocks: &Clocks,
+    must: &Must,
+    places: &[u32],
+    tries: u32,
+    apart: bool,
+    workers: u32,
+    watch: &W,
+) -> Result<Vec<Verdict>, TriageRefusal>
+    requires clocks { clocks.now ≡ indexed.now }
+    requires must { must.now ≡ indexed.now }
+    requires places { length places.now ≡ length indexed.now.events }
+    ensures verdicts { IfOk result (λ vs. All (IsVerdict indexed.now (slice_index places.now) tries apart) vs.items) }
+    ensures complete { IfOk result (λ vs. AreAllTold indexed.now.events (slice_index places.now) vs.items) }
+    ensures rising { IfOk result (λ vs. AreRising vs.items) }
+    ensures too_many { result ≡ Err TriageRefusal.TooMany → AreTooMany indexed.now.events (slice_index places.now) MAX_PLACES }
+{
     let acquires = Acquires::new(alloc, indexed)?;
     let tables = Tables {
         indexed,
         clocks,
         must,
         acquires: &acquires,
-        places: places.numbers.as_slice(),
+        places,
     };
+    verdicts_by(rt, alloc, tables, tries, apart, workers, watch)
+}
+
+// The same by the tables of the trace.
+fn verdicts_by<R: Threads + Sync, W: Watch + Sync>(
+    rt: &R,
+    alloc: Global,
+    tables: Tables<'_>,
+    tries: u32,
+    apart: bool,
+    workers: u32,
+    watch: &W,
+) -> Result<Vec<Verdict>, TriageRefusal>
+    requires clocks { tables.clocks.now ≡ tables.indexed.now }
+    requires must { tables.must.now ≡ tables.indexed.now }
+    requires acquires { tables.acquires.now ≡ tables.indexed.now }
+    requires places { length tables.places.now ≡ length tables.indexed.now.events }
+    ensures verdicts { IfOk result (λ vs. All (IsVerdict tables.entry.indexed.now (slice_index tables.entry.places.now) tries apart) vs.items) }
+    ensures complete { IfOk result (λ vs. AreAllTold tables.entry.indexed.now.events (slice_index tables.entry.places.now) vs.items) }
+    ensures rising { IfOk result (λ vs. AreRising vs.items) }
+    ensures too_many { result ≡ Err TriageRefusal.TooMany
+        → AreTooMany tables.entry.indexed.now.events (slice_index tables.entry.places.now) MAX_PLACES }
+{
     let found = found_of(alloc, tables, tries, apart)?;
     let mut verdicts = all_verdicts(rt, alloc, tables, &found, tries, apart, workers, watch)?;
     sort(tables, &mut verdicts, tries, apart);
-    Ok(Verdicts { verdicts, places })
+    Ok(verdicts)
 }
 
 // In rising order of the later event, and then of the earlier.

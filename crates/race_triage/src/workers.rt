@@ -12,7 +12,7 @@ use crate::found::Found;
 use crate::tables::Tables;
 use crate::verdicts::Verdict;
 use crate::watch::Watch;
-use least_pairs::{Least, Pair};
+use least_notes::{Least, Pair};
 use race_groups::Row;
 use rapid_text::OutOfMemory;
 use std::alloc::Global;

@@ -1,4 +1,5 @@
 //! What the program does at the words `session` and `log`: it opens the inputs and the file of a log, which it makes where it is missing.
+ghost use Rattle.kept_session.specs.Sessions.{IsInStep};
 
 use crate::doing::finish;
 use crate::input::input_at;
@@ -6,6 +7,7 @@ use crate::telling::{tell_log, tell_session};
 use client_scripts::{FromRead, FromWrite, ReadCause, ReplayFault, load, read_input};
 use event_index::Indexed;
 use kept_host::Host;
+use kept_log::Device;
 use kept_session::{Session, SessionFault, head_of, make_log, print_log, run_session};
 use std::fs::File;
 use std::path::Path;
@@ -151,6 +153,19 @@ fn trace_at(rt: &HostRuntime, path: &str) -> Result<Indexed, SessionFault> {
     }
 }
 
+/// Answers standard input in a session.
+fn answer_lines<D: Device + Drop>(
+    rt: &HostRuntime,
+    session: &mut Session<D>,
+    client: Option<u32>,
+) -> Result<(), SessionFault>
+    requires { IsInStep D.seen D.may_leave session.old.bench.trace session.old.log session.old.bench.log }
+{
+    let mut reader = FromRead::new(rt.reader());
+    let mut writer = FromWrite::new(io::writer(rt));
+    run_session(rt.alloc(), session, client, &mut reader, &mut writer)
+}
+
 /// Answers standard input on a trace and the log in this file, which begins with this head.
 fn answer_on_file(
     rt: &HostRuntime,
@@ -159,11 +174,23 @@ fn answer_on_file(
     file: File,
     client: Option<u32>,
 ) -> Result<(), SessionFault> {
-    let mut reader = FromRead::new(rt.reader());
-    let mut writer = FromWrite::new(io::writer(rt));
     match Session::open(rt.alloc(), indexed, head, Host::new(file)) {
-        Ok(mut session) => run_session(rt.alloc(), &mut session, client, &mut reader, &mut writer),
+        Ok(mut session) => answer_lines(rt, &mut session, client),
         Err((fault, _)) => Err(fault),
+    }
+}
+
+/// Answers standard input on a trace and the log at this path, which begins with this head.
+fn answer_behind(
+    rt: &HostRuntime,
+    indexed: Indexed,
+    head: &[u8],
+    log: &str,
+    client: Option<u32>,
+) -> Result<(), SessionFault> {
+    match log_at(rt, log, head) {
+        Ok(file) => answer_on_file(rt, indexed, head, file, client),
+        Err(fault) => Err(fault),
     }
 }
 
@@ -175,10 +202,7 @@ fn answer_on_trace(
     client: Option<u32>,
 ) -> Result<(), SessionFault> {
     match head_of(rt.alloc(), &indexed) {
-        Ok(head) => match log_at(rt, log, &head) {
-            Ok(file) => answer_on_file(rt, indexed, &head, file, client),
-            Err(fault) => Err(fault),
-        },
+        Ok(head) => answer_behind(rt, indexed, &head, log, client),
         Err(fault) => Err(SessionFault::from(fault)),
     }
 }

@@ -4,14 +4,14 @@ ghost use Rattle.std.specs.Prelude.{◌≡◌, IfSome, false};
 use crate::input::{Input, input_at};
 use crate::progress::Progress;
 use crate::telling::{tell_replay, tell_triage};
-use client_scripts::{FromWrite, ReplayFault};
+use client_scripts::{FromWrite, ReplayFault, Sink};
 use program_words::{RacesForm, TriageTask};
 use std::io::IsTerminal;
 use std::process::ExitCode;
 use std::sync::Wait;
 use std::thread::Threads;
 use std::{io, thread};
-use triage_calls::{Asked, Filters, Form, Silent, Watch, triage};
+use triage_calls::{Asked, Filters, Form, Silent, TriageFault, Watch, triage};
 
 /// The status where a race is printed, if that is asked for.
 const RACES: u8 = 3;
@@ -56,6 +56,29 @@ fn status_at(races: u64, fail: bool) -> ExitCode {
 }
 
 /// Lists the races of the trace in a file. Who watches is told how far that is, and of the end before anything is written.
+fn list_to<R: Threads + Sync, K: Sink, W: Watch + Sync>(
+    rt: &HostRuntime,
+    starts: &R,
+    task: &TriageTask<'_>,
+    writer: &mut K,
+    watch: &W,
+) -> Result<u64, TriageFault>
+    requires { K.has_failed writer.old ≡ false }
+{
+    let mut reader = input_at(rt, task.trace);
+    let known = known_at(rt, task.known);
+    triage(
+        starts,
+        rt.alloc(),
+        &mut reader,
+        known,
+        asked_of(task),
+        writer,
+        watch,
+    )
+}
+
+/// The same on standard output; says how it went.
 fn list_races<R: Threads + Sync, W: Watch + Sync>(
     rt: &HostRuntime,
     starts: &R,
@@ -63,18 +86,7 @@ fn list_races<R: Threads + Sync, W: Watch + Sync>(
     watch: &W,
 ) -> ExitCode {
     let mut writer = FromWrite::new(io::writer(rt));
-    let mut reader = input_at(rt, task.trace);
-    let known = known_at(rt, task.known);
-    let asked = asked_of(task);
-    let listed = triage(
-        starts,
-        rt.alloc(),
-        &mut reader,
-        known,
-        asked,
-        &mut writer,
-        watch,
-    );
+    let listed = list_to(rt, starts, task, &mut writer, watch);
     watch.end();
     match listed {
         Ok(races) => match writer.flush() {

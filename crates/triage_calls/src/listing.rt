@@ -2,6 +2,7 @@
 ghost use Rattle.std.specs.Prelude.{◌≡◌, ◌≢◌, ◌++◌, ℕ, List, None, Err, IfErr, IfOk, IfSome, length, option_map, true, false};
 ghost use Rattle.client_scripts.specs.declared.fault.ReadCause.TheVariants.{Device};
 ghost use Rattle.client_scripts.specs.declared.fault.ReplayFault.TheVariants.{Read, Write};
+ghost use Rattle.pair_calls.specs.Answers.{IsRead};
 ghost use Rattle.race_triage.specs.Chosen.{known_places, AreChosen};
 ghost use Rattle.race_triage.specs.Places.{AreNumbered};
 ghost use Rattle.triage_calls.specs.Answers.{hide_of, only_of, AreVerdicts, IsGiven, IsKnownRead, IsKnownUnread, IsListing, IsToldIn, IsTriaged, IsUntold, IsWritten};
@@ -80,16 +81,38 @@ pub fn triage<R: Threads + Sync, S: Source, L: Source + Drop, K: Sink, W: Watch 
     ensures read_failed { S.has_failed reader.new ≡ true → result ≡ Err (Replay (Read 1 Device)) }
     ensures device { result ≡ Err (Replay (Read 1 Device)) → S.has_failed reader.new ≡ true }
 {
-    let indexed = match read_trace(alloc, reader) {
-        Ok(indexed) => indexed,
-        Err(fault) => return Err(TriageFault::Replay(fault)),
-    };
-    watch.read(indexed.len());
-    let listed = match read_known(alloc, known) {
-        Ok(listed) => listed,
-        Err(fault) => return Err(fault),
-    };
-    write_listing(rt, alloc, &indexed, &listed, asked, writer, watch)
+    match read_trace(alloc, reader) {
+        Ok(indexed) => {
+            watch.read(indexed.len());
+            triage_on(rt, alloc, &indexed, known, asked, writer, watch)
+        }
+        Err(fault) => Err(TriageFault::Replay(fault)),
+    }
+}
+
+/// The same of a trace that was read.
+fn triage_on<R: Threads + Sync, L: Source + Drop, K: Sink, W: Watch + Sync>(
+    rt: &R,
+    alloc: Global,
+    indexed: &Indexed,
+    known: Option<L>,
+    asked: Asked<'_>,
+    writer: &mut K,
+    watch: &W,
+) -> Result<u64, TriageFault>
+    requires known { IfSome known (λ k. L.has_failed k ≡ false) }
+    requires writer { K.has_failed writer.old ≡ false }
+    ensures triaged { (bytes : List ℕ) → IsRead bytes indexed.now → (listed : List ℕ)
+        × IfSome known (λ k. IfSome (L.rest k) (λ told. listed ≡ told))
+        × IsTriaged bytes listed known asked.entry (K.taken writer.old) (K.taken writer.new) result }
+    ensures write { result ≡ Err (Replay Write) → K.has_failed writer.new ≡ true }
+    ensures write_failed { K.has_failed writer.new ≡ true → result ≡ Err (Replay Write) }
+    ensures device { result ≢ Err (Replay (Read 1 Device)) }
+{
+    match read_known(alloc, known) {
+        Ok(listed) => write_listing(rt, alloc, indexed, &listed, asked, writer, watch),
+        Err(fault) => Err(fault),
+    }
 }
 
 /// Writes what is found of the trace. Answers how many races were written.
@@ -149,25 +172,78 @@ fn text_of<R: Threads + Sync, W: Watch + Sync>(
     ensures listing { IfOk result (λ made. IsListing indexed.now (option_map (λ v. v.items) listed.now) asked.entry made.1 made.0.items) }
     ensures fault { IfErr result (IsUntold indexed.now) }
 {
-    let must = match Must::new(alloc, indexed) {
-        Ok(must) => must,
-        Err(_) => return Err(TriageFault::Replay(ReplayFault::OutOfMemory)),
-    };
-    let clocks = match Clocks::new(alloc, indexed) {
-        Ok(clocks) => clocks,
-        Err(_) => return Err(TriageFault::Replay(ReplayFault::OutOfMemory)),
-    };
-    let found = match found_of(rt, alloc, indexed, &clocks, &must, asked, watch) {
-        Ok(found) => found,
-        Err(fault) => return Err(fault),
-    };
-    match told(alloc, indexed, &clocks, &must, &found, listed, asked) {
+    match Must::new(alloc, indexed) {
+        Ok(must) => text_by(rt, alloc, indexed, &must, listed, asked, watch),
+        Err(_) => Err(TriageFault::Replay(ReplayFault::OutOfMemory)),
+    }
+}
+
+/// The same by the must-order.
+fn text_by<R: Threads + Sync, W: Watch + Sync>(
+    rt: &R,
+    alloc: Global,
+    indexed: &Indexed,
+    must: &Must,
+    listed: &Option<Vec<u8>>,
+    asked: Asked<'_>,
+    watch: &W,
+) -> Result<(Vec<u8>, u64), TriageFault>
+    requires { must.now ≡ indexed.now }
+    ensures listing { IfOk result (λ made. IsListing indexed.now (option_map (λ v. v.items) listed.now) asked.entry made.1 made.0.items) }
+    ensures fault { IfErr result (IsUntold indexed.now) }
+{
+    match Clocks::new(alloc, indexed) {
+        Ok(clocks) => text_with(rt, alloc, indexed, &clocks, must, listed, asked, watch),
+        Err(_) => Err(TriageFault::Replay(ReplayFault::OutOfMemory)),
+    }
+}
+
+/// The same by both orders.
+fn text_with<R: Threads + Sync, W: Watch + Sync>(
+    rt: &R,
+    alloc: Global,
+    indexed: &Indexed,
+    clocks: &Clocks,
+    must: &Must,
+    listed: &Option<Vec<u8>>,
+    asked: Asked<'_>,
+    watch: &W,
+) -> Result<(Vec<u8>, u64), TriageFault>
+    requires clocks { clocks.now ≡ indexed.now }
+    requires must { must.now ≡ indexed.now }
+    ensures listing { IfOk result (λ made. IsListing indexed.now (option_map (λ v. v.items) listed.now) asked.entry made.1 made.0.items) }
+    ensures fault { IfErr result (IsUntold indexed.now) }
+{
+    match found_of(rt, alloc, indexed, clocks, must, asked, watch) {
+        Ok(found) => text_of_found(alloc, indexed, clocks, must, &found, listed, asked),
+        Err(fault) => Err(fault),
+    }
+}
+
+/// The same of verdicts that were found.
+fn text_of_found(
+    alloc: Global,
+    indexed: &Indexed,
+    clocks: &Clocks,
+    must: &Must,
+    found: &Verdicts,
+    listed: &Option<Vec<u8>>,
+    asked: Asked<'_>,
+) -> Result<(Vec<u8>, u64), TriageFault>
+    requires clocks { clocks.now ≡ indexed.now }
+    requires must { must.now ≡ indexed.now }
+    requires found { AreVerdicts indexed.now found.now.places.numbers.items asked.tries asked.apart found.now.verdicts.items }
+    requires numbered { AreNumbered indexed.now (length indexed.now.events) found.now.places.locations.keys found.now.places.numbers.items }
+    ensures listing { IfOk result (λ made. IsListing indexed.now (option_map (λ v. v.items) listed.now) asked.entry made.1 made.0.items) }
+    ensures fault { IfErr result (IsUntold indexed.now) }
+{
+    match told(alloc, indexed, clocks, must, found, listed, asked) {
         Ok(made) => Ok(made),
         Err(_) => Err(TriageFault::Replay(ReplayFault::OutOfMemory)),
     }
 }
 
-/// The same of verdicts that were found.
+/// The text, and how many races it tells of.
 fn told(
     alloc: Global,
     indexed: &Indexed,

@@ -1,6 +1,6 @@
-use Rattle.std.proofs.Common.{◌≡◌, Err, rules, subst}
-use Rattle.client_scripts.specs.Steps.{IsRun, script_fault}
-use Rattle.client_scripts.proofs.ReplayLemmas.{script-run, script-refused, refused-not_write}
+use Rattle.std.proofs.Common.{◌≡◌, Err, rules}
+use Rattle.client_scripts.specs.Steps.{script_fault}
+use Rattle.client_scripts.proofs.ReplayLemmas.{script-refused, refused-not_write}
 use Rattle.client_scripts.proofs.replaying.replay_script.Goals as goal
 
 pub returns-in_err-script-clause-run : goal.returns-in_err-script-clause-run
@@ -14,10 +14,3 @@ returns-in_err-script-clause-write g c =
     let refusal = c.in_err-script.field-0.0 in
     let fault : c.from_residual.result ≡ Err (script_fault refusal refusal.why) = search rules in
     λ write. absurd (refused-not_write refusal c.from_residual.result fault write)
-
-pub returns-clause-run : goal.returns-clause-run
-returns-clause-run g c =
-    let old = g.K.Sink.taken c.args.writer.now in
-    let new = g.K.Sink.taken c.run.new.writer in
-    script-run c.args.indexed c.args.text.now c.in_ok-script.script old new c.run.result c.in_ok-script.ensures.read
-    (subst (λ trace. IsRun trace c.in_ok-script.script old new c.run.result) c.in_ok-bench.ensures.trace c.run.ensures.run)

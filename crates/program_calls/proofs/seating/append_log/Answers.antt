@@ -2,4 +2,4 @@ use Rattle.std.proofs.lemmas.Result.{on_ok_weaker}
 use Rattle.program_calls.proofs.seating.append_log.Goals as goal
 
 pub returns-in-Ok : goal.returns-in-Ok
-returns-in-Ok c = on_ok_weaker c.log.result (λ text. (c.in-Ok.bench, c.in-Ok.ensures.ok.0, text)) c.log.ensures.ok
+returns-in-Ok c = on_ok_weaker c.append_log_of.result (λ text. (c.in-Ok.bench, c.in-Ok.ensures.ok.0, text)) c.append_log_of.ensures

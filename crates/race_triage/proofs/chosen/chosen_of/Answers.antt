@@ -1,9 +1,13 @@
-use Rattle.std.proofs.Common.{◌≡◌, ◌++◌, [], List, Some, None, map, filter, cond, subst, sym, ap, ◌∙◌}
+use Rattle.std.proofs.Common.{◌≡◌, ◌++◌, [], Bool, true, false, List, Some, None, map, filter, cond, subst, refl, sym, ap, ◌∙◌}
 use Rattle.race_triage.specs.Chosen.{is_of, known_places, AreConsidered}
 use Rattle.race_triage.specs.declared.chosen.Part.TheVariants.{Races, Open, Never}
 use Rattle.race_triage.specs.declared.verdicts.Verdict.{Verdict}
 use Rattle.race_triage.proofs.ChosenLemmas.{some_places, AreChosen-from, Considered-append}
 use Rattle.race_triage.proofs.chosen.chosen_of.Goals as goal
+
+filter-where : (p : Verdict → Bool) (b : Bool) (vs : List Verdict) → filter p (cond b vs []) ≡ cond b (filter p vs) []
+filter-where p true vs = refl
+filter-where p false vs = refl
 
 pub returns : goal.returns
 returns c =
@@ -12,15 +16,12 @@ returns c =
     let only = map (λ t. t.now) c.args.filters.only.now in
     let hide = map (λ t. t.now) c.args.filters.hide.now in
     let vs = c.args.verdicts.now.verdicts.items in
-    let races : c.as_slice.result.now ≡ filter (is_of Races) vs =
-    c.as_slice.ensures.value ∙ c.in_ok-races.ensures ∙ ap (λ (l : List Verdict). filter (is_of Races) l) c.as_slice-all.ensures.value in
-    let open_ones : c.as_slice-2.result.now ≡ filter (is_of Open) vs =
-    c.as_slice-2.ensures.value ∙ c.in_ok-open.ensures ∙ ap (λ (l : List Verdict). filter (is_of Open) l) c.as_slice-all.ensures.value in
-    let apart_ones : c.as_slice-3.result.now ≡ cond c.args.apart (filter (is_of Never) vs) [] =
-    c.as_slice-3.ensures.value ∙ c.in_ok-never.ensures ∙ ap (λ (l : List Verdict). cond c.args.apart (filter (is_of Never) l) []) c.as_slice-all.ensures.value in
-    let first = subst (λ (l : List Verdict). AreConsidered r known only hide l c.nothing-chosen.result c.choose.new.self) races c.in_ok-choose.ensures in
-    let second = subst (λ (l : List Verdict). AreConsidered r known only hide l c.choose.new.self c.choose-2.new.self) open_ones c.in_ok-choose-2.ensures in
-    let third = subst (λ (l : List Verdict). AreConsidered r known only hide l c.choose-2.new.self c.choose-3.new.self) apart_ones c.in_ok-choose-3.ensures in
+    let all : c.as_slice-all.result.now ≡ vs = c.as_slice-all.ensures.value in
+    let never : filter (is_of Never) c.never_of.result.now ≡ cond c.args.apart (filter (is_of Never) vs) [] =
+    ap (λ (l : List Verdict). filter (is_of Never) l) (c.never_of.ensures ∙ ap (λ (l : List Verdict). cond c.args.apart l []) all) ∙ filter-where (is_of Never) c.args.apart vs in
+    let first = subst (λ (l : List Verdict). AreConsidered r known only hide (filter (is_of Races) l) c.nothing-chosen.result c.choose.new.self) all c.in_ok-choose.ensures in
+    let second = subst (λ (l : List Verdict). AreConsidered r known only hide (filter (is_of Open) l) c.choose.new.self c.choose-2.new.self) all c.in_ok-choose-2.ensures in
+    let third = subst (λ (l : List Verdict). AreConsidered r known only hide l c.choose-2.new.self c.choose-3.new.self) never c.in_ok-choose-3.ensures in
     let both = Considered-append r known only hide (filter (is_of Races) vs) (filter (is_of Open) vs) _ _ _ first second in
     let whole = Considered-append r known only hide (filter (is_of Races) vs ++ filter (is_of Open) vs) (cond c.args.apart (filter (is_of Never) vs) []) _ _ _ both third in
     AreChosen-from r known only hide c.args.apart c.is_any.result vs c.nothing-chosen.result c.choose-3.new.self whole c.nothing-chosen.ensures.verdicts c.nothing-chosen.ensures.races

@@ -11,7 +11,7 @@ use Rattle.race_groups.proofs.CutLemmas.{IsCut-from}
 use Rattle.least_pairs.specs.Going.{HasCandidate, IsOpenHeld, IsVariableHeld}
 use Rattle.least_pairs.specs.Lanes.{access_op, kind_at}
 use Rattle.least_pairs.specs.declared.lanes.Lane.{Lane}
-use Rattle.least_pairs.specs.declared.tries.Between.{Between}
+use Rattle.least_notes.specs.declared.tries.Between.{Between}
 use Rattle.least_pairs.proofs.AlikeLemmas.{HasCandidate-more, HasOpen-more}
 use Rattle.least_pairs.proofs.HeldLemmas.{AreMore-chain}
 use Rattle.least_pairs.proofs.NoneLemmas.{open_apart}

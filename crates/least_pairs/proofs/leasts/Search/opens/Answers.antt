@@ -9,7 +9,7 @@ use Rattle.least_pairs.specs.Going.{HasOpen}
 use Rattle.least_pairs.specs.Lanes.{access_op}
 use Rattle.least_pairs.specs.Pairs.{IsOf, IsPair}
 use Rattle.least_pairs.specs.declared.lanes.Lane.{Lane}
-use Rattle.least_pairs.specs.declared.tries.Between.{Between}
+use Rattle.least_notes.specs.declared.tries.Between.{Between}
 use Rattle.least_pairs.proofs.AlikeLemmas.{open_earlier, open_onward, HasOpen-more}
 use Rattle.least_pairs.proofs.HeldLemmas.{AreMore-same, AreMore-chain}
 use Rattle.least_pairs.proofs.LaneFacts.{lane_event, lane_thread, read_is}

@@ -2,7 +2,7 @@ use Rattle.std.proofs.Common.{List, Option, IfSome, get_or, refl, subst, arith}
 use Rattle.std.proofs.lemmas.List.{take_all}
 use Rattle.std.proofs.lemmas.List.Elements.{All-more}
 use Rattle.std.proofs.lemmas.Option.{slice_get-get_or}
-use Rattle.least_pairs.specs.declared.tries.Try.{Try}
+use Rattle.least_notes.specs.declared.tries.Try.{Try}
 use Rattle.race_triage.specs.Verdicts.{AreNotFound, IsNotFound, IsOpenRace}
 use Rattle.race_triage.specs.declared.verdicts.Outcome.{Outcome}
 use Rattle.race_triage.proofs.OpenLemmas.{some_try}

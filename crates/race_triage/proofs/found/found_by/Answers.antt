@@ -3,8 +3,8 @@ use Rattle.std.specs.List.{slice_get}
 use Rattle.std.specs.declared.alloc.Global.{Global}
 use Rattle.std.proofs.lemmas.Bool.{true≢false}
 use Rattle.least_pairs.specs.Pairs.{AreLeasts}
-use Rattle.race_triage.proofs.found.found_of.Goals as goal
-use Rattle.race_triage.proofs.found.found_of.Goals.{then-apart+in_ok-firsts, else-apart}
+use Rattle.race_triage.proofs.found.found_by.Goals as goal
+use Rattle.race_triage.proofs.found.found_by.Goals.{then-apart+in_ok-firsts, else-apart}
 
 pub returns-clause-found : goal.returns-clause-found
 returns-clause-found c =

@@ -1,8 +1,8 @@
 //! The least open pairs of a pair of places, by variable and two threads.
 ghost use Rattle.std.specs.Prelude.{◌≡◌, ◌≢◌, ℕ, ◌<◌, ◌≤◌, ◌↔◌, All, IfSome, IsTrue, None, OnOk, length, slice_index_or};
-ghost use Rattle.least_pairs.specs.Noting.{AreTries, IsTryNoted};
-ghost use Rattle.least_pairs.specs.Pairs.{IsAhead, IsUpTo};
-ghost use Rattle.least_pairs.specs.declared.tries.Try.{Try as Other};
+ghost use Rattle.least_notes.specs.Noting.{AreTries, IsTryNoted};
+ghost use Rattle.least_notes.specs.Order.{IsAhead, IsUpTo};
+ghost use Rattle.least_notes.specs.declared.tries.Try.{Try as Other};
 
 use rapid_text::OutOfMemory;
 
@@ -30,7 +30,7 @@ pub struct Try {
 }
 
 /// Whether the first pair stands before the second.
-pub(crate) fn is_less(first: Pair, second: Pair) -> bool
+pub fn is_less(first: Pair, second: Pair) -> bool
     ensures { IsTrue result ↔ IsAhead first second }
 {
     if first.0 == second.0 {

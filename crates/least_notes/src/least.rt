@@ -1,7 +1,7 @@
 //! What is found of a pair of places, and how one pair of events more is taken in.
 ghost use Rattle.std.specs.Prelude.{◌≡◌, ◌<◌, ◌⊎◌, ℕ, [], OnOk, Some, None};
-ghost use Rattle.least_pairs.specs.Noting.{AreTries, IsCandidateNoted, IsOpenNoted, IsVariableNoted};
-ghost use Rattle.least_pairs.specs.Pairs.{IsUpTo};
+ghost use Rattle.least_notes.specs.Noting.{AreTries, IsCandidateNoted, IsOpenNoted, IsVariableNoted};
+ghost use Rattle.least_notes.specs.Order.{IsUpTo};
 
 use crate::tries::{Pair, Try, is_less, note_try};
 use rapid_text::OutOfMemory;
@@ -16,13 +16,13 @@ pub struct Least {
     pub candidate: Option<Pair>,
     /// Where there is no candidate, of each variable and two threads the least open pair; of these the first ones, in rising order.
     pub tries: Vec<Try>,
-    // The last variable that was counted.
-    last: Option<u32>,
+    /// The last variable that was counted.
+    pub last: Option<u32>,
 }
 
 impl Least {
-    // Nothing is found yet.
-    pub(crate) fn new(alloc: Global) -> Least
+    /// Nothing is found yet.
+    pub fn new(alloc: Global) -> Least
         ensures variables { result.variables ≡ 0 }
         ensures candidate { result.candidate ≡ None }
         ensures tries { result.tries.items ≡ [] }
@@ -36,8 +36,8 @@ impl Least {
         }
     }
 
-    // The variable has a candidate or an open pair.
-    pub(crate) fn note_variable(&mut self, variable: u32)
+    /// The variable has a candidate or an open pair. Variables are told one after the other: one that was the last to be counted is not counted again.
+    pub fn note_variable(&mut self, variable: u32)
         requires { self.old.variables < 4294967295 }
         ensures noted { IsVariableNoted variable self.old self.new }
         ensures candidate { self.new.candidate ≡ self.old.candidate }
@@ -49,8 +49,8 @@ impl Least {
         }
     }
 
-    // Takes in a candidate of the variable.
-    pub(crate) fn note_candidate(&mut self, variable: u32, pair: Pair)
+    /// Takes in a candidate of the variable.
+    pub fn note_candidate(&mut self, variable: u32, pair: Pair)
         requires { self.old.variables < 4294967295 }
         ensures { IsCandidateNoted variable pair self.old self.new }
     {
@@ -58,8 +58,8 @@ impl Least {
         self.candidate = Some(lesser(self.candidate, pair));
     }
 
-    // Takes in an open pair.
-    pub(crate) fn note_open(&mut self, most: usize, new: Try) -> Result<(), OutOfMemory>
+    /// Takes in an open pair, of which at most `most` are kept.
+    pub fn note_open(&mut self, most: usize, new: Try) -> Result<(), OutOfMemory>
         requires variables { self.old.variables < 4294967295 }
         requires tries { AreTries most self.old.tries.items }
         requires most { 0 < most }
