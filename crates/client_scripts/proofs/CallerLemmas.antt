@@ -1,12 +1,13 @@
 -- What the crates above need to know of inputs that were not read and of traces that were not loaded.
 use Rattle.std.proofs.Common.{◌≡◌, ◌⊎◌, ℕ, List, Option, Err, refl, sym, subst, inl, inr}
+use Rattle.client_scripts.specs.Loading.{IsTold}
 use Rattle.client_scripts.specs.Replay.{Texts, IsShort, IsFault}
 use Rattle.client_scripts.specs.Steps.{IsInput}
 use Rattle.client_scripts.specs.Traces.{trace_of}
 use Rattle.client_scripts.specs.declared.fault.ReadCause.TheVariants.{Device, TooLong}
 use Rattle.client_scripts.specs.declared.fault.ReplayFault.{ReplayFault}
 use Rattle.client_scripts.specs.declared.fault.ReplayFault.TheVariants.{Text, Rule, Script, Read, Write, OutOfMemory}
-use Rattle.client_scripts.proofs.ReplayLemmas.{IsTold, IsUnreadAt, unread-at, IsOfTrace, of_reading}
+use Rattle.client_scripts.proofs.ReplayLemmas.{IsUnreadAt, unread-at, IsOfTrace, of_reading}
 
 unread-first-fault : (t : Texts) (fault : ReplayFault) → IsUnreadAt 1 t.first fault → (fault ≡ OutOfMemory) ⊎ IsFault t fault
 unread-first-fault t (Read place Device) h = inr (inl (h, tt))

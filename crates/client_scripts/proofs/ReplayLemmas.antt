@@ -1,12 +1,13 @@
 -- What the steps of a replay say of the whole.
-use Rattle.std.proofs.Common.{◌≡◌, ◌⊎◌, ℕ, suc, ◌<◌, ◌≤◌, List, [], length, replicate, Option, Some, None, Result, Ok, Err, Vec, Global, refl, sym, ap, ◌∙◌, subst, arith, inl, inr, ⊎_elim}
+use Rattle.std.proofs.Common.{◌≡◌, ◌≢◌, ◌⊎◌, ℕ, suc, ◌<◌, ◌≤◌, List, [], length, replicate, Option, Some, None, Result, Ok, Err, Vec, Global, refl, sym, ap, ◌∙◌, subst, arith, inl, inr, ⊎_elim}
 use Rattle.std.specs.Prelude.{IfSome, ⊤}
 use Rattle.std.proofs.lemmas.List.{length-replicate}
 use Rattle.rapid_text.specs.Recording.{Recording}
 use Rattle.rapid_text.specs.declared.refusal.TextRefusal.{TextRefusal}
 use Rattle.trace_rules.specs.Rules.{first_breach}
 use Rattle.trace_rules.specs.declared.refusal.RuleRefusal.{RuleRefusal}
-use Rattle.client_scripts.specs.Replay.{Texts, Said, IsShort, IsAccepted, IsFault, IsReplay}
+use Rattle.client_scripts.specs.Loading.{IsTold}
+use Rattle.client_scripts.specs.Replay.{Texts, Said, IsShort, IsAccepted, IsFault, IsReplay, of_trace, of_two}
 use Rattle.script_language.specs.Scripts.{Asked, IsScript, no_memory}
 use Rattle.client_scripts.specs.Steps.{IsInput, IsRun, IsScriptRun, script_fault}
 use Rattle.client_scripts.specs.Traces.{trace_checked, trace_read, trace_of}
@@ -19,10 +20,6 @@ use Rattle.script_language.specs.declared.refusal.ScriptCause.TheVariants.{BadWo
 use Rattle.script_language.specs.declared.refusal.ScriptRefusal.{ScriptRefusal}
 use Rattle.client_scripts.specs.declared.fault.Tally.{Tally}
 use Rattle.client_scripts.specs.declared.fault.TheConstants.{LIMIT}
-
--- bytes that a reader tells, where it tells them
-abbrev pub IsTold : Option (List ℕ) → List ℕ → Type 0
-IsTold rest bytes = IfSome rest (λ told. bytes ≡ told)
 
 pub told : (rest : Option (List ℕ)) → (bytes : List ℕ) × IsTold rest bytes
 told None = ([], tt)
@@ -100,6 +97,21 @@ module _ (t : Texts) (known : Option (List ℕ)) where
   pub unloaded : (fault : ReplayFault) → IsShort t.first → (fault ≡ OutOfMemory) ⊎ (trace_of t.trace ≡ Err fault) → IsReplay t known known (Err fault)
   unloaded fault short (inl memory) = subst (λ f. IsReplay t known known (Err f)) (sym memory) (inl refl)
   unloaded fault short (inr refused) = refused-trace short fault (of_reading _ fault refused) refused
+
+-- the trace of two inputs was not read
+module _ (first second : List ℕ) (known : Option (List ℕ)) where
+  of_first : (fault : ReplayFault) → ((why : ReadCause) → fault ≢ Read 2 why) → ((refusal : ScriptRefusal) → fault ≢ Script refusal) → IsFault (of_trace first) fault → IsReplay (of_two first second) known known (Err fault)
+  of_first (Text refusal) input script h = (h, refl)
+  of_first (Rule refusal) input script h = (h, refl)
+  of_first (Read place why) input script (inl h) = (inl h, refl)
+  of_first (Read place why) input script (inr h) = absurd (input why (ap (λ n. Read n why) h.0))
+  of_first (Script refusal) input script h = absurd (script refusal refl)
+  of_first Write input script h = absurd h
+  of_first OutOfMemory input script h = absurd h
+
+  pub unread-trace : (fault : ReplayFault) → ((why : ReadCause) → fault ≢ Read 2 why) → ((refusal : ScriptRefusal) → fault ≢ Script refusal) → (fault ≡ OutOfMemory) ⊎ IsFault (of_trace first) fault → IsReplay (of_two first second) known known (Err fault)
+  unread-trace fault input script (inl memory) = subst (λ f. IsReplay (of_two first second) known known (Err f)) (sym memory) (inl refl)
+  unread-trace fault input script (inr h) = of_first fault input script h
 
 -- the calls of a script that was read
 pub script-run : (trace : Recording) (text : List ℕ) (asked : List Asked) (old new : Option (List ℕ)) (r : Result Tally ReplayFault) → IsScript text (Ok asked) → IsRun trace asked old new r → IsScriptRun trace text old new r

@@ -1,10 +1,11 @@
 -- Calls that are made one after another, whose answers are kept back and written in pieces.
-use Rattle.std.proofs.Common.{◌≡◌, ℕ, suc, ◌+◌, ◌-◌, ◌<◌, ◌≤◌, Bool, true, false, cond, List, [], ◌∷◌, ◌++◌, length, filter, take, drop, Option, Some, None, option_map, Result, Ok, Err, is_ok, is_err, refl, sym, ap, ◌∙◌, subst, arith, append_assoc, append-nil, drop-cons, slice_get}
+use Rattle.std.proofs.Common.{◌≡◌, ℕ, suc, ◌+◌, ◌-◌, ◌<◌, ◌≤◌, Bool, true, false, cond, List, [], ◌∷◌, ◌++◌, length, filter, take, drop, Option, Some, None, option_map, Result, Ok, Err, IfOk, OnOk, is_ok, is_err, refl, sym, ap, ◌∙◌, subst, arith, append_assoc, append-nil, drop-cons, slice_get}
 use Rattle.std.specs.Io.KnownBytes.{Appends}
 use Rattle.std.specs.Int.{from_bool}
 use Rattle.std.proofs.lemmas.List.{take-append-drop, drop_all}
 use Rattle.std.proofs.lemmas.Option.{slice_get_within, get_or_from_slice_get}
 use Rattle.rapid_text.specs.Recording.{Recording}
+use Rattle.rapid_text.specs.declared.memory.OutOfMemory.{OutOfMemory}
 use Rattle.inverse_log.specs.Answer.{answer_of, log_after}
 use Rattle.inverse_log.specs.declared.call.Call.{Call}
 use Rattle.inverse_log.specs.declared.entry.Entry.{Entry}
@@ -12,7 +13,7 @@ use Rattle.inverse_log.specs.declared.refusal.Refusal.{Refusal}
 use Rattle.inverse_log.specs.declared.reply.Reply.{Reply}
 use Rattle.client_scripts.specs.Replay.{AppendsPart, answer_text, answers_behind, answers_text, script_text, tally_of}
 use Rattle.script_language.specs.Scripts.{Asked}
-use Rattle.client_scripts.specs.Steps.{HandsOn, IsRun}
+use Rattle.client_scripts.specs.Steps.{HandsOn, IsRun, MakesCall}
 use Rattle.client_scripts.specs.declared.fault.ReplayFault.{ReplayFault}
 use Rattle.client_scripts.specs.declared.fault.ReplayFault.TheVariants.{Write, OutOfMemory as NoMemory}
 use Rattle.client_scripts.specs.declared.fault.Tally.{Tally}
@@ -77,6 +78,20 @@ kept-part old now new written kept rest bytes w e part =
     ∙ ap (λ s. written ++ (s ++ rest)) (take-drop n kept)
     ∙ e)
     (Appends-then old now new written (take n kept) w part.1)
+
+-- a call that was made is the script's
+pub makes-call : (T : Recording) (calls : List Asked) (at : ℕ) (log : List Entry) (r : Result Bool OutOfMemory) (old : List ℕ) (after : List Entry) (new : List ℕ) (asked : ℕ × Call) → option_map (λ (a : Asked). (a.client, a.call)) (slice_get calls at) ≡ Some asked
+    → OnOk r (new ≡ old ++ answer_text T (answer_of T log asked.0 asked.1)) → IfOk r (λ accepted. accepted ≡ is_ok (answer_of T log asked.0 asked.1)) → OnOk r (after ≡ log_after T log asked.0 asked.1)
+    → IfOk r (λ accepted. MakesCall T calls at log accepted old after new)
+makes-call T calls at log (Ok accepted) old after new asked there text reply logged =
+    record {
+      asked = asked;
+      there = there;
+      text = text;
+      reply = reply;
+      logged = logged;
+    }
+makes-call T calls at log (Err refused) old after new asked there text reply logged = tt
 
 reply_count-cons : (answer : Answer) (answers : List Answer) → reply_count (answer ∷ answers) ≡ cond (is_ok answer) 1 0 + reply_count answers
 reply_count-cons (Ok reply) answers = omega arith

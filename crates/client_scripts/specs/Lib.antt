@@ -1,5 +1,6 @@
 pub mod FaultTexts
 pub mod Joint
+pub mod Loading
 pub mod Messages
 pub mod Replay
 pub mod Seats

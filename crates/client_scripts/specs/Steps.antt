@@ -1,5 +1,5 @@
 -- What the steps of a replay answer. No public clause cites this module.
-use Rattle.std.specs.Prelude.{◌≡◌, ◌⊎◌, ℕ, ◌<◌, List, ◌++◌, length, Option, Result, Ok, Err, Vec, IfSome, ⊤}
+use Rattle.std.specs.Prelude.{◌≡◌, ◌⊎◌, ℕ, ◌<◌, Bool, List, ◌++◌, length, slice_get, Option, Some, option_map, Result, Ok, Err, is_ok, Vec, IfSome, ⊤}
 use Rattle.std.specs.Io.KnownBytes.{Appends}
 use Rattle.std.specs.declared.alloc.Global.{Global}
 use Rattle.rapid_text.specs.Recording.{Recording}
@@ -9,7 +9,10 @@ use Rattle.rapid_text.specs.declared.refusal.TextRefusal.{TextRefusal}
 use Rattle.trace_rules.specs.declared.refusal.RuleCause.{RuleCause}
 use Rattle.trace_rules.specs.declared.refusal.RuleCause.TheVariants.{OutOfMemory as NoRuleMemory}
 use Rattle.trace_rules.specs.declared.refusal.RuleRefusal.{RuleRefusal}
-use Rattle.client_scripts.specs.Replay.{AppendsPart, IsShort, script_text, tally_of}
+use Rattle.inverse_log.specs.Answer.{answer_of, log_after}
+use Rattle.inverse_log.specs.declared.call.Call.{Call}
+use Rattle.inverse_log.specs.declared.entry.Entry.{Entry}
+use Rattle.client_scripts.specs.Replay.{AppendsPart, IsShort, answer_text, script_text, tally_of}
 use Rattle.script_language.specs.Scripts.{Asked, IsScript}
 use Rattle.client_scripts.specs.declared.fault.ReadCause.TheVariants.{Device, TooLong}
 use Rattle.client_scripts.specs.declared.fault.ReadFault.{ReadFault}
@@ -48,6 +51,14 @@ IsInput input rest (Err (Read place Device)) = place ≡ input
 IsInput input rest (Err (Read place TooLong)) = (place ≡ input) × IfSome rest (λ told. LIMIT < length told)
 IsInput input rest (Err OutOfMemory) = ⊤
 IsInput input rest (Err fault) = ⊥
+
+-- The script's call at this place was made behind this log, which is `after` then, and the line of its answer was appended.
+pub record MakesCall (trace : Recording) (script : List Asked) (at : ℕ) (log : List Entry) (accepted : Bool) (old : List ℕ) (after : List Entry) (new : List ℕ) : Type 0 where
+  pub asked : ℕ × Call
+  pub there : option_map (λ (a : Asked). (a.client, a.call)) (slice_get script at) ≡ Some asked
+  pub text : new ≡ old ++ answer_text trace (answer_of trace log asked.0 asked.1)
+  pub reply : accepted ≡ is_ok (answer_of trace log asked.0 asked.1)
+  pub logged : after ≡ log_after trace log asked.0 asked.1
 
 -- a line was handed to the writer or is kept back behind what was kept before
 abbrev pub HandsOn : Option (List ℕ) → Option (List ℕ) → List ℕ → List ℕ → List ℕ → Type 0

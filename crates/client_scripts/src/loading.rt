@@ -1,10 +1,13 @@
 //! Reads an input, and makes an indexed trace of a text.
-ghost use Rattle.std.specs.Prelude.{◌≡◌, ◌⊎◌, true, false, Err};
+ghost use Rattle.std.specs.Prelude.{◌≡◌, ◌≢◌, ◌⊎◌, true, false, IfOk, IfErr, Err};
 ghost use Rattle.trace_rules.specs.Rules.{first_breach};
+ghost use Rattle.client_scripts.specs.Loading.{IsReadFrom, IsUnreadFrom};
 ghost use Rattle.client_scripts.specs.Steps.{IsInput};
 ghost use Rattle.client_scripts.specs.Traces.{trace_checked, trace_of};
+ghost use Rattle.client_scripts.specs.declared.fault.ReadCause.{ReadCause};
 ghost use Rattle.client_scripts.specs.declared.fault.ReadCause.TheVariants.{Device};
-ghost use Rattle.client_scripts.specs.declared.fault.ReplayFault.TheVariants.{Read, OutOfMemory};
+ghost use Rattle.client_scripts.specs.declared.fault.ReplayFault.TheVariants.{Script, Read, Write, OutOfMemory};
+ghost use Rattle.script_language.specs.declared.refusal.ScriptRefusal.{ScriptRefusal};
 
 use crate::fault::ReplayFault;
 use crate::source::{Source, read_all};
@@ -36,7 +39,10 @@ fn check_trace(alloc: Global, raw: RawTrace) -> Result<Trace, ReplayFault>
 {
     match check(alloc, raw) {
         Ok(trace) => Ok(trace),
-        Err((_, refusal)) => Err(ReplayFault::from(refusal)),
+        Err((raw, refusal)) => {
+            drop(raw);
+            Err(ReplayFault::from(refusal))
+        }
     }
 }
 
@@ -48,4 +54,24 @@ pub fn load(alloc: Global, text: &[u8]) -> Result<Indexed, ReplayFault>
     let trace = check_trace(alloc, raw)?;
     let indexed = Indexed::new(alloc, trace)?;
     Ok(indexed)
+}
+
+/// Reads the whole of an input, which is number 1, and makes the tables of the trace that it holds; or 91, 92 or 94, or 96 for want of memory.
+pub fn read_trace<S: Source>(alloc: Global, reader: &mut S) -> Result<Indexed, ReplayFault>
+    requires { S.has_failed reader.old ≡ false }
+    // There are bytes, those that the reader tells where it tells them, of which this is the trace or the fault.
+    ensures read { IfOk result (IsReadFrom (S.rest reader.old)) }
+    ensures unread { IfErr result (IsUnreadFrom (S.rest reader.old)) }
+    // There is one input and no script, and nothing is written.
+    ensures input { (why : ReadCause) → result ≢ Err (Read 2 why) }
+    ensures no_script { (refusal : ScriptRefusal) → result ≢ Err (Script refusal) }
+    ensures unwritten { result ≢ Err Write }
+    // The device is at fault exactly where a read failed.
+    ensures device { result ≡ Err (Read 1 Device) → S.has_failed reader.new ≡ true }
+    ensures failed { S.has_failed reader.new ≡ true → result ≡ Err (Read 1 Device) }
+{
+    match read_input(alloc, reader, 1) {
+        Ok(text) => load(alloc, &text),
+        Err(fault) => Err(fault),
+    }
 }

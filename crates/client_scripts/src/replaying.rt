@@ -1,9 +1,10 @@
 //! Replays a script on a trace: reads both, makes the script's calls, and writes the lines of their answers.
-ghost use Rattle.std.specs.Prelude.{◌≡◌, ◌≢◌, ◌⊎◌, ◌++◌, ◌≤◌, ℕ, List, [], true, false, is_err, is_ok, IfErr, IfOk, IfSome, OnOk, OnErr, Ok, Err};
+ghost use Rattle.std.specs.Prelude.{◌≡◌, ◌≢◌, ◌⊎◌, ◌++◌, ◌<◌, ◌≤◌, ℕ, List, [], length, true, false, is_err, is_ok, IfErr, IfOk, IfSome, OnOk, OnErr, Ok, Err};
 ghost use Rattle.std.specs.Io.KnownBytes.{Appends};
 ghost use Rattle.inverse_log.specs.Answer.{answer_of, log_after};
-ghost use Rattle.client_scripts.specs.Replay.{AppendsPart, IsReplay, answer_text, of_joint, of_two};
-ghost use Rattle.client_scripts.specs.Steps.{HandsOn, IsRun, IsScriptRun};
+ghost use Rattle.client_scripts.specs.Replay.{AppendsPart, IsReplay, IsShort, answer_text, of_joint, of_two};
+ghost use Rattle.client_scripts.specs.Steps.{HandsOn, IsRun, IsScriptRun, MakesCall};
+ghost use Rattle.client_scripts.specs.Traces.{trace_of};
 ghost use Rattle.client_scripts.specs.declared.fault.ReadCause.{ReadCause};
 ghost use Rattle.client_scripts.specs.declared.fault.ReadCause.TheVariants.{Device};
 ghost use Rattle.client_scripts.specs.declared.fault.ReplayFault.TheVariants.{Write, Read};
@@ -12,7 +13,7 @@ ghost use Rattle.dependence.specs.Limits.{client_limit};
 
 use crate::fault::{ReplayFault, Tally};
 use crate::joint::parts_of;
-use crate::loading::{load, read_input};
+use crate::loading::{load, read_input, read_trace};
 use crate::sink::{Sink, write_all};
 use crate::source::Source;
 use event_index::Indexed;
@@ -42,7 +43,9 @@ fn make_call(
 {
     match bench.call(client, call) {
         Ok(reply) => {
-            report::reply(&reply, out)?;
+            let told = report::reply(&reply, out);
+            drop(reply);
+            told?;
             Ok(true)
         }
         Err(Refusal::OutOfMemory) => Err(OutOfMemory),
@@ -51,6 +54,24 @@ fn make_call(
             Ok(false)
         }
     }
+}
+
+/// Makes the script's call at this place and appends the line of its answer; says whether the answer is a reply.
+fn make_call_at(
+    bench: &mut Bench,
+    script: &Script,
+    at: usize,
+    out: &mut Vec<u8>,
+) -> Result<bool, OutOfMemory>
+    requires { at < length script.now }
+    ensures trace { bench.new.trace ≡ bench.old.trace }
+    ensures made { IfOk result
+        (λ accepted. MakesCall bench.old.trace script.now at bench.old.log accepted out.old.items bench.new.log out.new.items) }
+{
+    let call = script.call(at);
+    let made = make_call(bench, script.client(at), call.get(), out);
+    drop(call);
+    made
 }
 
 /// Writes the bytes that were kept back, and keeps none.
@@ -83,6 +104,35 @@ fn write_if_full<K: Sink>(writer: &mut K, kept: &mut Vec<u8>) -> Result<(), Repl
     write_out(writer, kept)
 }
 
+/// Makes the calls of a script on a bench with an empty log, and writes the lines of their answers by way of `kept`.
+fn make_calls<K: Sink>(
+    bench: &mut Bench,
+    script: &Script,
+    writer: &mut K,
+    kept: &mut Vec<u8>,
+) -> Result<Tally, ReplayFault>
+    requires working { K.has_failed writer.old ≡ false }
+    requires fresh { bench.old.log ≡ [] }
+    requires none { kept.old.items ≡ [] }
+    ensures run { IsRun bench.old.trace script.now (K.taken writer.old) (K.taken writer.new) result }
+    ensures failed { K.has_failed writer.new ≡ true → result ≡ Err Write }
+    ensures write { result ≡ Err Write → K.has_failed writer.new ≡ true }
+{
+    let mut accepted = 0;
+    for at in 0..script.len() {
+        let is_reply = make_call_at(bench, script, at, kept)?;
+        accepted += u64::from(is_reply);
+        write_if_full(writer, kept)?;
+    }
+    write_out(writer, kept)?;
+    let calls = script.len() as u64;
+    Ok(Tally {
+        calls,
+        accepted,
+        refused: calls - accepted,
+    })
+}
+
 /// Makes the calls of a script on a bench with an empty log, and writes the lines of their answers.
 fn run<K: Sink>(
     alloc: Global,
@@ -97,20 +147,7 @@ fn run<K: Sink>(
     ensures write { result ≡ Err Write → K.has_failed writer.new ≡ true }
 {
     let mut kept = Vec::new(alloc);
-    let mut accepted = 0;
-    for at in 0..script.len() {
-        let call = script.call(at);
-        let is_reply = make_call(bench, script.client(at), call.get(), &mut kept)?;
-        accepted += u64::from(is_reply);
-        write_if_full(writer, &mut kept)?;
-    }
-    write_out(writer, &mut kept)?;
-    let calls = script.len() as u64;
-    Ok(Tally {
-        calls,
-        accepted,
-        refused: calls - accepted,
-    })
+    make_calls(bench, script, writer, &mut kept)
 }
 
 /// A bench of a trace, whose names of schedules are hashed by a key that is made of this text.
@@ -118,27 +155,12 @@ fn open_bench(alloc: Global, indexed: Indexed, text: &[u8]) -> Result<Bench, Out
     ensures trace { IfOk result (λ bench. bench.trace ≡ indexed) }
     ensures log { IfOk result (λ bench. bench.log ≡ []) }
 {
-    let shared = Arc::new(alloc, indexed)?;
-    match Bench::keyed(alloc, shared, TextKeyed::of(text)) {
-        Ok(bench) => Ok(bench),
-        Err(_) => Err(OutOfMemory),
+    match Arc::new(alloc, indexed).ok() {
+        Some(shared) => Bench::keyed(alloc, shared, TextKeyed::of(text))
+            .ok()
+            .ok_or(OutOfMemory),
+        None => Err(OutOfMemory),
     }
-}
-
-/// Reads a script and makes its calls on a trace.
-fn replay_script<K: Sink>(
-    alloc: Global,
-    indexed: Indexed,
-    text: &[u8],
-    writer: &mut K,
-) -> Result<Tally, ReplayFault>
-    requires { K.has_failed writer.old ≡ false }
-    ensures run { IsScriptRun indexed text.now (K.taken writer.old) (K.taken writer.new) result }
-    ensures failed { K.has_failed writer.new ≡ true → result ≡ Err Write }
-    ensures write { result ≡ Err Write → K.has_failed writer.new ≡ true }
-{
-    let script = read_script(alloc, text)?;
-    replay_read(alloc, indexed, text, &script, writer)
 }
 
 /// Makes the calls of a script, which was read from the text, on a trace.
@@ -155,8 +177,66 @@ fn replay_read<K: Sink>(
     ensures failed { K.has_failed writer.new ≡ true → result ≡ Err Write }
     ensures write { result ≡ Err Write → K.has_failed writer.new ≡ true }
 {
-    let mut bench = open_bench(alloc, indexed, text)?;
-    run(alloc, &mut bench, script, writer)
+    match open_bench(alloc, indexed, text) {
+        Ok(mut bench) => {
+            let outcome = run(alloc, &mut bench, script, writer);
+            drop(bench);
+            outcome
+        }
+        Err(OutOfMemory) => Err(ReplayFault::OutOfMemory),
+    }
+}
+
+/// Reads a script and makes its calls on a trace.
+fn replay_script<K: Sink>(
+    alloc: Global,
+    indexed: Indexed,
+    text: &[u8],
+    writer: &mut K,
+) -> Result<Tally, ReplayFault>
+    requires { K.has_failed writer.old ≡ false }
+    ensures run { IsScriptRun indexed text.now (K.taken writer.old) (K.taken writer.new) result }
+    ensures failed { K.has_failed writer.new ≡ true → result ≡ Err Write }
+    ensures write { result ≡ Err Write → K.has_failed writer.new ≡ true }
+{
+    match read_script(alloc, text) {
+        Ok(script) => {
+            let outcome = replay_read(alloc, indexed, text, &script, writer);
+            drop(script);
+            outcome
+        }
+        Err(refusal) => {
+            drop(indexed);
+            Err(ReplayFault::from(refusal))
+        }
+    }
+}
+
+/// Reads a script, whole, and makes its calls on a trace that was read.
+fn replay_on<R: Source, K: Sink>(
+    alloc: Global,
+    indexed: Indexed,
+    script: &mut R,
+    writer: &mut K,
+) -> Result<Tally, ReplayFault>
+    requires script { R.has_failed script.old ≡ false }
+    requires writer { K.has_failed writer.old ≡ false }
+    ensures replay { (first : List ℕ) → IsShort first → trace_of first ≡ Ok indexed → (second : List ℕ)
+        × IfSome (R.rest script.old) (λ told. second ≡ told)
+        × IsReplay (of_two first second) (K.taken writer.old) (K.taken writer.new) result }
+    ensures input { (why : ReadCause) → result ≢ Err (Read 1 why) }
+    ensures script_device { result ≡ Err (Read 2 Device) → R.has_failed script.new ≡ true }
+    ensures script_failed { R.has_failed script.new ≡ true → result ≡ Err (Read 2 Device) }
+    ensures write { result ≡ Err Write → K.has_failed writer.new ≡ true }
+    ensures write_failed { K.has_failed writer.new ≡ true → result ≡ Err Write }
+{
+    match read_input(alloc, script, 2) {
+        Ok(text) => replay_script(alloc, indexed, &text, writer),
+        Err(fault) => {
+            drop(indexed);
+            Err(fault)
+        }
+    }
 }
 
 /// Reads a trace and a script, each whole; then makes the script's calls on the trace and writes the line of
@@ -185,10 +265,24 @@ pub fn replay<S: Source, R: Source, K: Sink>(
     ensures write { result ≡ Err Write → K.has_failed writer.new ≡ true }
     ensures write_failed { K.has_failed writer.new ≡ true → result ≡ Err Write }
 {
-    let trace_text = read_input(alloc, trace, 1)?;
-    let indexed = load(alloc, &trace_text)?;
-    match read_input(alloc, script, 2) {
-        Ok(script_text) => replay_script(alloc, indexed, &script_text, writer),
+    match read_trace(alloc, trace) {
+        Ok(indexed) => replay_on(alloc, indexed, script, writer),
+        Err(fault) => Err(fault),
+    }
+}
+
+/// Replays a joint text.
+fn replay_parts<K: Sink>(alloc: Global, text: &[u8], writer: &mut K) -> Result<Tally, ReplayFault>
+    requires short { IsShort text.now }
+    requires writer { K.has_failed writer.old ≡ false }
+    ensures replay { IsReplay (of_joint text.now) (K.taken writer.old) (K.taken writer.new) result }
+    ensures input { (input : ℕ) (why : ReadCause) → result ≢ Err (Read input why) }
+    ensures write { result ≡ Err Write → K.has_failed writer.new ≡ true }
+    ensures write_failed { K.has_failed writer.new ≡ true → result ≡ Err Write }
+{
+    let (trace, script) = parts_of(text);
+    match load(alloc, trace) {
+        Ok(indexed) => replay_script(alloc, indexed, script, writer),
         Err(fault) => Err(fault),
     }
 }
@@ -212,8 +306,8 @@ pub fn replay_joint<S: Source, K: Sink>(
     ensures write { result ≡ Err Write → K.has_failed writer.new ≡ true }
     ensures write_failed { K.has_failed writer.new ≡ true → result ≡ Err Write }
 {
-    let text = read_input(alloc, reader, 1)?;
-    let (trace, script) = parts_of(&text);
-    let indexed = load(alloc, trace)?;
-    replay_script(alloc, indexed, script, writer)
+    match read_input(alloc, reader, 1) {
+        Ok(text) => replay_parts(alloc, &text, writer),
+        Err(fault) => Err(fault),
+    }
 }

@@ -1,7 +1,10 @@
-//! What a replay answers where its reader fails at any of its reads, or its writer after any of its bytes; and that the message of a fault is the
-//! text that `fault_text` appends.
+//! What a replay answers where its reader fails at any of its reads, or its writer after any of its bytes; that ample memory gives the trace of a
+//! text; and that the message of a fault is the text that `fault_text` appends.
 use crate::fakes::{Broken, with_room};
-use client_scripts::{ReadCause, ReplayFault, ScriptCause, ScriptRefusal, Tally, replay_joint};
+use crate::fixtures::ONE_LOCK;
+use client_scripts::{
+    ReadCause, ReplayFault, ScriptCause, ScriptRefusal, Tally, read_trace, replay_joint,
+};
 use std::alloc::Global;
 
 // A trace of two threads, and a script.
@@ -74,4 +77,32 @@ fn a_fault_has_its_text_as_its_message(rt: HostRuntime) {
         why: ScriptCause::BadWord,
     });
     assert!(rt; has_message(rt.alloc(), fault, "script line 2: 81 bad word"));
+}
+
+// How many events the trace of a text has, where its reader fails at this read.
+fn events_read(alloc: Global, text: &[u8], fails_at: u32) -> Result<u32, ReplayFault> {
+    let mut reader = Broken {
+        left: text,
+        reads: 0,
+        fails_at,
+        failed: false,
+    };
+    match read_trace(alloc, &mut reader) {
+        Ok(indexed) => Ok(indexed.len()),
+        Err(fault) => Err(fault),
+    }
+}
+
+fn is_refused(alloc: Global, text: &[u8], message: &str) -> bool {
+    match events_read(alloc, text, READS + 1) {
+        Ok(_) => false,
+        Err(fault) => has_message(alloc, fault, message),
+    }
+}
+
+#[test]
+fn a_trace_is_read_whole(rt: HostRuntime) {
+    assert!(rt; events_read(rt.alloc(), ONE_LOCK, READS) == Ok(6));
+    assert!(rt; events_read(rt.alloc(), ONE_LOCK, 2) == Err(UNREAD));
+    assert!(rt; is_refused(rt.alloc(), JOINT, "trace line 7: 1 no bar"));
 }

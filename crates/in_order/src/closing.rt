@@ -1,5 +1,5 @@
 //! The events that are needed, as a count a thread: they are closed along threads.
-ghost use Rattle.std.specs.Prelude.{◌≡◌, ◌≢◌, ◌<◌, ◌≤◌, ℕ, length, IfOk, IfSome, None, Some, slice_index, slice_index_or, replicate};
+ghost use Rattle.std.specs.Prelude.{◌≡◌, ◌≢◌, ◌<◌, ◌≤◌, ℕ, length, IfOk, IfSome, None, OnOk, Some, slice_index, slice_index_or, replicate};
 ghost use Rattle.rapid_text.specs.declared.event.Op.TheVariants.{Acquire};
 ghost use Rattle.event_index.specs.Events.{op_at, thread_at};
 ghost use Rattle.event_index.specs.Lookups.{events_of, place_of};
@@ -25,25 +25,66 @@ pub(crate) fn needed_row(
     ensures within { IfOk result
         (λ row. (t : ℕ) → slice_index row.items t ≤ length (events_of indexed.now.events t)) }
 {
-    let threads = indexed.threads() as usize;
-    let mut row = zeros(alloc, threads)?;
-    let mut visited = zeros(alloc, threads)?;
+    let mut row = zeros(alloc, indexed.threads() as usize)?;
+    match close(alloc, &mut row, indexed, first, second) {
+        Ok(()) => Ok(row),
+        Err(refused) => Err(refused),
+    }
+}
+
+// Counts in the row what is needed, where it counts nothing yet.
+fn close(
+    alloc: Global,
+    row: &mut Vec<u32>,
+    indexed: &Indexed,
+    first: Option<u32>,
+    second: Option<u32>,
+) -> Result<(), OutOfMemory>
+    requires row { row.old.items ≡ replicate (length indexed.now.threads) 0 }
+    requires row_len { length row.old.items ≡ length indexed.now.threads }
+    requires first { IfSome first (λ e. e < length indexed.now.events) }
+    requires second { IfSome second (λ e. e < length indexed.now.events) }
+    ensures len { OnOk result (length row.new.items ≡ length indexed.now.threads) }
+    ensures row { OnOk result (IsNeededRow indexed.now.events (IsEither first second) (λ t. slice_index row.new.items t)) }
+    ensures within { OnOk result ((t : ℕ) → slice_index row.new.items t ≤ length (events_of indexed.now.events t)) }
+{
+    let mut visited = zeros(alloc, indexed.threads() as usize)?;
     let mut latest = nones(alloc, indexed.locks() as usize)?;
-    take_in(&mut row, indexed, first);
-    take_in(&mut row, indexed, second);
-    let mut next = behind(row.as_slice(), visited.as_slice(), indexed.threads(), 0);
+    close_by(row, &mut visited, &mut latest, indexed, first, second);
+    Ok(())
+}
+
+// The same, where no event is visited and no lock taken.
+fn close_by(
+    row: &mut Vec<u32>,
+    visited: &mut Vec<u32>,
+    latest: &mut Vec<Option<u32>>,
+    indexed: &Indexed,
+    first: Option<u32>,
+    second: Option<u32>,
+)
+    requires row { row.old.items ≡ replicate (length indexed.now.threads) 0 }
+    requires row_len { length row.old.items ≡ length indexed.now.threads }
+    requires visited { visited.old.items ≡ replicate (length indexed.now.threads) 0 }
+    requires visited_len { length visited.old.items ≡ length indexed.now.threads }
+    requires latest { latest.old.items ≡ replicate (length indexed.now.locks) None }
+    requires latest_len { length latest.old.items ≡ length indexed.now.locks }
+    requires first { IfSome first (λ e. e < length indexed.now.events) }
+    requires second { IfSome second (λ e. e < length indexed.now.events) }
+    ensures len { length row.new.items ≡ length indexed.now.threads }
+    ensures row { IsNeededRow indexed.now.events (IsEither first second) (λ t. slice_index row.new.items t) }
+    ensures within { (t : ℕ) → slice_index row.new.items t ≤ length (events_of indexed.now.events t) }
+{
+    let threads = indexed.threads();
+    take_in(row, indexed, first);
+    take_in(row, indexed, second);
+    let mut next = behind(row.as_slice(), visited.as_slice(), threads, 0);
     while let Some(thread) = next {
         let event = event_in(indexed, thread, visited[thread as usize]);
-        visit(&mut row, &mut latest, indexed, event);
+        visit(row, latest, indexed, event);
         visited[thread as usize] += 1;
-        next = behind(
-            row.as_slice(),
-            visited.as_slice(),
-            indexed.threads(),
-            thread,
-        );
+        next = behind(row.as_slice(), visited.as_slice(), threads, thread);
     }
-    Ok(row)
 }
 
 pub(crate) fn zeros(alloc: Global, count: usize) -> Result<Vec<u32>, OutOfMemory>

@@ -20,18 +20,16 @@ struct Latest {
     forks: Vec<Option<u32>>,
 }
 
-/// No place of so many things.
-fn no_places(alloc: Global, count: u32) -> Result<Vec<Option<u32>>, OutOfMemory> {
-    Ok(vec![in alloc; None; count as usize]?)
-}
-
-/// So many empty lists.
-pub(crate) fn no_lists(alloc: Global, count: usize) -> Result<Vec<Vec<u32>>, OutOfMemory> {
-    let mut lists = Vec::new(alloc);
+/// Adds so many empty lists.
+pub(crate) fn add_lists(
+    alloc: Global,
+    lists: &mut Vec<Vec<u32>>,
+    count: u32,
+) -> Result<(), OutOfMemory> {
     for _list in 0..count {
         lists.push(Vec::new(alloc))?;
     }
-    Ok(lists)
+    Ok(())
 }
 
 /// The place that is kept under this number.
@@ -56,14 +54,28 @@ fn append(needs: &mut Vec<u32>, place: Option<u32>) -> Result<(), OutOfMemory> {
 
 impl Latest {
     fn new(alloc: Global, indexed: &Indexed) -> Result<Latest, OutOfMemory> {
+        let mut latest = Latest {
+            writes: Vec::new(alloc),
+            reads: Vec::new(alloc),
+            releases: Vec::new(alloc),
+            ends: Vec::new(alloc),
+            forks: Vec::new(alloc),
+        };
+        match latest.make_room(alloc, indexed) {
+            Ok(()) => Ok(latest),
+            Err(refused) => Err(refused),
+        }
+    }
+
+    /// Makes room for what is named in the trace; there is no place yet.
+    fn make_room(&mut self, alloc: Global, indexed: &Indexed) -> Result<(), OutOfMemory> {
         let raw = indexed.trace().raw();
-        Ok(Latest {
-            writes: no_places(alloc, raw.variables())?,
-            reads: no_lists(alloc, raw.variables() as usize)?,
-            releases: no_places(alloc, raw.locks())?,
-            ends: no_places(alloc, raw.threads())?,
-            forks: no_places(alloc, raw.threads())?,
-        })
+        self.writes.resize(raw.variables() as usize, None)?;
+        add_lists(alloc, &mut self.reads, raw.variables())?;
+        self.releases.resize(raw.locks() as usize, None)?;
+        self.ends.resize(raw.threads() as usize, None)?;
+        self.forks.resize(raw.threads() as usize, None)?;
+        Ok(())
     }
 
     /// The reads of the variable since its last write, which are kept no more.
@@ -89,20 +101,48 @@ impl Latest {
             Op::Write(variable) => self.take_reads(alloc, variable),
             _ => Vec::new(alloc),
         };
+        match self.complete(&mut needs, thread, op) {
+            Ok(()) => Ok(needs),
+            Err(refused) => Err(refused),
+        }
+    }
+
+    /// Completes what the event waits for, where the reads that a write waits for are there.
+    fn complete(&self, needs: &mut Vec<u32>, thread: u32, op: Op) -> Result<(), OutOfMemory> {
         match op {
             Op::Read(variable) | Op::Write(variable) => {
-                append(&mut needs, place_at(&self.writes, variable))?;
+                append(needs, place_at(&self.writes, variable))?;
             }
-            Op::Acquire(lock) => append(&mut needs, place_at(&self.releases, lock))?,
+            Op::Acquire(lock) => append(needs, place_at(&self.releases, lock))?,
             Op::Join(other) => {
                 let end = place_at(&self.ends, other);
-                append(&mut needs, end.or(place_at(&self.forks, other)))?;
+                append(needs, end.or(place_at(&self.forks, other)))?;
             }
             Op::Release(_) | Op::Fork(_) => {}
         }
         needs.reverse();
-        append(&mut needs, place_at(&self.forks, thread))?;
-        Ok(needs)
+        append(needs, place_at(&self.forks, thread))
+    }
+
+    /// Goes over the list, and adds what each of its places waits for.
+    fn add_needs(
+        &mut self,
+        alloc: Global,
+        indexed: &Indexed,
+        list: &[u32],
+        all: &mut Vec<Vec<u32>>,
+    ) -> Result<(), OutOfMemory> {
+        let raw = indexed.trace().raw();
+        let mut place = 0u32;
+        for event in list {
+            if *event < raw.len() {
+                let found = raw.event(*event);
+                all.push(self.needs_of(alloc, found.thread, found.op)?)?;
+                self.note(found.thread, found.op, place)?;
+            }
+            place = place.saturating_add(1);
+        }
+        Ok(())
     }
 
     /// Keeps what later events may wait for.
@@ -128,17 +168,20 @@ pub fn needs_of(
     indexed: &Indexed,
     list: &[u32],
 ) -> Result<Vec<Vec<u32>>, OutOfMemory> {
-    let raw = indexed.trace().raw();
-    let mut latest = Latest::new(alloc, indexed)?;
     let mut all = Vec::new(alloc);
-    let mut place = 0u32;
-    for event in list {
-        if *event < raw.len() {
-            let found = raw.event(*event);
-            all.push(latest.needs_of(alloc, found.thread, found.op)?)?;
-            latest.note(found.thread, found.op, place)?;
-        }
-        place = place.saturating_add(1);
+    match add_needs(alloc, indexed, list, &mut all) {
+        Ok(()) => Ok(all),
+        Err(refused) => Err(refused),
     }
-    Ok(all)
+}
+
+/// Adds to the lists what each place of the list waits for.
+pub(crate) fn add_needs(
+    alloc: Global,
+    indexed: &Indexed,
+    list: &[u32],
+    all: &mut Vec<Vec<u32>>,
+) -> Result<(), OutOfMemory> {
+    let mut latest = Latest::new(alloc, indexed)?;
+    latest.add_needs(alloc, indexed, list, all)
 }

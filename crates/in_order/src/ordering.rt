@@ -3,7 +3,7 @@ ghost use Rattle.std.specs.Prelude.{◌≡◌, ◌↔◌, IsPermutation, IsTrue,
 ghost use Rattle.schedule.specs.Reordering.{IsCorrectReordering};
 ghost use Rattle.schedule.specs.Shows.{Shows};
 
-use crate::needing::{needs_of, no_lists};
+use crate::needing::{add_lists, add_needs};
 use event_index::{EventList, Indexed};
 use rapid_text::OutOfMemory;
 use schedule::{ListRefusal, Schedule};
@@ -126,48 +126,70 @@ fn propose(
     first: u32,
     second: u32,
 ) -> Result<Vec<u32>, OutOfMemory> {
-    let mut ordering = Ordering::of(alloc, indexed, list)?;
-    ordering.aim_at_base(indexed, list, second)?;
-    ordering.aim_at_base(indexed, list, first)?;
-    // each event, each need and each aim is a step or two
-    for _step in 0..list.len().saturating_mul(16) {
-        let Some(aim) = ordering.aims.last().copied() else {
-            break;
-        };
-        ordering.step(list, aim)?;
+    let mut ordering = Ordering {
+        needs: Vec::new(alloc),
+        threads: Vec::new(alloc),
+        left: Vec::new(alloc),
+        taken: Vec::new(alloc),
+        aims: Vec::new(alloc),
+        order: Vec::new(alloc),
+    };
+    match ordering.put(alloc, indexed, list, first, second) {
+        Ok(()) => Ok(ordering.order),
+        Err(refused) => Err(refused),
     }
-    ordering.take_rest(list)?;
-    Ok(ordering.order)
 }
 
 impl Ordering {
+    /// Puts the list in order, where nothing is known yet.
+    fn put(
+        &mut self,
+        alloc: Global,
+        indexed: &Indexed,
+        list: &[u32],
+        first: u32,
+        second: u32,
+    ) -> Result<(), OutOfMemory> {
+        self.begin(alloc, indexed, list)?;
+        self.aim_at_base(indexed, list, second)?;
+        self.aim_at_base(indexed, list, first)?;
+        // each event, each need and each aim is a step or two
+        for _step in 0..list.len().saturating_mul(16) {
+            let Some(aim) = self.aims.last().copied() else {
+                break;
+            };
+            self.step(list, aim)?;
+        }
+        self.take_rest(list)
+    }
+
     /// Nothing is taken.
-    fn of(alloc: Global, indexed: &Indexed, list: &[u32]) -> Result<Ordering, OutOfMemory> {
+    fn begin(&mut self, alloc: Global, indexed: &Indexed, list: &[u32]) -> Result<(), OutOfMemory> {
+        add_needs(alloc, indexed, list, &mut self.needs)?;
+        add_lists(alloc, &mut self.left, indexed.threads())?;
+        self.add_places(indexed, list)?;
+        for places in self.left.iter_mut() {
+            places.reverse();
+        }
+        self.taken.resize(list.len(), false)?;
+        Ok(())
+    }
+
+    /// Adds the places of the list to those that are left.
+    fn add_places(&mut self, indexed: &Indexed, list: &[u32]) -> Result<(), OutOfMemory> {
         let raw = indexed.trace().raw();
-        let mut threads = Vec::new(alloc);
-        let mut left = no_lists(alloc, raw.threads() as usize)?;
         let mut place = 0u32;
         for event in list {
             if *event < raw.len() {
                 let thread = raw.event(*event).thread;
-                threads.push(thread)?;
-                if let Some(places) = left.get_mut(thread as usize) {
+                self.threads.push(thread)?;
+                if let Some(places) = self.left.get_mut(thread as usize) {
                     places.push(place)?;
                 }
             }
             place = place.saturating_add(1);
         }
-        for places in left.iter_mut() {
-            places.reverse();
-        }
-        Ok(Ordering {
-            needs: needs_of(alloc, indexed, list)?,
-            threads,
-            left,
-            taken: vec![in alloc; false; list.len()]?,
-            aims: Vec::new(alloc),
-            order: Vec::new(alloc),
-        })
+        Ok(())
     }
 
     /// Works towards the base of the event next.

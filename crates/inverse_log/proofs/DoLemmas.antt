@@ -62,10 +62,6 @@ ok_may (Err why) h = absurd cc
 pub ok_answer : (a : Result Reply Refusal) (reply : Reply) → a ≡ Ok reply → may_want a ≡ true
 ok_answer a reply h = ap may_want h
 
-ok_done : (n : ℕ) (q : Result (Option Row) MoveRefusal) → IsOk q → IsOk (done_or n q)
-ok_done n (Ok o) h = h
-ok_done n (Err why) h = h
-
 pub eqb_turn : (x y : ℕ) → eqb x y ≡ eqb y x
 eqb_turn x y = elim (eqb_tells x y) [
   | inl h ↦ rw h.1 refl
@@ -141,14 +137,14 @@ module _ (own : Inside) (b : Keeps own) where
   pub do_refused : (J : Recording) (n c : ℕ) (d : Command) (why : MoveRefusal) → J ≡ T → n ≡ length L → n < 1000000 → ((m : ℕ) → made_at J B m d W ≡ Err why) → answer_of T L c (Do d) ≡ Err (Move why)
   do_refused J n c d why trace is room h = rw (lt-ltb (length L) 1000000 (omega (arith, room, is))) (ap (done_or (length L)) (made_same J d trace ∙ h (age (length L) 0)))
 
-  pub do_accepted : (J : Recording) (n c : ℕ) (d : Command) → J ≡ T → n ≡ length L → n < 1000000 → ((m : ℕ) → IsOk (made_at J B m d W)) → may_want (answer_of T L c (Do d)) ≡ true
-  do_accepted J n c d trace is room h = rw (lt-ltb (length L) 1000000 (omega (arith, room, is))) (ok_may (done_or (length L) _) (ok_done (length L) _ (subst IsOk (sym (made_same J d trace)) (h (age (length L) 0)))))
-
-  pub do_answer : (J : Recording) (n c : ℕ) (d : Command) (V : Rows) (i : Inverse) → J ≡ T → n ≡ length L → n < 1000000 → IsApplied J B (age n 0) d W V (Ok i) → answer_of T L c (Do d) ≡ Ok (Done n)
-  do_answer J n c d V i trace is room done =
-      let parts = applied_parts J B (age n 0) d W V done.0 in
-      let makes : made_at J B (age (length L) 0) d W ≡ Ok parts.0 = rw (← is) parts.1 in
-      rw (lt-ltb (length L) 1000000 (omega (arith, room, is))) (ap (done_or (length L)) (made_same J d trace ∙ makes) ∙ ap (λ m. Ok (Done m)) (sym is))
+  -- a command that is not refused is done
+  pub do_done : (J : Recording) (n c : ℕ) (d : Command) → J ≡ T → n ≡ length L → n < 1000000 → ((m : ℕ) → IsOk (made_at J B m d W)) → answer_of T L c (Do d) ≡ Ok (Done n)
+  do_done J n c d trace is room h =
+      rw (lt-ltb (length L) 1000000 (omega (arith, room, is))) (done (made_at T (board_of T L) (age (length L) 0) d (rows_of T L)) (subst IsOk (sym (made_same J d trace)) (h (age (length L) 0))) ∙ ap (λ m. Ok (Done m)) (sym is))
+    where
+      done : (q : Result (Option Row) MoveRefusal) → IsOk q → done_or (length L) q ≡ Ok (Done (length L))
+      done (Ok o) h = refl
+      done (Err why) h = absurd cc
 
   -- a single command is a run of one
   pub one_runs : (J : Recording) (n m : ℕ) (d : Command) (V : Rows) (i : Inverse) → m ≡ length L → n ≡ age m 0 → IsApplied J B n d W V (Ok i) → Runs J B n (d ∷ []) (record { name = writes d; step = i.step } ∷ []) W V

@@ -1,6 +1,7 @@
 -- An undo asked for: its answer, and what a bench keeps.
-use Rattle.std.proofs.Common.{◌≡◌, ℕ, ◌+◌, ◌<◌, ◌≤◌, List, [], ◌∷◌, ◌++◌, Option, Some, None, Result, Ok, Err, length, map, set, slice_get, sym, ap, ◌∙◌, subst, refl, arith}
+use Rattle.std.proofs.Common.{◌≡◌, ℕ, ◌+◌, ◌<◌, ◌≤◌, Bool, true, eqb, List, [], ◌∷◌, ◌++◌, Option, Some, None, Result, Ok, Err, length, map, set, slice_get, sym, ap, ◌∙◌, subst, refl, arith}
 use Rattle.std.specs.Arc.{arc_value}
+use Rattle.std.specs.List.{list_any}
 use Rattle.std.specs.Option.{option_map}
 use Rattle.std.specs.Result.{IsOk}
 use Rattle.std.proofs.lemmas.Bool.{lt-ltb}
@@ -13,7 +14,7 @@ use Rattle.moves.specs.Rows.{Rows}
 use Rattle.dependence.specs.Lists.{Lists, of_client, last_of, RemovedAll, Left}
 use Rattle.inverse_log.specs.declared.bench.Bench.TheInside.{Inside}
 use Rattle.inverse_log.specs.declared.call.Call.{Call}
-use Rattle.inverse_log.specs.declared.call.Call.TheVariants.{Undo}
+use Rattle.inverse_log.specs.declared.call.Call.TheVariants.{Undo, UndoAt}
 use Rattle.inverse_log.specs.declared.entry.Entry.{Entry}
 use Rattle.inverse_log.specs.declared.entry.Entry.TheVariants.{Undid}
 use Rattle.inverse_log.specs.declared.kept.Held.{Held}
@@ -24,16 +25,17 @@ use Rattle.inverse_log.specs.declared.reply.Reply.{Reply}
 use Rattle.inverse_log.specs.declared.reply.Reply.TheVariants.{Undone}
 use Rattle.inverse_log.specs.Answer.{answer_of, limited, undo_or, undone_or, entry_of, Called, IsLegal, goes_on}
 use Rattle.inverse_log.specs.Kept.{IsBench, IsLive, live_there, IsUnblocked, IsUndone}
-use Rattle.inverse_log.specs.Log.{Live, live, live_of, done_in, commands_in, commands_at, is_by, last_live, blocker_of}
+use Rattle.inverse_log.specs.Log.{Benched, Live, live, live_of, done_in, commands_in, commands_at, is_by, is_own, last_live, blocker_of}
 use Rattle.inverse_log.specs.Nearest.{nearest}
 use Rattle.inverse_log.specs.Steps.{inverses_of}
 use Rattle.inverse_log.specs.Touching.{entry_number, touches_name}
 use Rattle.inverse_log.proofs.CountLemmas.{edits_push, few_at}
 use Rattle.inverse_log.proofs.DoLemmas.{after_ok, ok_may, bench_same, small, short, eqb_turn}
-use Rattle.inverse_log.proofs.Inner.{Keeps}
+use Rattle.inverse_log.proofs.Inner.{Keeps, benched}
 use Rattle.inverse_log.proofs.KeptLemmas.{undo_within, undo_can, undo_of, undo_kept, set_back}
 use Rattle.inverse_log.proofs.LiveLemmas.{last_split, last_mine, live_there as lives_there}
 use Rattle.inverse_log.proofs.NearestLemmas.{told, nearest_blocker}
+use Rattle.inverse_log.proofs.NumberedLemmas.{at_asks, at_live}
 use Rattle.inverse_log.proofs.TouchingLemmas.{find_last, numbers_undid}
 
 no_number : (o : Option Live) → None ≡ option_map entry_number o → o ≡ None
@@ -48,6 +50,13 @@ a_number k (Some g) h = (g, refl, let e : Some k ≡ Some g.number = h in let f 
 abbrev rests_as : Option (ℕ × List ℕ) → Result Reply Refusal
 rests_as None = Err NothingToUndo
 rests_as (Some p) = Err (RestsOn p.0 p.1)
+
+-- what a call that asks for an undo of the client's live entry k may rest on
+pub record IsAsked (v : Benched) (c k : ℕ) (call : Call) : Type 0 where
+  pub room : length v.log < 1000000
+  pub live : IsLive v.log (live_there v.log c k)
+  pub legal : blocker_of v.log (live_there v.log c k) ≡ None → IsLegal v.trace (v.log ++ Undid c k ∷ [])
+  pub called : (r : Result Reply Refusal) (M : List Entry) → IsUndone v.log c (live_there v.log c k) r M → Called v.trace v.log c call r M
 
 module _ (own : Inside) (b : Keeps own) where
   abbrev T : Recording
@@ -98,10 +107,10 @@ module _ (own : Inside) (b : Keeps own) where
     abbrev g : Live
     g = live_there L c k
 
-    pub last_lives : Some k ≡ last_of (of_client C c) → IsLive L g
+    last_lives : Some k ≡ last_of (of_client C c) → IsLive L g
     last_lives h = let f = found c k h in subst (IsLive L) f.2 f.3
 
-    pub last_answers : Some k ≡ last_of (of_client C c) → answer_of T L c Undo ≡ limited L (undone_or (length L) g (blocker_of L g))
+    last_answers : Some k ≡ last_of (of_client C c) → answer_of T L c Undo ≡ limited L (undone_or (length L) g (blocker_of L g))
     last_answers h = let f = found c k h in ap (λ o. limited L (undo_or L o)) (f.1 ∙ ap Some f.2)
 
     blocked : (o : Option (ℕ × List ℕ)) (D : List Command) → D ≡ commands_at L k → o ≡ nearest k N (map writes D) → o ≡ told g (blocker_of L g)
@@ -118,13 +127,17 @@ module _ (own : Inside) (b : Keeps own) where
     pub undo_rests : (j : ℕ) (x : List ℕ) (D : List Command) → D ≡ commands_at L k → Some (j, x) ≡ nearest k N (map writes D) → undone_or (length L) g (blocker_of L g) ≡ Err (RestsOn j x)
     undo_rests j x D is h = a_blocker j x (blocker_of L g) (blocked (Some (j, x)) D is h)
 
-    pub undo_free : (D : List Command) → IsLive L g → D ≡ commands_at L k → None ≡ nearest k N (map writes D) → IsUnblocked L g
+    undo_free : (D : List Command) → IsLive L g → D ≡ commands_at L k → None ≡ nearest k N (map writes D) → IsUnblocked L g
     undo_free D lives is h = record {
       earlier = lives.earlier;
       later = lives.later;
       split = lives.split;
       free = no_blocker (blocker_of L g) (blocked None D is h);
     }
+
+    -- the same of what a contract sees of the bench, and of commands that were read from the log
+    pub undo_free_in : (v : Benched) (seen : List Entry) (D : List Command) → benched own ≡ v → IsLive v.log (live_there v.log c k) → seen ≡ L → D ≡ commands_at seen k → None ≡ nearest k N (map writes D) → IsUnblocked L g
+    undo_free_in v seen D view lives see is h = undo_free D (subst (λ (v : Benched). IsLive v.log (live_there v.log c k)) (sym view) lives) (is ∙ ap (λ X. commands_at X k) see) h
 
     pub free_answers : (n : ℕ) → n ≡ length L → IsUnblocked L g → undone_or (length L) g (blocker_of L g) ≡ Ok (Undone n k)
     free_answers n is free = ap (undone_or (length L) g) free.free ∙ ap (λ m. Ok (Undone m k)) (sym is)
@@ -134,7 +147,7 @@ module _ (own : Inside) (b : Keeps own) where
       answers : answer_of T L c call ≡ undone_or (length L) g (blocker_of L g)
       answers = asks ∙ rw (lt-ltb (length L) 1000000 room) refl
 
-      pub undo_legal : 1 ≤ c → c ≤ 32 → blocker_of L g ≡ None → IsLegal T (L ++ Undid c k ∷ [])
+      undo_legal : 1 ≤ c → c ≤ 32 → blocker_of L g ≡ None → IsLegal T (L ++ Undid c k ∷ [])
       undo_legal low high none =
           let is : answer_of T L c call ≡ Ok (Undone (length L) k) = answers ∙ ap (undone_or (length L) g) none in
           subst (IsLegal T) (sym (after_ok T L (L ++ Undid c k ∷ []) c call (Undone (length L) k) is (ap (λ X. L ++ X) (sym (enters (length L) k))))) (goes_on L c call low high b.legal)
@@ -143,7 +156,7 @@ module _ (own : Inside) (b : Keeps own) where
       undone_reply None reply h = let is : Undone (length L) k ≡ reply = cc in sym is
       undone_reply (Some e) reply h = absurd cc
 
-      pub undo_called : (M : List Entry) (r : Result Reply Refusal) → IsUndone L c g r M → Called T L c call r M
+      undo_called : (M : List Entry) (r : Result Reply Refusal) → IsUndone L c g r M → Called T L c call r M
       undo_called M (Ok reply) h =
           let same : reply ≡ Undone (length L) k = undone_reply (blocker_of L g) reply h.0 in
           let entry : entry_of c call reply ≡ Undid c k ∷ [] = ap (entry_of c call) same ∙ enters (length L) k in
@@ -160,6 +173,21 @@ module _ (own : Inside) (b : Keeps own) where
       undo_called M (Err NotLive) h = (answers ∙ h.0, h.1)
       undo_called M (Err BadBatch) h = (answers ∙ h.0, h.1)
       undo_called M (Err (InBatch place why)) h = (answers ∙ h.0, h.1)
+
+      undo_asked : 1 ≤ c → c ≤ 32 → IsLive L g → (v : Benched) → benched own ≡ v → IsAsked v c k call
+      undo_asked low high lives v view = subst (λ (v : Benched). IsAsked v c k call) view (record { room = room; live = lives; legal = undo_legal low high; called = λ r M h. undo_called M r h })
+
+    -- an undo of the client's latest entry
+    pub last_asked : Some k ≡ last_of (of_client C c) → length L < 1000000 → 1 ≤ c → c ≤ 32 → (v : Benched) → benched own ≡ v → IsAsked v c k Undo
+    last_asked h room low high v view = undo_asked Undo (last_answers h) (λ n j. refl) room low high (last_lives h) v view
+
+    -- an undo of the entry k, where the log that was read says that it is the client's, and the list of the client's entries has it
+    pub at_asked : (n : ℕ) → n ≡ length L → n < 1000000 → (seen : List Entry) (own' listed : Bool) → seen ≡ L → own' ≡ true → own' ≡ is_own c (slice_get seen k) → listed ≡ true → listed ≡ list_any (eqb k) (of_client C c) → 1 ≤ c → c ≤ 32
+        → (v : Benched) → benched own ≡ v → IsAsked v c k (UndoAt k)
+    at_asked n is room seen own' listed see told' mine there lists low high v view =
+        let of : true ≡ is_own c (slice_get L k) = sym told' ∙ mine ∙ ap (λ X. is_own c (slice_get X k)) see in
+        let has : true ≡ list_any (eqb k) (of_client C c) = sym there ∙ lists in
+        undo_asked (UndoAt k) (at_asks own b n c k is room of has) (λ n j. refl) (omega (arith, is, room)) low high (at_live own b n c k is room of has) v view
 
     module _ (free : IsUnblocked L g) where
       pub take_within : (n : ℕ) → n ≡ length steps → k < n

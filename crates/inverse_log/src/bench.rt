@@ -1,9 +1,9 @@
 //! The bench: a workspace and its board, and the log of what clients did to them.
-ghost use Rattle.std.specs.Prelude.{◌≡◌, ◌<◌, ◌≤◌, ◌++◌, ◌∷◌, [], All, length, slice_get, Some, None, true, OnOk, OnErr, IfOk, IfErr};
+ghost use Rattle.std.specs.Prelude.{◌≡◌, ◌<◌, ◌≤◌, ◌++◌, ◌∷◌, [], All, length, slice_get, Some, None, true, Ok, OnOk, OnErr, IfOk, IfErr};
 ghost use Rattle.dependence.specs.Limits.{client_limit};
 ghost use Rattle.std.specs.Arc.{arc_value};
 ghost use Rattle.inverse_log.specs.Answer.{Called, IsLegal, is_batch};
-ghost use Rattle.inverse_log.specs.Kept.{IsLive, live_there, IsUnblocked, IsUndone};
+ghost use Rattle.inverse_log.specs.Kept.{IsJudged, IsLive, live_there, IsUnblocked, IsUndone};
 ghost use Rattle.inverse_log.specs.Headline.{IsFoldOfLive, IsSound};
 ghost use Rattle.inverse_log.specs.Limits.{entry_limit};
 ghost use Rattle.inverse_log.specs.Log.{blocker_of, board_of, edits_of};
@@ -24,6 +24,7 @@ use dependence::{Clients, Touches};
 use event_index::{EventList, Indexed};
 use moves::{Board, Command, Commands, MoveRefusal, Name, Workspace};
 use rapid_text::{OutOfMemory, TextKeyed};
+use schedule::Schedule;
 use std::alloc::Global;
 use std::marker::Model;
 use std::slice;
@@ -191,8 +192,24 @@ impl Bench {
         {
             return Err(Refusal::Move(why));
         }
+        match self.put(client, command) {
+            Ok(()) => Ok(Reply::Done(number)),
+            Err(_) => Err(Refusal::OutOfMemory),
+        }
+    }
+
+    // Applies a command that is not refused, where the log has room.
+    fn put(&mut self, client: u32, command: &Command) -> Result<(), OutOfMemory>
+        requires client { client ≤ client_limit }
+        requires room { length self.old.log < entry_limit }
+        requires legal { IsLegal self.old.trace (self.old.log ++ Entry.Did client command.now ∷ []) }
+        ensures trace { self.new.trace ≡ self.old.trace }
+        ensures ok { OnOk result (self.new.log ≡ self.old.log ++ Entry.Did client command.now ∷ []) }
+        ensures err { OnErr result (self.new.log ≡ self.old.log) }
+    {
+        let number = self.log.len() as u64;
         let Ok(()) = make_room(self.alloc, &mut self.log, &mut self.steps, &mut self.spare) else {
-            return Err(Refusal::OutOfMemory);
+            return Err(OutOfMemory);
         };
         let commands = slice::from_ref(command);
         let Ok(()) = enter(
@@ -202,7 +219,7 @@ impl Bench {
             commands,
             number,
         ) else {
-            return Err(Refusal::OutOfMemory);
+            return Err(OutOfMemory);
         };
         let Ok(inverse) = self.rows.apply(&self.indexed, &self.board, number, command) else {
             leave(
@@ -212,7 +229,7 @@ impl Bench {
                 commands,
                 number,
             );
-            return Err(Refusal::OutOfMemory);
+            return Err(OutOfMemory);
         };
         add_held(&mut self.steps, &mut self.spare, Held::One(inverse.step));
         add_entry(
@@ -222,7 +239,7 @@ impl Bench {
                 command: *command,
             },
         );
-        Ok(Reply::Done(number))
+        Ok(())
     }
 
     fn perform_all(&mut self, client: u32, commands: &[Command]) -> Result<Reply, Refusal>
@@ -238,22 +255,23 @@ impl Bench {
         if !is_batch(commands) {
             return Err(Refusal::BadBatch);
         }
-        self.perform_batch(client, commands)
+        match Commands::of(self.alloc, commands) {
+            Ok(kept) => self.put_batch(client, kept),
+            Err(_) => Err(Refusal::OutOfMemory),
+        }
     }
 
     // Applies the commands of a batch of 1 to 64, where the log has room.
-    fn perform_batch(&mut self, client: u32, commands: &[Command]) -> Result<Reply, Refusal>
+    fn put_batch(&mut self, client: u32, kept: Commands) -> Result<Reply, Refusal>
         requires low { 1 ≤ client }
         requires high { client ≤ client_limit }
         requires room { length self.old.log < entry_limit }
-        requires sizes { is_batch commands.now ≡ true }
+        requires sizes { is_batch kept ≡ true }
         ensures trace { self.new.trace ≡ self.old.trace }
-        ensures call { Called self.old.trace self.old.log client (Call.Batch commands.now) result self.new.log }
+        ensures call { Called self.old.trace self.old.log client (Call.Batch kept) result self.new.log }
     {
         let number = self.log.len() as u64;
-        let Ok(kept) = Commands::of(self.alloc, commands) else {
-            return Err(Refusal::OutOfMemory);
-        };
+        let commands = kept.items();
         let Ok(()) = make_room(self.alloc, &mut self.log, &mut self.steps, &mut self.spare) else {
             return Err(Refusal::OutOfMemory);
         };
@@ -406,15 +424,39 @@ impl Bench {
             Ok(schedule) => schedule,
             Err(why) => return Err(why),
         };
-        let Ok(events) = EventList::of(self.alloc, events) else {
-            return Err(Refusal::OutOfMemory);
-        };
+        match self.put_proposal(client, first, second, events, schedule) {
+            Ok(proposal) => Ok(Reply::Proposed { number, proposal }),
+            Err(_) => Err(Refusal::OutOfMemory),
+        }
+    }
+
+    // Puts a list that shows its pair on the board, where the log has room, and tells its number there.
+    fn put_proposal(
+        &mut self,
+        client: u32,
+        first: u32,
+        second: u32,
+        events: &[u32],
+        schedule: Schedule,
+    ) -> Result<u64, OutOfMemory>
+        requires low { 1 ≤ client }
+        requires high { client ≤ client_limit }
+        requires room { length self.old.log < entry_limit }
+        requires judged { IsJudged self.old.trace first second events.now (Ok schedule) }
+        ensures trace { self.new.trace ≡ self.old.trace }
+        ensures number { IfOk result (λ proposal. proposal ≡ length (board_of self.old.trace self.old.log)) }
+        ensures ok { OnOk result (self.new.log ≡ self.old.log ++ Entry.Proposed client first second events.now ∷ []) }
+        ensures err { OnErr result (self.new.log ≡ self.old.log) }
+    {
         let Ok(()) = make_room(self.alloc, &mut self.log, &mut self.steps, &mut self.spare) else {
-            return Err(Refusal::OutOfMemory);
+            return Err(OutOfMemory);
+        };
+        let Ok(events) = EventList::of(self.alloc, events) else {
+            return Err(OutOfMemory);
         };
         let proposal = self.board.len() as u64;
         let Ok(()) = self.board.push(first, second, schedule) else {
-            return Err(Refusal::OutOfMemory);
+            return Err(OutOfMemory);
         };
         add_nothing(&mut self.steps);
         add_entry(
@@ -426,7 +468,7 @@ impl Bench {
                 events,
             },
         );
-        Ok(Reply::Proposed { number, proposal })
+        Ok(proposal)
     }
 
     fn show(&self, client: u32, name: &Name) -> Result<Reply, Refusal>

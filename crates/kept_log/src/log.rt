@@ -306,9 +306,9 @@ impl<D: Device> KeptLog<D> {
             return Err(AppendError::Full);
         }
         let end = self.end + text.len();
-        if text.push(b'!').is_err() {
+        let Ok(()) = text.push(b'!') else {
             return Err(AppendError::OutOfMemory);
-        }
+        };
         write_through(&mut self.device, self.end + 1, &text[1..])?;
         write_through(&mut self.device, self.end, b" ")?;
         self.end = end;

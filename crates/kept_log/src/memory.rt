@@ -1,6 +1,7 @@
 //! A file in memory. Each call is done at once, so a crash leaves what is there. It keeps each past content.
-ghost use Rattle.std.specs.Prelude.{◌≡◌, ◌⊎◌, [], ◌∷◌, ◌++◌, length, drop, OnOk, OnErr};
+ghost use Rattle.std.specs.Prelude.{◌≡◌, ◌⊎◌, ◌≤◌, [], ◌∷◌, ◌++◌, length, drop, IfOk, OnOk, OnErr};
 ghost use Rattle.std.proofs.Common.{inl};
+ghost use Rattle.kept_log.specs.Device.{Holds};
 ghost use Rattle.kept_log.specs.Past.{HadBeen, only_bytes, newest_first};
 
 use crate::{Device, DeviceError};
@@ -69,6 +70,19 @@ fn replace(
     Ok(())
 }
 
+// Bytes of a file with these in it at a place.
+fn written(alloc: Global, old: &[u8], at: usize, bytes: &[u8]) -> Result<Vec<u8>, AllocError>
+    requires { at ≤ length old.now }
+    ensures { IfOk result (λ next. Holds old.now at bytes.now next.items) }
+{
+    let mut next = old[..at].to_vec(alloc)?;
+    next.extend_from_slice(bytes)?;
+    if bytes.len() < old.len() - at {
+        next.extend_from_slice(&old[at + bytes.len()..])?;
+    }
+    Ok(next)
+}
+
 impl Device for Memory {
     ghost seen = { λ m. m.bytes.items };
 
@@ -101,11 +115,7 @@ impl Device for Memory {
     }
 
     fn write_at(&mut self, at: usize, bytes: &[u8]) -> Result<(), DeviceError> {
-        let mut next = self.bytes[..at].to_vec(self.alloc)?;
-        next.extend_from_slice(bytes)?;
-        if bytes.len() < self.bytes.len() - at {
-            next.extend_from_slice(&self.bytes[at + bytes.len()..])?;
-        }
+        let next = written(self.alloc, &self.bytes, at, bytes)?;
         Ok(replace(self.alloc, &mut self.bytes, &mut self.past, next)?)
     }
 

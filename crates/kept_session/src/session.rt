@@ -123,7 +123,10 @@ fn begin<D: Device + Drop>(
 {
     match make_all(alloc, &mut bench, text) {
         Ok(()) => let_go(bench, log),
-        Err(fault) => Err((fault, log.device)),
+        Err(fault) => {
+            drop(bench);
+            Err((fault, log.device))
+        }
     }
 }
 
@@ -146,7 +149,10 @@ fn let_go<D: Device + Drop>(
 {
     match log.release() {
         Ok(()) => Ok(Session { bench, log }),
-        Err(why) => Err((SessionFault::unwritten(why), log.device)),
+        Err(why) => {
+            drop(bench);
+            Err((SessionFault::unwritten(why), log.device))
+        }
     }
 }
 
@@ -217,8 +223,15 @@ impl<D: Device + Drop> Session<D> {
         ensures fault { IfErr result (λ e. IsOpenFault bench.trace head.now (D.seen e.1) e.0) }
     {
         match open_log(alloc, device, head) {
-            Ok((log, bytes)) => begin(alloc, bench, log, &bytes[head.len()..]),
-            Err(refused) => Err(refused),
+            Ok((log, bytes)) => {
+                let begun = begin(alloc, bench, log, &bytes[head.len()..]);
+                drop(bytes);
+                begun
+            }
+            Err(refused) => {
+                drop(bench);
+                Err(refused)
+            }
         }
     }
 

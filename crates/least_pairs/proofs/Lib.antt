@@ -5,6 +5,7 @@ pub mod WindowLemmas
 pub mod SeenLemmas
 pub mod AlikeLemmas
 pub mod NoneLemmas
+pub mod SoughtLemmas
 pub mod TakenLemmas
 pub mod NextLemmas
 pub mod RowLemmas

@@ -1,6 +1,6 @@
 -- What is known while the variables are gone through. No public clause cites this module. `r` is a recording, `place` tells the place of each
 -- event, `rows` are the rows of all pairs of places, `most` is how many open pairs are kept.
-use Rattle.std.specs.Prelude.{◌≡◌, ◌≢◌, ◌⊎◌, ℕ, ◌<◌, ◌≤◌, ◌||◌, true, false, List, length, All, Some, slice_get, slice_index, Vec}
+use Rattle.std.specs.Prelude.{◌≡◌, ◌≢◌, ◌⊎◌, ℕ, ◌<◌, ◌≤◌, ◌||◌, true, false, Bool, List, length, All, Some, slice_get, slice_index, Vec}
 use Rattle.std.specs.declared.alloc.Global.{Global}
 use Rattle.rapid_text.specs.Recording.{Recording, IsWellFormed}
 use Rattle.trace_rules.specs.Rules.{IsDisciplined}
@@ -8,6 +8,7 @@ use Rattle.rapid_text.specs.declared.event.Event.{Event}
 use Rattle.event_index.specs.Lookups.{place_of}
 use Rattle.must_order.specs.Kinds.{IsKind}
 use Rattle.must_order.specs.MustBefore.{IsForced}
+use Rattle.must_order.specs.declared.kind.Kind.{Kind}
 use Rattle.must_order.specs.declared.kind.Kind.TheVariants.{Candidate as CandidateKind, Open as OpenKind}
 use Rattle.race_groups.specs.Classes.{is_kept_pair}
 use Rattle.race_groups.specs.Cuts.{IsCutOf}
@@ -23,6 +24,8 @@ use Rattle.least_pairs.specs.Pairs.{AreAt, AreGroups, IsOf, IsPair, is_access_at
 use Rattle.least_pairs.specs.declared.lanes.Lane.{Lane}
 use Rattle.least_notes.specs.declared.least.Least.{Least}
 use Rattle.least_pairs.specs.declared.leasts.Search.{Search}
+use Rattle.least_pairs.specs.declared.leasts.Sought.{Sought}
+use Rattle.least_pairs.specs.declared.leasts.Sought.TheVariants.{Candidates, Opens}
 use Rattle.least_pairs.specs.declared.stretches.Stretch.{Stretch}
 use Rattle.least_notes.specs.declared.tries.Between.{Between}
 
@@ -154,15 +157,39 @@ pub record AreClashing (s : Search) (x : ℕ) (earlier later : Lane) : Type 0 wh
   pub writes : (earlier.is_writing || later.is_writing) ≡ true
   pub variable : x < length s.indexed.now.variables
 
--- The stretches before event b of the later lane: which events of the lane SHB keeps before b's base, which are must-before it, and which
--- come before b.
-pub record AreStretched (s : Search) (earlier later : Lane) (b : ℕ) (candidates opens : Stretch) : Type 0 where
-  pub candidates_are : IsStretch earlier (length later.classes.items) candidates
-  pub opens_are : IsStretch earlier (length later.classes.items) opens
-  pub known : IsReached s.indexed.now.events earlier (known_before s.indexed.now.events b earlier.thread) candidates.start
-  pub forced : IsReached s.indexed.now.events earlier (counted_before s.rows.now s.indexed.now.events b earlier.thread) opens.start
-  pub passed : IsPassed earlier b candidates.end
-  pub opened : opens.end ≡ candidates.start
+-- what the pairs of two lanes are of
+abbrev pub of_lanes : ℕ → Lane → Lane → Between
+of_lanes x earlier later = record { variable = x; earlier = earlier.thread; later = later.thread }
+
+-- what is held of a pair that is sought
+abbrev pub Has : Sought → Search → List Least → Between → ℕ → ℕ → Type 0
+Has Candidates s leasts of = HasCandidate s of.variable leasts
+Has Opens s leasts of = HasOpen s leasts of
+
+-- whether the trace has any
+abbrev pub has_some : Sought → Search → Bool
+has_some Candidates s = s.has_candidates
+has_some Opens s = s.has_open
+
+abbrev pub kind_of : Sought → Kind
+kind_of Candidates = CandidateKind
+kind_of Opens = OpenKind
+
+-- The pair may be taken in: a candidate, or one that SHB orders and must-before does not, which a lock may guard.
+abbrev pub IsSought : Sought → Recording → ℕ → ℕ → Type 0
+IsSought Candidates r a b = IsKind r a b CandidateKind
+IsSought Opens r a b = IsKnownBefore r.events a b × (¬ IsForced r.events a b)
+
+-- The stretch has the events of the earlier lane whose pairs with event n of the later lane may be taken in, and all that are of the kind.
+pub record IsWindow (sought : Sought) (s : Search) (earlier later : Lane) (n : ℕ) (w : Stretch) : Type 0 where
+  pub begins : w.start ≤ length earlier.events.items
+  pub within : w.end ≤ length earlier.events.items
+  pub inside : (k : ℕ) → w.start ≤ k → k < w.end
+      → IsPair s.indexed.now.events (slice_index earlier.events.items k) (slice_index later.events.items n)
+      × IsSought sought s.indexed.now (slice_index earlier.events.items k) (slice_index later.events.items n)
+  pub whole : (k : ℕ) → k < length earlier.events.items
+      → IsPair s.indexed.now.events (slice_index earlier.events.items k) (slice_index later.events.items n)
+      → IsKind s.indexed.now (slice_index earlier.events.items k) (slice_index later.events.items n) (kind_of sought) → (w.start ≤ k) × (k < w.end)
 
 -- Before event n of the later lane: no stretch is beyond the ends that are to come.
 pub record AreBehind (s : Search) (earlier later : Lane) (n : ℕ) (candidates opens : Stretch) : Type 0 where

@@ -3,12 +3,12 @@ ghost use Rattle.std.specs.Prelude.{◌≡◌, ◌≢◌, ◌⊎◌, ℕ, ◌+�
 ghost use Rattle.event_index.specs.Lookups.{place_of};
 ghost use Rattle.must_order.specs.Kinds.{IsKind};
 ghost use Rattle.must_order.specs.MustBefore.{IsForced};
-ghost use Rattle.must_order.specs.declared.kind.Kind.TheVariants.{Candidate as CandidateKind, Open as OpenKind};
+ghost use Rattle.must_order.specs.declared.kind.Kind.TheVariants.{Candidate as CandidateKind};
 ghost use Rattle.race_groups.specs.Classes.{is_kept_pair};
 ghost use Rattle.race_groups.specs.Ends.{IsKnownBefore, known_before, counted_before};
 ghost use Rattle.race_groups.specs.Shared.{keeps_shared};
 ghost use Rattle.race_groups.specs.declared.kinds.Row.{Row as Counted};
-ghost use Rattle.least_pairs.specs.Going.{AreAllTaken, AreBehind, AreClashing, AreFound, AreHeldBelow, AreMore, AreSeen, AreStretched, AreTakenBelow, HasCandidate, HasOpen, IsPassed, IsReached, IsSound, IsTaken};
+ghost use Rattle.least_pairs.specs.Going.{AreAllTaken, AreBehind, AreClashing, AreFound, AreHeldBelow, AreMore, AreSeen, AreTakenBelow, Has, HasCandidate, HasOpen, IsPassed, IsReached, IsSought, IsSound, IsTaken, IsWindow, has_some, kind_of, of_lanes};
 ghost use Rattle.least_pairs.specs.Lanes.{AreLanes, IsLane, IsPlain, IsStretch};
 ghost use Rattle.least_pairs.specs.Noted.{AreTrueNotes};
 ghost use Rattle.least_pairs.specs.Pairs.{AreAt, AreGroups, AreLeasts, IsOf, IsPair, is_access_at};
@@ -63,6 +63,13 @@ pub fn leasts_of(
     };
     let leasts = search.found(alloc)?;
     Ok(leasts)
+}
+
+/// Which pairs of two lanes are taken in.
+#[derive(Clone, Copy)]
+enum Sought {
+    Candidates,
+    Opens,
 }
 
 /// What is asked for.
@@ -284,15 +291,14 @@ impl Search<'_> {
         requires noted { AreTrueNotes self.now variable leasts.old stretches.old.noted }
         requires behind { AreBehind self.now earlier.now later.now at stretches.old.candidates stretches.old.opens }
         requires candidates { AreSeen (HasCandidate self.now variable leasts.old) earlier.now later.now stretches.old.candidates at }
-        requires opens { AreSeen (HasOpen self.now leasts.old (record { variable = variable; earlier = earlier.now.thread; later = later.now.thread }))
-            earlier.now later.now stretches.old.opens at }
+        requires opens { AreSeen (HasOpen self.now leasts.old (of_lanes variable earlier.now later.now)) earlier.now later.now stretches.old.opens at }
         ensures found { OnOk result (AreFound self.now variable leasts.new) }
         ensures more { OnOk result (AreMore self.now.most variable leasts.old leasts.new) }
         ensures noted { OnOk result (AreTrueNotes self.now variable leasts.new stretches.new.noted) }
         ensures behind { OnOk result (AreBehind self.now earlier.now later.now (at + 1) stretches.new.candidates stretches.new.opens) }
         ensures candidates { OnOk result (AreSeen (HasCandidate self.now variable leasts.new) earlier.now later.now stretches.new.candidates (at + 1)) }
-        ensures opens { OnOk result (AreSeen (HasOpen self.now leasts.new (record { variable = variable; earlier = earlier.now.thread; later = later.now.thread }))
-            earlier.now later.now stretches.new.opens (at + 1)) }
+        ensures opens { OnOk result (AreSeen (HasOpen self.now leasts.new (of_lanes variable earlier.now later.now)) earlier.now later.now
+            stretches.new.opens (at + 1)) }
         ensures taken { OnOk result ((k : ℕ) → k < length earlier.now.events.items
             → IsPair self.now.indexed.now.events (slice_index earlier.now.events.items k) (slice_index later.now.events.items at)
             → IsTaken self.now.indexed.now (slice_index self.now.places.now) self.now.groups.now.rows.items self.now.most variable leasts.new
@@ -315,7 +321,8 @@ impl Search<'_> {
         let kinds = later.classes.len();
         stretches.candidates.advance(earlier, kinds, known, passed);
         stretches.opens.advance(earlier, kinds, forced, known);
-        self.take_candidates(
+        self.take(
+            Sought::Candidates,
             leasts,
             &mut stretches.candidates,
             &mut stretches.places,
@@ -325,10 +332,12 @@ impl Search<'_> {
             variable,
             at,
         )?;
-        self.take_open(
+        self.take(
+            Sought::Opens,
             leasts,
             &mut stretches.opens,
             &mut stretches.places,
+            &mut stretches.noted,
             earlier,
             later,
             variable,
@@ -337,9 +346,10 @@ impl Search<'_> {
         Ok(())
     }
 
-    // Takes in the candidates of one later event, where there are any in the trace.
-    fn take_candidates(
+    // Takes in the pairs of one later event that are sought, where there are any in the trace.
+    fn take(
         &self,
+        sought: Sought,
         leasts: &mut [Least],
         stretch: &mut Stretch,
         places: &mut Vec<usize>,
@@ -355,143 +365,25 @@ impl Search<'_> {
         requires found { AreFound self.now variable leasts.old }
         requires noted { AreTrueNotes self.now variable leasts.old noted.old }
         requires stretch { IsStretch earlier.now (length later.now.classes.items) stretch.old }
-        requires known { IsReached self.now.indexed.now.events earlier.now
-            (known_before self.now.indexed.now.events (slice_index later.now.events.items at) earlier.now.thread) stretch.old.start }
-        requires passed { IsPassed earlier.now (slice_index later.now.events.items at) stretch.old.end }
-        requires seen { AreSeen (HasCandidate self.now variable leasts.old) earlier.now later.now stretch.old at }
+        requires window { IsWindow sought self.now earlier.now later.now at stretch.old }
+        requires seen { AreSeen (Has sought self.now leasts.old (of_lanes variable earlier.now later.now)) earlier.now later.now stretch.old at }
         ensures found { OnOk result (AreFound self.now variable leasts.new) }
         ensures more { OnOk result (AreMore self.now.most variable leasts.old leasts.new) }
         ensures noted { OnOk result (AreTrueNotes self.now variable leasts.new noted.new) }
         ensures stretch { OnOk result (IsStretch earlier.now (length later.now.classes.items) stretch.new) }
         ensures start { OnOk result (stretch.new.start ≡ stretch.old.start) }
         ensures end { OnOk result (stretch.new.end ≡ stretch.old.end) }
-        ensures seen { OnOk result (AreSeen (HasCandidate self.now variable leasts.new) earlier.now later.now stretch.new (at + 1)) }
+        ensures seen { OnOk result (AreSeen (Has sought self.now leasts.new (of_lanes variable earlier.now later.now)) earlier.now later.now
+            stretch.new (at + 1)) }
         ensures held { OnOk result ((k : ℕ) → k < length earlier.now.events.items
             → IsPair self.now.indexed.now.events (slice_index earlier.now.events.items k) (slice_index later.now.events.items at)
-            → IsKind self.now.indexed.now (slice_index earlier.now.events.items k) (slice_index later.now.events.items at) CandidateKind
-            → HasCandidate self.now variable leasts.new (slice_index earlier.now.events.items k) (slice_index later.now.events.items at)) }
+            → IsKind self.now.indexed.now (slice_index earlier.now.events.items k) (slice_index later.now.events.items at) (kind_of sought)
+            → Has sought self.now leasts.new (of_lanes variable earlier.now later.now) (slice_index earlier.now.events.items k)
+            (slice_index later.now.events.items at)) }
     {
-        if !self.has_candidates {
+        if !self.has(sought) {
             return Ok(());
         }
-        self.candidates(leasts, stretch, places, noted, earlier, later, variable, at)?;
-        Ok(())
-    }
-
-    // Takes in the candidates of one later event.
-    fn candidates(
-        &self,
-        leasts: &mut [Least],
-        stretch: &mut Stretch,
-        places: &mut Vec<usize>,
-        noted: &mut Noted,
-        earlier: &Lane,
-        later: &Lane,
-        variable: u32,
-        at: usize,
-    ) -> Result<(), OutOfMemory>
-        requires sound { IsSound self.now }
-        requires lanes { AreClashing self.now variable earlier.now later.now }
-        requires at { at < length later.now.events.items }
-        requires found { AreFound self.now variable leasts.old }
-        requires noted { AreTrueNotes self.now variable leasts.old noted.old }
-        requires stretch { IsStretch earlier.now (length later.now.classes.items) stretch.old }
-        requires known { IsReached self.now.indexed.now.events earlier.now
-            (known_before self.now.indexed.now.events (slice_index later.now.events.items at) earlier.now.thread) stretch.old.start }
-        requires passed { IsPassed earlier.now (slice_index later.now.events.items at) stretch.old.end }
-        requires seen { AreSeen (HasCandidate self.now variable leasts.old) earlier.now later.now stretch.old at }
-        ensures found { OnOk result (AreFound self.now variable leasts.new) }
-        ensures more { OnOk result (AreMore self.now.most variable leasts.old leasts.new) }
-        ensures noted { OnOk result (AreTrueNotes self.now variable leasts.new noted.new) }
-        ensures stretch { OnOk result (IsStretch earlier.now (length later.now.classes.items) stretch.new) }
-        ensures start { OnOk result (stretch.new.start ≡ stretch.old.start) }
-        ensures end { OnOk result (stretch.new.end ≡ stretch.old.end) }
-        ensures seen { OnOk result (AreSeen (HasCandidate self.now variable leasts.new) earlier.now later.now stretch.new (at + 1)) }
-        ensures held { OnOk result ((k : ℕ) → stretch.old.start ≤ k → k < stretch.old.end
-            → HasCandidate self.now variable leasts.new (slice_index earlier.now.events.items k) (slice_index later.now.events.items at)) }
-    {
-        stretch.ask(earlier, later.kinds[at], places)?;
-        for place in places.iter() {
-            self.take_candidate(
-                leasts,
-                noted,
-                earlier.events[*place],
-                later.events[at],
-                variable,
-            );
-        }
-        Ok(())
-    }
-
-    // Takes in the open pairs of one later event, where there are any in the trace.
-    fn take_open(
-        &self,
-        leasts: &mut [Least],
-        stretch: &mut Stretch,
-        places: &mut Vec<usize>,
-        earlier: &Lane,
-        later: &Lane,
-        variable: u32,
-        at: usize,
-    ) -> Result<(), OutOfMemory>
-        requires sound { IsSound self.now }
-        requires lanes { AreClashing self.now variable earlier.now later.now }
-        requires at { at < length later.now.events.items }
-        requires found { AreFound self.now variable leasts.old }
-        requires stretch { IsStretch earlier.now (length later.now.classes.items) stretch.old }
-        requires forced { IsReached self.now.indexed.now.events earlier.now
-            (counted_before self.now.rows.now self.now.indexed.now.events (slice_index later.now.events.items at) earlier.now.thread) stretch.old.start }
-        requires known { IsReached self.now.indexed.now.events earlier.now
-            (known_before self.now.indexed.now.events (slice_index later.now.events.items at) earlier.now.thread) stretch.old.end }
-        requires seen { AreSeen (HasOpen self.now leasts.old (record { variable = variable; earlier = earlier.now.thread; later = later.now.thread })) earlier.now later.now stretch.old at }
-        ensures found { OnOk result (AreFound self.now variable leasts.new) }
-        ensures more { OnOk result (AreMore self.now.most variable leasts.old leasts.new) }
-        ensures stretch { OnOk result (IsStretch earlier.now (length later.now.classes.items) stretch.new) }
-        ensures start { OnOk result (stretch.new.start ≡ stretch.old.start) }
-        ensures end { OnOk result (stretch.new.end ≡ stretch.old.end) }
-        ensures seen { OnOk result (AreSeen (HasOpen self.now leasts.new (record { variable = variable; earlier = earlier.now.thread; later = later.now.thread })) earlier.now later.now stretch.new (at + 1)) }
-        ensures held { OnOk result ((k : ℕ) → k < length earlier.now.events.items
-            → IsPair self.now.indexed.now.events (slice_index earlier.now.events.items k) (slice_index later.now.events.items at)
-            → IsKind self.now.indexed.now (slice_index earlier.now.events.items k) (slice_index later.now.events.items at) OpenKind
-            → HasOpen self.now leasts.new (record { variable = variable; earlier = earlier.now.thread; later = later.now.thread }) (slice_index earlier.now.events.items k) (slice_index later.now.events.items at)) }
-    {
-        if !self.has_open {
-            return Ok(());
-        }
-        self.opens(leasts, stretch, places, earlier, later, variable, at)?;
-        Ok(())
-    }
-
-    // Takes in the open pairs of one later event.
-    fn opens(
-        &self,
-        leasts: &mut [Least],
-        stretch: &mut Stretch,
-        places: &mut Vec<usize>,
-        earlier: &Lane,
-        later: &Lane,
-        variable: u32,
-        at: usize,
-    ) -> Result<(), OutOfMemory>
-        requires sound { IsSound self.now }
-        requires lanes { AreClashing self.now variable earlier.now later.now }
-        requires at { at < length later.now.events.items }
-        requires found { AreFound self.now variable leasts.old }
-        requires stretch { IsStretch earlier.now (length later.now.classes.items) stretch.old }
-        requires forced { IsReached self.now.indexed.now.events earlier.now
-            (counted_before self.now.rows.now self.now.indexed.now.events (slice_index later.now.events.items at) earlier.now.thread) stretch.old.start }
-        requires known { IsReached self.now.indexed.now.events earlier.now
-            (known_before self.now.indexed.now.events (slice_index later.now.events.items at) earlier.now.thread) stretch.old.end }
-        requires seen { AreSeen (HasOpen self.now leasts.old (record { variable = variable; earlier = earlier.now.thread; later = later.now.thread })) earlier.now later.now stretch.old at }
-        ensures found { OnOk result (AreFound self.now variable leasts.new) }
-        ensures more { OnOk result (AreMore self.now.most variable leasts.old leasts.new) }
-        ensures stretch { OnOk result (IsStretch earlier.now (length later.now.classes.items) stretch.new) }
-        ensures start { OnOk result (stretch.new.start ≡ stretch.old.start) }
-        ensures end { OnOk result (stretch.new.end ≡ stretch.old.end) }
-        ensures seen { OnOk result (AreSeen (HasOpen self.now leasts.new (record { variable = variable; earlier = earlier.now.thread; later = later.now.thread })) earlier.now later.now stretch.new (at + 1)) }
-        ensures held { OnOk result ((k : ℕ) → stretch.old.start ≤ k → k < stretch.old.end
-            → HasOpen self.now leasts.new (record { variable = variable; earlier = earlier.now.thread; later = later.now.thread }) (slice_index earlier.now.events.items k) (slice_index later.now.events.items at)) }
-    {
         let of = Between {
             variable,
             earlier: earlier.thread,
@@ -499,9 +391,60 @@ impl Search<'_> {
         };
         stretch.ask(earlier, later.kinds[at], places)?;
         for place in places.iter() {
-            self.note_open(leasts, earlier.events[*place], later.events[at], of)?;
+            self.take_pair(
+                sought,
+                leasts,
+                noted,
+                earlier.events[*place],
+                later.events[at],
+                of,
+            )?;
         }
         Ok(())
+    }
+
+    // Whether there are any of these in the trace.
+    fn has(&self, sought: Sought) -> bool
+        ensures { result ≡ has_some sought self.now }
+    {
+        match sought {
+            Sought::Candidates => self.has_candidates,
+            Sought::Opens => self.has_open,
+        }
+    }
+
+    // Takes in a pair that is sought.
+    fn take_pair(
+        &self,
+        sought: Sought,
+        leasts: &mut [Least],
+        noted: &mut Noted,
+        first: u32,
+        second: u32,
+        of: Between,
+    ) -> Result<(), OutOfMemory>
+        requires sound { IsSound self.now }
+        requires variable { of.variable < length self.now.indexed.now.variables }
+        requires found { AreFound self.now of.variable leasts.old }
+        requires noted { AreTrueNotes self.now of.variable leasts.old noted.old }
+        requires pair { IsPair self.now.indexed.now.events first second }
+        requires of_these { IsOf self.now.indexed.now.events of first second }
+        requires sought { IsSought sought self.now.indexed.now first second }
+        ensures found { OnOk result (AreFound self.now of.variable leasts.new) }
+        ensures more { OnOk result (AreMore self.now.most of.variable leasts.old leasts.new) }
+        ensures noted { OnOk result (AreTrueNotes self.now of.variable leasts.new noted.new) }
+        ensures held { OnOk result (Has sought self.now leasts.new of first second) }
+    {
+        match sought {
+            Sought::Candidates => {
+                self.take_candidate(leasts, noted, first, second, of.variable);
+                Ok(())
+            }
+            Sought::Opens => {
+                self.note_open(leasts, first, second, of)?;
+                Ok(())
+            }
+        }
     }
 
     // Takes in a candidate, where none of its variable and places is noted that stands before it.

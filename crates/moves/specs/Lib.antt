@@ -10,6 +10,7 @@ pub mod Judged
 pub mod Layout
 pub mod Moves
 pub mod Names
+pub mod Ready
 pub mod Rows
 pub mod Spares
 pub mod Words

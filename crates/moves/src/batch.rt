@@ -1,9 +1,9 @@
 //! Batches: commands applied all or none, and what takes them back.
 ghost use Rattle.std.specs.Prelude.{◌≡◌, ◌+◌, ◌<◌, ◌≤◌, ℕ, true, [], length, take, vec_len, vec_capacity, IfOk, OnOk};
 ghost use Rattle.std.specs.List.{list_all};
-ghost use Rattle.moves.specs.Rows.{IsListing, IsOfTrace, Below};
+ghost use Rattle.moves.specs.Ready.{MayRun};
+ghost use Rattle.moves.specs.Rows.{IsOfTrace, Below};
 ghost use Rattle.moves.specs.Ages.{age};
-ghost use Rattle.moves.specs.Boards.{IsBoardOf};
 ghost use Rattle.moves.specs.Spares.{builds, spares_memory, is_spare};
 ghost use Rattle.moves.specs.Inverses.{IsStepOf};
 ghost use Rattle.moves.specs.Batches.{IsRun, IsAppliedAll, refused_as, CanTurnAll, IsTurnedAll, AreOfTrace};
@@ -60,11 +60,7 @@ pub(crate) fn run(
     entry: u64,
     commands: &[Command],
 ) -> Result<(), BatchRefusal>
-    requires of_trace { IsOfTrace indexed.now rows.old }
-    requires board { IsBoardOf indexed.now board.now }
-    requires late { Below (age entry 0) rows.old }
-    requires few { length commands.now < 4294967296 }
-    requires listing { IsListing rows.old }
+    requires ready { MayRun indexed.now board.now entry commands.now rows.old }
     requires none { inverses.old.items ≡ [] }
     requires room { vec_len inverses.old + length commands.now ≤ vec_capacity inverses.old }
     ensures run { IsRun indexed.now board.now (age entry 0) commands.now rows.old rows.new inverses.new.items result }
@@ -101,11 +97,7 @@ pub(crate) fn run_here(
     entry: u64,
     commands: &[Command],
 ) -> Result<Inverses, BatchRefusal>
-    requires of_trace { IsOfTrace indexed.now rows.old }
-    requires board { IsBoardOf indexed.now board.now }
-    requires late { Below (age entry 0) rows.old }
-    requires few { length commands.now < 4294967296 }
-    requires listing { IsListing rows.old }
+    requires ready { MayRun indexed.now board.now entry commands.now rows.old }
     requires none { done.items ≡ [] }
     requires room { vec_len done + length commands.now ≤ vec_capacity done }
     requires builds { (k : ℕ) → k < length commands.now → list_all builds (take k commands.now) ≡ true }

@@ -1,11 +1,12 @@
 //! The workspace: named schedules, in the order in which they were made.
-ghost use Rattle.std.specs.Prelude.{◌≡◌, ◌+◌, ◌<◌, ◌≤◌, ℕ, [], length, vec_len, vec_capacity, slice_get, option_map, Some, None, false, OnOk, OnErr, IsOk, IfOk, IfErr, IfSome, IfNone};
+ghost use Rattle.std.specs.Prelude.{◌≡◌, ◌+◌, ◌<◌, ◌≤◌, ℕ, [], length, vec_len, vec_capacity, slice_get, option_map, Some, None, false, Ok, Err, OnOk, OnErr, IsOk, IfOk, IfErr, IfSome, IfNone};
 ghost use Rattle.moves.specs.declared.row.Row.{Row as RowValue};
 ghost use Rattle.moves.specs.Rows.{Rows, row_of, IsListing, IsOfTrace, Below, names_of};
 ghost use Rattle.moves.specs.Boards.{IsBoardOf};
 ghost use Rattle.moves.specs.Inverses.{CanTurn, IsTurned, IsStepOf, IsStepBelow, wants_memory};
 ghost use Rattle.moves.specs.Applied.{IsApplied, IsChecked, TakesBack};
 ghost use Rattle.moves.specs.Ages.{age};
+ghost use Rattle.moves.specs.Ready.{MayRun};
 ghost use Rattle.moves.specs.Batches.{IsAppliedAll, TakesAllBack, CanTurnAll, IsTurnedAll, AreOfTrace, AreBelow};
 
 use crate::batch::{self, BatchRefusal, Inverses};
@@ -23,6 +24,7 @@ use rapid_text::{OutOfMemory, TextKeyed};
 use schedule::Schedule;
 use std::alloc::Global;
 use std::marker::Model;
+use std::mem;
 
 /// Named schedules of one trace. Contracts see it as the list of names and rows, by rising birth.
 #[derive(Drop)]
@@ -196,10 +198,7 @@ impl Workspace {
         entry: u64,
         commands: &[Command],
     ) -> Result<Inverses, BatchRefusal>
-        requires of_trace { IsOfTrace indexed.now self.old }
-        requires board { IsBoardOf indexed.now board.now }
-        requires late { Below (age entry 0) self.old }
-        requires few { length commands.now < 4294967296 }
+        requires { MayRun indexed.now board.now entry commands.now self.old }
         ensures { IsAppliedAll indexed.now board.now (age entry 0) commands.now self.old self.new result }
     {
         let Ok(items) = Vec::with_capacity(self.alloc, commands.len()) else {
@@ -214,48 +213,56 @@ impl Workspace {
     // On a copy.
     fn run_apart(
         &mut self,
-        items: Vec<Inverse>,
-        indexed: &Indexed,
-        board: &Board,
-        entry: u64,
-        commands: &[Command],
-    ) -> Result<Inverses, BatchRefusal>
-        requires of_trace { IsOfTrace indexed.now self.old }
-        requires board { IsBoardOf indexed.now board.now }
-        requires late { Below (age entry 0) self.old }
-        requires few { length commands.now < 4294967296 }
-        requires none { items.items ≡ [] }
-        requires room { vec_len items + length commands.now ≤ vec_capacity items }
-        ensures { IsAppliedAll indexed.now board.now (age entry 0) commands.now self.old self.new result }
-    {
-        match self.copied(indexed) {
-            Ok(copy) => self.run_on(copy, items, indexed, board, entry, commands),
-            Err(_) => Err(BatchRefusal::OutOfMemory),
-        }
-    }
-
-    // On this copy.
-    fn run_on(
-        &mut self,
-        mut copy: Workspace,
         mut items: Vec<Inverse>,
         indexed: &Indexed,
         board: &Board,
         entry: u64,
         commands: &[Command],
     ) -> Result<Inverses, BatchRefusal>
-        requires of_trace { IsOfTrace indexed.now self.old }
-        requires board { IsBoardOf indexed.now board.now }
-        requires late { Below (age entry 0) self.old }
-        requires few { length commands.now < 4294967296 }
-        requires copy { copy ≡ self.old }
+        requires ready { MayRun indexed.now board.now entry commands.now self.old }
         requires none { items.items ≡ [] }
         requires room { vec_len items + length commands.now ≤ vec_capacity items }
         ensures { IsAppliedAll indexed.now board.now (age entry 0) commands.now self.old self.new result }
     {
-        batch::run(&mut copy, &mut items, indexed, board, entry, commands)?;
-        *self = copy;
-        Ok(Inverses { items })
+        match self.run_on_copy(&mut items, indexed, board, entry, commands) {
+            Ok(()) => Ok(Inverses { items }),
+            Err(why) => {
+                drop(items);
+                Err(why)
+            }
+        }
+    }
+
+    // The same, with what takes the commands back where there is room for it.
+    fn run_on_copy(
+        &mut self,
+        items: &mut Vec<Inverse>,
+        indexed: &Indexed,
+        board: &Board,
+        entry: u64,
+        commands: &[Command],
+    ) -> Result<(), BatchRefusal>
+        requires ready { MayRun indexed.now board.now entry commands.now self.old }
+        requires none { items.old.items ≡ [] }
+        requires room { vec_len items.old + length commands.now ≤ vec_capacity items.old }
+        ensures ok { OnOk result
+            (IsAppliedAll indexed.now board.now (age entry 0) commands.now self.old self.new (Ok items.new.items)) }
+        ensures err { IfErr result
+            (λ why. IsAppliedAll indexed.now board.now (age entry 0) commands.now self.old self.new (Err why)) }
+    {
+        let Ok(mut copy) = self.copied(indexed) else {
+            return Err(BatchRefusal::OutOfMemory);
+        };
+        match batch::run(&mut copy, items, indexed, board, entry, commands) {
+            Ok(()) => {
+                drop(mem::replace(self, copy));
+                Ok(())
+            }
+            Err(why) => {
+                drop(copy);
+                Err(why)
+            }
+        }
     }
 
     /// Takes back all of a batch, the last command first, or nothing. Each written name still has what the batch left
@@ -319,33 +326,33 @@ impl Workspace {
         ensures err { OnErr result (self.new ≡ self.old) }
         ensures back { IfErr result (λ refused. refused.0 ≡ inverses) }
     {
-        match self.copied(indexed) {
-            Ok(copy) => self.turn_on(copy, indexed, inverses),
-            Err(_) => Err((inverses, OutOfMemory)),
+        match self.turn_on_copy(indexed, &inverses.items) {
+            Ok(()) => {
+                drop(inverses);
+                Ok(())
+            }
+            Err(why) => Err((inverses, why)),
         }
     }
 
-    // On this copy.
-    fn turn_on(
-        &mut self,
-        mut copy: Workspace,
-        indexed: &Indexed,
-        inverses: Inverses,
-    ) -> Result<(), (Inverses, OutOfMemory)>
+    // The same, by steps of its own.
+    fn turn_on_copy(&mut self, indexed: &Indexed, inverses: &[Inverse]) -> Result<(), OutOfMemory>
         requires of_trace { IsOfTrace indexed.now self.old }
-        requires steps { AreOfTrace indexed.now inverses }
-        requires fits { CanTurnAll inverses self.old }
-        requires copy { copy ≡ self.old }
-        ensures ok { OnOk result (IsTurnedAll inverses self.old self.new) }
+        requires steps { AreOfTrace indexed.now inverses.now }
+        requires fits { CanTurnAll inverses.now self.old }
+        ensures ok { OnOk result (IsTurnedAll inverses.now self.old self.new) }
         ensures err { OnErr result (self.new ≡ self.old) }
-        ensures back { IfErr result (λ refused. refused.0 ≡ inverses) }
     {
-        match batch::turn_back(&mut copy, self.alloc, indexed, &inverses.items) {
+        let mut copy = self.copied(indexed)?;
+        match batch::turn_back(&mut copy, self.alloc, indexed, inverses) {
             Ok(()) => {
-                *self = copy;
+                drop(mem::replace(self, copy));
                 Ok(())
             }
-            Err(_) => Err((inverses, OutOfMemory)),
+            Err(_) => {
+                drop(copy);
+                Err(OutOfMemory)
+            }
         }
     }
 

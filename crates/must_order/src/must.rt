@@ -52,15 +52,17 @@ impl Must {
     pub fn new(alloc: Global, indexed: &Indexed) -> Result<Must, OutOfMemory>
         ensures ok { IfOk result (λ must. must ≡ indexed.now) }
     {
-        let threads = threads_of(alloc, indexed)?;
         let rows = rows_of(alloc, indexed)?;
-        Ok(Must {
-            trace: Snapshot::of(indexed),
-            threads,
-            counts: rows.counts,
-            joins: rows.joins,
-            sections: Sections::of(alloc, indexed)?,
-        })
+        match threads_of(alloc, indexed) {
+            Ok(threads) => Ok(Must {
+                trace: Snapshot::of(indexed),
+                threads,
+                counts: rows.counts,
+                joins: rows.joins,
+                sections: rows.sections,
+            }),
+            Err(refused) => Err(refused),
+        }
     }
 
     /// Whether the first event is the second, or stands before it in every correct reordering for the reasons of

@@ -1,5 +1,5 @@
 //! The chains that tell why an event is must-before another, each walked back from its end.
-ghost use Rattle.std.specs.Prelude.{◌≡◌, ◌≢◌, ◌⊎◌, ◌+◌, ◌<◌, ◌≤◌, ◌↔◌, ℕ, None, Some, length, IfOk, OnOk, IfSome, IsTrue, All, slice_get, slice_index};
+ghost use Rattle.std.specs.Prelude.{◌≡◌, ◌≢◌, ◌⊎◌, ◌+◌, ◌<◌, ◌≤◌, ◌↔◌, ℕ, None, Some, length, IfOk, OnOk, IfSome, IsTrue, All, [], slice_get, slice_index};
 ghost use Rattle.event_index.specs.Lookups.{base_of};
 ghost use Rattle.must_order.specs.Chains.{IsReason, IsChain, AreReasons};
 ghost use Rattle.must_order.specs.Joins.{IsLed, IsJoined, AreJoins, AreTold, IsNeeded, KeepsMarks};
@@ -264,10 +264,66 @@ pub(crate) fn chains_of(
     requires before { IsMustBefore indexed.now.events first last }
     ensures { IfOk result (λ chains. AreReasons indexed.now.events first last chains.items) }
 {
-    let limit = joins.starts[last as usize + 1];
-    let mut needed = vec![in alloc; false; joins.list.len()]?;
     let mut chains = Vec::new(alloc);
-    let chain = chain_of(alloc, must, joins, indexed, &mut needed, first, last, limit)?;
+    match add_chains(alloc, must, joins, indexed, &mut chains, first, last) {
+        Ok(()) => Ok(chains),
+        Err(refused) => Err(refused),
+    }
+}
+
+// Adds them to the empty list.
+fn add_chains(
+    alloc: Global,
+    must: &Must,
+    joins: &Joins,
+    indexed: &Indexed,
+    chains: &mut Vec<Chain>,
+    first: u32,
+    last: u32,
+) -> Result<(), OutOfMemory>
+    requires trace { must.now ≡ indexed.now }
+    requires known { AreJoins indexed.now.events (length indexed.now.events) joins.now.list.items joins.now.starts.items }
+    requires first { first < length indexed.now.events }
+    requires last { last < length indexed.now.events }
+    requires before { IsMustBefore indexed.now.events first last }
+    requires empty { chains.old.items ≡ [] }
+    ensures { OnOk result (AreReasons indexed.now.events first last chains.new.items) }
+{
+    let mut needed = vec![in alloc; false; joins.list.len()]?;
+    add_marked(
+        alloc,
+        must,
+        joins,
+        indexed,
+        &mut needed,
+        chains,
+        first,
+        last,
+    )
+}
+
+// The same, where the joins on which chains rest are marked.
+fn add_marked(
+    alloc: Global,
+    must: &Must,
+    joins: &Joins,
+    indexed: &Indexed,
+    needed: &mut Vec<bool>,
+    chains: &mut Vec<Chain>,
+    first: u32,
+    last: u32,
+) -> Result<(), OutOfMemory>
+    requires trace { must.now ≡ indexed.now }
+    requires known { AreJoins indexed.now.events (length indexed.now.events) joins.now.list.items joins.now.starts.items }
+    requires marks { length needed.old.items ≡ length joins.now.list.items }
+    requires first { first < length indexed.now.events }
+    requires last { last < length indexed.now.events }
+    requires before { IsMustBefore indexed.now.events first last }
+    requires empty { chains.old.items ≡ [] }
+    ensures { OnOk result (AreReasons indexed.now.events first last chains.new.items) }
+{
+    let limit = joins.starts[last as usize + 1];
+    let chain = chain_of(alloc, must, joins, indexed, needed, first, last, limit)?;
     chains.push(chain)?;
     for done in 0..limit {
         justify(
@@ -275,10 +331,10 @@ pub(crate) fn chains_of(
             must,
             joins,
             indexed,
-            &mut needed,
-            &mut chains,
+            needed,
+            chains,
             limit - 1 - done,
         )?;
     }
-    Ok(chains)
+    Ok(())
 }

@@ -31,11 +31,13 @@ pub(crate) fn threads_of(alloc: Global, indexed: &Indexed) -> Result<Vec<u32>, O
     Ok(threads)
 }
 
-/// For each event the counts of what is must-before it, and the joins by which they were made.
+/// For each event the counts of what is must-before it, the joins by which they were made, and the sections of all
+/// events.
 #[derive(Drop)]
 pub(crate) struct Rows {
     pub(crate) counts: SharedRows,
     pub(crate) joins: Joins,
+    pub(crate) sections: Sections,
 }
 
 /// The rows of all events.
@@ -46,21 +48,87 @@ pub(crate) fn rows_of(alloc: Global, indexed: &Indexed) -> Result<Rows, OutOfMem
         (λ rows. AreCounts indexed.now.events (length indexed.now.threads) rows.counts) }
     ensures joins { IfOk result
         (λ rows. AreJoins indexed.now.events (length indexed.now.events) rows.joins.list.items rows.joins.starts.items) }
+    ensures known { IfOk result (λ rows. AreSections indexed.now (length indexed.now.events) rows.sections) }
 {
-    let threads = indexed.threads();
-    let mut counts = SharedRows::new(alloc, threads, indexed.len())?;
-    let mut row = vec![in alloc; 0u32; threads as usize]?;
-    let mut spare = vec![in alloc; 0u32; threads as usize]?;
-    let mut sections = Sections::new(alloc, indexed)?;
-    let mut joins = Joins::new(alloc, indexed)?;
-    for event in 0..indexed.len() {
-        begin_row(&mut row, &counts, indexed, event);
-        close_row(&mut row, &mut joins, &counts, indexed, event, &sections)?;
-        joins.end(indexed, event)?;
-        keep_row(&mut counts, &mut spare, indexed, event, row.as_slice())?;
-        sections.note(indexed, event)?;
+    let mut rows = Rows::new(alloc, indexed)?;
+    match rows.add_all(alloc, indexed) {
+        Ok(()) => Ok(rows),
+        Err(refused) => Err(refused),
     }
-    Ok(Rows { counts, joins })
+}
+
+impl Rows {
+    // Before the first event.
+    fn new(alloc: Global, indexed: &Indexed) -> Result<Rows, OutOfMemory>
+        ensures width { IfOk result (λ rows. rows.counts.width ≡ length indexed.now.threads) }
+        ensures len { IfOk result (λ rows. len_of rows.counts ≡ 0) }
+        ensures few { IfOk result (λ rows. rows_in rows.counts ≡ 0) }
+        ensures joins { IfOk result (λ rows. AreJoins indexed.now.events 0 rows.joins.list.items rows.joins.starts.items) }
+        ensures known { IfOk result (λ rows. AreSections indexed.now 0 rows.sections) }
+    {
+        Ok(Rows {
+            counts: SharedRows::new(alloc, indexed.threads(), indexed.len())?,
+            joins: Joins::new(alloc, indexed)?,
+            sections: Sections::new(alloc, indexed)?,
+        })
+    }
+
+    // Takes in all events.
+    fn add_all(&mut self, alloc: Global, indexed: &Indexed) -> Result<(), OutOfMemory>
+        requires width { self.old.counts.width ≡ length indexed.now.threads }
+        requires len { len_of self.old.counts ≡ 0 }
+        requires few { rows_in self.old.counts ≡ 0 }
+        requires joins { AreJoins indexed.now.events 0 self.old.joins.list.items self.old.joins.starts.items }
+        requires known { AreSections indexed.now 0 self.old.sections }
+        ensures width { OnOk result (self.new.counts.width ≡ length indexed.now.threads) }
+        ensures len { OnOk result (len_of self.new.counts ≡ length indexed.now.events) }
+        ensures counts { OnOk result (AreCounts indexed.now.events (length indexed.now.threads) self.new.counts) }
+        ensures joins { OnOk result
+            (AreJoins indexed.now.events (length indexed.now.events) self.new.joins.list.items self.new.joins.starts.items) }
+        ensures known { OnOk result (AreSections indexed.now (length indexed.now.events) self.new.sections) }
+    {
+        let mut row = Vec::new(alloc);
+        let mut spare = Vec::new(alloc);
+        self.add_by(indexed, &mut row, &mut spare)
+    }
+
+    // The same, with room for two rows.
+    fn add_by(
+        &mut self,
+        indexed: &Indexed,
+        row: &mut Vec<u32>,
+        spare: &mut Vec<u32>,
+    ) -> Result<(), OutOfMemory>
+        requires width { self.old.counts.width ≡ length indexed.now.threads }
+        requires len { len_of self.old.counts ≡ 0 }
+        requires few { rows_in self.old.counts ≡ 0 }
+        requires joins { AreJoins indexed.now.events 0 self.old.joins.list.items self.old.joins.starts.items }
+        requires known { AreSections indexed.now 0 self.old.sections }
+        ensures width { OnOk result (self.new.counts.width ≡ length indexed.now.threads) }
+        ensures len { OnOk result (len_of self.new.counts ≡ length indexed.now.events) }
+        ensures counts { OnOk result (AreCounts indexed.now.events (length indexed.now.threads) self.new.counts) }
+        ensures joins { OnOk result
+            (AreJoins indexed.now.events (length indexed.now.events) self.new.joins.list.items self.new.joins.starts.items) }
+        ensures known { OnOk result (AreSections indexed.now (length indexed.now.events) self.new.sections) }
+    {
+        row.resize(indexed.threads() as usize, 0)?;
+        spare.resize(indexed.threads() as usize, 0)?;
+        for event in 0..indexed.len() {
+            begin_row(row, &self.counts, indexed, event);
+            close_row(
+                row,
+                &mut self.joins,
+                &self.counts,
+                indexed,
+                event,
+                &self.sections,
+            )?;
+            self.joins.end(indexed, event)?;
+            keep_row(&mut self.counts, spare, indexed, event, row.as_slice())?;
+            self.sections.note(indexed, event)?;
+        }
+        Ok(())
+    }
 }
 
 // Gives the event its row: that of its base, where they are of one thread and count alike but for it; else one of its

@@ -1,5 +1,5 @@
 //! The sections of locks among the events seen so far.
-ghost use Rattle.std.specs.Prelude.{◌≡◌, ◌≢◌, ◌<◌, ◌≤◌, ◌+◌, ◌⊎◌, ℕ, true, false, length, None, Some, IfOk, OnOk, IfSome, IsTrue, slice_index, ◌↔◌};
+ghost use Rattle.std.specs.Prelude.{◌≡◌, ◌≢◌, ◌<◌, ◌≤◌, ◌+◌, ◌⊎◌, ℕ, [], true, false, length, None, Some, IfOk, OnOk, IfSome, IsTrue, option_map, slice_get, slice_index, ◌↔◌};
 ghost use Rattle.rapid_text.specs.declared.event.Op.TheVariants.{Acquire, Release};
 ghost use Rattle.trace_rules.specs.Rules.{IsDisciplined};
 ghost use Rattle.event_index.specs.Events.{op_at, thread_at};
@@ -27,15 +27,14 @@ impl Sections {
     pub(crate) fn new(alloc: Global, indexed: &Indexed) -> Result<Sections, OutOfMemory>
         ensures { IfOk result (AreSections indexed.now 0) }
     {
-        let locks = indexed.trace().raw().locks() as usize;
-        let mut by_lock = Vec::with_capacity(alloc, locks)?;
-        for _lock in 0..locks {
-            by_lock.push(Vec::new(alloc))?;
+        let mut by_lock = Vec::new(alloc);
+        match add_lists(alloc, &mut by_lock, indexed.trace().raw().locks()) {
+            Ok(()) => Ok(Sections {
+                by_lock,
+                held: Vec::new(alloc),
+            }),
+            Err(refused) => Err(refused),
         }
-        Ok(Sections {
-            by_lock,
-            held: Vec::new(alloc),
-        })
     }
 
     /// Takes the event in.
@@ -55,17 +54,6 @@ impl Sections {
             Op::Fork(_) => Ok(()),
             Op::Join(_) => Ok(()),
         }
-    }
-
-    /// Of all events.
-    pub(crate) fn of(alloc: Global, indexed: &Indexed) -> Result<Sections, OutOfMemory>
-        ensures { IfOk result (AreSections indexed.now (length indexed.now.events)) }
-    {
-        let mut sections = Sections::new(alloc, indexed)?;
-        for event in 0..indexed.len() {
-            sections.note(indexed, event)?;
-        }
-        Ok(sections)
     }
 
     /// Whether both threads hold the lock, before the first event and before the second.
@@ -342,6 +330,19 @@ impl Sections {
             Some(begun) => end_after(indexed, begun, thread, last),
         }
     }
+}
+
+// Adds so many empty lists.
+fn add_lists(alloc: Global, lists: &mut Vec<Vec<u32>>, count: u32) -> Result<(), OutOfMemory>
+    requires { lists.old.items ≡ [] }
+    ensures len { OnOk result (length lists.new.items ≡ count) }
+    ensures empty { OnOk result ((m : ℕ) → m < count → option_map (λ w. w.items) (slice_get lists.new.items m) ≡ Some []) }
+{
+    lists.reserve(count as usize)?;
+    for _list in 0..count {
+        lists.push(Vec::new(alloc))?;
+    }
+    Ok(())
 }
 
 // The last event of another thread that the row counts.

@@ -1,5 +1,5 @@
-//! Tests of trace texts, of the index, of the order SHB, of schedules, of the search for witnesses and of what is known of a pair of
-//! events, in a crate over theirs: with tests in it a crate would be proved twice, and the tests with its types seen from inside.
+//! Tests of trace texts, of the index, of the order SHB, of schedules, of the search for witnesses, of the pool that searches and of what is
+//! known of a pair of events, in a crate over theirs: with tests in it a crate would be proved twice, and the tests with its types seen from inside.
 #![tactic(auto)]
 
 #[cfg(test)]
@@ -12,6 +12,8 @@ mod in_order_tests;
 mod list_tests;
 #[cfg(test)]
 mod must_tests;
+#[cfg(test)]
+mod pool_tests;
 #[cfg(test)]
 mod questions;
 #[cfg(test)]

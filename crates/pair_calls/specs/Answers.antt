@@ -1,6 +1,6 @@
 -- What a call on a pair answers of the bytes that it reads, and what its writer has taken. `one` and `other` are the pair as it is
 -- given, `a` the earlier of the two, `b` the later. All notions here are this project's own.
-use Rattle.std.specs.Prelude.{◌≡◌, ◌⊎◌, ℕ, List, ◌++◌, length, min, max, None, Option, Result, Ok, Err, IfSome, ⊤}
+use Rattle.std.specs.Prelude.{◌≡◌, ℕ, List, ◌++◌, length, min, max, None, Option, Result, Ok, Err, ⊤}
 use Rattle.std.specs.Io.KnownBytes.{Appends}
 use Rattle.rapid_text.specs.Recording.{Recording}
 use Rattle.event_index.specs.Relations.{IsConflicting}
@@ -102,18 +102,6 @@ IsWritten Prints Refuses r old new (Err fault) = Refuses r fault × (new ≡ old
 -- The bytes are of the trace r.
 abbrev pub IsRead : List ℕ → Recording → Type 0
 IsRead bytes r = IsShort bytes × (trace_of bytes ≡ Ok r)
-
--- The bytes are those that the reader tells, where it tells them.
-abbrev pub IsTold : Option (List ℕ) → List ℕ → Type 0
-IsTold rest bytes = IfSome rest (λ told. bytes ≡ told)
-
--- the trace was read
-abbrev pub IsReadFrom : Option (List ℕ) → Recording → Type 0
-IsReadFrom rest r = (bytes : List ℕ) × IsTold rest bytes × IsRead bytes r
-
--- or was not, for this fault of its bytes or for want of memory
-abbrev pub IsUnread : Option (List ℕ) → ReplayFault → Type 0
-IsUnread rest fault = (bytes : List ℕ) × IsTold rest bytes × ((fault ≡ OutOfMemory) ⊎ IsFault (of_trace bytes) fault)
 
 -- The same of the trace that the bytes say; at a fault of theirs nothing was written.
 abbrev pub IsAnswered : (Recording → List ℕ → Type 0) → (Recording → PairFault → Type 0) → List ℕ → Option (List ℕ) → Option (List ℕ) → Result Unit PairFault → Type 0

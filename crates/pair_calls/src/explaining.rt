@@ -9,9 +9,8 @@ ghost use Rattle.pair_calls.specs.Answers.{IsExplained, IsExplanation, IsUnexpla
 ghost use Rattle.pair_calls.specs.declared.fault.PairFault.TheVariants.{Replay};
 
 use crate::fault::PairFault;
-use crate::reading::read_trace;
 use crate::writing::write_text;
-use client_scripts::{Sink, Source};
+use client_scripts::{Sink, Source, read_trace};
 use event_index::Indexed;
 use explain_report::{Verdict, explain_text};
 use must_order::Must;
@@ -33,9 +32,39 @@ pub(crate) fn finding_of(
     ensures finding { IfOk result (IsFinding indexed.now first second) }
     ensures never { IfOk result (IsNeverShown indexed.now.events first second) }
 {
-    let clocks = Clocks::new(alloc, indexed)?;
-    let must = Must::new(alloc, indexed)?;
-    find(alloc, indexed, &clocks, &must, first, second)
+    match Clocks::new(alloc, indexed) {
+        Ok(clocks) => {
+            let found = finding_by(alloc, indexed, &clocks, first, second);
+            drop(clocks);
+            found
+        }
+        Err(refused) => Err(refused),
+    }
+}
+
+/// The same by the trace's clocks.
+fn finding_by(
+    alloc: Global,
+    indexed: &Indexed,
+    clocks: &Clocks,
+    first: u32,
+    second: u32,
+) -> Result<Finding, OutOfMemory>
+    requires clocks { clocks.now ≡ indexed.now }
+    requires first { first < length indexed.now.events }
+    requires second { second < length indexed.now.events }
+    requires conflict { IsConflicting indexed.now.events first second }
+    ensures finding { IfOk result (IsFinding indexed.now first second) }
+    ensures never { IfOk result (IsNeverShown indexed.now.events first second) }
+{
+    match Must::new(alloc, indexed) {
+        Ok(must) => {
+            let found = find(alloc, indexed, clocks, &must, first, second);
+            drop(must);
+            found
+        }
+        Err(refused) => Err(refused),
+    }
 }
 
 /// Appends what was found of the pair.
@@ -145,7 +174,11 @@ pub fn explain<S: Source, K: Sink>(
     ensures write_failed { K.has_failed writer.new ≡ true → result ≡ Err (Replay Write) }
 {
     match read_trace(alloc, reader) {
-        Ok(indexed) => write_explanation(alloc, &indexed, one, other, all, writer),
+        Ok(indexed) => {
+            let outcome = write_explanation(alloc, &indexed, one, other, all, writer);
+            drop(indexed);
+            outcome
+        }
         Err(fault) => Err(PairFault::Replay(fault)),
     }
 }

@@ -5,7 +5,6 @@
 mod explaining;
 mod fault;
 mod form;
-mod reading;
 mod witnessing;
 mod writing;
 
@@ -13,5 +12,4 @@ pub use explaining::explain;
 pub use fault::{PairFault, pair_fault_text};
 pub use form::Form;
 pub use must_order::Kind;
-pub use reading::read_trace;
 pub use witnessing::witness;

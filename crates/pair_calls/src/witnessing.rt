@@ -11,9 +11,8 @@ ghost use Rattle.pair_calls.specs.declared.fault.PairFault.TheVariants.{Replay};
 use crate::explaining::finding_of;
 use crate::fault::PairFault;
 use crate::form::{Form, append_schedule};
-use crate::reading::read_trace;
 use crate::writing::write_text;
-use client_scripts::{Sink, Source};
+use client_scripts::{Sink, Source, read_trace};
 use event_index::{EventList, Indexed};
 use must_order::Kind;
 use pair_findings::{Finding, pair_of};
@@ -114,7 +113,11 @@ pub fn witness<S: Source, K: Sink>(
     ensures write_failed { K.has_failed writer.new ≡ true → result ≡ Err (Replay Write) }
 {
     match read_trace(alloc, reader) {
-        Ok(indexed) => write_witness(alloc, &indexed, one, other, form, writer),
+        Ok(indexed) => {
+            let outcome = write_witness(alloc, &indexed, one, other, form, writer);
+            drop(indexed);
+            outcome
+        }
         Err(fault) => Err(PairFault::Replay(fault)),
     }
 }

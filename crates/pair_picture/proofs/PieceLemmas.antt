@@ -12,11 +12,6 @@ module _ (old first second : List ℕ) (x y z : List ℕ) (e1 : first ≡ old ++
       let whole : new ≡ (old ++ x ++ y ++ z ++ v) = cc in
       whole ∙ simp append_assoc
 
-  pub five_pieces : (third fourth new v w : List ℕ) → third ≡ second ++ z → fourth ≡ third ++ v → new ≡ fourth ++ w → new ≡ old ++ (x ++ y ++ z ++ v ++ w)
-  five_pieces third fourth new v w e3 e4 e5 =
-      let whole : new ≡ (old ++ x ++ y ++ z ++ v ++ w) = cc in
-      whole ∙ simp append_assoc
-
   pub six_pieces :
       (third fourth fifth new u v w : List ℕ) → third ≡ second ++ z → fourth ≡ third ++ u → fifth ≡ fourth ++ v → new ≡ fifth ++ w
       → new ≡ old ++ (x ++ y ++ z ++ u ++ v ++ w)

@@ -2,25 +2,24 @@
 use crate::canvas::Canvas;
 use crate::class::Class;
 use crate::columns::Columns;
-use crate::labels::{append_label, append_lock, op_of, thread_of};
+use crate::labels::{lock_name, op_of, thread_of};
 use crate::layout::height_of;
-use crate::pieces::{append_count, append_words};
-use crate::rows::{draw_box, draw_box_line};
+use crate::pieces::{Piece, plural_of};
+use crate::rows::{draw_box, draw_label, draw_pieces};
 use event_index::Indexed;
 use rapid_text::{Op, OutOfMemory};
-use std::alloc::Global;
 
 /// The most locks that are named, of those held before an access.
 const MOST_LOCKS: usize = 8;
 
-/// The locks that the event's thread holds before it, in rising number.
-pub(crate) fn locks_before(
-    alloc: Global,
+/// Appends the locks that the event's thread holds before it, in rising number.
+pub(crate) fn note_locks(
+    locks: &mut Vec<u32>,
     indexed: &Indexed,
     event: u32,
-) -> Result<Vec<u32>, OutOfMemory> {
-    let count = indexed.trace().raw().locks();
-    let mut depths = vec![in alloc; 0u32; count as usize]?;
+) -> Result<(), OutOfMemory> {
+    let alloc = *locks.allocator();
+    let mut depths = vec![in alloc; 0u32; indexed.trace().raw().locks() as usize]?;
     if let Some(thread) = thread_of(indexed, event) {
         for other in indexed.thread_events(thread) {
             if *other < event {
@@ -28,13 +27,19 @@ pub(crate) fn locks_before(
             }
         }
     }
-    let mut locks = Vec::new(alloc);
-    for lock in 0..count {
-        if depths.get(lock as usize).copied().unwrap_or(0) > 0 {
+    note_held(locks, &depths)
+}
+
+/// Appends the numbers of the locks that are held so often.
+fn note_held(locks: &mut Vec<u32>, depths: &[u32]) -> Result<(), OutOfMemory> {
+    let mut lock = 0u32;
+    for depth in depths {
+        if *depth > 0 {
             locks.push(lock)?;
         }
+        lock = lock.saturating_add(1);
     }
-    Ok(locks)
+    Ok(())
 }
 
 /// Counts what an event does to how often each lock is held.
@@ -79,9 +84,18 @@ pub(crate) fn draw_access(
     };
     let left = columns.left(thread);
     draw_box(canvas, Class::Race, left, top, height)?;
-    let mut text = Vec::new(canvas.allocator());
-    append_label(&mut text, indexed, event)?;
-    draw_box_line(canvas, Class::Access, left, top, 0, &text)?;
+    draw_label(canvas, Class::Access, indexed, event, left, top, 0)?;
+    draw_locks(canvas, indexed, locks, left, top)
+}
+
+/// Draws a line for each of the locks, and one for those that are too many.
+fn draw_locks(
+    canvas: &mut Canvas,
+    indexed: &Indexed,
+    locks: &[u32],
+    left: u64,
+    top: u64,
+) -> Result<(), OutOfMemory> {
     let mut line = 1u64;
     for lock in locks.iter().take(MOST_LOCKS) {
         draw_held(canvas, indexed, *lock, left, top, line)?;
@@ -107,10 +121,17 @@ fn draw_held(
     top: u64,
     line: u64,
 ) -> Result<(), OutOfMemory> {
-    let mut text = Vec::new(canvas.allocator());
-    append_words(&mut text, b"holds ")?;
-    append_lock(&mut text, indexed, lock)?;
-    draw_box_line(canvas, Class::Event, left, top, line, &text)
+    draw_pieces(
+        canvas,
+        Class::Event,
+        left,
+        top,
+        line,
+        &[
+            Piece::Words(b"holds "),
+            Piece::Words(lock_name(indexed, lock)),
+        ],
+    )
 }
 
 fn draw_more(
@@ -120,9 +141,18 @@ fn draw_more(
     top: u64,
     line: u64,
 ) -> Result<(), OutOfMemory> {
-    let mut text = Vec::new(canvas.allocator());
-    append_words(&mut text, b"and ")?;
-    append_count(&mut text, count as u64, b"lock")?;
-    append_words(&mut text, b" more")?;
-    draw_box_line(canvas, Class::Note, left, top, line, &text)
+    draw_pieces(
+        canvas,
+        Class::Note,
+        left,
+        top,
+        line,
+        &[
+            Piece::Words(b"and "),
+            Piece::Number(count as u64),
+            Piece::Words(b" lock"),
+            Piece::Words(plural_of(count as u64)),
+            Piece::Words(b" more"),
+        ],
+    )
 }

@@ -19,28 +19,37 @@ pub(crate) struct Columns {
 }
 
 impl Columns {
-    /// A column for each thread of a run, in the order of their first runs, and for those of the pair.
-    pub(crate) fn new(
-        alloc: Global,
+    /// No column.
+    pub(crate) fn new(alloc: Global) -> Columns {
+        Columns {
+            threads: Vec::new(alloc),
+            places: Vec::new(alloc),
+        }
+    }
+
+    /// Gives a column to each thread of a run, in the order of their first runs, and to those of the pair.
+    pub(crate) fn fill(
+        &mut self,
         indexed: &Indexed,
         runs: &[Run],
         first: u32,
         second: u32,
-    ) -> Result<Columns, OutOfMemory> {
+    ) -> Result<(), OutOfMemory> {
         let count = indexed.trace().raw().threads() as usize;
-        let mut columns = Columns {
-            threads: Vec::new(alloc),
-            places: vec![in alloc; None; count]?,
-        };
+        self.places.resize(count, None)?;
         for run in runs {
-            columns.add(run.thread)?;
+            self.add(run.thread)?;
         }
-        for event in [first, second] {
-            if let Some(thread) = thread_of(indexed, event) {
-                columns.add(thread)?;
-            }
+        self.add_of(indexed, first)?;
+        self.add_of(indexed, second)
+    }
+
+    /// Gives the event's thread a column, where it has none.
+    fn add_of(&mut self, indexed: &Indexed, event: u32) -> Result<(), OutOfMemory> {
+        match thread_of(indexed, event) {
+            Some(thread) => self.add(thread),
+            None => Ok(()),
         }
-        Ok(columns)
     }
 
     /// Gives the thread a column, where it has none.

@@ -2,17 +2,17 @@
 ghost use Rattle.std.specs.Prelude.{◌≡◌, ◌++◌, List, ℕ, OnOk, OnErr};
 ghost use Rattle.pair_picture.specs.Pictures.{IsFigure, IsPicture};
 
-use crate::accesses::{accesses_height, draw_access, locks_before};
+use crate::accesses::{accesses_height, draw_access, note_locks};
 use crate::arrows::draw_arrows;
 use crate::canvas::Canvas;
 use crate::class::Class;
 use crate::columns::{Columns, MARGIN};
 use crate::head::{Size, append_description, append_drawn, append_root, append_title};
-use crate::labels::{append_thread, draw_line};
-use crate::layout::{GAP, Placed, TOP, end_of, folded_of, placed_from};
-use crate::pieces::{append_count, append_number, append_words};
+use crate::labels::{draw_line, thread_name};
+use crate::layout::{GAP, Placed, TOP, end_of, folded_of, place_runs};
+use crate::pieces::{Piece, append_pieces, append_words, plural_of};
 use crate::rows::{draw_earlier, draw_run, earlier_height};
-use crate::shades::held_at;
+use crate::shades::note_held;
 use crate::style::STYLE;
 use event_index::Indexed;
 use explain_report::{Run, runs_of, waiters_of};
@@ -31,6 +31,63 @@ struct Drawing {
     end: u64,
 }
 
+impl Drawing {
+    /// Nothing.
+    fn new(alloc: Global) -> Drawing {
+        Drawing {
+            columns: Columns::new(alloc),
+            runs: Vec::new(alloc),
+            placed: Vec::new(alloc),
+            held: Vec::new(alloc),
+            first_locks: Vec::new(alloc),
+            second_locks: Vec::new(alloc),
+            end: 0,
+        }
+    }
+
+    /// Finds what is drawn of the schedule.
+    fn fill(
+        &mut self,
+        indexed: &Indexed,
+        events: &[u32],
+        first: u32,
+        second: u32,
+    ) -> Result<(), OutOfMemory> {
+        self.runs = runs_of(*self.runs.allocator(), indexed, events)?;
+        self.place(indexed, events)?;
+        self.columns.fill(indexed, &self.runs, first, second)?;
+        note_held(&mut self.held, indexed, events)?;
+        note_locks(&mut self.first_locks, indexed, first)?;
+        note_locks(&mut self.second_locks, indexed, second)
+    }
+
+    /// Finds where the boxes of the runs stand.
+    fn place(&mut self, indexed: &Indexed, events: &[u32]) -> Result<(), OutOfMemory> {
+        match waiters_of(*self.placed.allocator(), indexed, events) {
+            Ok(waiters) => self.place_with(&waiters),
+            Err(refused) => Err(refused),
+        }
+    }
+
+    /// The same, with those that wait for the events.
+    fn place_with(&mut self, waiters: &[Option<u32>]) -> Result<(), OutOfMemory> {
+        let mut top = TOP;
+        if folded_of(self.runs.len()) > 0 {
+            top = top.saturating_add(earlier_height());
+        }
+        place_runs(&mut self.placed, &self.runs, waiters, top)?;
+        self.end = end_of(&self.placed, top);
+        Ok(())
+    }
+
+    /// How large it is.
+    fn size(&self) -> Size {
+        let high = accesses_height(&self.first_locks, &self.second_locks);
+        let bottom = self.end.saturating_add(GAP).saturating_add(high);
+        Size::new(self.columns.width(), bottom.saturating_add(MARGIN))
+    }
+}
+
 /// Appends a picture (SVG) of the schedule of these events, which shows the pair: a column for each thread, a box for each run below the one before, and
 /// the two accesses under all. Of more than 60 runs the first are one box for each thread. Where memory is refused `out` stays as it was.
 pub fn picture_text(
@@ -44,16 +101,44 @@ pub fn picture_text(
     ensures ok { OnOk result ((text : List ℕ) × (out.new.items ≡ out.old.items ++ text) × IsPicture events.now first second text) }
     ensures err { OnErr result (out.new.items ≡ out.old.items) }
 {
-    let alloc = *out.allocator();
-    let drawing = drawing_of(alloc, indexed, events, first, second)?;
-    let canvas = canvas_of(alloc, indexed, &drawing, events, first, second)?;
-    let size = size_of(&drawing);
-    let mut text = Vec::new(alloc);
-    append_root(&mut text, size)?;
-    append_description(&mut text, events, first, second)?;
-    append_words(&mut text, STYLE)?;
-    append_drawn(&mut text, canvas.bytes())?;
+    let mut text = Vec::new(*out.allocator());
+    append_picture(&mut text, indexed, events, first, second)?;
     out.extend_from_slice(text.as_slice())?;
+    Ok(())
+}
+
+/// Appends the picture. Where memory is refused a beginning of it may stand.
+fn append_picture(
+    out: &mut Vec<u8>,
+    indexed: &Indexed,
+    events: &[u32],
+    first: u32,
+    second: u32,
+) -> Result<(), OutOfMemory>
+    ensures { OnOk result ((text : List ℕ) × (out.new.items ≡ out.old.items ++ text) × IsPicture events.now first second text) }
+{
+    let mut canvas = Canvas::new(*out.allocator());
+    match draw(&mut canvas, indexed, events, first, second) {
+        Ok(size) => append_picture_of(out, size, &canvas, events, first, second),
+        Err(refused) => Err(refused),
+    }
+}
+
+/// Appends the picture that has what was drawn.
+fn append_picture_of(
+    out: &mut Vec<u8>,
+    size: Size,
+    canvas: &Canvas,
+    events: &[u32],
+    first: u32,
+    second: u32,
+) -> Result<(), OutOfMemory>
+    ensures { OnOk result ((text : List ℕ) × (out.new.items ≡ out.old.items ++ text) × IsPicture events.now first second text) }
+{
+    append_root(out, size)?;
+    append_description(out, events, first, second)?;
+    append_words(out, STYLE)?;
+    append_drawn(out, canvas.bytes())?;
     Ok(())
 }
 
@@ -70,74 +155,75 @@ pub fn figure_text(
     ensures ok { OnOk result ((text : List ℕ) × (out.new.items ≡ out.old.items ++ text) × IsFigure first second text) }
     ensures err { OnErr result (out.new.items ≡ out.old.items) }
 {
-    let alloc = *out.allocator();
-    let drawing = drawing_of(alloc, indexed, events, first, second)?;
-    let canvas = canvas_of(alloc, indexed, &drawing, events, first, second)?;
-    let size = size_of(&drawing);
-    let mut text = Vec::new(alloc);
-    append_root(&mut text, size)?;
-    append_title(&mut text, first, second)?;
-    append_drawn(&mut text, canvas.bytes())?;
+    let mut text = Vec::new(*out.allocator());
+    append_figure(&mut text, indexed, events, first, second)?;
     out.extend_from_slice(text.as_slice())?;
     Ok(())
 }
 
-/// What is drawn of the schedule.
-fn drawing_of(
-    alloc: Global,
+/// Appends the figure. Where memory is refused a beginning of it may stand.
+fn append_figure(
+    out: &mut Vec<u8>,
     indexed: &Indexed,
     events: &[u32],
     first: u32,
     second: u32,
-) -> Result<Drawing, OutOfMemory> {
-    let runs = runs_of(alloc, indexed, events)?;
-    let waiters = waiters_of(alloc, indexed, events)?;
-    let mut top = TOP;
-    if folded_of(runs.len()) > 0 {
-        top = top.saturating_add(earlier_height());
+) -> Result<(), OutOfMemory>
+    ensures { OnOk result ((text : List ℕ) × (out.new.items ≡ out.old.items ++ text) × IsFigure first second text) }
+{
+    let mut canvas = Canvas::new(*out.allocator());
+    match draw(&mut canvas, indexed, events, first, second) {
+        Ok(size) => append_figure_of(out, size, &canvas, first, second),
+        Err(refused) => Err(refused),
     }
-    let placed = placed_from(alloc, &runs, &waiters, top)?;
-    let end = end_of(&placed, top);
-    Ok(Drawing {
-        columns: Columns::new(alloc, indexed, &runs, first, second)?,
-        held: held_at(alloc, indexed, events)?,
-        first_locks: locks_before(alloc, indexed, first)?,
-        second_locks: locks_before(alloc, indexed, second)?,
-        runs,
-        placed,
-        end,
-    })
 }
 
-/// How large that is.
-fn size_of(drawing: &Drawing) -> Size {
-    let high = accesses_height(&drawing.first_locks, &drawing.second_locks);
-    let bottom = drawing.end.saturating_add(GAP).saturating_add(high);
-    Size::new(drawing.columns.width(), bottom.saturating_add(MARGIN))
+/// Appends the figure that has what was drawn.
+fn append_figure_of(
+    out: &mut Vec<u8>,
+    size: Size,
+    canvas: &Canvas,
+    first: u32,
+    second: u32,
+) -> Result<(), OutOfMemory>
+    ensures { OnOk result ((text : List ℕ) × (out.new.items ≡ out.old.items ++ text) × IsFigure first second text) }
+{
+    append_root(out, size)?;
+    append_title(out, first, second)?;
+    append_drawn(out, canvas.bytes())?;
+    Ok(())
 }
 
-/// Draws all of it.
-fn canvas_of(
-    alloc: Global,
+/// Draws the schedule. How large the drawing is.
+fn draw(
+    canvas: &mut Canvas,
+    indexed: &Indexed,
+    events: &[u32],
+    first: u32,
+    second: u32,
+) -> Result<Size, OutOfMemory> {
+    let mut drawing = Drawing::new(canvas.allocator());
+    match drawing.fill(indexed, events, first, second) {
+        Ok(()) => draw_all(canvas, indexed, &drawing, events, first, second),
+        Err(refused) => Err(refused),
+    }
+}
+
+/// Draws all of it. How large that is.
+fn draw_all(
+    canvas: &mut Canvas,
     indexed: &Indexed,
     drawing: &Drawing,
     events: &[u32],
     first: u32,
     second: u32,
-) -> Result<Canvas, OutOfMemory> {
-    let mut canvas = Canvas::new(alloc);
-    draw_top_line(&mut canvas, drawing, events.len() as u64, first, second)?;
-    draw_names(&mut canvas, indexed, &drawing.columns)?;
-    draw_arrows(
-        &mut canvas,
-        indexed,
-        &drawing.columns,
-        events,
-        &drawing.placed,
-    )?;
-    draw_runs(&mut canvas, indexed, drawing, events)?;
-    draw_pair(&mut canvas, indexed, drawing, first, second)?;
-    Ok(canvas)
+) -> Result<Size, OutOfMemory> {
+    draw_top_line(canvas, drawing, events.len() as u64, first, second)?;
+    draw_names(canvas, indexed, &drawing.columns)?;
+    draw_arrows(canvas, indexed, &drawing.columns, events, &drawing.placed)?;
+    draw_runs(canvas, indexed, drawing, events)?;
+    draw_pair(canvas, indexed, drawing, first, second)?;
+    Ok(drawing.size())
 }
 
 /// Draws the line on top.
@@ -148,15 +234,25 @@ fn draw_top_line(
     first: u32,
     second: u32,
 ) -> Result<(), OutOfMemory> {
+    let runs = drawing.runs.len() as u64;
     let mut text = Vec::new(canvas.allocator());
-    append_number(&mut text, u64::from(first))?;
-    append_words(&mut text, b" and ")?;
-    append_number(&mut text, u64::from(second))?;
-    append_words(&mut text, b": after ")?;
-    append_count(&mut text, events, b"event")?;
-    append_words(&mut text, b" in ")?;
-    append_count(&mut text, drawing.runs.len() as u64, b"run")?;
-    append_words(&mut text, b" both can come next")?;
+    append_pieces(
+        &mut text,
+        &[
+            Piece::Number(u64::from(first)),
+            Piece::Words(b" and "),
+            Piece::Number(u64::from(second)),
+            Piece::Words(b": after "),
+            Piece::Number(events),
+            Piece::Words(b" event"),
+            Piece::Words(plural_of(events)),
+            Piece::Words(b" in "),
+            Piece::Number(runs),
+            Piece::Words(b" run"),
+            Piece::Words(plural_of(runs)),
+            Piece::Words(b" both can come next"),
+        ],
+    )?;
     canvas.line(Class::Name, MARGIN, 20, &text)
 }
 
@@ -167,9 +263,8 @@ fn draw_names(
     columns: &Columns,
 ) -> Result<(), OutOfMemory> {
     for thread in columns.threads() {
-        let mut text = Vec::new(canvas.allocator());
-        append_thread(&mut text, indexed, *thread)?;
-        draw_line(canvas, Class::Name, columns.left(*thread), 48, &text)?;
+        let name = thread_name(indexed, *thread);
+        draw_line(canvas, Class::Name, columns.left(*thread), 48, name)?;
     }
     Ok(())
 }

@@ -2,7 +2,7 @@
 ghost use Rattle.std.specs.Prelude.{◌≡◌, ◌++◌, ◌∷◌, [], OnOk};
 ghost use Rattle.pair_picture.specs.Pictures.{described, drawn_text, listed, root_text, spaced_events, title};
 
-use crate::pieces::{append_number, append_words};
+use crate::pieces::{Piece, append_pieces, append_words};
 use crate::shapes::{append_attribute, append_point};
 use rapid_text::OutOfMemory;
 
@@ -52,12 +52,14 @@ pub(crate) fn append_root(out: &mut Vec<u8>, size: Size) -> Result<(), OutOfMemo
 pub(crate) fn append_drawn(out: &mut Vec<u8>, shapes: &[u8]) -> Result<(), OutOfMemory>
     ensures { OnOk result (out.new.items ≡ out.old.items ++ drawn_text shapes.now) }
 {
-    append_words(
+    append_pieces(
         out,
-        b"<rect class=\"paper\" width=\"100%\" height=\"100%\"/>\n",
+        &[
+            Piece::Words(b"<rect class=\"paper\" width=\"100%\" height=\"100%\"/>\n"),
+            Piece::Words(shapes),
+            Piece::Words(b"</svg>\n"),
+        ],
     )?;
-    append_words(out, shapes)?;
-    append_words(out, b"</svg>\n")?;
     Ok(())
 }
 
@@ -79,11 +81,16 @@ pub(crate) fn append_description(
 pub(crate) fn append_title(out: &mut Vec<u8>, first: u32, second: u32) -> Result<(), OutOfMemory>
     ensures { OnOk result (out.new.items ≡ out.old.items ++ title first second) }
 {
-    append_words(out, b"<title>A schedule that shows ")?;
-    append_number(out, u64::from(first))?;
-    append_words(out, b" and ")?;
-    append_number(out, u64::from(second))?;
-    append_words(out, b"</title>\n")?;
+    append_pieces(
+        out,
+        &[
+            Piece::Words(b"<title>A schedule that shows "),
+            Piece::Number(u64::from(first)),
+            Piece::Words(b" and "),
+            Piece::Number(u64::from(second)),
+            Piece::Words(b"</title>\n"),
+        ],
+    )?;
     Ok(())
 }
 
@@ -110,7 +117,6 @@ fn append_events(out: &mut Vec<u8>, events: &[u32]) -> Result<(), OutOfMemory>
 fn append_spaced(out: &mut Vec<u8>, event: u32) -> Result<(), OutOfMemory>
     ensures { OnOk result (out.new.items ≡ out.old.items ++ spaced_events (event ∷ [])) }
 {
-    append_words(out, b" ")?;
-    append_number(out, u64::from(event))?;
+    append_pieces(out, &[Piece::Words(b" "), Piece::Number(u64::from(event))])?;
     Ok(())
 }

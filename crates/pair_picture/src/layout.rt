@@ -1,7 +1,6 @@
 //! Where each box stands.
 use explain_report::Run;
 use rapid_text::OutOfMemory;
-use std::alloc::Global;
 
 /// How wide a box is.
 pub(crate) const BOX: u64 = 296;
@@ -54,14 +53,13 @@ pub(crate) fn folded_of(runs: usize) -> usize {
     runs.saturating_sub(MOST_RUNS)
 }
 
-/// The boxes of the runs that are drawn one by one, each below the one before; the first begins at `top`.
-pub(crate) fn placed_from(
-    alloc: Global,
+/// Appends the boxes of the runs that are drawn one by one, each below the one before; the first begins at `top`.
+pub(crate) fn place_runs(
+    all: &mut Vec<Placed>,
     runs: &[Run],
     waiters: &[Option<u32>],
     top: u64,
-) -> Result<Vec<Placed>, OutOfMemory> {
-    let mut all = Vec::new(alloc);
+) -> Result<(), OutOfMemory> {
     let folded = folded_of(runs.len());
     let mut next = top;
     let mut number = 0u64;
@@ -73,7 +71,7 @@ pub(crate) fn placed_from(
             all.push(placed)?;
         }
     }
-    Ok(all)
+    Ok(())
 }
 
 /// The box of a run that begins at `top`.

@@ -1,5 +1,6 @@
 //! Words and numbers, and where a long text is cut.
 ghost use Rattle.std.specs.Prelude.{◌≡◌, ◌≤◌, ◌++◌, length, OnOk, decimal};
+ghost use Rattle.pair_picture.specs.Pieces.{piece_text, pieces_text};
 
 use itoa::Buffer;
 use rapid_text::OutOfMemory;
@@ -10,6 +11,34 @@ const MOST_BYTES: usize = 46;
 /// How many bytes are left of a longer one, before the ellipsis.
 const KEPT_BYTES: usize = 45;
 
+/// A piece of a text.
+#[derive(Clone, Copy)]
+pub(crate) enum Piece<'a> {
+    /// These words.
+    Words(&'a [u8]),
+    /// A number, in decimal digits.
+    Number(u64),
+}
+
+/// Appends the pieces, one behind the other.
+pub(crate) fn append_pieces(out: &mut Vec<u8>, pieces: &[Piece<'_>]) -> Result<(), OutOfMemory>
+    ensures { OnOk result (out.new.items ≡ out.old.items ++ pieces_text pieces.now) }
+{
+    for piece in pieces {
+        append_piece(out, *piece)?;
+    }
+    Ok(())
+}
+
+fn append_piece(out: &mut Vec<u8>, piece: Piece<'_>) -> Result<(), OutOfMemory>
+    ensures { OnOk result (out.new.items ≡ out.old.items ++ piece_text piece.entry) }
+{
+    match piece {
+        Piece::Words(words) => append_words(out, words),
+        Piece::Number(number) => append_number(out, number),
+    }
+}
+
 /// Appends the words.
 pub(crate) fn append_words(out: &mut Vec<u8>, words: &[u8]) -> Result<(), OutOfMemory>
     ensures { OnOk result (out.new.items ≡ out.old.items ++ words.now) }
@@ -19,7 +48,7 @@ pub(crate) fn append_words(out: &mut Vec<u8>, words: &[u8]) -> Result<(), OutOfM
 }
 
 /// Appends the number in decimal digits.
-pub(crate) fn append_number(out: &mut Vec<u8>, number: u64) -> Result<(), OutOfMemory>
+fn append_number(out: &mut Vec<u8>, number: u64) -> Result<(), OutOfMemory>
     ensures { OnOk result (out.new.items ≡ out.old.items ++ decimal number) }
 {
     let mut digits = Buffer::new();
@@ -27,19 +56,9 @@ pub(crate) fn append_number(out: &mut Vec<u8>, number: u64) -> Result<(), OutOfM
     Ok(())
 }
 
-/// Appends the number and what is counted, in the plural where it is not one.
-pub(crate) fn append_count(
-    out: &mut Vec<u8>,
-    number: u64,
-    words: &[u8],
-) -> Result<(), OutOfMemory> {
-    append_number(out, number)?;
-    append_words(out, b" ")?;
-    append_words(out, words)?;
-    if number != 1 {
-        append_words(out, b"s")?;
-    }
-    Ok(())
+/// What stands behind the word for a thing where there are so many.
+pub(crate) fn plural_of(number: u64) -> &'static [u8] {
+    if number == 1 { b"" } else { b"s" }
 }
 
 /// Appends a text; what is longer than a line is cut, and ends with an ellipsis.

@@ -5,31 +5,33 @@ use crate::labels::{op_of, thread_of};
 use crate::layout::Placed;
 use event_index::Indexed;
 use rapid_text::{Op, OutOfMemory};
-use std::alloc::Global;
 
 /// How wide the bar is.
 const BAR: u64 = 6;
 
-/// For each place of the list whether the thread of its event holds a lock before the event or after it.
-pub(crate) fn held_at(
-    alloc: Global,
+/// Appends for each place of the list whether the thread of its event holds a lock before the event or after it.
+pub(crate) fn note_held(
+    held: &mut Vec<bool>,
     indexed: &Indexed,
     list: &[u32],
-) -> Result<Vec<bool>, OutOfMemory> {
-    let threads = indexed.trace().raw().threads() as usize;
-    let mut depths = vec![in alloc; 0u32; threads]?;
-    let mut held = Vec::new(alloc);
+) -> Result<(), OutOfMemory> {
+    let alloc = *held.allocator();
+    let mut depths = vec![in alloc; 0u32; indexed.trace().raw().threads() as usize]?;
     for event in list {
-        let holds = match thread_of(indexed, *event) {
-            Some(thread) => match depths.get_mut(thread as usize) {
-                Some(depth) => note(depth, op_of(indexed, *event)),
-                None => false,
-            },
-            None => false,
-        };
-        held.push(holds)?;
+        held.push(note_event(&mut depths, indexed, *event))?;
     }
-    Ok(held)
+    Ok(())
+}
+
+/// Counts what the event does to how many locks its thread holds; whether it holds one before the event or after it.
+fn note_event(depths: &mut Vec<u32>, indexed: &Indexed, event: u32) -> bool {
+    let Some(thread) = thread_of(indexed, event) else {
+        return false;
+    };
+    match depths.get_mut(thread as usize) {
+        Some(depth) => note(depth, op_of(indexed, event)),
+        None => false,
+    }
 }
 
 /// Counts what the event does to how many locks are held; whether one is held before it or after it.

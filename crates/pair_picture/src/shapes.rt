@@ -1,9 +1,9 @@
 //! The three shapes of which a drawing is made: rectangles, lines of text, arrows. A text is escaped here, and nowhere else.
 ghost use Rattle.std.specs.Prelude.{◌≡◌, ◌++◌, OnOk};
-ghost use Rattle.pair_picture.specs.Shapes.{arrow_text, attribute_text, curve_text, line_text, point_text, rect_text, shape_begin};
+ghost use Rattle.pair_picture.specs.Shapes.{arrow_text, attribute_text, line_text, point_text, rect_text, shape_begin};
 
 use crate::class::{Class, name_of};
-use crate::pieces::{append_number, append_words};
+use crate::pieces::{Piece, append_pieces, append_words};
 use markup::escape;
 use rapid_text::OutOfMemory;
 
@@ -54,30 +54,28 @@ pub(crate) fn append_arrow(
 ) -> Result<(), OutOfMemory>
     ensures { OnOk result (out.new.items ≡ out.old.items ++ arrow_text from_x from_y below to_x to_y above) }
 {
-    append_words(out, b"<path class=\"arrow\" marker-end=\"url(#tip)\" d=\"M")?;
-    append_point(out, from_x, from_y)?;
-    append_words(out, b"C")?;
-    append_curve(out, from_x, below, to_x, to_y, above)?;
-    append_words(out, b"\"/>\n")?;
-    Ok(())
-}
-
-/// Appends the points behind the first.
-fn append_curve(
-    out: &mut Vec<u8>,
-    from_x: u64,
-    below: u64,
-    to_x: u64,
-    to_y: u64,
-    above: u64,
-) -> Result<(), OutOfMemory>
-    ensures { OnOk result (out.new.items ≡ out.old.items ++ curve_text from_x below to_x to_y above) }
-{
-    append_point(out, from_x, below)?;
-    append_words(out, b" ")?;
-    append_point(out, to_x, above)?;
-    append_words(out, b" ")?;
-    append_point(out, to_x, to_y)?;
+    append_pieces(
+        out,
+        &[
+            Piece::Words(b"<path class=\"arrow\" marker-end=\"url(#tip)\" d=\"M"),
+            Piece::Number(from_x),
+            Piece::Words(b" "),
+            Piece::Number(from_y),
+            Piece::Words(b"C"),
+            Piece::Number(from_x),
+            Piece::Words(b" "),
+            Piece::Number(below),
+            Piece::Words(b" "),
+            Piece::Number(to_x),
+            Piece::Words(b" "),
+            Piece::Number(above),
+            Piece::Words(b" "),
+            Piece::Number(to_x),
+            Piece::Words(b" "),
+            Piece::Number(to_y),
+            Piece::Words(b"\"/>\n"),
+        ],
+    )?;
     Ok(())
 }
 
@@ -91,10 +89,15 @@ fn append_begin(
 ) -> Result<(), OutOfMemory>
     ensures { OnOk result (out.new.items ≡ out.old.items ++ shape_begin element.now class x y) }
 {
-    append_words(out, element)?;
-    append_words(out, b" class=\"")?;
-    append_words(out, name_of(class))?;
-    append_words(out, b"\"")?;
+    append_pieces(
+        out,
+        &[
+            Piece::Words(element),
+            Piece::Words(b" class=\""),
+            Piece::Words(name_of(class)),
+            Piece::Words(b"\""),
+        ],
+    )?;
     append_attribute(out, b"x", x)?;
     append_attribute(out, b"y", y)?;
     Ok(())
@@ -104,9 +107,10 @@ fn append_begin(
 pub(crate) fn append_point(out: &mut Vec<u8>, x: u64, y: u64) -> Result<(), OutOfMemory>
     ensures { OnOk result (out.new.items ≡ out.old.items ++ point_text x y) }
 {
-    append_number(out, x)?;
-    append_words(out, b" ")?;
-    append_number(out, y)?;
+    append_pieces(
+        out,
+        &[Piece::Number(x), Piece::Words(b" "), Piece::Number(y)],
+    )?;
     Ok(())
 }
 
@@ -118,10 +122,15 @@ pub(crate) fn append_attribute(
 ) -> Result<(), OutOfMemory>
     ensures { OnOk result (out.new.items ≡ out.old.items ++ attribute_text name.now number) }
 {
-    append_words(out, b" ")?;
-    append_words(out, name)?;
-    append_words(out, b"=\"")?;
-    append_number(out, number)?;
-    append_words(out, b"\"")?;
+    append_pieces(
+        out,
+        &[
+            Piece::Words(b" "),
+            Piece::Words(name),
+            Piece::Words(b"=\""),
+            Piece::Number(number),
+            Piece::Words(b"\""),
+        ],
+    )?;
     Ok(())
 }

@@ -2,12 +2,11 @@
 use Rattle.std.proofs.Common.{◌≡◌, ◌⊎◌, ℕ, suc, length, arith, List, Bool, true, false, IfOk, IfErr, Option, Result, Ok, Err, refl, subst, sym, ap, ◌∙◌, inl, inr}
 use Rattle.rapid_text.specs.Recording.{Recording}
 use Rattle.client_scripts.specs.Replay.{IsFault, IsShort, of_trace}
-use Rattle.client_scripts.specs.Steps.{IsInput}
+use Rattle.client_scripts.specs.Loading.{IsUnreadFrom}
 use Rattle.client_scripts.specs.Traces.{trace_of}
 use Rattle.client_scripts.specs.declared.fault.ReplayFault.{ReplayFault}
 use Rattle.client_scripts.specs.declared.fault.ReplayFault.TheVariants.{Read, Write, OutOfMemory}
 use Rattle.client_scripts.specs.declared.fault.ReadCause.TheVariants.{Device}
-use Rattle.client_scripts.proofs.CallerLemmas.{input-fault, load-fault}
 use Rattle.program_calls.specs.ScriptInputs.{IsFirstFault, IsScriptFault, IsTold}
 use Rattle.program_calls.specs.Threads.{IsRunFault, StopsRun}
 use Rattle.program_calls.specs.declared.fault.BenchFault.{BenchFault}
@@ -18,35 +17,12 @@ module _ (rest : Option (List ℕ)) (rests : List (Option (List ℕ))) (workers 
   stopped bytes fault told (inl memory) = inr (inr (inl (inl (ap Replay memory))))
   stopped bytes fault told (inr h) = inr (inr (inr (bytes, told, inl (fault, refl, h))))
 
-  pub stopped-input : (fault : ReplayFault) → IsInput 1 rest (Err fault) → StopsRun rest rests workers failed (Replay fault)
-  stopped-input fault h = let input = input-fault of_trace (λ _. refl) rest fault h in stopped input.0 fault input.1 input.2
-
-  pub stopped-load : (bytes : List ℕ) (fault : ReplayFault) → IsShort bytes → IsTold rest bytes → (fault ≡ OutOfMemory) ⊎ (trace_of bytes ≡ Err fault) → StopsRun rest rests workers failed (Replay fault)
-  stopped-load bytes fault short told h = stopped bytes fault told (load-fault (of_trace bytes) fault short h)
+  -- the trace was not read
+  pub stopped-trace : (fault : ReplayFault) → IsUnreadFrom rest fault → StopsRun rest rests workers failed (Replay fault)
+  stopped-trace fault unread = stopped unread.0 fault unread.1 unread.2
 
   pub stopped-scripts : (bytes : List ℕ) (trace : Recording) (fault : BenchFault) → IsShort bytes → IsTold rest bytes → trace_of bytes ≡ Ok trace → IsFirstFault rests fault → StopsRun rest rests workers failed fault
   stopped-scripts bytes trace fault short told is h = inr (inr (inr (bytes, told, inr ((short, trace, is), h))))
-
--- what was loaded is the trace
-pub loaded : (bytes read : List ℕ) (trace : Recording) → read ≡ bytes → (Ok trace ≡ Err OutOfMemory) ⊎ (trace_of read ≡ Ok trace) → trace_of bytes ≡ Ok trace
-loaded bytes read trace same (inl e) = absurd (cc e)
-loaded bytes read trace same (inr h) = ap trace_of (sym same) ∙ h
-
-pub loads : (rest : Option (List ℕ)) (bytes read : List ℕ) (r : Result Recording ReplayFault) → read ≡ bytes → IsShort bytes → IsTold rest bytes
-    → (r ≡ Err OutOfMemory) ⊎ (trace_of read ≡ r)
-    → IfOk r (λ trace. (told : List ℕ) × IsTold rest told × IsShort told × (trace_of told ≡ Ok trace))
-loads rest bytes read (Ok trace) same short told h = (bytes, told, short, loaded bytes read trace same h)
-loads rest bytes read (Err fault) same short told h = tt
-
--- and what was not loaded is at fault
-pub stopped-loads : (rest : Option (List ℕ)) (bytes read : List ℕ) (r : Result Recording ReplayFault) → read ≡ bytes → IsShort bytes → IsTold rest bytes
-    → (r ≡ Err OutOfMemory) ⊎ (trace_of read ≡ r)
-    → IfErr r (λ fault. (rests : List (Option (List ℕ))) (workers : ℕ) (failed : Bool) → StopsRun rest rests workers failed (Replay fault))
-stopped-loads rest bytes read (Ok trace) same short told h = tt
-stopped-loads rest bytes read (Err fault) same short told (inl memory) =
-    λ rests workers failed. stopped-load rest rests workers failed bytes fault short told (inl (cc memory))
-stopped-loads rest bytes read (Err fault) same short told (inr is) =
-    λ rests workers failed. stopped-load rest rests workers failed bytes fault short told (inr (ap trace_of (sym same) ∙ is))
 
 -- one answer has one fault
 pub err_is : {A E : Type 0} (a b : E) (r : Result A E) → r ≡ Err a → r ≡ Err b → a ≡ b

@@ -3,12 +3,12 @@ ghost use Rattle.std.specs.Prelude.{◌≡◌, ◌≢◌, ℕ, List, false, true
 ghost use Rattle.client_scripts.specs.declared.fault.ReadCause.{ReadCause};
 ghost use Rattle.client_scripts.specs.declared.fault.ReadCause.TheVariants.{Device};
 ghost use Rattle.client_scripts.specs.declared.fault.ReplayFault.TheVariants.{Write, Read};
-ghost use Rattle.client_scripts.specs.Replay.{IsShort};
+ghost use Rattle.client_scripts.specs.Loading.{IsTraceOf};
 ghost use Rattle.program_calls.specs.Info.{AppendsCandidates, IsInfo, IsWritten};
 ghost use Rattle.program_calls.specs.declared.fault.BenchFault.TheVariants.{Replay};
 
 use crate::fault::BenchFault;
-use client_scripts::{ReplayFault, Sink, Source, load, read_input, write_all};
+use client_scripts::{ReplayFault, Sink, Source, read_trace, write_all};
 use event_index::Indexed;
 use rapid_text::OutOfMemory;
 use shb_clocks::Clocks;
@@ -46,20 +46,15 @@ fn write_info<K: Sink>(alloc: Global, indexed: &Indexed, writer: &mut K) -> Resu
     Ok(())
 }
 
-/// Writes what the trace of a text holds.
-fn info_of<K: Sink>(alloc: Global, text: &[u8], writer: &mut K) -> Result<(), BenchFault>
-    requires short { IsShort text.now }
-    requires writer { K.has_failed writer.old ≡ false }
-    ensures info { IsInfo text.now (K.taken writer.old) (K.taken writer.new) result }
+/// Writes what a trace that was read holds.
+fn info_on<K: Sink>(alloc: Global, indexed: &Indexed, writer: &mut K) -> Result<(), BenchFault>
+    requires { K.has_failed writer.old ≡ false }
+    ensures info { (bytes : List ℕ) → IsTraceOf bytes indexed.now → IsInfo bytes (K.taken writer.old) (K.taken writer.new) result }
     ensures input { (input : ℕ) (why : ReadCause) → result ≢ Err (Replay (Read input why)) }
     ensures write { result ≡ Err (Replay Write) → K.has_failed writer.new ≡ true }
     ensures write_failed { K.has_failed writer.new ≡ true → result ≡ Err (Replay Write) }
 {
-    let indexed = match load(alloc, text) {
-        Ok(indexed) => indexed,
-        Err(fault) => return Err(BenchFault::Replay(fault)),
-    };
-    match write_info(alloc, &indexed, writer) {
+    match write_info(alloc, indexed, writer) {
         Ok(()) => Ok(()),
         Err(fault) => Err(BenchFault::Replay(fault)),
     }
@@ -89,8 +84,12 @@ pub fn info<S: Source, K: Sink>(
     ensures write { result ≡ Err (Replay Write) → K.has_failed writer.new ≡ true }
     ensures write_failed { K.has_failed writer.new ≡ true → result ≡ Err (Replay Write) }
 {
-    match read_input(alloc, reader, 1) {
-        Ok(bytes) => info_of(alloc, &bytes, writer),
+    match read_trace(alloc, reader) {
+        Ok(indexed) => {
+            let outcome = info_on(alloc, &indexed, writer);
+            drop(indexed);
+            outcome
+        }
         Err(fault) => Err(BenchFault::Replay(fault)),
     }
 }

@@ -1,9 +1,7 @@
 //! Runs several scripts on one trace at once: reads all texts, runs the scripts, and writes what they were told.
-ghost use Rattle.std.specs.Prelude.{◌≡◌, ◌≢◌, ◌⊎◌, ◌<◌, ◌≤◌, ℕ, List, Option, Bool, All, false, true, map, vec_len, IfErr, IfOk, OnErr, OnOk, Ok, Err};
+ghost use Rattle.std.specs.Prelude.{◌≡◌, ◌≢◌, ◌⊎◌, ◌<◌, ◌≤◌, ℕ, List, All, false, true, map, vec_len, IfErr, OnErr, OnOk, Err};
 ghost use Rattle.std.specs.Io.KnownBytes.{Appends};
 ghost use Rattle.script_language.specs.Scripts.{Asked};
-ghost use Rattle.client_scripts.specs.Replay.{IsShort};
-ghost use Rattle.client_scripts.specs.Traces.{trace_of};
 ghost use Rattle.client_scripts.specs.declared.fault.ReplayFault.TheVariants.{Write, Read};
 ghost use Rattle.client_scripts.specs.declared.fault.ReadCause.TheVariants.{Device};
 ghost use Rattle.program_calls.specs.ScriptInputs.{AreScripts, IsFirstFault, IsTold};
@@ -14,7 +12,7 @@ ghost use Rattle.program_calls.specs.declared.fault.BenchFault.TheVariants.{Repl
 use crate::fault::BenchFault;
 use crate::inputs::{MAX_SCRIPTS, Scripts, read_scripts};
 use crate::seating::run_scripts;
-use client_scripts::{ReplayFault, Sink, Source, load, read_input, write_all};
+use client_scripts::{ReplayFault, Sink, Source, read_trace, write_all};
 use event_index::Indexed;
 use std::alloc::Global;
 use std::sync::Wait;
@@ -66,24 +64,9 @@ pub fn threads_with_room<
     if scripts.len() > MAX_SCRIPTS {
         return Err(BenchFault::TooManyScripts);
     }
-    match trace_from(alloc, trace) {
+    match read_trace(alloc, trace) {
         Ok(indexed) => run_on(rt, alloc, indexed, scripts, workers, room, writer),
         Err(fault) => Err(BenchFault::Replay(fault)),
-    }
-}
-
-/// Reads a trace, whole, and makes its tables.
-fn trace_from<S: Source>(alloc: Global, trace: &mut S) -> Result<Indexed, ReplayFault>
-    requires { S.has_failed trace.old ≡ false }
-    ensures loaded { IfOk result (λ indexed. (bytes : List ℕ) × IsTold (S.rest trace.old) bytes × IsShort bytes × (trace_of bytes ≡ Ok indexed)) }
-    ensures device { result ≡ Err (Read 1 Device) → S.has_failed trace.new ≡ true }
-    ensures read_failed { S.has_failed trace.new ≡ true → result ≡ Err (Read 1 Device) }
-    ensures fault { IfErr result (λ fault. (rests : List (Option (List ℕ))) (workers : ℕ) (failed : Bool)
-        → StopsRun (S.rest trace.old) rests workers failed (Replay fault)) }
-{
-    match read_input(alloc, trace, 1) {
-        Ok(text) => load(alloc, &text),
-        Err(fault) => Err(fault),
     }
 }
 

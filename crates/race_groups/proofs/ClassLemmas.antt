@@ -114,16 +114,6 @@ module _ (r : Recording) (formed : IsWellFormed r) (classes : List ℕ) (infos :
         ∙ sum_by_same (λ b. sum_by (λ k. term k b) (before n)) (λ b. cond (slice_index classes b == c) (later_count r.events keeps classes infos u end p q b) 0) lane
         (λ i d lt. each_event (get_or lane i d) (All-get_or (λ e. e < length r.events) lane i d lt known))
 
-    -- what the classes add with which the class conflicts
-    pub class_added : (sums : ℕ → ℕ) (members : List ℕ) (given : List Class) (x : ℕ) → given ≡ infos → is_access x j.op ≡ true → AreConflicting infos x j.op members → All (λ e. e < length r.events) (events_of r.events u)
-        → ((k : ℕ) → k < length infos → sums k ≡ below_sum r.events (length r.threads) classes u end c k (events_of r.events u))
-        → sum_by (share_of keeps p q j given sums) members ≡ class_sum r.events keeps classes infos u end p q c
-    class_added sums members given x e accessed are known is =
-        ap (λ is. sum_by (share_of keeps p q j is sums) members) e
-        ∙ conflicting_all keeps p q j infos sums x members are
-        ∙ members_all keeps p q j infos sums x accessed
-        ∙ class_whole sums known is
-
 -- nothing comes below the cuts of the classes of which the thread itself has all events
 pub sums_nothing : (T : List Event) (threads : ℕ) (classes owners : List ℕ) → AreOwners T threads classes owners → (u k : ℕ) → u < threads → slice_index owners k ≡ u
     → (end : ℕ → ℕ → ℕ) (j : ℕ) (xs : List ℕ) → below_sum T threads classes u end j k xs ≡ 0
@@ -133,13 +123,6 @@ sums_nothing T threads classes owners are u k lt own end j xs =
     sum_by_each f g xs
     (λ b. ap (λ n. cond (slice_index classes b == j) n 0) (front_none T threads classes owners are u k lt own (ends_list threads u (end b)) (ends_are threads u (end b) lt).1) ∙ cond_none (slice_index classes b == j))
     ∙ sum_by_zero xs
-
--- sums of lists that are these
-pub sums_same : (T : List Event) (threads : ℕ) (classes given : List ℕ) (infos shown : List Class) (u c : ℕ) (end : ℕ → ℕ → ℕ) (sums items : List ℕ) → given ≡ classes → shown ≡ infos → sums ≡ items
-    → ((k : ℕ) → k < length shown → slice_index items k ≡ below_sum T threads given u end c k (events_of T u))
-    → (k : ℕ) → k < length infos → slice_index sums k ≡ below_sum T threads classes u end c k (events_of T u)
-sums_same T threads classes given infos shown u c end sums items e s i counted k lt =
-    ap (λ xs. slice_index xs k) i ∙ counted k (omega (arith, lt, ap length s)) ∙ ap (λ xs. below_sum T threads xs u end c k (events_of T u)) e
 
 -- none of them is large
 pub sums_small : (r : Recording) → IsWellFormed r → (classes : List ℕ) (u c : ℕ) (end : ℕ → ℕ → ℕ) → ((b t : ℕ) → b < length r.events → end b t ≤ length (events_of r.events t)) → u < length r.threads

@@ -1,25 +1,21 @@
 -- What a later event has below a cut, from the fronts of the cut.
-use Rattle.std.proofs.Common.{◌≡◌, ℕ, ◌^◌, ◌<◌, ◌≤◌, ◌&&◌, ◌==◌, nat_lt, not, Bool, true, false, List, length, sum_by, slice_index, All, Option, Some, None, refl, sym, ap, ◌∙◌, arith, cond, inl, inr}
+use Rattle.std.proofs.Common.{◌≡◌, ℕ, ◌<◌, ◌&&◌, ◌==◌, nat_lt, not, Bool, true, false, List, length, sum_by, slice_index, All, Option, Some, None, refl, sym, ap, ◌∙◌, arith, cond, inl, inr}
 use Rattle.std.specs.List.{slice_get}
 use Rattle.std.proofs.lemmas.Bool.{cases_Bool, and_right, le-ltb}
-use Rattle.std.proofs.lemmas.List.{get_or_default}
 use Rattle.rapid_text.specs.declared.event.Event.{Event}
 use Rattle.rapid_text.specs.Recording.{Recording, IsWellFormed}
-use Rattle.rapid_text.specs.declared.event.Op.{Op}
-use Rattle.race_groups.proofs.ConflictLemmas.{conflicting_all, conflicting_few}
 use Rattle.event_index.specs.Events.{passes_by}
 use Rattle.event_index.specs.Lookups.{before, place_of}
 use Rattle.event_index.specs.Relations.{is_access}
-use Rattle.race_groups.specs.Classes.{AreConflicting, adds_to, members_of}
+use Rattle.race_groups.specs.Classes.{adds_to}
 use Rattle.race_groups.specs.Counting.{AreFronts, IsFront, later_by, later_count}
 use Rattle.race_groups.specs.Cuts.{is_under}
 use Rattle.race_groups.specs.Ends.{nothing}
 use Rattle.race_groups.specs.declared.class.Class.{Class}
 use Rattle.race_groups.specs.declared.counting.Front.{Front}
-use Rattle.race_groups.proofs.FrontLemmas.{front_count-le}
 use Rattle.race_groups.proofs.SumLemmas.{sum_by_each, sum_by_zero}
 use Rattle.race_groups.proofs.WalkLemmas.{share_of}
-use Rattle.race_groups.proofs.WholeLemmas.{none_added, members_all, members_few, share_whole}
+use Rattle.race_groups.proofs.WholeLemmas.{none_added, share_whole}
 
 -- a class that accesses nothing has no pairs
 none_passes : (keeps : Class → Class → Bool) (p q : ℕ) (j : Class) (o : Option Class) (b : Bool) → ((x : ℕ) → is_access x j.op ≡ false)
@@ -57,40 +53,12 @@ later_nothing T keeps classes infos u p q b = none (slice_get infos (slice_index
         (λ a. ap (λ (t : Bool). cond (t && adds_to keeps p q j (slice_get infos (slice_index classes a))) 1 0) (under_nothing T u a))
         ∙ sum_by_zero (before (length T))
 
--- The fronts of one cut.
-module _ (r : Recording) (formed : IsWellFormed r) (n : ℕ) (classes : List ℕ) (u : ℕ) (end : ℕ → ℕ → ℕ) (i : ℕ) (front : Front) (are : IsFront r.events (length r.threads) n classes u end i front) where
-  -- no class has more events than there are
-  few_each : All (λ m. m ≤ 1048576) front.counts.items
-  few_each = λ c d lt.
-      let here = get_or_default front.counts.items c d 0 lt in
-      let few = front_count-le r formed classes front.fronts.items c are.counts.within in
-      omega (arith, here, few, are.counts.counted c lt, formed.events)
-
-  pub members_room : (infos : List Class) (x : ℕ) (op : Op) → n ≡ length infos → length infos ≤ 1048576 → (counts members : List ℕ) → counts ≡ front.counts.items → AreConflicting infos x op members
-      → sum_by (slice_index counts) members ≤ 2 ^ 40
-  members_room infos x op size few counts members e are_some =
-      let part = members_few infos x front.counts.items (are.len ∙ size) few few_each in
-      let less = conflicting_few infos (slice_index counts) x op members are_some in
-      let same = ap (λ (cs : List ℕ). sum_by (slice_index cs) (members_of infos x)) e in
-      omega (arith, part, less, same)
-
-  module _ (b : ℕ) (moved : AreFronts (length r.threads) u (end b) front.fronts.items) where
-    -- the members of the variable add all that the later event has
-    members_whole : (infos : List Class) (keeps : Class → Class → Bool) (j : Class) (x : ℕ) → length classes ≡ length r.events → All (λ c. c < length infos) classes → n ≡ length infos
-        → is_access x j.op ≡ true → slice_get infos (slice_index classes b) ≡ Some j → (p q : ℕ)
-        → sum_by (share_of keeps p q j infos (slice_index front.counts.items)) (members_of infos x) ≡ later_count r.events keeps classes infos u end p q b
-    members_whole infos keeps j x len within size accessed at p q =
-        members_all keeps p q j infos (slice_index front.counts.items) x accessed
-        ∙ share_whole r formed keeps p q j classes front.fronts.items front.counts.items infos u (end b) len within (are.len ∙ size) are.counts moved
-        ∙ sym (ap (later_by r.events keeps classes infos u (end b) p q) at)
-
-    -- the same of lists that are these
-    pub members_added : (infos : List Class) (keeps : Class → Class → Bool) (j : Class) (x : ℕ) → length classes ≡ length r.events → All (λ c. c < length infos) classes → n ≡ length infos
-        → is_access x j.op ≡ true → slice_get infos (slice_index classes b) ≡ Some j
-        → (counts members : List ℕ) (given : List Class) → counts ≡ front.counts.items → given ≡ infos → AreConflicting infos x j.op members → (p q : ℕ)
-        → sum_by (share_of keeps p q j given (slice_index counts)) members ≡ later_count r.events keeps classes infos u end p q b
-    members_added infos keeps j x len within size accessed at counts members given e s are_some p q =
-        ap (λ (is : List Class). sum_by (share_of keeps p q j is (slice_index counts)) members) s
-        ∙ conflicting_all keeps p q j infos (slice_index counts) x members are_some
-        ∙ ap (λ (cs : List ℕ). sum_by (share_of keeps p q j infos (slice_index cs)) (members_of infos x)) e
-        ∙ members_whole infos keeps j x len within size accessed at p q
+-- The fronts of one cut that are the ends of event b: their counts add all that the event has.
+module _ (r : Recording) (formed : IsWellFormed r) (n : ℕ) (classes : List ℕ) (u : ℕ) (end : ℕ → ℕ → ℕ) (i : ℕ) (front : Front) (are : IsFront r.events (length r.threads) n classes u end i front) (b : ℕ)
+    (moved : AreFronts (length r.threads) u (end b) front.fronts.items) where
+  pub later_whole : (infos : List Class) (keeps : Class → Class → Bool) (j : Class) → length classes ≡ length r.events → All (λ c. c < length infos) classes → n ≡ length infos
+      → slice_get infos (slice_index classes b) ≡ Some j → (p q : ℕ)
+      → sum_by (share_of keeps p q j infos (slice_index front.counts.items)) (before (length infos)) ≡ later_count r.events keeps classes infos u end p q b
+  later_whole infos keeps j len within size at p q =
+      share_whole r formed keeps p q j classes front.fronts.items front.counts.items infos u (end b) len within (are.len ∙ size) are.counts moved
+      ∙ sym (ap (later_by r.events keeps classes infos u (end b) p q) at)

@@ -15,6 +15,7 @@ pub mod OwnerLemmas
 pub mod MonotoneLemmas
 pub mod LooseLemmas
 pub mod ClassLemmas
+pub mod BasisLemmas
 pub mod PairLemmas
 pub mod FlagLemmas
 pub mod DoubledLemmas

@@ -5,6 +5,7 @@ use Rattle.std.proofs.lemmas.List.Sums.{sum_by-le-sum_by}
 use Rattle.rapid_text.specs.declared.event.Event.{Event}
 use Rattle.event_index.specs.Lookups.{count_before}
 use Rattle.shb_clocks.specs.SharedRows.{Counted}
+use Rattle.race_groups.specs.Basis.{loose_of}
 use Rattle.race_groups.specs.Counting.{AreFronts, IsFront}
 use Rattle.race_groups.specs.Ends.{counted_before, known_before, lower_of, nothing, upper_of}
 use Rattle.race_groups.specs.Rows.{Part, of_all, of_candidates, of_ordered, of_guarded, by_part}
@@ -17,10 +18,6 @@ use Rattle.std.proofs.Common.{inl, inr}
 -- nothing of each class
 abbrev pub none_of : ℕ → ℕ
 none_of c = 0
-
--- what each class adds to a part, from what comes below the three cuts
-abbrev pub loose_of : List ℕ → List ℕ → List ℕ → Part → ℕ → ℕ
-loose_of earlier known forced k c = by_part 0 (slice_index earlier c - slice_index known c) (slice_index known c - slice_index forced c) k
 
 -- what comes below the part's cut
 abbrev pub upper_counts : List ℕ → List ℕ → Part → ℕ → ℕ
@@ -70,10 +67,8 @@ loose_none earlier known forced c first second of_guarded = omega (arith, second
 pub fronts_nested : (T : List Event) (threads n : ℕ) (classes : List ℕ) (u : ℕ) (end further : ℕ → ℕ → ℕ) (i b : ℕ) (front more : Front)
     → IsFront T threads n classes u end i front → IsFront T threads n classes u further i more
     → AreFronts threads u (end b) front.fronts.items → AreFronts threads u (further b) more.fronts.items
-    → ((t : ℕ) → t < threads → end b t ≤ further b t)
-    → (counts others : List ℕ) → counts ≡ front.counts.items → others ≡ more.counts.items
-    → (c : ℕ) → c < n → slice_index counts c ≤ slice_index others c
-fronts_nested T threads n classes u end further i b front more is also at to le counts others e1 e2 c lt =
+    → ((t : ℕ) → t < threads → end b t ≤ further b t) → (c : ℕ) → c < n → slice_index front.counts.items c ≤ slice_index more.counts.items c
+fronts_nested T threads n classes u end further i b front more is also at to le c lt =
     let each = front_count-mono T threads classes front.fronts.items more.fronts.items c
     (λ t low. elim (cases_eq t u) [
       | inl same ↦ let none = ap (slice_index front.fronts.items) same in omega (arith, none, at.1)
@@ -82,6 +77,4 @@ fronts_nested T threads n classes u end further i b front more is also at to le 
     in
     let here = is.counts.counted c (omega (arith, lt, is.len)) in
     let there = also.counts.counted c (omega (arith, lt, also.len)) in
-    let same = ap (λ (cs : List ℕ). slice_index cs c) e1 in
-    let other = ap (λ (cs : List ℕ). slice_index cs c) e2 in
-    omega (arith, each, here, there, same, other)
+    omega (arith, each, here, there)

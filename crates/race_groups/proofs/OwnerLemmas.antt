@@ -43,11 +43,10 @@ module _ (T : List Event) (threads : ℕ) (classes owners : List ℕ) (are : Are
 
 -- nothing is counted of a thread's own classes
 pub own_nothing : (r : Recording) (n : ℕ) (classes : List ℕ) (u : ℕ) (end : ℕ → ℕ → ℕ) (i : ℕ) (front : Front) → IsFront r.events (length r.threads) n classes u end i front
-    → (owners : List ℕ) → AreOwners r.events (length r.threads) classes owners → u < length r.threads → (counts : List ℕ) → counts ≡ front.counts.items
-    → (c : ℕ) → c < n → slice_index owners c ≡ u → slice_index counts c ≡ 0
-own_nothing r n classes u end i front are owners owned lt counts e c low own =
-    ap (λ (cs : List ℕ). slice_index cs c) e
-    ∙ are.counts.counted c (omega (arith, low, are.len))
+    → (owners : List ℕ) → AreOwners r.events (length r.threads) classes owners → u < length r.threads
+    → (c : ℕ) → c < n → slice_index owners c ≡ u → slice_index front.counts.items c ≡ 0
+own_nothing r n classes u end i front are owners owned lt c low own =
+    are.counts.counted c (omega (arith, low, are.len))
     ∙ front_none r.events (length r.threads) classes owners owned u c lt own front.fronts.items are.own
 
 -- a walk passes by places whose terms are 0

@@ -93,16 +93,6 @@ module _ (keeps : Class → Class → Bool) (p q : ℕ) (j : Class) where
 pub members_within : (infos : List Class) (x : ℕ) → All (λ c. c < length infos) (members_of infos x)
 members_within infos x = All-filter (λ c. accesses x (slice_get infos c)) (λ c. c < length infos) (before (length infos)) (All-before (λ c. c < length infos) (length infos) (λ c lt. lt))
 
--- and few
-pub members_few : (infos : List Class) (x : ℕ) (counts : List ℕ) → length counts ≡ length infos → length infos ≤ 1048576 → All (λ n. n ≤ 1048576) counts → sum_by (slice_index counts) (members_of infos x) ≤ 2 ^ 40
-members_few infos x counts len few small =
-    let test : ℕ → Bool = λ c. accesses x (slice_get infos c) in
-    let each = sum_by-le (slice_index counts) 1048576 (members_of infos x) (All-weaker (λ c. c < length infos) (λ c. slice_index counts c ≤ 1048576) (λ c lt. All-get_or (λ n. n ≤ 1048576) counts c 0 (omega (arith, len)) small) (members_of infos x) (members_within infos x)) in
-    let size = length-filter test (before (length infos)) in
-    let short = count_by-le-length test (before (length infos)) in
-    let whole = length-range_with_len 0 (length infos) in
-    omega (arith, each, size, short, whole)
-
 -- the conditions in another order
 shuffled : (u s d : Bool) (n : ℕ) → cond d (cond u (cond s n 0) 0) 0 ≡ cond s (cond (u && d) n 0) 0
 shuffled true true true n = refl

@@ -1,6 +1,7 @@
 pub mod Groups
 pub mod Cuts
 pub mod Counting
+pub mod Basis
 pub mod Totals
 pub mod Owners
 pub mod Rows

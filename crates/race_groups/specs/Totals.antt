@@ -1,5 +1,5 @@
 -- The count of all pairs, class by class. No public clause cites this module. `T` is the events of a trace.
-use Rattle.std.specs.Prelude.{◌≡◌, ℕ, ◌*◌, ◌<◌, ◌==◌, nat_lt, Bool, false, cond, List, [], All, length, sum_by, slice_get, Option, Some, None, Vec}
+use Rattle.std.specs.Prelude.{◌≡◌, ℕ, ◌*◌, ◌<◌, ◌==◌, nat_lt, Bool, false, cond, List, [], All, length, sum_by, slice_get, slice_index, Option, Some, None, Vec}
 use Rattle.std.specs.declared.alloc.Global.{Global}
 use Rattle.rapid_text.specs.declared.event.Event.{Event}
 use Rattle.event_index.specs.Lookups.{before, events_of}
@@ -23,12 +23,22 @@ weighed_sum w entries = sum_by (λ e. e.1 * w e.0) entries
 abbrev pub total_count : List Event → ℕ → List ℕ → ℕ → ℕ
 total_count T threads classes c = sum_by (λ t. class_count classes c (events_of T t)) (before threads)
 
+-- There are so many of each class.
+pub record AreTotals (T : List Event) (threads : ℕ) (classes : List ℕ) (n : ℕ) (totals : List ℕ) : Type 0 where
+  pub len : length totals ≡ n
+  pub counted : (c : ℕ) → c < n → slice_index totals c ≡ total_count T threads classes c
+
 -- The entries of each class tell how many events of it each thread has.
 pub record AreSpread (T : List Event) (threads : ℕ) (classes : List ℕ) (n : ℕ) (spread : List (Vec (ℕ × ℕ) Global)) : Type 0 where
   pub len : length spread ≡ n
   pub within : (c : ℕ) → All (λ e. e.0 < threads) (entries_at spread c)
   pub weighed : (c : ℕ) (w : ℕ → ℕ) → c < n
       → weighed_sum w (entries_at spread c) ≡ sum_by (λ t. class_count classes c (events_of T t) * w t) (before threads)
+
+-- So many events of class j each thread has.
+pub record AreWeights (T : List Event) (threads : ℕ) (classes : List ℕ) (j : ℕ) (weights : List ℕ) : Type 0 where
+  pub len : length weights ≡ threads
+  pub each : (t : ℕ) → t < threads → slice_index weights t ≡ class_count classes j (events_of T t)
 
 -- how many pairs events of class j have with events of class c of other threads before the ends
 abbrev pub two_sum : List Event → ℕ → List ℕ → (ℕ → ℕ → ℕ) → ℕ → ℕ → ℕ

@@ -1,96 +1,30 @@
 //! The counts of a trace's conflicting pairs between three cuts: what is earlier in the trace, what SHB keeps before, what is forced.
 //! For each later thread the events of the others are counted by class as they come below the cuts.
-ghost use Rattle.std.specs.Prelude.{◌≡◌, ℕ, ◌+◌, ◌^◌, ◌<◌, ◌≤◌, length, All, IfOk, OnOk, Err, Some, slice_get, slice_index, sum_by};
+ghost use Rattle.std.specs.Prelude.{◌≡◌, ℕ, ◌+◌, ◌<◌, ◌≤◌, length, All, IfOk, OnOk, Err, Some, slice_get, slice_index, sum_by};
 ghost use Rattle.indexmap.specs.IndexMap.{index_map_len};
-ghost use Rattle.rapid_text.specs.Recording.{IsWellFormed};
 ghost use Rattle.event_index.specs.Lookups.{events_of};
-ghost use Rattle.shb_clocks.specs.SharedRows.{Counted, len_of};
+ghost use Rattle.race_groups.specs.Basis.{AreAdded, AreFew, AreFewAll, AreFrontsBefore, AreSummed, HasRoom, IsBasis, later_of, thread_of, unflagged_of};
 ghost use Rattle.race_groups.specs.Classes.{AreClasses, AreMembers};
-ghost use Rattle.race_groups.specs.Counting.{AreCuts, AreFrontsAt, AreMoved, later_count, thread_sum, unflagged_count};
-ghost use Rattle.race_groups.specs.Counts.{AreCounted, keeps};
-ghost use Rattle.race_groups.specs.Ends.{lower_of, upper_of};
+ghost use Rattle.race_groups.specs.Counts.{AreCounted};
 ghost use Rattle.race_groups.specs.Found.{AreTooMany};
-ghost use Rattle.race_groups.specs.Owners.{AreConflicts};
-ghost use Rattle.race_groups.specs.Rows.{Part, count_at, AreRows, AreMore};
+ghost use Rattle.race_groups.specs.Rows.{Part, count_at, AreMore, AreRows};
 
+use crate::basis::Basis;
 use crate::class::Class;
 use crate::classes::{Classes, variable_of};
-use crate::counting::Front;
-use crate::cuts::{Earlier, Forced, Known};
+use crate::fronts::Fronts;
 use crate::guesses::Guesses;
 use crate::heavy::{add_classes, heavies};
+use crate::loose::add_loose;
 use crate::rows::{Rows, RowsRefusal};
-use crate::shares::Loose;
 use crate::totals::add_totals;
-use crate::walk::add_members;
-use crate::writers::{Conflicts, conflicting};
+use crate::writers::Conflicts;
 use event_index::Indexed;
 use indexmap::IndexMap;
 use must_order::Must;
 use rapid_text::OutOfMemory;
-use shb_clocks::{Clocks, SharedRows, known_tells_shb};
+use shb_clocks::{Clocks, known_tells_shb};
 use std::alloc::Global;
-
-/// The fronts of the three cuts.
-#[derive(Drop)]
-pub(crate) struct Fronts {
-    pub(crate) earlier: Front,
-    pub(crate) known: Front,
-    pub(crate) forced: Front,
-}
-
-impl Fronts {
-    // Nothing comes before the cuts yet.
-    fn new(alloc: Global, indexed: &Indexed, classes: &Classes) -> Result<Fronts, OutOfMemory>
-        ensures { IfOk result (λ fronts. (u : ℕ) (rows : Counted) → AreFrontsAt indexed.now.events (length indexed.now.threads)
-            (length classes.now.infos.items) classes.now.numbers.items u rows 0 fronts) }
-    {
-        let threads = indexed.threads() as usize;
-        let size = classes.infos.as_slice().len();
-        Ok(Fronts {
-            earlier: Front::new(alloc, threads, size)?,
-            known: Front::new(alloc, threads, size)?,
-            forced: Front::new(alloc, threads, size)?,
-        })
-    }
-
-    // Moves on to the ends of the event at this place of the thread.
-    fn advance(
-        &mut self,
-        indexed: &Indexed,
-        clocks: &Clocks,
-        rows: &SharedRows,
-        classes: &Classes,
-        thread: u32,
-        at: usize,
-    )
-        requires clocks { clocks.now ≡ indexed.now }
-        requires width { rows.now.width ≡ length indexed.now.threads }
-        requires len { len_of rows.now ≡ length indexed.now.events }
-        requires cuts { AreCuts indexed.now.events rows.now }
-        requires numbers { length classes.now.numbers.items ≡ length indexed.now.events }
-        requires classes { All (λ c. c < length classes.now.infos.items) classes.now.numbers.items }
-        requires thread { thread < length indexed.now.threads }
-        requires at { at < length (events_of indexed.now.events thread) }
-        requires fronts { AreFrontsAt indexed.now.events (length indexed.now.threads) (length classes.now.infos.items)
-            classes.now.numbers.items thread rows.now at self.old }
-        ensures fronts { AreFrontsAt indexed.now.events (length indexed.now.threads) (length classes.now.infos.items)
-            classes.now.numbers.items thread rows.now (at + 1) self.new }
-        ensures moved { AreMoved indexed.now.events (length indexed.now.threads) thread rows.now
-            (slice_index (events_of indexed.now.events thread) at) self.new }
-    {
-        let numbers = classes.numbers.as_slice();
-        let later = indexed.thread_events(thread)[at];
-        let earlier = Earlier { indexed };
-        let known = Known { indexed, clocks };
-        let forced = Forced { indexed, rows };
-        self.earlier
-            .advance(numbers, indexed, &earlier, later, thread);
-        self.known.advance(numbers, indexed, &known, later, thread);
-        self.forced
-            .advance(numbers, indexed, &forced, later, thread);
-    }
-}
 
 // The class of an event.
 fn class_of(classes: &Classes, event: u32) -> Class
@@ -106,62 +40,27 @@ fn add_later(
     rows: &mut Rows,
     guesses: &mut Guesses,
     fronts: &mut Fronts,
-    indexed: &Indexed,
-    clocks: &Clocks,
-    forced: &SharedRows,
-    classes: &Classes,
-    conflicts: &Conflicts,
+    basis: Basis<'_>,
     thread: u32,
     at: usize,
 ) -> Result<(), OutOfMemory>
-    requires clocks { clocks.now ≡ indexed.now }
-    requires width { forced.now.width ≡ length indexed.now.threads }
-    requires len { len_of forced.now ≡ length indexed.now.events }
-    requires formed { IsWellFormed indexed.now }
-    requires cuts { AreCuts indexed.now.events forced.now }
-    requires numbers { length classes.now.numbers.items ≡ length indexed.now.events }
-    requires classes { All (λ c. c < length classes.now.infos.items) classes.now.numbers.items }
-    requires few { length classes.now.infos.items ≤ 1048576 }
-    requires members { AreMembers classes.now.infos.items classes.now.members.items }
-    requires conflicts { AreConflicts indexed.now.events (length indexed.now.threads) classes.now.numbers.items
-        classes.now.infos.items classes.now.members.items conflicts.now }
-    requires thread { thread < length indexed.now.threads }
-    requires at { at < length (events_of indexed.now.events thread) }
-    requires fronts { AreFrontsAt indexed.now.events (length indexed.now.threads) (length classes.now.infos.items)
-        classes.now.numbers.items thread forced.now at fronts.old }
+    requires basis { IsBasis basis }
+    requires thread { thread < length basis.indexed.now.threads }
+    requires at { at < length (events_of basis.indexed.now.events thread) }
+    requires fronts { AreFrontsBefore basis thread at fronts.old }
     requires rows { AreRows rows.old }
-    requires room { (k : Part) (p q : ℕ) → p ≤ q → count_at k rows.old p q ≤ 2 ^ 42 }
-    ensures fronts { OnOk result (AreFrontsAt indexed.now.events (length indexed.now.threads) (length classes.now.infos.items)
-        classes.now.numbers.items thread forced.now (at + 1) fronts.new) }
-    // What comes below one cut and not below the next is added to each part.
-    ensures ok { OnOk result ((k : Part) (p q : ℕ) → p ≤ q → count_at k rows.new p q
-        + later_count indexed.now.events (keeps classes.now.lists.keys k) classes.now.numbers.items classes.now.infos.items thread
-        (lower_of indexed.now.events forced.now k) p q (slice_index (events_of indexed.now.events thread) at)
-        ≡ count_at k rows.old p q
-        + later_count indexed.now.events (keeps classes.now.lists.keys k) classes.now.numbers.items classes.now.infos.items thread
-        (upper_of indexed.now.events k) p q (slice_index (events_of indexed.now.events thread) at)) }
+    requires room { HasRoom 0 rows.old }
+    ensures fronts { OnOk result (AreFrontsBefore basis.entry thread (at + 1) fronts.new) }
+    ensures ok { OnOk result (AreAdded basis.entry
+        (later_of basis.entry thread (slice_index (events_of basis.entry.indexed.now.events thread) at)) rows.old rows.new) }
     ensures rows { OnOk result (AreRows rows.new) }
 {
-    let class = class_of(classes, indexed.thread_events(thread)[at]);
+    let class = class_of(basis.classes, basis.indexed.thread_events(thread)[at]);
     let Some(variable) = variable_of(class.op) else {
         return Ok(());
     };
-    fronts.advance(indexed, clocks, forced, classes, thread, at);
-    let loose = Loose {
-        earlier: fronts.earlier.counts.as_slice(),
-        known: fronts.known.counts.as_slice(),
-        forced: fronts.forced.counts.as_slice(),
-    };
-    add_members(
-        rows,
-        guesses,
-        &loose,
-        classes.infos.as_slice(),
-        &classes.lists,
-        conflicting(classes, conflicts, variable, class.op),
-        class,
-        thread,
-    )?;
+    fronts.advance(basis, thread, at);
+    add_loose(rows, guesses, fronts, basis, variable, class, thread)?;
     Ok(())
 }
 
@@ -170,50 +69,29 @@ fn add_light(
     rows: &mut Rows,
     guesses: &mut Guesses,
     fronts: &mut Fronts,
-    indexed: &Indexed,
-    clocks: &Clocks,
-    forced: &SharedRows,
-    classes: &Classes,
-    conflicts: &Conflicts,
+    basis: Basis<'_>,
     thread: u32,
     at: usize,
     flags: &[u32],
 ) -> Result<(), OutOfMemory>
-    requires clocks { clocks.now ≡ indexed.now }
-    requires width { forced.now.width ≡ length indexed.now.threads }
-    requires len { len_of forced.now ≡ length indexed.now.events }
-    requires formed { IsWellFormed indexed.now }
-    requires cuts { AreCuts indexed.now.events forced.now }
-    requires numbers { length classes.now.numbers.items ≡ length indexed.now.events }
-    requires classes { All (λ c. c < length classes.now.infos.items) classes.now.numbers.items }
-    requires few { length classes.now.infos.items ≤ 1048576 }
-    requires members { AreMembers classes.now.infos.items classes.now.members.items }
-    requires conflicts { AreConflicts indexed.now.events (length indexed.now.threads) classes.now.numbers.items
-        classes.now.infos.items classes.now.members.items conflicts.now }
-    requires thread { thread < length indexed.now.threads }
-    requires at { at < length (events_of indexed.now.events thread) }
-    requires flags { length flags.now ≡ length classes.now.infos.items }
-    requires fronts { AreFrontsAt indexed.now.events (length indexed.now.threads) (length classes.now.infos.items)
-        classes.now.numbers.items thread forced.now at fronts.old }
+    requires basis { IsBasis basis }
+    requires thread { thread < length basis.indexed.now.threads }
+    requires at { at < length (events_of basis.indexed.now.events thread) }
+    requires flags { length flags.now ≡ length basis.classes.now.infos.items }
+    requires fronts { AreFrontsBefore basis thread at fronts.old }
     requires rows { AreRows rows.old }
-    requires room { (k : Part) (p q : ℕ) → p ≤ q → count_at k rows.old p q ≤ 2 ^ 42 }
-    ensures fronts { OnOk result (AreFrontsAt indexed.now.events (length indexed.now.threads) (length classes.now.infos.items)
-        classes.now.numbers.items thread forced.now (at + 1) fronts.new) }
-    ensures ok { OnOk result ((k : Part) (p q : ℕ) → p ≤ q → count_at k rows.new p q
-        + unflagged_count indexed.now.events (keeps classes.now.lists.keys k) classes.now.numbers.items classes.now.infos.items thread
-        (lower_of indexed.now.events forced.now k) p q flags.now (slice_index (events_of indexed.now.events thread) at)
-        ≡ count_at k rows.old p q
-        + unflagged_count indexed.now.events (keeps classes.now.lists.keys k) classes.now.numbers.items classes.now.infos.items thread
-        (upper_of indexed.now.events k) p q flags.now (slice_index (events_of indexed.now.events thread) at)) }
+    requires room { HasRoom 0 rows.old }
+    ensures fronts { OnOk result (AreFrontsBefore basis.entry thread (at + 1) fronts.new) }
+    ensures ok { OnOk result (AreAdded basis.entry
+        (unflagged_of basis.entry thread flags.now (slice_index (events_of basis.entry.indexed.now.events thread) at)) rows.old rows.new) }
     ensures rows { OnOk result (AreRows rows.new) }
 {
-    let event = indexed.thread_events(thread)[at];
+    let classes = basis.classes;
+    let event = basis.indexed.thread_events(thread)[at];
     if flags[classes.numbers[event as usize] as usize] == 1 {
         return Ok(());
     }
-    add_later(
-        rows, guesses, fronts, indexed, clocks, forced, classes, conflicts, thread, at,
-    )?;
+    add_later(rows, guesses, fronts, basis, thread, at)?;
     Ok(())
 }
 
@@ -222,63 +100,53 @@ fn add_thread(
     alloc: Global,
     rows: &mut Rows,
     guesses: &mut Guesses,
-    indexed: &Indexed,
-    clocks: &Clocks,
-    forced: &SharedRows,
-    classes: &Classes,
+    basis: Basis<'_>,
     limit: u32,
-    conflicts: &Conflicts,
     thread: u32,
 ) -> Result<(), RowsRefusal>
-    requires clocks { clocks.now ≡ indexed.now }
-    requires width { forced.now.width ≡ length indexed.now.threads }
-    requires len { len_of forced.now ≡ length indexed.now.events }
-    requires formed { IsWellFormed indexed.now }
-    requires cuts { AreCuts indexed.now.events forced.now }
-    requires numbers { length classes.now.numbers.items ≡ length indexed.now.events }
-    requires classes { All (λ c. c < length classes.now.infos.items) classes.now.numbers.items }
-    requires few { length classes.now.infos.items ≤ 1048576 }
-    requires members { AreMembers classes.now.infos.items classes.now.members.items }
-    requires conflicts { AreConflicts indexed.now.events (length indexed.now.threads) classes.now.numbers.items
-        classes.now.infos.items classes.now.members.items conflicts.now }
-    requires thread { thread < length indexed.now.threads }
+    requires basis { IsBasis basis }
+    requires thread { thread < length basis.indexed.now.threads }
     requires rows { AreRows rows.old }
     requires kept { index_map_len rows.old ≤ limit }
-    requires room { (k : Part) (p q : ℕ) → p ≤ q
-        → count_at k rows.old p q + sum_by (λ e. length indexed.now.events) (events_of indexed.now.events thread) ≤ 2 ^ 42 }
-    ensures ok { OnOk result ((k : Part) (p q : ℕ) → p ≤ q → count_at k rows.new p q
-        + thread_sum indexed.now.events (keeps classes.now.lists.keys k) classes.now.numbers.items classes.now.infos.items
-        (lower_of indexed.now.events forced.now k) p q thread
-        ≡ count_at k rows.old p q
-        + thread_sum indexed.now.events (keeps classes.now.lists.keys k) classes.now.numbers.items classes.now.infos.items
-        (upper_of indexed.now.events k) p q thread) }
+    requires room { HasRoom (sum_by (λ e. length basis.indexed.now.events) (events_of basis.indexed.now.events thread)) rows.old }
+    ensures ok { OnOk result (AreAdded basis.entry (thread_of basis.entry thread) rows.old rows.new) }
     ensures rows { OnOk result (AreRows rows.new) }
     ensures kept { OnOk result (index_map_len rows.new ≤ limit) }
     // Where there are too many, none of them counts more than there is.
-    ensures too_many { result ≡ Err RowsRefusal.TooMany → AreMore limit rows.new × ((k : Part) (p q : ℕ) → p ≤ q → count_at k rows.new p q
-        ≤ count_at k rows.old p q + thread_sum indexed.now.events (keeps classes.now.lists.keys k) classes.now.numbers.items
-        classes.now.infos.items (upper_of indexed.now.events k) p q thread) }
+    ensures too_many { result ≡ Err RowsRefusal.TooMany → AreMore limit rows.new × AreFew basis.entry (thread_of basis.entry thread) rows.old rows.new }
 {
-    let flags = heavies(alloc, indexed, classes, conflicts, thread)?;
-    let flagged = flags.as_slice();
-    add_classes(
-        alloc, rows, guesses, indexed, clocks, forced, classes, limit, conflicts, thread, flagged,
-    )?;
-    let mut fronts = Fronts::new(alloc, indexed, classes)?;
-    for at in 0..indexed.thread_events(thread).len() {
-        add_light(
-            rows,
-            guesses,
-            &mut fronts,
-            indexed,
-            clocks,
-            forced,
-            classes,
-            conflicts,
-            thread,
-            at,
-            flagged,
-        )?;
+    let flags = heavies(alloc, basis, thread)?;
+    match add_flags(alloc, rows, guesses, basis, limit, thread, flags.as_slice()) {
+        Ok(()) => Ok(()),
+        Err(refusal) => Err(refusal),
+    }
+}
+
+// The same, those of each class that is flagged together.
+fn add_flags(
+    alloc: Global,
+    rows: &mut Rows,
+    guesses: &mut Guesses,
+    basis: Basis<'_>,
+    limit: u32,
+    thread: u32,
+    flags: &[u32],
+) -> Result<(), RowsRefusal>
+    requires basis { IsBasis basis }
+    requires thread { thread < length basis.indexed.now.threads }
+    requires flags { length flags.now ≡ length basis.classes.now.infos.items }
+    requires rows { AreRows rows.old }
+    requires kept { index_map_len rows.old ≤ limit }
+    requires room { HasRoom (sum_by (λ e. length basis.indexed.now.events) (events_of basis.indexed.now.events thread)) rows.old }
+    ensures ok { OnOk result (AreAdded basis.entry (thread_of basis.entry thread) rows.old rows.new) }
+    ensures rows { OnOk result (AreRows rows.new) }
+    ensures kept { OnOk result (index_map_len rows.new ≤ limit) }
+    ensures too_many { result ≡ Err RowsRefusal.TooMany → AreMore limit rows.new × AreFew basis.entry (thread_of basis.entry thread) rows.old rows.new }
+{
+    add_classes(alloc, rows, guesses, basis, limit, thread, flags)?;
+    let mut fronts = Fronts::new(alloc, basis)?;
+    for at in 0..basis.indexed.thread_events(thread).len() {
+        add_light(rows, guesses, &mut fronts, basis, thread, at, flags)?;
         if rows.len() > limit as usize {
             return Err(RowsRefusal::TooMany);
         }
@@ -311,36 +179,87 @@ pub(crate) fn count_cuts(
     let _len = indexed.len();
     let forced = must.rows();
     let conflicts = Conflicts::of(alloc, indexed, classes)?;
-    let mut rows = IndexMap::new(alloc);
-    let mut guesses = Guesses::new(alloc, classes.infos.as_slice())?;
-    match add_totals(
-        alloc,
-        &mut rows,
-        &mut guesses,
+    let basis = Basis {
         indexed,
+        clocks,
+        forced,
         classes,
-        limit,
-        &conflicts,
-    ) {
-        Ok(()) => {}
-        Err(refusal) => return Err(refusal),
+        conflicts: &conflicts,
+    };
+    match between_cuts(alloc, places, basis, limit) {
+        Ok(rows) => Ok(rows),
+        Err(refusal) => Err(refusal),
     }
+}
+
+// The same, from what is known of the trace.
+fn between_cuts(
+    alloc: Global,
+    _places: &[u32],
+    basis: Basis<'_>,
+    limit: u32,
+) -> Result<Rows, RowsRefusal>
+    requires basis { IsBasis basis }
+    requires classes { AreClasses basis.indexed.now.events (slice_index _places.now) basis.classes.now.numbers.items basis.classes.now.infos.items }
+    ensures counted { IfOk result (AreCounted basis.entry.indexed.now.events (slice_index _places.now)
+        basis.entry.classes.now.numbers.items basis.entry.classes.now.infos.items basis.entry.classes.now.lists.keys) }
+    ensures kept { IfOk result (λ rows. index_map_len rows ≤ limit) }
+    ensures too_many { result ≡ Err RowsRefusal.TooMany → AreTooMany basis.entry.indexed.now.events (slice_index _places.now) limit }
+{
+    let mut rows = IndexMap::new(alloc);
+    match add_pairs(alloc, &mut rows, basis, limit) {
+        Ok(()) => Ok(rows),
+        Err(refusal) => Err(refusal),
+    }
+}
+
+// Adds all pairs, and what comes below one cut and not below the next.
+fn add_pairs(
+    alloc: Global,
+    rows: &mut Rows,
+    basis: Basis<'_>,
+    limit: u32,
+) -> Result<(), RowsRefusal>
+    requires basis { IsBasis basis }
+    requires rows { AreRows rows.old }
+    requires kept { index_map_len rows.old ≤ limit }
+    requires empty { (k : Part) (p q : ℕ) → p ≤ q → count_at k rows.old p q ≡ 0 }
+    ensures ok { OnOk result (AreSummed basis.entry (length basis.entry.indexed.now.threads) rows.new) }
+    ensures rows { OnOk result (AreRows rows.new) }
+    ensures kept { OnOk result (index_map_len rows.new ≤ limit) }
+    ensures too_many { result ≡ Err RowsRefusal.TooMany → AreMore limit rows.new × AreFewAll basis.entry rows.new }
+{
+    let mut guesses = Guesses::new(alloc, basis.classes.infos.as_slice())?;
+    match add_each(alloc, rows, &mut guesses, basis, limit) {
+        Ok(()) => Ok(()),
+        Err(refusal) => Err(refusal),
+    }
+}
+
+// The same, with guesses where the rows stand.
+fn add_each(
+    alloc: Global,
+    rows: &mut Rows,
+    guesses: &mut Guesses,
+    basis: Basis<'_>,
+    limit: u32,
+) -> Result<(), RowsRefusal>
+    requires basis { IsBasis basis }
+    requires rows { AreRows rows.old }
+    requires kept { index_map_len rows.old ≤ limit }
+    requires empty { (k : Part) (p q : ℕ) → p ≤ q → count_at k rows.old p q ≡ 0 }
+    ensures ok { OnOk result (AreSummed basis.entry (length basis.entry.indexed.now.threads) rows.new) }
+    ensures rows { OnOk result (AreRows rows.new) }
+    ensures kept { OnOk result (index_map_len rows.new ≤ limit) }
+    ensures too_many { result ≡ Err RowsRefusal.TooMany → AreMore limit rows.new × AreFewAll basis.entry rows.new }
+{
+    let indexed = basis.indexed;
+    add_totals(alloc, rows, guesses, basis, limit)?;
     for thread in 0..indexed.threads() {
-        match add_thread(
-            alloc,
-            &mut rows,
-            &mut guesses,
-            indexed,
-            clocks,
-            forced,
-            classes,
-            limit,
-            &conflicts,
-            thread,
-        ) {
+        match add_thread(alloc, rows, guesses, basis, limit, thread) {
             Ok(()) => {}
             Err(refusal) => return Err(refusal),
         }
     }
-    Ok(rows)
+    Ok(())
 }

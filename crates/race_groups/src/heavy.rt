@@ -1,30 +1,22 @@
 //! The pairs of many later events of one class, counted together: each earlier event is passed once for all of them, so that it does
 //! not matter how many there are.
-ghost use Rattle.std.specs.Prelude.{◌≡◌, ℕ, ◌+◌, ◌^◌, ◌<◌, ◌≤◌, length, true, All, IfOk, OnOk, Err, sum_by};
+ghost use Rattle.std.specs.Prelude.{◌≡◌, ℕ, ◌<◌, ◌≤◌, length, true, IfOk, OnOk, Err, sum_by};
 ghost use Rattle.indexmap.specs.IndexMap.{index_map_len};
-ghost use Rattle.rapid_text.specs.Recording.{IsWellFormed};
 ghost use Rattle.event_index.specs.Lookups.{events_of};
 ghost use Rattle.event_index.specs.Relations.{is_access};
-ghost use Rattle.shb_clocks.specs.SharedRows.{len_of};
-ghost use Rattle.race_groups.specs.Classes.{AreMembers};
-ghost use Rattle.race_groups.specs.Counting.{AreCuts, class_sum, flagged_class, flagged_sum, thread_sum};
-ghost use Rattle.race_groups.specs.Counts.{keeps};
-ghost use Rattle.race_groups.specs.Ends.{lower_of, upper_of};
-ghost use Rattle.race_groups.specs.Owners.{AreConflicts, AreRuns};
-ghost use Rattle.race_groups.specs.Rows.{Part, count_at, AreMore, AreRows};
+ghost use Rattle.race_groups.specs.Basis.{AreAdded, AreBlank, AreFew, HasRoom, IsBasis, all_flagged, class_of, flagged_of, thread_of};
+ghost use Rattle.race_groups.specs.Owners.{AreRuns};
+ghost use Rattle.race_groups.specs.Rows.{AreMore, AreRows};
 
-use crate::classes::{Classes, variable_of};
-use crate::cuts::{Earlier, Forced, Known};
+use crate::basis::Basis;
+use crate::classes::variable_of;
+use crate::fronts::Fronts;
 use crate::guesses::Guesses;
+use crate::loose::add_loose;
 use crate::owners::owner_of;
 use crate::rows::{Rows, RowsRefusal};
-use crate::shares::Loose;
-use crate::sums::sums_below;
-use crate::walk::add_members;
-use crate::writers::{Conflicts, Walk, conflicting};
-use event_index::Indexed;
+use crate::writers::{Walk, conflicting};
 use rapid_text::{Op, OutOfMemory};
-use shb_clocks::{Clocks, SharedRows};
 use std::alloc::Global;
 
 // Adds the pairs whose later event is of the thread and of the class of this number.
@@ -32,88 +24,49 @@ fn add_class(
     alloc: Global,
     rows: &mut Rows,
     guesses: &mut Guesses,
-    indexed: &Indexed,
-    clocks: &Clocks,
-    forced: &SharedRows,
-    classes: &Classes,
-    conflicts: &Conflicts,
+    basis: Basis<'_>,
     thread: u32,
     class: u32,
 ) -> Result<(), OutOfMemory>
-    requires clocks { clocks.now ≡ indexed.now }
-    requires width { forced.now.width ≡ length indexed.now.threads }
-    requires len { len_of forced.now ≡ length indexed.now.events }
-    requires formed { IsWellFormed indexed.now }
-    requires cuts { AreCuts indexed.now.events forced.now }
-    requires numbers { length classes.now.numbers.items ≡ length indexed.now.events }
-    requires classes { All (λ c. c < length classes.now.infos.items) classes.now.numbers.items }
-    requires few { length classes.now.infos.items ≤ 1048576 }
-    requires members { AreMembers classes.now.infos.items classes.now.members.items }
-    requires conflicts { AreConflicts indexed.now.events (length indexed.now.threads) classes.now.numbers.items
-        classes.now.infos.items classes.now.members.items conflicts.now }
-    requires thread { thread < length indexed.now.threads }
-    requires class { class < length classes.now.infos.items }
+    requires basis { IsBasis basis }
+    requires thread { thread < length basis.indexed.now.threads }
+    requires class { class < length basis.classes.now.infos.items }
     requires rows { AreRows rows.old }
-    requires room { (k : Part) (p q : ℕ) → p ≤ q → count_at k rows.old p q ≤ 2 ^ 42 }
-    ensures ok { OnOk result ((k : Part) (p q : ℕ) → p ≤ q → count_at k rows.new p q
-        + class_sum indexed.now.events (keeps classes.now.lists.keys k) classes.now.numbers.items classes.now.infos.items thread
-        (lower_of indexed.now.events forced.now k) p q class
-        ≡ count_at k rows.old p q
-        + class_sum indexed.now.events (keeps classes.now.lists.keys k) classes.now.numbers.items classes.now.infos.items thread
-        (upper_of indexed.now.events k) p q class) }
+    requires room { HasRoom 0 rows.old }
+    ensures ok { OnOk result (AreAdded basis.entry (class_of basis.entry thread class) rows.old rows.new) }
     ensures rows { OnOk result (AreRows rows.new) }
 {
-    let info = classes.infos[class as usize];
+    let mut fronts = Fronts::new(alloc, basis)?;
+    match add_sums(rows, guesses, &mut fronts, basis, thread, class) {
+        Ok(()) => Ok(()),
+        Err(refused) => Err(refused),
+    }
+}
+
+// The same, with fronts before which nothing comes.
+fn add_sums(
+    rows: &mut Rows,
+    guesses: &mut Guesses,
+    fronts: &mut Fronts,
+    basis: Basis<'_>,
+    thread: u32,
+    class: u32,
+) -> Result<(), OutOfMemory>
+    requires basis { IsBasis basis }
+    requires thread { thread < length basis.indexed.now.threads }
+    requires class { class < length basis.classes.now.infos.items }
+    requires fronts { AreBlank basis fronts.old }
+    requires rows { AreRows rows.old }
+    requires room { HasRoom 0 rows.old }
+    ensures ok { OnOk result (AreAdded basis.entry (class_of basis.entry thread class) rows.old rows.new) }
+    ensures rows { OnOk result (AreRows rows.new) }
+{
+    let info = basis.classes.infos[class as usize];
     let Some(variable) = variable_of(info.op) else {
         return Ok(());
     };
-    let numbers = classes.numbers.as_slice();
-    let infos = classes.infos.as_slice();
-    let earlier = sums_below(
-        alloc,
-        numbers,
-        indexed,
-        &Earlier { indexed },
-        thread,
-        class,
-        infos.len(),
-    )?;
-    let known = sums_below(
-        alloc,
-        numbers,
-        indexed,
-        &Known { indexed, clocks },
-        thread,
-        class,
-        infos.len(),
-    )?;
-    let must = sums_below(
-        alloc,
-        numbers,
-        indexed,
-        &Forced {
-            indexed,
-            rows: forced,
-        },
-        thread,
-        class,
-        infos.len(),
-    )?;
-    let loose = Loose {
-        earlier: earlier.as_slice(),
-        known: known.as_slice(),
-        forced: must.as_slice(),
-    };
-    add_members(
-        rows,
-        guesses,
-        &loose,
-        infos,
-        &classes.lists,
-        conflicting(classes, conflicts, variable, info.op),
-        info,
-        thread,
-    )?;
+    fronts.sum_up(basis, thread, class);
+    add_loose(rows, guesses, fronts, basis, variable, info, thread)?;
     Ok(())
 }
 
@@ -122,45 +75,24 @@ fn add_flagged(
     alloc: Global,
     rows: &mut Rows,
     guesses: &mut Guesses,
-    indexed: &Indexed,
-    clocks: &Clocks,
-    forced: &SharedRows,
-    classes: &Classes,
-    conflicts: &Conflicts,
+    basis: Basis<'_>,
     thread: u32,
     flags: &[u32],
     class: u32,
 ) -> Result<(), OutOfMemory>
-    requires clocks { clocks.now ≡ indexed.now }
-    requires width { forced.now.width ≡ length indexed.now.threads }
-    requires len { len_of forced.now ≡ length indexed.now.events }
-    requires formed { IsWellFormed indexed.now }
-    requires cuts { AreCuts indexed.now.events forced.now }
-    requires numbers { length classes.now.numbers.items ≡ length indexed.now.events }
-    requires classes { All (λ c. c < length classes.now.infos.items) classes.now.numbers.items }
-    requires few { length classes.now.infos.items ≤ 1048576 }
-    requires members { AreMembers classes.now.infos.items classes.now.members.items }
-    requires conflicts { AreConflicts indexed.now.events (length indexed.now.threads) classes.now.numbers.items
-        classes.now.infos.items classes.now.members.items conflicts.now }
-    requires thread { thread < length indexed.now.threads }
-    requires class { class < length classes.now.infos.items }
-    requires flags { length flags.now ≡ length classes.now.infos.items }
+    requires basis { IsBasis basis }
+    requires thread { thread < length basis.indexed.now.threads }
+    requires class { class < length basis.classes.now.infos.items }
+    requires flags { length flags.now ≡ length basis.classes.now.infos.items }
     requires rows { AreRows rows.old }
-    requires room { (k : Part) (p q : ℕ) → p ≤ q → count_at k rows.old p q ≤ 2 ^ 42 }
-    ensures ok { OnOk result ((k : Part) (p q : ℕ) → p ≤ q → count_at k rows.new p q
-        + flagged_class indexed.now.events (keeps classes.now.lists.keys k) classes.now.numbers.items classes.now.infos.items thread
-        (lower_of indexed.now.events forced.now k) p q flags.now class
-        ≡ count_at k rows.old p q
-        + flagged_class indexed.now.events (keeps classes.now.lists.keys k) classes.now.numbers.items classes.now.infos.items thread
-        (upper_of indexed.now.events k) p q flags.now class) }
+    requires room { HasRoom 0 rows.old }
+    ensures ok { OnOk result (AreAdded basis.entry (flagged_of basis.entry thread flags.now class) rows.old rows.new) }
     ensures rows { OnOk result (AreRows rows.new) }
 {
     if flags[class as usize] != 1 {
         return Ok(());
     }
-    add_class(
-        alloc, rows, guesses, indexed, clocks, forced, classes, conflicts, thread, class,
-    )?;
+    add_class(alloc, rows, guesses, basis, thread, class)?;
     Ok(())
 }
 
@@ -169,58 +101,24 @@ pub(crate) fn add_classes(
     alloc: Global,
     rows: &mut Rows,
     guesses: &mut Guesses,
-    indexed: &Indexed,
-    clocks: &Clocks,
-    forced: &SharedRows,
-    classes: &Classes,
+    basis: Basis<'_>,
     limit: u32,
-    conflicts: &Conflicts,
     thread: u32,
     flags: &[u32],
 ) -> Result<(), RowsRefusal>
-    requires clocks { clocks.now ≡ indexed.now }
-    requires width { forced.now.width ≡ length indexed.now.threads }
-    requires len { len_of forced.now ≡ length indexed.now.events }
-    requires formed { IsWellFormed indexed.now }
-    requires cuts { AreCuts indexed.now.events forced.now }
-    requires numbers { length classes.now.numbers.items ≡ length indexed.now.events }
-    requires classes { All (λ c. c < length classes.now.infos.items) classes.now.numbers.items }
-    requires few { length classes.now.infos.items ≤ 1048576 }
-    requires members { AreMembers classes.now.infos.items classes.now.members.items }
-    requires conflicts { AreConflicts indexed.now.events (length indexed.now.threads) classes.now.numbers.items
-        classes.now.infos.items classes.now.members.items conflicts.now }
-    requires thread { thread < length indexed.now.threads }
-    requires flags { length flags.now ≡ length classes.now.infos.items }
+    requires basis { IsBasis basis }
+    requires thread { thread < length basis.indexed.now.threads }
+    requires flags { length flags.now ≡ length basis.classes.now.infos.items }
     requires rows { AreRows rows.old }
     requires kept { index_map_len rows.old ≤ limit }
-    requires room { (k : Part) (p q : ℕ) → p ≤ q
-        → count_at k rows.old p q + sum_by (λ e. length indexed.now.events) (events_of indexed.now.events thread) ≤ 2 ^ 42 }
-    ensures ok { OnOk result ((k : Part) (p q : ℕ) → p ≤ q → count_at k rows.new p q
-        + flagged_sum indexed.now.events (keeps classes.now.lists.keys k) classes.now.numbers.items classes.now.infos.items thread
-        (lower_of indexed.now.events forced.now k) p q flags.now (length classes.now.infos.items)
-        ≡ count_at k rows.old p q
-        + flagged_sum indexed.now.events (keeps classes.now.lists.keys k) classes.now.numbers.items classes.now.infos.items thread
-        (upper_of indexed.now.events k) p q flags.now (length classes.now.infos.items)) }
+    requires room { HasRoom (sum_by (λ e. length basis.indexed.now.events) (events_of basis.indexed.now.events thread)) rows.old }
+    ensures ok { OnOk result (AreAdded basis.entry (all_flagged basis.entry thread flags.now (length basis.entry.classes.now.infos.items)) rows.old rows.new) }
     ensures rows { OnOk result (AreRows rows.new) }
     ensures kept { OnOk result (index_map_len rows.new ≤ limit) }
-    ensures too_many { result ≡ Err RowsRefusal.TooMany → AreMore limit rows.new × ((k : Part) (p q : ℕ) → p ≤ q → count_at k rows.new p q
-        ≤ count_at k rows.old p q + thread_sum indexed.now.events (keeps classes.now.lists.keys k) classes.now.numbers.items
-        classes.now.infos.items (upper_of indexed.now.events k) p q thread) }
+    ensures too_many { result ≡ Err RowsRefusal.TooMany → AreMore limit rows.new × AreFew basis.entry (thread_of basis.entry thread) rows.old rows.new }
 {
     for class in 0..flags.len() {
-        add_flagged(
-            alloc,
-            rows,
-            guesses,
-            indexed,
-            clocks,
-            forced,
-            classes,
-            conflicts,
-            thread,
-            flags,
-            class as u32,
-        )?;
+        add_flagged(alloc, rows, guesses, basis, thread, flags, class as u32)?;
         if rows.len() > limit as usize {
             return Err(RowsRefusal::TooMany);
         }
@@ -229,61 +127,52 @@ pub(crate) fn add_classes(
 }
 
 /// Flags the classes by 1 whose events in the thread are so many that it takes fewer steps to count them together.
-pub(crate) fn heavies(
-    alloc: Global,
-    indexed: &Indexed,
-    classes: &Classes,
-    conflicts: &Conflicts,
-    thread: u32,
-) -> Result<Vec<u32>, OutOfMemory>
-    requires numbers { length classes.now.numbers.items ≡ length indexed.now.events }
-    requires classes { All (λ c. c < length classes.now.infos.items) classes.now.numbers.items }
-    requires members { AreMembers classes.now.infos.items classes.now.members.items }
-    requires conflicts { AreConflicts indexed.now.events (length indexed.now.threads) classes.now.numbers.items
-        classes.now.infos.items classes.now.members.items conflicts.now }
-    requires thread { thread < length indexed.now.threads }
-    ensures { IfOk result (λ flags. length flags.items ≡ length classes.now.infos.items) }
+pub(crate) fn heavies(alloc: Global, basis: Basis<'_>, thread: u32) -> Result<Vec<u32>, OutOfMemory>
+    requires basis { IsBasis basis }
+    requires thread { thread < length basis.indexed.now.threads }
+    ensures { IfOk result (λ flags. length flags.items ≡ length basis.entry.classes.now.infos.items) }
 {
-    let infos = classes.infos.as_slice();
-    let numbers = classes.numbers.as_slice();
-    let mut flags = vec![in alloc; 0u32; infos.len()]?;
-    for event in indexed.thread_events(thread) {
+    let mut flags = vec![in alloc; 0u32; basis.classes.infos.as_slice().len()]?;
+    flag(flags.as_mut_slice(), basis, thread);
+    Ok(flags)
+}
+
+// Flags each class, from a list of nothing but 0.
+fn flag(flags: &mut [u32], basis: Basis<'_>, thread: u32)
+    requires basis { IsBasis basis }
+    requires thread { thread < length basis.indexed.now.threads }
+    requires flags { length flags.old ≡ length basis.classes.now.infos.items }
+    ensures { length flags.new ≡ length flags.old }
+{
+    let infos = basis.classes.infos.as_slice();
+    let numbers = basis.classes.numbers.as_slice();
+    for event in basis.indexed.thread_events(thread) {
         let class = numbers[*event as usize] as usize;
         flags[class] = flags[class].saturating_add(1);
     }
     for class in 0..infos.len() {
         let count = flags[class];
         flags[class] = if count > 1 {
-            flag_of(indexed, classes, conflicts, infos[class].op, count, thread)
+            flag_of(basis, infos[class].op, count, thread)
         } else {
             0
         };
     }
-    Ok(flags)
 }
 
 // 1 where so many events that do this are worth it.
-fn flag_of(
-    indexed: &Indexed,
-    classes: &Classes,
-    conflicts: &Conflicts,
-    op: Op,
-    count: u32,
-    thread: u32,
-) -> u32
-    requires members { AreMembers classes.now.infos.items classes.now.members.items }
-    requires conflicts { AreConflicts indexed.now.events (length indexed.now.threads) classes.now.numbers.items
-        classes.now.infos.items classes.now.members.items conflicts.now }
-    requires op { (x : ℕ) → is_access x op ≡ true → x < length classes.now.members.items }
+fn flag_of(basis: Basis<'_>, op: Op, count: u32, thread: u32) -> u32
+    requires basis { IsBasis basis }
+    requires op { (x : ℕ) → is_access x op ≡ true → x < length basis.classes.now.members.items }
 {
     let Some(variable) = variable_of(op) else {
         return 0;
     };
     let steps = u64::from(count).saturating_mul(steps_of(
-        conflicting(classes, conflicts, variable, op),
+        conflicting(basis.classes, basis.conflicts, variable, op),
         thread,
     ));
-    u32::from(steps > u64::from(indexed.len()).saturating_mul(4))
+    u32::from(steps > u64::from(basis.indexed.len()).saturating_mul(4))
 }
 
 // How many classes are gone through that are not the thread's own.

@@ -2,15 +2,18 @@
 #![tactic(auto)]
 
 mod apart;
+mod basis;
 mod class;
 mod classes;
 mod counted;
 mod counting;
 mod cuts;
+mod fronts;
 mod guesses;
 mod heavy;
 mod holding;
 mod kinds;
+mod loose;
 mod owners;
 mod rows;
 mod runs;

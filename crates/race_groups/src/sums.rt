@@ -1,42 +1,38 @@
 //! For the events of one class of a thread: how many events of each class come below their cuts, for all of them together.
-ghost use Rattle.std.specs.Prelude.{◌≡◌, ℕ, ◌<◌, ◌≤◌, length, All, IfOk, slice_index};
+ghost use Rattle.std.specs.Prelude.{◌≡◌, ℕ, ◌<◌, ◌≤◌, length, All, slice_index};
 ghost use Rattle.rapid_text.specs.Recording.{IsWellFormed};
 ghost use Rattle.event_index.specs.Lookups.{events_of};
-ghost use Rattle.race_groups.specs.Counting.{AreSums, below_sum, class_count};
+ghost use Rattle.race_groups.specs.Counting.{AreSums, IsBlank, below_sum, class_count};
 ghost use Rattle.race_groups.specs.Cuts.{IsCut};
 
 use crate::counting::{Cut, Front};
 use crate::weighing::weigh_all;
 use event_index::Indexed;
-use rapid_text::OutOfMemory;
-use std::alloc::Global;
 
-/// The sums for the class of this number; there are `size` classes.
-pub(crate) fn sums_below<C: Cut>(
-    alloc: Global,
+/// Sums up for the class of this number, in a front before which nothing comes.
+pub(crate) fn sum_below<C: Cut>(
+    front: &mut Front,
     classes: &[u32],
     indexed: &Indexed,
     cut: &C,
     own: u32,
     class: u32,
-    size: usize,
-) -> Result<Vec<u64>, OutOfMemory>
+)
     requires len { length classes.now ≡ length indexed.now.events }
-    requires classes { All (λ c. c < size) classes.now }
+    requires blank { IsBlank (length indexed.now.threads) (length front.old.counts.items) front.old }
+    requires classes { All (λ c. c < length front.old.counts.items) classes.now }
     requires own { own < length indexed.now.threads }
     requires can { (b t : ℕ) → b < length indexed.now.events → t < length indexed.now.threads → C.can_end cut.now b t }
     requires cut { IsCut indexed.now.events (C.end_of cut.now) }
-    ensures len { IfOk result (λ sums. length sums.items ≡ size) }
-    ensures counted { IfOk result (λ sums. (c : ℕ) → c < size → slice_index sums.items c
-        ≡ below_sum indexed.now.events (length indexed.now.threads) classes.now own (C.end_of cut.now) class c (events_of indexed.now.events own)) }
+    ensures len { length front.new.counts.items ≡ length front.old.counts.items }
+    ensures counted { (c : ℕ) → c < length front.new.counts.items → slice_index front.new.counts.items c
+        ≡ below_sum indexed.now.events (length indexed.now.threads) classes.now own (C.end_of cut.now) class c (events_of indexed.now.events own) }
 {
-    let threads = indexed.threads() as usize;
-    let mut front = Front::new(alloc, threads, size)?;
+    let _len = indexed.len();
     let left = count_class(classes, indexed.thread_events(own), class);
     let sums = front.counts.as_mut_slice();
     let fronts = front.fronts.as_mut_slice();
     sum_up(sums, fronts, classes, indexed, cut, own, class, left);
-    Ok(front.counts)
 }
 
 // How many of the events are of the class.

@@ -2,14 +2,13 @@
 //! that are of one thread. No pair is looked at, and each is counted twice, once for each of its two events.
 ghost use Rattle.std.specs.Prelude.{◌≡◌, ℕ, ◌+◌, ◌==◌, ◌^◌, ◌<◌, ◌≤◌, cond, length, All, IfOk, OnOk, Err, slice_index};
 ghost use Rattle.indexmap.specs.IndexMap.{index_map_len};
-ghost use Rattle.rapid_text.specs.Recording.{IsWellFormed};
-ghost use Rattle.race_groups.specs.Classes.{AreMembers};
-ghost use Rattle.race_groups.specs.Counting.{threads_sum, total_ends};
+ghost use Rattle.race_groups.specs.Basis.{HasRoom, IsBasis, totals_of};
+ghost use Rattle.race_groups.specs.Counting.{total_ends};
 ghost use Rattle.race_groups.specs.Counts.{keeps};
-ghost use Rattle.race_groups.specs.Owners.{AreConflicts};
 ghost use Rattle.race_groups.specs.Rows.{Part, count_at, AreMore, AreRows};
-ghost use Rattle.race_groups.specs.Totals.{AreSpread, total_count, total_sum, weighed_sum};
+ghost use Rattle.race_groups.specs.Totals.{AreSpread, AreTotals, AreWeights, total_sum, weighed_sum};
 
+use crate::basis::Basis;
 use crate::classes::{Classes, variable_of};
 use crate::counting::count;
 use crate::guesses::Guesses;
@@ -18,7 +17,7 @@ use crate::rows::{Rows, RowsRefusal};
 use crate::shares::Total;
 use crate::spread::spread_of;
 use crate::walk::add_all;
-use crate::writers::{Conflicts, conflicting};
+use crate::writers::conflicting;
 use event_index::Indexed;
 use rapid_text::OutOfMemory;
 use std::alloc::Global;
@@ -27,9 +26,8 @@ use std::alloc::Global;
 fn totals_of(alloc: Global, indexed: &Indexed, classes: &Classes) -> Result<Vec<u64>, OutOfMemory>
     requires numbers { length classes.now.numbers.items ≡ length indexed.now.events }
     requires classes { All (λ c. c < length classes.now.infos.items) classes.now.numbers.items }
-    ensures len { IfOk result (λ totals. length totals.items ≡ length classes.now.infos.items) }
-    ensures counted { IfOk result (λ totals. (c : ℕ) → c < length classes.now.infos.items
-        → slice_index totals.items c ≡ total_count indexed.now.events (length indexed.now.threads) classes.now.numbers.items c) }
+    ensures { IfOk result (λ totals. AreTotals indexed.now.events (length indexed.now.threads) classes.now.numbers.items
+        (length classes.now.infos.items) totals.items) }
 {
     let _len = indexed.len();
     let numbers = classes.numbers.as_slice();
@@ -62,41 +60,71 @@ fn add_total(
     alloc: Global,
     rows: &mut Rows,
     guesses: &mut Guesses,
-    indexed: &Indexed,
-    classes: &Classes,
-    conflicts: &Conflicts,
+    basis: Basis<'_>,
     totals: &[u64],
     spread: &[Vec<(u32, u32)>],
     class: u32,
 ) -> Result<(), OutOfMemory>
-    requires formed { IsWellFormed indexed.now }
-    requires numbers { length classes.now.numbers.items ≡ length indexed.now.events }
-    requires classes { All (λ c. c < length classes.now.infos.items) classes.now.numbers.items }
-    requires few { length classes.now.infos.items ≤ 1048576 }
-    requires members { AreMembers classes.now.infos.items classes.now.members.items }
-    requires conflicts { AreConflicts indexed.now.events (length indexed.now.threads) classes.now.numbers.items
-        classes.now.infos.items classes.now.members.items conflicts.now }
-    requires totals_len { length totals.now ≡ length classes.now.infos.items }
-    requires totals { (c : ℕ) → c < length classes.now.infos.items
-        → slice_index totals.now c ≡ total_count indexed.now.events (length indexed.now.threads) classes.now.numbers.items c }
-    requires spread { AreSpread indexed.now.events (length indexed.now.threads) classes.now.numbers.items (length classes.now.infos.items) spread.now }
-    requires class { class < length classes.now.infos.items }
+    requires basis { IsBasis basis }
+    requires totals { AreTotals basis.indexed.now.events (length basis.indexed.now.threads) basis.classes.now.numbers.items
+        (length basis.classes.now.infos.items) totals.now }
+    requires spread { AreSpread basis.indexed.now.events (length basis.indexed.now.threads) basis.classes.now.numbers.items
+        (length basis.classes.now.infos.items) spread.now }
+    requires class { class < length basis.classes.now.infos.items }
     requires rows { AreRows rows.old }
-    requires room { (k : Part) (p q : ℕ) → p ≤ q → count_at k rows.old p q ≤ 2 ^ 42 }
+    requires room { HasRoom 0 rows.old }
     ensures ok { OnOk result ((k : Part) (p q : ℕ) → p ≤ q → count_at k rows.new p q ≡ count_at k rows.old p q
-        + total_sum indexed.now.events (keeps classes.now.lists.keys k) classes.now.numbers.items classes.now.infos.items
-        (length indexed.now.threads) (total_ends indexed.now.events k) p q class) }
+        + total_sum basis.entry.indexed.now.events (keeps basis.entry.classes.now.lists.keys k) basis.entry.classes.now.numbers.items
+        basis.entry.classes.now.infos.items
+        (length basis.entry.indexed.now.threads) (total_ends basis.entry.indexed.now.events k) p q class) }
     ensures rows { OnOk result (AreRows rows.new) }
 {
-    let info = classes.infos[class as usize];
+    let entries = spread[class as usize].as_slice();
+    let weights = weights_of(alloc, basis.indexed.threads(), entries)?;
+    match add_weighed(
+        rows,
+        guesses,
+        basis,
+        totals,
+        spread,
+        weights.as_slice(),
+        class,
+    ) {
+        Ok(()) => Ok(()),
+        Err(refused) => Err(refused),
+    }
+}
+
+// The same, with how many events of the class each thread has.
+fn add_weighed(
+    rows: &mut Rows,
+    guesses: &mut Guesses,
+    basis: Basis<'_>,
+    totals: &[u64],
+    spread: &[Vec<(u32, u32)>],
+    weights: &[u64],
+    class: u32,
+) -> Result<(), OutOfMemory>
+    requires basis { IsBasis basis }
+    requires totals { AreTotals basis.indexed.now.events (length basis.indexed.now.threads) basis.classes.now.numbers.items
+        (length basis.classes.now.infos.items) totals.now }
+    requires spread { AreSpread basis.indexed.now.events (length basis.indexed.now.threads) basis.classes.now.numbers.items
+        (length basis.classes.now.infos.items) spread.now }
+    requires weights { AreWeights basis.indexed.now.events (length basis.indexed.now.threads) basis.classes.now.numbers.items class weights.now }
+    requires class { class < length basis.classes.now.infos.items }
+    requires rows { AreRows rows.old }
+    requires room { HasRoom 0 rows.old }
+    ensures ok { OnOk result ((k : Part) (p q : ℕ) → p ≤ q → count_at k rows.new p q ≡ count_at k rows.old p q
+        + total_sum basis.entry.indexed.now.events (keeps basis.entry.classes.now.lists.keys k) basis.entry.classes.now.numbers.items
+        basis.entry.classes.now.infos.items
+        (length basis.entry.indexed.now.threads) (total_ends basis.entry.indexed.now.events k) p q class) }
+    ensures rows { OnOk result (AreRows rows.new) }
+{
+    let info = basis.classes.infos[class as usize];
     let Some(variable) = variable_of(info.op) else {
         return Ok(());
     };
-    let infos = classes.infos.as_slice();
-    let threads = indexed.threads();
-    let entries = spread[class as usize].as_slice();
-    let made = weights_of(alloc, threads, entries)?;
-    let weights = made.as_slice();
+    let infos = basis.classes.infos.as_slice();
     let times = totals[class as usize];
     let total = Total {
         totals,
@@ -105,18 +133,18 @@ fn add_total(
         times,
         class,
     };
-    let owner = owner_of(conflicts.owners.as_slice(), class);
-    let walk = conflicting(classes, conflicts, variable, info.op);
+    let owner = owner_of(basis.conflicts.owners.as_slice(), class);
+    let walk = conflicting(basis.classes, basis.conflicts, variable, info.op);
     add_all(
         rows,
         guesses,
         &total,
         infos,
-        &classes.lists,
+        &basis.classes.lists,
         walk,
         info,
         owner,
-        threads,
+        basis.indexed.threads(),
     )?;
     Ok(())
 }
@@ -126,46 +154,88 @@ pub(crate) fn add_totals(
     alloc: Global,
     rows: &mut Rows,
     guesses: &mut Guesses,
-    indexed: &Indexed,
-    classes: &Classes,
+    basis: Basis<'_>,
     limit: u32,
-    conflicts: &Conflicts,
 ) -> Result<(), RowsRefusal>
-    requires numbers { length classes.now.numbers.items ≡ length indexed.now.events }
-    requires classes { All (λ c. c < length classes.now.infos.items) classes.now.numbers.items }
-    requires few { length classes.now.infos.items ≤ 1048576 }
-    requires members { AreMembers classes.now.infos.items classes.now.members.items }
-    requires conflicts { AreConflicts indexed.now.events (length indexed.now.threads) classes.now.numbers.items
-        classes.now.infos.items classes.now.members.items conflicts.now }
+    requires basis { IsBasis basis }
     requires rows { AreRows rows.old }
     requires kept { index_map_len rows.old ≤ limit }
     requires empty { (k : Part) (p q : ℕ) → p ≤ q → count_at k rows.old p q ≡ 0 }
-    ensures ok { OnOk result ((k : Part) (p q : ℕ) → p ≤ q → count_at k rows.new p q
-        ≡ threads_sum indexed.now.events (keeps classes.now.lists.keys k) classes.now.numbers.items classes.now.infos.items
-        (total_ends indexed.now.events k) p q (length indexed.now.threads)) }
+    ensures ok { OnOk result ((k : Part) (p q : ℕ) → p ≤ q → count_at k rows.new p q ≡ totals_of basis.entry k p q) }
     ensures rows { OnOk result (AreRows rows.new) }
     ensures kept { OnOk result (index_map_len rows.new ≤ limit) }
-    ensures too_many { result ≡ Err RowsRefusal.TooMany → AreMore limit rows.new × ((k : Part) (p q : ℕ) → p ≤ q → count_at k rows.new p q
-        ≤ threads_sum indexed.now.events (keeps classes.now.lists.keys k) classes.now.numbers.items classes.now.infos.items
-        (total_ends indexed.now.events k) p q (length indexed.now.threads)) }
+    ensures too_many { result ≡ Err RowsRefusal.TooMany → AreMore limit rows.new
+        × ((k : Part) (p q : ℕ) → p ≤ q → count_at k rows.new p q ≤ totals_of basis.entry k p q) }
 {
-    let _len = indexed.len();
-    let made = totals_of(alloc, indexed, classes)?;
-    let totals = made.as_slice();
-    let spread = spread_of(alloc, indexed, classes)?;
-    let entries = spread.as_slice();
+    let made = totals_of(alloc, basis.indexed, basis.classes)?;
+    match add_spread(alloc, rows, guesses, basis, limit, made.as_slice()) {
+        Ok(()) => Ok(()),
+        Err(refusal) => Err(refusal),
+    }
+}
+
+// The same, with how many events are of each class.
+fn add_spread(
+    alloc: Global,
+    rows: &mut Rows,
+    guesses: &mut Guesses,
+    basis: Basis<'_>,
+    limit: u32,
+    totals: &[u64],
+) -> Result<(), RowsRefusal>
+    requires basis { IsBasis basis }
+    requires totals { AreTotals basis.indexed.now.events (length basis.indexed.now.threads) basis.classes.now.numbers.items
+        (length basis.classes.now.infos.items) totals.now }
+    requires rows { AreRows rows.old }
+    requires kept { index_map_len rows.old ≤ limit }
+    requires empty { (k : Part) (p q : ℕ) → p ≤ q → count_at k rows.old p q ≡ 0 }
+    ensures ok { OnOk result ((k : Part) (p q : ℕ) → p ≤ q → count_at k rows.new p q ≡ totals_of basis.entry k p q) }
+    ensures rows { OnOk result (AreRows rows.new) }
+    ensures kept { OnOk result (index_map_len rows.new ≤ limit) }
+    ensures too_many { result ≡ Err RowsRefusal.TooMany → AreMore limit rows.new
+        × ((k : Part) (p q : ℕ) → p ≤ q → count_at k rows.new p q ≤ totals_of basis.entry k p q) }
+{
+    let spread = spread_of(alloc, basis.indexed, basis.classes)?;
+    match add_each(
+        alloc,
+        rows,
+        guesses,
+        basis,
+        limit,
+        totals,
+        spread.as_slice(),
+    ) {
+        Ok(()) => Ok(()),
+        Err(refusal) => Err(refusal),
+    }
+}
+
+// The same, with the threads that they are in: class by class.
+fn add_each(
+    alloc: Global,
+    rows: &mut Rows,
+    guesses: &mut Guesses,
+    basis: Basis<'_>,
+    limit: u32,
+    totals: &[u64],
+    spread: &[Vec<(u32, u32)>],
+) -> Result<(), RowsRefusal>
+    requires basis { IsBasis basis }
+    requires totals { AreTotals basis.indexed.now.events (length basis.indexed.now.threads) basis.classes.now.numbers.items
+        (length basis.classes.now.infos.items) totals.now }
+    requires spread { AreSpread basis.indexed.now.events (length basis.indexed.now.threads) basis.classes.now.numbers.items
+        (length basis.classes.now.infos.items) spread.now }
+    requires rows { AreRows rows.old }
+    requires kept { index_map_len rows.old ≤ limit }
+    requires empty { (k : Part) (p q : ℕ) → p ≤ q → count_at k rows.old p q ≡ 0 }
+    ensures ok { OnOk result ((k : Part) (p q : ℕ) → p ≤ q → count_at k rows.new p q ≡ totals_of basis.entry k p q) }
+    ensures rows { OnOk result (AreRows rows.new) }
+    ensures kept { OnOk result (index_map_len rows.new ≤ limit) }
+    ensures too_many { result ≡ Err RowsRefusal.TooMany → AreMore limit rows.new
+        × ((k : Part) (p q : ℕ) → p ≤ q → count_at k rows.new p q ≤ totals_of basis.entry k p q) }
+{
     for class in 0..totals.len() {
-        add_total(
-            alloc,
-            rows,
-            guesses,
-            indexed,
-            classes,
-            conflicts,
-            totals,
-            entries,
-            class as u32,
-        )?;
+        add_total(alloc, rows, guesses, basis, totals, spread, class as u32)?;
         if rows.len() > limit as usize {
             return Err(RowsRefusal::TooMany);
         }

@@ -26,7 +26,8 @@ fn sums_of(lists: &IndexSet<Vec<u32>>, earlier: Class, later: Class, share: Shar
     share.sums(are_sharing(lists, earlier.held, later.held))
 }
 
-// Adds the pairs of so many events of one class with one event of another.
+// Adds the pairs of so many events of one class with one event of another. Few classes come to this, so the walk over all of them stays short.
+#[inline(never)]
 fn add_pairs(
     rows: &mut Rows,
     guesses: &mut Guesses,
@@ -51,6 +52,7 @@ fn add_pairs(
 }
 
 // The same of the class of this number. It is looked at only where there is something to add.
+#[inline(always)]
 fn add_share(
     rows: &mut Rows,
     guesses: &mut Guesses,

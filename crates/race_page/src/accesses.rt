@@ -2,14 +2,13 @@
 ghost use Rattle.std.specs.Prelude.{◌≡◌, ◌<◌, length};
 
 use crate::own::Tag;
-use crate::piece::Piece;
-use crate::words::{element, isolated};
+use crate::piece::{Item, Piece};
 use event_index::Indexed;
 use must_order::Must;
 use race_triage::append_event;
 use rapid_text::{Op, OutOfMemory};
 
-/// Writes a table of the two.
+/// Writes a table of the two, under its heading.
 pub(crate) fn write_accesses(
     piece: &mut Piece,
     indexed: &Indexed,
@@ -19,24 +18,21 @@ pub(crate) fn write_accesses(
 ) -> Result<(), OutOfMemory>
     requires { must.now ≡ indexed.now }
 {
-    piece.begin(Tag::Table)?;
-    write_heads(piece)?;
-    piece.begin(Tag::TableBody)?;
+    piece.write(&[
+        Item::Element(Tag::PartHeading, b"The two accesses"),
+        Item::Begin(Tag::Table),
+        Item::Begin(Tag::TableHead),
+        Item::Begin(Tag::Line),
+        Item::Element(Tag::ColumnHead, b"Event"),
+        Item::Element(Tag::ColumnHead, b"Line of the trace"),
+        Item::Element(Tag::ColumnHead, b"Locks held before it"),
+        Item::End(Tag::Line),
+        Item::End(Tag::TableHead),
+        Item::Begin(Tag::TableBody),
+    ])?;
     write_access(piece, indexed, must, first)?;
     write_access(piece, indexed, must, second)?;
-    piece.end(Tag::TableBody)?;
-    piece.end(Tag::Table)
-}
-
-/// Writes the heads of the columns.
-fn write_heads(piece: &mut Piece) -> Result<(), OutOfMemory> {
-    piece.begin(Tag::TableHead)?;
-    piece.begin(Tag::Line)?;
-    element(piece, Tag::ColumnHead, b"Event")?;
-    element(piece, Tag::ColumnHead, b"Line of the trace")?;
-    element(piece, Tag::ColumnHead, b"Locks held before it")?;
-    piece.end(Tag::Line)?;
-    piece.end(Tag::TableHead)
+    piece.write(&[Item::End(Tag::TableBody), Item::End(Tag::Table)])
 }
 
 /// Writes the line of an access, where the trace has it.
@@ -51,20 +47,36 @@ fn write_access(
     if event >= indexed.len() {
         return Ok(());
     }
-    let mut line = Vec::new(piece.allocator());
-    append_event(&mut line, indexed, event)?;
-    piece.begin(Tag::Line)?;
-    piece.begin(Tag::LineHead)?;
-    piece.number(u64::from(event))?;
-    piece.end(Tag::LineHead)?;
-    piece.begin(Tag::Cell)?;
-    element(piece, Tag::Code, line.as_slice())?;
-    piece.end(Tag::Cell)?;
-    write_locks(piece, indexed, must, event)?;
-    piece.end(Tag::Line)
+    let mut text = Vec::new(piece.allocator());
+    write_line(piece, &mut text, indexed, must, event)
 }
 
-/// Writes a cell with the locks that the event's thread holds before it.
+/// Writes the line of an access. Its words are put into a text that is empty.
+fn write_line(
+    piece: &mut Piece,
+    text: &mut Vec<u8>,
+    indexed: &Indexed,
+    must: &Must,
+    event: u32,
+) -> Result<(), OutOfMemory>
+    requires must { must.now ≡ indexed.now }
+    requires event { event < length indexed.now.events }
+{
+    append_event(text, indexed, event)?;
+    piece.write(&[
+        Item::Begin(Tag::Line),
+        Item::Begin(Tag::LineHead),
+        Item::Number(u64::from(event)),
+        Item::End(Tag::LineHead),
+        Item::Begin(Tag::Cell),
+        Item::Element(Tag::Code, text.as_slice()),
+        Item::End(Tag::Cell),
+        Item::Begin(Tag::Cell),
+    ])?;
+    write_locks(piece, indexed, must, event)
+}
+
+/// Writes the locks that the event's thread holds before it, and ends their cell and its line.
 fn write_locks(
     piece: &mut Piece,
     indexed: &Indexed,
@@ -74,29 +86,42 @@ fn write_locks(
     requires must { must.now ≡ indexed.now }
     requires event { event < length indexed.now.events }
 {
-    let locks = must.locks_held(piece.allocator(), indexed, event)?;
-    piece.begin(Tag::Cell)?;
-    let mut is_first = true;
-    for lock in locks.iter() {
-        if !is_first {
-            piece.text(b", ")?;
-        }
-        is_first = false;
-        write_lock(piece, indexed, *lock)?;
+    match must.locks_held(piece.allocator(), indexed, event) {
+        Ok(locks) => write_held(piece, indexed, locks.as_slice()),
+        Err(refused) => Err(refused),
     }
-    if is_first {
-        piece.text(b"none")?;
-    }
-    piece.end(Tag::Cell)
 }
 
-/// Writes the name of the lock, where the trace has it.
-fn write_lock(piece: &mut Piece, indexed: &Indexed, lock: u32) -> Result<(), OutOfMemory> {
-    let raw = indexed.trace().raw();
-    if lock < raw.locks() {
-        isolated(piece, raw.lock_name(lock))?;
+/// Writes the names of these locks, and ends their cell and its line.
+fn write_held(piece: &mut Piece, indexed: &Indexed, locks: &[u32]) -> Result<(), OutOfMemory> {
+    let mut between: &[u8] = b"";
+    for lock in locks {
+        write_lock(piece, indexed, between, *lock)?;
+        between = b", ";
     }
-    Ok(())
+    let instead: &[u8] = if locks.is_empty() { b"none" } else { b"" };
+    piece.write(&[
+        Item::Text(instead),
+        Item::End(Tag::Cell),
+        Item::End(Tag::Line),
+    ])
+}
+
+/// Writes the name of the lock, where the trace has it, behind these words.
+fn write_lock<'a>(
+    piece: &mut Piece,
+    indexed: &'a Indexed,
+    between: &'a [u8],
+    lock: u32,
+) -> Result<(), OutOfMemory> {
+    let raw = indexed.trace().raw();
+    if lock >= raw.locks() {
+        return piece.write(&[Item::Text(between)]);
+    }
+    piece.write(&[
+        Item::Text(between),
+        Item::Element(Tag::Isolated, raw.lock_name(lock)),
+    ])
 }
 
 /// Writes where the access is and what it does, as the heading of a row tells it.
@@ -105,12 +130,14 @@ pub(crate) fn write_place(
     indexed: &Indexed,
     event: u32,
 ) -> Result<(), OutOfMemory> {
-    if event < indexed.len() {
-        let raw = indexed.trace().raw();
-        isolated(piece, raw.location(event))?;
-        piece.text(access_words(raw.event(event).op))?;
+    if event >= indexed.len() {
+        return Ok(());
     }
-    Ok(())
+    let raw = indexed.trace().raw();
+    piece.write(&[
+        Item::Element(Tag::Isolated, raw.location(event)),
+        Item::Text(access_words(raw.event(event).op)),
+    ])
 }
 
 /// What an access does.

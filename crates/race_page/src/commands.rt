@@ -1,84 +1,86 @@
 //! The commands with which a reader of the page goes on.
 use crate::own::{Part, Tag};
-use crate::piece::Piece;
+use crate::piece::{Item, Piece};
 use crate::shown::{Shown, Sort};
-use crate::words::element;
 use rapid_text::OutOfMemory;
 use std::alloc::Global;
 
 /// Writes the commands for a row.
 pub(crate) fn write_commands(
     piece: &mut Piece,
-    name: &[u8],
+    word: &[u8],
     shown: Shown,
 ) -> Result<(), OutOfMemory> {
-    element(piece, Tag::PartHeading, b"To go on")?;
-    let word = shell_word(piece.allocator(), name)?;
-    piece.begin(Tag::Lines)?;
-    write_pair_command(piece, b"racebench explain ", &word, shown, b" --all")?;
-    if shown.sort == Sort::Race {
-        write_pair_command(
-            piece,
-            b"racebench witness ",
-            &word,
-            shown,
-            b" --script > script.txt",
-        )?;
-        write_command(piece, b"racebench replay ", &word, b" script.txt")?;
-        write_command(
-            piece,
-            b"racebench session ",
-            &word,
-            b" session.log < script.txt",
-        )?;
+    piece.write(&[
+        Item::Element(Tag::PartHeading, b"To go on"),
+        Item::Begin(Tag::Lines),
+        Item::Text(b"racebench explain "),
+        Item::Element(Tag::Isolated, word),
+        Item::Text(b" "),
+        Item::Number(u64::from(shown.first)),
+        Item::Text(b" "),
+        Item::Number(u64::from(shown.second)),
+        Item::Text(b" --all"),
+        Item::Part(Part::LineEnd),
+    ])?;
+    match shown.sort {
+        Sort::Race => write_race_commands(piece, word, shown)?,
+        Sort::Undecided => piece.write(&[
+            Item::Text(b"racebench triage "),
+            Item::Element(Tag::Isolated, word),
+            Item::Text(b" --tries 4096"),
+            Item::Part(Part::LineEnd),
+        ])?,
+        Sort::Apart => {}
     }
-    if shown.sort == Sort::Undecided {
-        write_command(piece, b"racebench triage ", &word, b" --tries 4096")?;
-    }
-    piece.end(Tag::Lines)
+    piece.write(&[Item::End(Tag::Lines)])
 }
 
-/// Writes a command on the row's pair.
-fn write_pair_command(
-    piece: &mut Piece,
-    words: &[u8],
-    name: &[u8],
-    shown: Shown,
-    behind: &[u8],
-) -> Result<(), OutOfMemory> {
-    piece.text(words)?;
-    element(piece, Tag::Isolated, name)?;
-    piece.text(b" ")?;
-    piece.number(u64::from(shown.first))?;
-    piece.text(b" ")?;
-    piece.number(u64::from(shown.second))?;
-    piece.text(behind)?;
-    piece.part(Part::LineEnd)
-}
-
-/// Writes a command on the trace.
-pub(crate) fn write_command(
-    piece: &mut Piece,
-    words: &[u8],
-    name: &[u8],
-    behind: &[u8],
-) -> Result<(), OutOfMemory> {
-    piece.text(words)?;
-    element(piece, Tag::Isolated, name)?;
-    piece.text(behind)?;
-    piece.part(Part::LineEnd)
+/// Writes the commands with which a race is seen in a session.
+fn write_race_commands(piece: &mut Piece, word: &[u8], shown: Shown) -> Result<(), OutOfMemory> {
+    piece.write(&[
+        Item::Text(b"racebench witness "),
+        Item::Element(Tag::Isolated, word),
+        Item::Text(b" "),
+        Item::Number(u64::from(shown.first)),
+        Item::Text(b" "),
+        Item::Number(u64::from(shown.second)),
+        Item::Text(b" --script > script.txt"),
+        Item::Part(Part::LineEnd),
+        Item::Text(b"racebench replay "),
+        Item::Element(Tag::Isolated, word),
+        Item::Text(b" script.txt"),
+        Item::Part(Part::LineEnd),
+        Item::Text(b"racebench session "),
+        Item::Element(Tag::Isolated, word),
+        Item::Text(b" session.log < script.txt"),
+        Item::Part(Part::LineEnd),
+    ])
 }
 
 /// A name as one word for a shell, which neither ends it nor reads more into it; one that begins with a dash is no option.
 pub(crate) fn shell_word(alloc: Global, name: &[u8]) -> Result<Vec<u8>, OutOfMemory> {
     let mut word = Vec::new(alloc);
+    match append_word(&mut word, name) {
+        Ok(()) => Ok(word),
+        Err(refused) => Err(refused),
+    }
+}
+
+/// Appends the word.
+fn append_word(word: &mut Vec<u8>, name: &[u8]) -> Result<(), OutOfMemory> {
     if name.first() == Some(&b'-') {
         word.extend_from_slice(b"./")?;
     }
     if !name.is_empty() && name.iter().all(|byte| is_plain(*byte)) {
         word.extend_from_slice(name)?;
-        return Ok(word);
+        return Ok(());
     }
+    append_quoted(word, name)
+}
+
+/// Appends a name between quotes, in which none stands.
+fn append_quoted(word: &mut Vec<u8>, name: &[u8]) -> Result<(), OutOfMemory> {
     word.push(b'\'')?;
     for byte in name {
         if *byte == b'\'' {
@@ -88,7 +90,7 @@ pub(crate) fn shell_word(alloc: Global, name: &[u8]) -> Result<Vec<u8>, OutOfMem
         }
     }
     word.push(b'\'')?;
-    Ok(word)
+    Ok(())
 }
 
 /// Whether the byte means nothing to a shell.

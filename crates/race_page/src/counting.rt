@@ -1,7 +1,6 @@
 //! The table of the eleven counts, which are those of the whole trace.
 use crate::own::Tag;
-use crate::piece::Piece;
-use crate::words::element;
+use crate::piece::{Item, Piece};
 use event_index::Indexed;
 use race_triage::{Totals, Verdicts};
 use rapid_text::OutOfMemory;
@@ -12,53 +11,55 @@ pub(crate) fn write_counts(
     indexed: &Indexed,
     verdicts: &Verdicts,
 ) -> Result<(), OutOfMemory> {
-    piece.begin(Tag::Section)?;
-    element(piece, Tag::SectionHeading, b"Counts")?;
-    piece.begin(Tag::Table)?;
-    write_heads(piece)?;
-    piece.begin(Tag::TableBody)?;
+    piece.write(&[
+        Item::Begin(Tag::Section),
+        Item::Element(Tag::SectionHeading, b"Counts"),
+        Item::Begin(Tag::Table),
+        Item::Begin(Tag::TableHead),
+        Item::Begin(Tag::Line),
+        Item::Element(Tag::ColumnHead, b"What"),
+        Item::Element(Tag::ColumnHead, b"How many"),
+        Item::End(Tag::Line),
+        Item::End(Tag::TableHead),
+        Item::Begin(Tag::TableBody),
+    ])?;
     write_totals(piece, &verdicts.totals(indexed))?;
-    piece.end(Tag::TableBody)?;
-    piece.end(Tag::Table)?;
-    piece.end(Tag::Section)
-}
-
-/// Writes the heads of the columns.
-fn write_heads(piece: &mut Piece) -> Result<(), OutOfMemory> {
-    piece.begin(Tag::TableHead)?;
-    piece.begin(Tag::Line)?;
-    element(piece, Tag::ColumnHead, b"What")?;
-    element(piece, Tag::ColumnHead, b"How many")?;
-    piece.end(Tag::Line)?;
-    piece.end(Tag::TableHead)
+    piece.write(&[
+        Item::End(Tag::TableBody),
+        Item::End(Tag::Table),
+        Item::End(Tag::Section),
+    ])
 }
 
 /// Writes a line for each count.
 fn write_totals(piece: &mut Piece, totals: &Totals) -> Result<(), OutOfMemory> {
-    write_pairs(piece, totals)?;
-    write_count(piece, b"places", totals.places)?;
-    write_count(piece, b"races", totals.races)?;
-    write_count(piece, b"undecided", totals.undecided)?;
-    write_count(piece, b"apart", totals.apart)
-}
-
-/// Writes a line for each count of events and of their pairs.
-fn write_pairs(piece: &mut Piece, totals: &Totals) -> Result<(), OutOfMemory> {
-    write_count(piece, b"events", totals.events)?;
-    write_count(piece, b"threads", totals.threads)?;
-    write_count(piece, b"pairs", totals.pairs)?;
-    write_count(piece, b"candidates", totals.candidates)?;
-    write_count(piece, b"open", totals.open_pairs)?;
-    write_count(piece, b"guarded", totals.guarded)?;
-    write_count(piece, b"forced", totals.forced)
+    let counts: [(&[u8], u64); 11] = [
+        (b"events", totals.events),
+        (b"threads", totals.threads),
+        (b"pairs", totals.pairs),
+        (b"candidates", totals.candidates),
+        (b"open", totals.open_pairs),
+        (b"guarded", totals.guarded),
+        (b"forced", totals.forced),
+        (b"places", totals.places),
+        (b"races", totals.races),
+        (b"undecided", totals.undecided),
+        (b"apart", totals.apart),
+    ];
+    for (word, number) in counts {
+        write_count(piece, word, number)?;
+    }
+    Ok(())
 }
 
 /// Writes a line of the table.
 fn write_count(piece: &mut Piece, word: &[u8], number: u64) -> Result<(), OutOfMemory> {
-    piece.begin(Tag::Line)?;
-    element(piece, Tag::LineHead, word)?;
-    piece.begin(Tag::NumberCell)?;
-    piece.number(number)?;
-    piece.end(Tag::NumberCell)?;
-    piece.end(Tag::Line)
+    piece.write(&[
+        Item::Begin(Tag::Line),
+        Item::Element(Tag::LineHead, word),
+        Item::Begin(Tag::NumberCell),
+        Item::Number(number),
+        Item::End(Tag::NumberCell),
+        Item::End(Tag::Line),
+    ])
 }

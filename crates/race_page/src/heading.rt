@@ -1,7 +1,6 @@
 //! What stands over the rows: the trace's name, and what the verdicts mean.
 use crate::own::{Part, Tag};
-use crate::piece::Piece;
-use crate::words::{element, isolated};
+use crate::piece::{Item, Piece};
 use rapid_text::OutOfMemory;
 
 const PLACES: &[u8] =
@@ -16,26 +15,23 @@ next, and of two events that it tells to be apart no correct reordering shows bo
 const LIMIT: &[u8] =
     b"Apart is said of this trace alone: a read keeps the write that it saw, so places that are apart here may race in another run.";
 
-/// Writes the head of the page and its heading.
+/// Writes the head of the page, its heading, what the verdicts mean, and what is proved of them.
 pub(crate) fn write_heading(piece: &mut Piece, name: &[u8]) -> Result<(), OutOfMemory> {
-    piece.part(Part::Top)?;
-    piece.begin(Tag::Title)?;
-    piece.text(b"Races of ")?;
-    piece.text(name)?;
-    piece.end(Tag::Title)?;
-    piece.part(Part::Body)?;
-    piece.begin(Tag::Header)?;
-    piece.begin(Tag::PageHeading)?;
-    piece.text(b"Races of ")?;
-    isolated(piece, name)?;
-    piece.end(Tag::PageHeading)?;
-    write_meaning(piece)?;
-    piece.end(Tag::Header)
-}
-
-/// Writes what the verdicts mean, and what is proved of them.
-fn write_meaning(piece: &mut Piece) -> Result<(), OutOfMemory> {
-    element(piece, Tag::Paragraph, PLACES)?;
-    element(piece, Tag::Paragraph, PROVED)?;
-    element(piece, Tag::Paragraph, LIMIT)
+    piece.write(&[
+        Item::Part(Part::Top),
+        Item::Begin(Tag::Title),
+        Item::Text(b"Races of "),
+        Item::Text(name),
+        Item::End(Tag::Title),
+        Item::Part(Part::Body),
+        Item::Begin(Tag::Header),
+        Item::Begin(Tag::PageHeading),
+        Item::Text(b"Races of "),
+        Item::Element(Tag::Isolated, name),
+        Item::End(Tag::PageHeading),
+        Item::Element(Tag::Paragraph, PLACES),
+        Item::Element(Tag::Paragraph, PROVED),
+        Item::Element(Tag::Paragraph, LIMIT),
+        Item::End(Tag::Header),
+    ])
 }

@@ -5,7 +5,7 @@ ghost use Rattle.race_page.specs.Own.{begin_text, end_text, part_text};
 use crate::style::{BODY, FOOT, TOP};
 
 /// An element of the page.
-#[derive(Clone, Copy, PartialEq, Eq, Debug)]
+#[derive(Clone, Copy)]
 pub enum Tag {
     /// The title of the window.
     Title,
@@ -60,7 +60,7 @@ pub enum Tag {
 }
 
 /// A part of the page that is always the same.
-#[derive(Clone, Copy, PartialEq, Eq, Debug)]
+#[derive(Clone, Copy)]
 pub enum Part {
     /// What stands before the title.
     Top,

@@ -64,7 +64,15 @@ impl Page {
         ensures { OnOk result (self.new.rows ≡ self.old.rows ++ shown ∷ []) }
     {
         let mut row = Vec::new(*self.text.allocator());
-        append_row(&mut row, shown, piece.bytes())?;
+        self.add_row(&mut row, shown, piece)
+    }
+
+    /// Writes the row. It is put into a text that is empty first, so that where memory is refused the page has no half of it.
+    fn add_row(&mut self, row: &mut Vec<u8>, shown: Shown, piece: &Piece) -> Result<(), OutOfMemory>
+        requires { row.now.items ≡ [] }
+        ensures { OnOk result (self.new.rows ≡ self.old.rows ++ shown ∷ []) }
+    {
+        append_row(row, shown, piece.bytes())?;
         self.rows.reserve(1)?;
         self.text.extend_from_slice(row.as_slice())?;
         self.rows.push(shown)?;

@@ -12,6 +12,25 @@ use rapid_text::OutOfMemory;
 use std::alloc::Global;
 use std::marker::Model;
 
+/// What is written next of a piece.
+#[derive(Clone, Copy)]
+pub(crate) enum Item<'a> {
+    /// An element begins.
+    Begin(Tag),
+    /// It ends.
+    End(Tag),
+    /// A part that is always the same.
+    Part(Part),
+    /// A number in decimal digits.
+    Number(u64),
+    /// A text, whatever it is: it is escaped.
+    Text(&'a [u8]),
+    /// An element with a text in it.
+    Element(Tag, &'a [u8]),
+    /// A number and what is counted, in the plural where it is not one.
+    Count(u64, &'a [u8]),
+}
+
 /// A piece of a page that is being written. Contracts see its text so far.
 #[derive(Drop)]
 pub(crate) struct Piece {
@@ -50,26 +69,52 @@ impl Piece {
         self.text.as_slice()
     }
 
+    /// Takes away what was written, and keeps its memory.
+    pub(crate) fn clear(&mut self) {
+        self.text.clear();
+    }
+
+    /// Writes these, one after another.
+    pub(crate) fn write(&mut self, items: &[Item<'_>]) -> Result<(), OutOfMemory> {
+        for item in items {
+            self.item(*item)?;
+        }
+        Ok(())
+    }
+
+    /// Writes one of them.
+    fn item(&mut self, item: Item<'_>) -> Result<(), OutOfMemory> {
+        match item {
+            Item::Begin(tag) => self.begin(tag),
+            Item::End(tag) => self.end(tag),
+            Item::Part(part) => self.part(part),
+            Item::Number(number) => self.number(number),
+            Item::Text(text) => self.text(text),
+            Item::Element(tag, text) => self.element(tag, text),
+            Item::Count(number, word) => self.count(number, word),
+        }
+    }
+
     /// Begins an element.
-    pub(crate) fn begin(&mut self, tag: Tag) -> Result<(), OutOfMemory> {
+    fn begin(&mut self, tag: Tag) -> Result<(), OutOfMemory> {
         self.text.extend_from_slice(begin_of(tag))?;
         Ok(())
     }
 
     /// Ends an element.
-    pub(crate) fn end(&mut self, tag: Tag) -> Result<(), OutOfMemory> {
+    fn end(&mut self, tag: Tag) -> Result<(), OutOfMemory> {
         self.text.extend_from_slice(end_of(tag))?;
         Ok(())
     }
 
     /// Writes a part that is always the same.
-    pub(crate) fn part(&mut self, part: Part) -> Result<(), OutOfMemory> {
+    fn part(&mut self, part: Part) -> Result<(), OutOfMemory> {
         self.text.extend_from_slice(bytes_of(part))?;
         Ok(())
     }
 
     /// Writes a number in decimal digits.
-    pub(crate) fn number(&mut self, number: u64) -> Result<(), OutOfMemory> {
+    fn number(&mut self, number: u64) -> Result<(), OutOfMemory> {
         let mut digits = Buffer::new();
         let written = digits.format(number);
         self.text.extend_from_slice(written.as_bytes())?;
@@ -77,9 +122,24 @@ impl Piece {
     }
 
     /// Writes a text, whatever it is: it is escaped.
-    pub(crate) fn text(&mut self, text: &[u8]) -> Result<(), OutOfMemory> {
+    fn text(&mut self, text: &[u8]) -> Result<(), OutOfMemory> {
         append_text(&mut self.text, text)?;
         Ok(())
+    }
+
+    /// Writes an element with a text.
+    fn element(&mut self, tag: Tag, text: &[u8]) -> Result<(), OutOfMemory> {
+        self.begin(tag)?;
+        self.text(text)?;
+        self.end(tag)
+    }
+
+    /// Writes a number and what is counted.
+    fn count(&mut self, number: u64, word: &[u8]) -> Result<(), OutOfMemory> {
+        self.number(number)?;
+        self.text(b" ")?;
+        self.text(word)?;
+        self.text(if number == 1 { b"" } else { b"s" })
     }
 
     /// Writes a picture of the schedule of these events, which shows the pair.

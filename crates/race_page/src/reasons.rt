@@ -1,10 +1,11 @@
 //! Why a pair of places is no race, in a line.
-ghost use Rattle.std.specs.Prelude.{◌≡◌};
+ghost use Rattle.std.specs.Prelude.{◌≡◌, ◌<◌, length};
 
 use crate::own::Tag;
-use crate::piece::Piece;
+use crate::piece::{Item, Piece};
 use crate::selecting::shown_of;
-use crate::words::{cut_line, isolated};
+use crate::shown::Shown;
+use crate::words::cut_line;
 use event_index::Indexed;
 use explain_report::{Verdict as Reason, append_head};
 use must_order::Must;
@@ -29,6 +30,43 @@ pub(crate) fn write_reason(
         return Ok(());
     }
     let mut text = Vec::new(piece.allocator());
+    write_line(piece, &mut text, indexed, must, verdict, shown)
+}
+
+/// Writes the line. The reason is put into a text that is empty.
+fn write_line(
+    piece: &mut Piece,
+    text: &mut Vec<u8>,
+    indexed: &Indexed,
+    must: &Must,
+    verdict: Verdict,
+    shown: Shown,
+) -> Result<(), OutOfMemory>
+    requires must { must.now ≡ indexed.now }
+    requires first { shown.first < length indexed.now.events }
+    requires second { shown.second < length indexed.now.events }
+{
+    append_reason(text, indexed, must, verdict, shown)?;
+    let (line, _) = cut_line(text.as_slice());
+    piece.write(&[
+        Item::Begin(Tag::Facts),
+        Item::Element(Tag::Isolated, line),
+        Item::End(Tag::Facts),
+    ])
+}
+
+/// Appends the reason, of which the first line is shown.
+fn append_reason(
+    text: &mut Vec<u8>,
+    indexed: &Indexed,
+    must: &Must,
+    verdict: Verdict,
+    shown: Shown,
+) -> Result<(), OutOfMemory>
+    requires must { must.now ≡ indexed.now }
+    requires first { shown.first < length indexed.now.events }
+    requires second { shown.second < length indexed.now.events }
+{
     if verdict.outcome == (Outcome::Undecided { tried: 0 }) {
         text.extend_from_slice(UNTRIED)?;
     } else {
@@ -40,10 +78,7 @@ pub(crate) fn write_reason(
                 reason = Reason::Guarded { lock };
             }
         }
-        append_head(&mut text, indexed, &reason, shown.first, shown.second)?;
+        append_head(text, indexed, &reason, shown.first, shown.second)?;
     }
-    let (line, _) = cut_line(text.as_slice());
-    piece.begin(Tag::Facts)?;
-    isolated(piece, line)?;
-    piece.end(Tag::Facts)
+    Ok(())
 }

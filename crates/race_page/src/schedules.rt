@@ -2,9 +2,9 @@
 ghost use Rattle.std.specs.Prelude.{◌≡◌};
 
 use crate::own::Tag;
-use crate::piece::Piece;
+use crate::piece::{Item, Piece};
 use crate::shown::Shown;
-use crate::words::{count, element, lines};
+use crate::words::lines;
 use event_index::Indexed;
 use explain_report::{How, Verdict, explain_text};
 use must_order::Must;
@@ -33,10 +33,23 @@ pub(crate) fn write_schedule(
         must,
         shown.first,
         shown.second,
-    )? {
+    ) {
+        Ok(finding) => write_finding(piece, indexed, &finding, shown),
+        Err(refused) => Err(refused),
+    }
+}
+
+/// Writes the schedule that was found, where one was.
+fn write_finding(
+    piece: &mut Piece,
+    indexed: &Indexed,
+    finding: &Finding,
+    shown: Shown,
+) -> Result<(), OutOfMemory> {
+    match finding {
         Finding::Race { how, events } => {
             write_picture(piece, indexed, events.items(), shown)?;
-            write_runs(piece, indexed, how, events.items(), shown)
+            write_runs(piece, indexed, *how, events.items(), shown)
         }
         Finding::Forced { chains: _ } => Ok(()),
         Finding::Guarded { lock: _ } => Ok(()),
@@ -51,23 +64,24 @@ fn write_picture(
     events: &[u32],
     shown: Shown,
 ) -> Result<(), OutOfMemory> {
-    element(piece, Tag::PartHeading, b"A schedule that shows them")?;
-    piece.begin(Tag::Figure)?;
-    piece.begin(Tag::Caption)?;
-    piece.text(b"After ")?;
-    count(piece, events.len() as u64, b"event")?;
-    piece.text(b" both can come next: ")?;
-    piece.number(u64::from(shown.first))?;
-    piece.text(b" and ")?;
-    piece.number(u64::from(shown.second))?;
-    piece.text(
-        b". A column is a thread, a box is a run of its events, and time goes downwards; the same stands in words below.",
-    )?;
-    piece.end(Tag::Caption)?;
-    piece.begin(Tag::Wide)?;
+    piece.write(&[
+        Item::Element(Tag::PartHeading, b"A schedule that shows them"),
+        Item::Begin(Tag::Figure),
+        Item::Begin(Tag::Caption),
+        Item::Text(b"After "),
+        Item::Count(events.len() as u64, b"event"),
+        Item::Text(b" both can come next: "),
+        Item::Number(u64::from(shown.first)),
+        Item::Text(b" and "),
+        Item::Number(u64::from(shown.second)),
+        Item::Text(
+            b". A column is a thread, a box is a run of its events, and time goes downwards; the same stands in words below.",
+        ),
+        Item::End(Tag::Caption),
+        Item::Begin(Tag::Wide),
+    ])?;
     piece.picture(indexed, events, shown.first, shown.second)?;
-    piece.end(Tag::Wide)?;
-    piece.end(Tag::Figure)
+    piece.write(&[Item::End(Tag::Wide), Item::End(Tag::Figure)])
 }
 
 /// Writes the runs in words.
@@ -80,14 +94,18 @@ fn write_runs(
 ) -> Result<(), OutOfMemory> {
     let mut text = Vec::new(piece.allocator());
     let verdict = Verdict::Race { how, events };
-    explain_text(
-        indexed,
-        &verdict,
-        shown.first,
-        shown.second,
-        false,
-        &mut text,
-    )?;
-    element(piece, Tag::PartHeading, b"Its runs in words")?;
+    write_explained(piece, &mut text, indexed, &verdict, shown)
+}
+
+/// Writes what is told of the verdict. It is put into a text that is empty.
+fn write_explained(
+    piece: &mut Piece,
+    text: &mut Vec<u8>,
+    indexed: &Indexed,
+    verdict: &Verdict<'_>,
+    shown: Shown,
+) -> Result<(), OutOfMemory> {
+    explain_text(indexed, verdict, shown.first, shown.second, false, text)?;
+    piece.write(&[Item::Element(Tag::PartHeading, b"Its runs in words")])?;
     lines(piece, text.as_slice())
 }

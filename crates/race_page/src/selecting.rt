@@ -1,5 +1,5 @@
 //! Of which sort a verdict is, and its row.
-ghost use Rattle.std.specs.Prelude.{◌≡◌, IfOk};
+ghost use Rattle.std.specs.Prelude.{◌≡◌, [], IfOk, OnOk};
 ghost use Rattle.std.specs.List.{filter};
 ghost use Rattle.race_page.specs.Rows.{is_of, is_sort, outcome_sort, row_of};
 
@@ -55,12 +55,23 @@ pub(crate) fn of_sort(
     ensures { IfOk result (λ kept. kept.items ≡ filter (is_of sort) told.now) }
 {
     let mut kept = Vec::new(alloc);
+    match keep_sort(&mut kept, told, sort) {
+        Ok(()) => Ok(kept),
+        Err(refused) => Err(refused),
+    }
+}
+
+/// Keeps the verdicts of a sort.
+fn keep_sort(kept: &mut Vec<Verdict>, told: &[Verdict], sort: Sort) -> Result<(), OutOfMemory>
+    requires { kept.now.items ≡ [] }
+    ensures { OnOk result (kept.new.items ≡ filter (is_of sort) told.now) }
+{
     for verdict in told {
         if is_of_sort(verdict, sort) {
             kept.push(*verdict)?;
         }
     }
-    Ok(kept)
+    Ok(())
 }
 
 /// Whether the verdict is of the sort.

@@ -1,26 +1,25 @@
 //! The whole page.
-ghost use Rattle.std.specs.Prelude.{◌≡◌, ◌++◌, List, ℕ, IfOk, OnErr, OnOk, map};
+ghost use Rattle.std.specs.Prelude.{◌≡◌, ◌++◌, [], List, ℕ, IfOk, OnErr, OnOk, map};
 ghost use Rattle.race_triage.specs.Chosen.{known_places, AreChosen};
 ghost use Rattle.race_triage.specs.declared.chosen.Chosen.{Chosen as Choice};
 ghost use Rattle.race_page.specs.Pages.{IsPage};
 ghost use Rattle.race_page.specs.Rows.{all_rows, rows_of, sort_rows};
 
+use crate::commands::shell_word;
 use crate::counting::write_counts;
 use crate::heading::write_heading;
 use crate::leftovers::{write_left_out, write_unlisted};
 use crate::own::{Part, Tag};
 use crate::page::Page;
-use crate::piece::Piece;
+use crate::piece::{Item, Piece};
 use crate::rows::write_rows;
 use crate::selecting::of_sort;
 use crate::shown::Sort;
-use crate::words::element;
 use event_index::Indexed;
 use must_order::Must;
 use race_triage::{Chosen, Filters, Known, Verdict, Verdicts, chosen_of};
 use rapid_text::OutOfMemory;
 use shb_clocks::Clocks;
-use std::alloc::Global;
 
 /// Appends a page (HTML) of the verdicts: the counts, and a row for each race, each pair of places that is undecided, and where `apart` is true
 /// each that is apart; of each sort the first 2,000, and a picture for each of the first 200 races. Races of known places are left out, and rows
@@ -47,9 +46,13 @@ pub fn page_text(
         × (text : List ℕ) × (out.new.items ≡ out.old.items ++ text) × IsPage text (all_rows apart chosen.verdicts.items) × (races ≡ chosen.races)) }
     ensures err { OnErr result (out.new.items ≡ out.old.items) }
 {
-    let chosen = chosen_of(*out.allocator(), indexed, verdicts, known, filters, apart)?;
-    append_page(indexed, clocks, must, verdicts, &chosen, apart, name, out)?;
-    Ok(chosen.races)
+    match chosen_of(*out.allocator(), indexed, verdicts, known, filters, apart) {
+        Ok(chosen) => {
+            append_page(indexed, clocks, must, verdicts, &chosen, apart, name, out)?;
+            Ok(chosen.races)
+        }
+        Err(refused) => Err(refused),
+    }
 }
 
 /// Appends the page of the verdicts that are told.
@@ -69,14 +72,35 @@ fn append_page(
     ensures err { OnErr result (out.new.items ≡ out.old.items) }
 {
     let mut page = Page::new(*out.allocator());
-    write_page(
-        &mut page, indexed, clocks, must, verdicts, chosen, apart, name,
-    )?;
+    append_written(
+        &mut page, indexed, clocks, must, verdicts, chosen, apart, name, out,
+    )
+}
+
+/// Writes the page, which is empty, and appends it.
+fn append_written(
+    page: &mut Page,
+    indexed: &Indexed,
+    clocks: &Clocks,
+    must: &Must,
+    verdicts: &Verdicts,
+    chosen: &Chosen,
+    apart: bool,
+    name: &[u8],
+    out: &mut Vec<u8>,
+) -> Result<(), OutOfMemory>
+    requires empty { page.now.rows ≡ [] }
+    requires clocks { clocks.now ≡ indexed.now }
+    requires must { must.now ≡ indexed.now }
+    ensures ok { OnOk result ((text : List ℕ) × (out.new.items ≡ out.old.items ++ text) × IsPage text (all_rows apart chosen.now.verdicts.items)) }
+    ensures err { OnErr result (out.new.items ≡ out.old.items) }
+{
+    write_page(page, indexed, clocks, must, verdicts, chosen, apart, name)?;
     out.extend_from_slice(page.bytes())?;
     Ok(())
 }
 
-/// Writes the page.
+/// Writes the page. All its pieces are written in one, which keeps its memory.
 fn write_page(
     page: &mut Page,
     indexed: &Indexed,
@@ -91,10 +115,32 @@ fn write_page(
     requires must { must.now ≡ indexed.now }
     ensures { OnOk result (page.new.rows ≡ page.old.rows ++ all_rows apart chosen.now.verdicts.items) }
 {
-    let begin = begin_of_page(page.allocator(), indexed, verdicts, name)?;
-    page.write(&begin)?;
-    write_sections(
+    let mut piece = Piece::new(page.allocator());
+    write_parts(
+        page, &mut piece, indexed, clocks, must, verdicts, chosen, apart, name,
+    )
+}
+
+/// Writes what stands over the rows, the rows, and what stands under them.
+fn write_parts(
+    page: &mut Page,
+    piece: &mut Piece,
+    indexed: &Indexed,
+    clocks: &Clocks,
+    must: &Must,
+    verdicts: &Verdicts,
+    chosen: &Chosen,
+    apart: bool,
+    name: &[u8],
+) -> Result<(), OutOfMemory>
+    requires clocks { clocks.now ≡ indexed.now }
+    requires must { must.now ≡ indexed.now }
+    ensures { OnOk result (page.new.rows ≡ page.old.rows ++ all_rows apart chosen.now.verdicts.items) }
+{
+    begin_page(page, piece, indexed, verdicts, name)?;
+    write_told(
         page,
+        piece,
         indexed,
         clocks,
         must,
@@ -102,37 +148,45 @@ fn write_page(
         apart,
         name,
     )?;
-    let end = end_of_page(page.allocator(), chosen, apart)?;
-    page.write(&end)?;
-    Ok(())
+    end_page(page, piece, chosen, apart)
 }
 
-/// What stands over the rows.
-fn begin_of_page(
-    alloc: Global,
+/// Writes what stands over the rows.
+fn begin_page(
+    page: &mut Page,
+    piece: &mut Piece,
     indexed: &Indexed,
     verdicts: &Verdicts,
     name: &[u8],
-) -> Result<Piece, OutOfMemory> {
-    let mut piece = Piece::new(alloc);
-    write_heading(&mut piece, name)?;
-    piece.begin(Tag::Main)?;
-    write_counts(&mut piece, indexed, verdicts)?;
-    Ok(piece)
+) -> Result<(), OutOfMemory>
+    ensures { page.new.rows ≡ page.old.rows }
+{
+    piece.clear();
+    write_heading(piece, name)?;
+    piece.write(&[Item::Begin(Tag::Main)])?;
+    write_counts(piece, indexed, verdicts)?;
+    page.write(piece)
 }
 
-/// What stands under them.
-fn end_of_page(alloc: Global, chosen: &Chosen, apart: bool) -> Result<Piece, OutOfMemory> {
-    let mut piece = Piece::new(alloc);
-    write_unlisted(&mut piece, chosen, apart)?;
-    piece.end(Tag::Main)?;
-    piece.part(Part::Foot)?;
-    Ok(piece)
-}
-
-/// Writes a section for each sort.
-fn write_sections(
+/// Writes what stands under them.
+fn end_page(
     page: &mut Page,
+    piece: &mut Piece,
+    chosen: &Chosen,
+    apart: bool,
+) -> Result<(), OutOfMemory>
+    ensures { page.new.rows ≡ page.old.rows }
+{
+    piece.clear();
+    write_unlisted(piece, chosen, apart)?;
+    piece.write(&[Item::End(Tag::Main), Item::Part(Part::Foot)])?;
+    page.write(piece)
+}
+
+/// Writes a section for each sort, with the trace's name as one word of a shell.
+fn write_told(
+    page: &mut Page,
+    piece: &mut Piece,
     indexed: &Indexed,
     clocks: &Clocks,
     must: &Must,
@@ -144,10 +198,49 @@ fn write_sections(
     requires must { must.now ≡ indexed.now }
     ensures { OnOk result (page.new.rows ≡ page.old.rows ++ all_rows apart told.now) }
 {
-    write_sort(page, indexed, clocks, must, name, Sort::Race, told)?;
-    write_sort(page, indexed, clocks, must, name, Sort::Undecided, told)?;
+    match shell_word(page.allocator(), name) {
+        Ok(word) => write_sections(
+            page,
+            piece,
+            indexed,
+            clocks,
+            must,
+            told,
+            apart,
+            word.as_slice(),
+        ),
+        Err(refused) => Err(refused),
+    }
+}
+
+/// Writes a section for each sort.
+fn write_sections(
+    page: &mut Page,
+    piece: &mut Piece,
+    indexed: &Indexed,
+    clocks: &Clocks,
+    must: &Must,
+    told: &[Verdict],
+    apart: bool,
+    word: &[u8],
+) -> Result<(), OutOfMemory>
+    requires clocks { clocks.now ≡ indexed.now }
+    requires must { must.now ≡ indexed.now }
+    ensures { OnOk result (page.new.rows ≡ page.old.rows ++ all_rows apart told.now) }
+{
+    write_sort(page, piece, indexed, clocks, must, word, Sort::Race, told)?;
+    write_sort(
+        page,
+        piece,
+        indexed,
+        clocks,
+        must,
+        word,
+        Sort::Undecided,
+        told,
+    )?;
     if apart {
-        write_sort(page, indexed, clocks, must, name, Sort::Apart, told)?;
+        write_sort(page, piece, indexed, clocks, must, word, Sort::Apart, told)?;
     }
     Ok(())
 }
@@ -155,10 +248,11 @@ fn write_sections(
 /// Writes the section of a sort, of the verdicts that are told.
 fn write_sort(
     page: &mut Page,
+    piece: &mut Piece,
     indexed: &Indexed,
     clocks: &Clocks,
     must: &Must,
-    name: &[u8],
+    word: &[u8],
     sort: Sort,
     told: &[Verdict],
 ) -> Result<(), OutOfMemory>
@@ -166,17 +260,29 @@ fn write_sort(
     requires must { must.now ≡ indexed.now }
     ensures { OnOk result (page.new.rows ≡ page.old.rows ++ sort_rows sort told.now) }
 {
-    let kept = of_sort(page.allocator(), told, sort)?;
-    write_section(page, indexed, clocks, must, name, sort, kept.as_slice())
+    match of_sort(page.allocator(), told, sort) {
+        Ok(kept) => write_section(
+            page,
+            piece,
+            indexed,
+            clocks,
+            must,
+            word,
+            sort,
+            kept.as_slice(),
+        ),
+        Err(refused) => Err(refused),
+    }
 }
 
 /// Writes the section of a sort, with a row for each of these.
 fn write_section(
     page: &mut Page,
+    piece: &mut Piece,
     indexed: &Indexed,
     clocks: &Clocks,
     must: &Must,
-    name: &[u8],
+    word: &[u8],
     sort: Sort,
     kept: &[Verdict],
 ) -> Result<(), OutOfMemory>
@@ -184,36 +290,45 @@ fn write_section(
     requires must { must.now ≡ indexed.now }
     ensures { OnOk result (page.new.rows ≡ page.old.rows ++ rows_of kept.now) }
 {
-    let begin = begin_of_section(page.allocator(), sort, kept.is_empty())?;
-    page.write(&begin)?;
-    write_rows(page, indexed, clocks, must, name, kept)?;
-    let end = end_of_section(page.allocator(), name, sort, kept.len())?;
-    page.write(&end)?;
-    Ok(())
+    begin_section(page, piece, sort, kept.is_empty())?;
+    write_rows(page, piece, indexed, clocks, must, word, kept)?;
+    end_section(page, piece, word, sort, kept.len())
 }
 
-/// The heading of a section.
-fn begin_of_section(alloc: Global, sort: Sort, is_empty: bool) -> Result<Piece, OutOfMemory> {
-    let mut piece = Piece::new(alloc);
-    piece.begin(Tag::Section)?;
-    element(&mut piece, Tag::SectionHeading, heading_of(sort))?;
+/// Writes the heading of a section.
+fn begin_section(
+    page: &mut Page,
+    piece: &mut Piece,
+    sort: Sort,
+    is_empty: bool,
+) -> Result<(), OutOfMemory>
+    ensures { page.new.rows ≡ page.old.rows }
+{
+    piece.clear();
+    piece.write(&[
+        Item::Begin(Tag::Section),
+        Item::Element(Tag::SectionHeading, heading_of(sort)),
+    ])?;
     if is_empty {
-        element(&mut piece, Tag::Paragraph, b"None.")?;
+        piece.write(&[Item::Element(Tag::Paragraph, b"None.")])?;
     }
-    Ok(piece)
+    page.write(piece)
 }
 
-/// What stands under the rows of a section.
-fn end_of_section(
-    alloc: Global,
-    name: &[u8],
+/// Writes what stands under the rows of a section.
+fn end_section(
+    page: &mut Page,
+    piece: &mut Piece,
+    word: &[u8],
     sort: Sort,
     kept: usize,
-) -> Result<Piece, OutOfMemory> {
-    let mut piece = Piece::new(alloc);
-    write_left_out(&mut piece, name, sort, kept)?;
-    piece.end(Tag::Section)?;
-    Ok(piece)
+) -> Result<(), OutOfMemory>
+    ensures { page.new.rows ≡ page.old.rows }
+{
+    piece.clear();
+    write_left_out(piece, word, sort, kept)?;
+    piece.write(&[Item::End(Tag::Section)])?;
+    page.write(piece)
 }
 
 /// The heading of a sort.

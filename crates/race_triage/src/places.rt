@@ -26,14 +26,30 @@ impl Places {
         // The number of an event is that of its location.
         ensures spots { IfOk result (λ places. AreNumbered indexed.now (length indexed.now.events) places.locations.keys places.numbers.items) }
     {
+        let numbers = Vec::with_capacity(alloc, indexed.len() as usize)?;
+        let mut places = Places {
+            locations: IndexSet::with_hasher(alloc, indexed.trace().raw().keyed()),
+            numbers,
+        };
+        match places.number_all(alloc, indexed) {
+            Ok(()) => Ok(places),
+            Err(refused) => Err(refused),
+        }
+    }
+
+    // Numbers the locations of all events, where none is numbered yet.
+    fn number_all(&mut self, alloc: Global, indexed: &Indexed) -> Result<(), OutOfMemory>
+        requires { AreNumbered indexed.now 0 self.old.locations.keys self.old.numbers.items }
+        ensures numbers { OnOk result (AreNumbers indexed.now self.new.numbers.items) }
+        ensures spots { OnOk result (AreNumbered indexed.now (length indexed.now.events) self.new.locations.keys self.new.numbers.items) }
+    {
         let _len = indexed.len();
         let raw = indexed.trace().raw();
-        let mut locations = IndexSet::with_hasher(alloc, raw.keyed());
-        let mut numbers = Vec::with_capacity(alloc, raw.len() as usize)?;
         for event in 0..raw.len() {
-            numbers.push(number_of(&mut locations, alloc, raw.location(event))?)?;
+            let number = number_of(&mut self.locations, alloc, raw.location(event))?;
+            self.numbers.push(number)?;
         }
-        Ok(Places { locations, numbers })
+        Ok(())
     }
 
     /// The number of the location with this text, where the trace has it.

@@ -204,9 +204,13 @@ fn verdicts_by<R: Threads + Sync, W: Watch + Sync>(
         → AreTooMany tables.entry.indexed.now.events (slice_index tables.entry.places.now) MAX_PLACES }
 {
     let found = found_of(alloc, tables, tries, apart)?;
-    let mut verdicts = all_verdicts(rt, alloc, tables, &found, tries, apart, workers, watch)?;
-    sort(tables, &mut verdicts, tries, apart);
-    Ok(verdicts)
+    match all_verdicts(rt, alloc, tables, &found, tries, apart, workers, watch) {
+        Ok(mut verdicts) => {
+            sort(tables, &mut verdicts, tries, apart);
+            Ok(verdicts)
+        }
+        Err(_) => Err(TriageRefusal::OutOfMemory),
+    }
 }
 
 // In rising order of the later event, and then of the earlier.

@@ -4,7 +4,7 @@ ghost use Rattle.kept_session.specs.Sessions.{IsInStep};
 use crate::doing::finish;
 use crate::input::input_at;
 use crate::telling::{tell_log, tell_session};
-use client_scripts::{FromRead, FromWrite, ReadCause, ReplayFault, load, read_input};
+use client_scripts::{FromRead, FromWrite, ReadCause, ReplayFault, read_trace};
 use event_index::Indexed;
 use kept_host::Host;
 use kept_log::Device;
@@ -144,11 +144,8 @@ fn log_at(rt: &HostRuntime, path: &str, head: &[u8]) -> Result<File, SessionFaul
 /// The trace in a file.
 fn trace_at(rt: &HostRuntime, path: &str) -> Result<Indexed, SessionFault> {
     let mut input = input_at(rt, path);
-    match read_input(rt.alloc(), &mut input, 1) {
-        Ok(text) => match load(rt.alloc(), &text) {
-            Ok(indexed) => Ok(indexed),
-            Err(fault) => Err(SessionFault::from(fault)),
-        },
+    match read_trace(rt.alloc(), &mut input) {
+        Ok(indexed) => Ok(indexed),
         Err(fault) => Err(SessionFault::from(fault)),
     }
 }

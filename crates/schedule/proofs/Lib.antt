@@ -4,6 +4,7 @@ pub mod DepthLemmas
 pub mod EnabledLemmas
 pub mod ExchangeLemmas
 pub mod FaultLemmas
+pub mod InsideLemmas
 pub mod LatestLemmas
 pub mod ListLemmas
 pub mod LockLemmas

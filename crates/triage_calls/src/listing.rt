@@ -10,10 +10,9 @@ ghost use Rattle.triage_calls.specs.declared.fault.TriageFault.TheVariants.{Repl
 
 use crate::fault::TriageFault;
 use crate::writing::write_text;
-use client_scripts::{ReplayFault, Sink, Source, read_input};
+use client_scripts::{ReplayFault, Sink, Source, read_input, read_trace};
 use event_index::Indexed;
 use must_order::Must;
-use pair_calls::read_trace;
 use race_json::triage_json;
 use race_page::page_text;
 use race_triage::{

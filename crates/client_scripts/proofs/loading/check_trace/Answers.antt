@@ -3,8 +3,8 @@ use Rattle.trace_rules.specs.Rules.{first_breach}
 use Rattle.client_scripts.proofs.LoadingLemmas.{trace_checked-refused}
 use Rattle.client_scripts.proofs.loading.check_trace.Goals as goal
 
-pub returns : goal.returns
-returns c =
+pub returns-in-Err : goal.returns-in-Err
+returns-in-Err c =
     ⊎_elim
     (λ h. inl (ap Err h))
     (λ h. inr h)

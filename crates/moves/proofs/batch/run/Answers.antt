@@ -10,7 +10,7 @@ returns-in-Err-clause-run c =
     let inv = c.loop-command.invariant in
     let W = c.args.rows.now in
     let n = age c.args.entry 0 in
-    let plain : IsPlain n W = record { listing = c.requires.listing; low = c.requires.late } in
+    let plain : IsPlain n W = record { listing = c.requires.ready.listing; low = c.requires.ready.late } in
     let k = c.loop-command.command-index in
     let at = next_birth c.args.entry c.loop-command.place k c.new.result c.new.ensures inv.0 in
     let run = next_refused c.args.indexed.now c.args.board.now c.args.commands.now n k W c.loop-command.rows c.loop-command.inverses.items plain inv.1
@@ -22,7 +22,7 @@ loop-command-preserved c =
     let inv = c.loop-command.invariant in
     let W = c.args.rows.now in
     let n = age c.args.entry 0 in
-    let plain : IsPlain n W = record { listing = c.requires.listing; low = c.requires.late } in
+    let plain : IsPlain n W = record { listing = c.requires.ready.listing; low = c.requires.ready.late } in
     let k = c.loop-command.command-index in
     let at = next_birth c.args.entry c.loop-command.place k c.new.result c.new.ensures inv.0 in
     let more = next_runs c.args.indexed.now c.args.board.now c.args.commands.now n k W c.loop-command.rows c.loop-command.inverses.items plain inv.1
@@ -39,6 +39,6 @@ returns-clause-run c =
     let inv = c.loop-command.invariant in
     let W = c.args.rows.now in
     let n = age c.args.entry 0 in
-    let plain : IsPlain n W = record { listing = c.requires.listing; low = c.requires.late } in
+    let plain : IsPlain n W = record { listing = c.requires.ready.listing; low = c.requires.ready.late } in
     let whole : length c.args.commands.now ≤ c.loop-command.command-index = omega arith in
     run_ends c.args.indexed.now c.args.board.now c.args.commands.now n c.loop-command.command-index W c.loop-command.rows c.loop-command.inverses.items plain inv.1 whole

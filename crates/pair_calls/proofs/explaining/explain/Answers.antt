@@ -8,7 +8,7 @@ returns-in-Ok-clause-explained g c =
     let r = c.in-Ok.indexed in (
       read.0,
       read.1,
-      answered-written (λ r text. IsExplanation r c.args.one c.args.other text) (λ r fault. IsUnexplained r c.args.one c.args.other fault) r read.0 (g.K.Sink.taken c.args.writer.now) (g.K.Sink.taken c.write_explanation.new.writer) read.2 (unexplained-memory r c.args.one c.args.other) c.write_explanation.result c.write_explanation.ensures.written,
+      answered-written (λ r text. IsExplanation r c.args.one c.args.other text) (λ r fault. IsUnexplained r c.args.one c.args.other fault) r read.0 (g.K.Sink.taken c.args.writer.now) (g.K.Sink.taken c.write_explanation-outcome.new.writer) read.2 (unexplained-memory r c.args.one c.args.other) c.write_explanation-outcome.result c.write_explanation-outcome.ensures.written,
     )
 
 pub returns-in-Err-clause-explained : goal.returns-in-Err-clause-explained

@@ -8,7 +8,7 @@ returns-in-Ok-clause-witnessed g c =
     let r = c.in-Ok.indexed in (
       read.0,
       read.1,
-      answered-written (λ r text. IsWitness r c.args.one c.args.other c.args.form text) (λ r fault. IsUnwitnessed r c.args.one c.args.other fault) r read.0 (g.K.Sink.taken c.args.writer.now) (g.K.Sink.taken c.write_witness.new.writer) read.2 (unwitnessed-memory r c.args.one c.args.other) c.write_witness.result c.write_witness.ensures.written,
+      answered-written (λ r text. IsWitness r c.args.one c.args.other c.args.form text) (λ r fault. IsUnwitnessed r c.args.one c.args.other fault) r read.0 (g.K.Sink.taken c.args.writer.now) (g.K.Sink.taken c.write_witness-outcome.new.writer) read.2 (unwitnessed-memory r c.args.one c.args.other) c.write_witness-outcome.result c.write_witness-outcome.ensures.written,
     )
 
 pub returns-in-Err-clause-witnessed : goal.returns-in-Err-clause-witnessed

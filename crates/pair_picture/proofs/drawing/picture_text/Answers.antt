@@ -1,19 +1,9 @@
-use Rattle.pair_picture.proofs.PieceLemmas.{alone, four_pieces}
+use Rattle.std.proofs.Common.{ℕ, List, ◌++◌, ap, ◌∙◌}
+use Rattle.pair_picture.proofs.PieceLemmas.{alone}
 use Rattle.pair_picture.proofs.drawing.picture_text.Goals as goal
 
 pub returns-clause-ok : goal.returns-clause-ok
 returns-clause-ok c =
-    let whole =
-    four_pieces _ _ _ _ _ _ c.in_ok-append_root.ensures c.in_ok-append_description.ensures _ _ _ c.in_ok-append_words.ensures c.in_ok-append_drawn.ensures in (
-      c.as_slice.result.now,
-      c.in_ok-extend_from_slice.ensures.items,
-      record {
-        width = c.size_of-size.result.width;
-        height = c.size_of-size.result.height;
-        shown_width = c.size_of-size.result.shown_width;
-        shown_height = c.size_of-size.result.shown_height;
-        shapes = c.bytes.result.now;
-        printed = alone _ _ _ _ c.new-text.ensures.items c.as_slice.ensures.value whole;
-        drawn = rw c.bytes.ensures.text c.bytes.ensures.shapes;
-      },
-    )
+    let picture = c.in_ok-append_picture.ensures in
+    let words = alone _ _ _ _ c.new-text.ensures.items c.as_slice.ensures.value picture.1 in
+    (picture.0, c.in_ok-extend_from_slice.ensures.items ∙ ap (λ (xs : List ℕ). c.args.out.now.items ++ xs) words, picture.2)

@@ -1,8 +1,7 @@
-use Rattle.std.proofs.Common.{ℕ, ◌++◌, decimal, ap, ◌∙◌}
-use Rattle.pair_picture.proofs.PieceLemmas.{five_pieces}
+use Rattle.std.proofs.Common.{List, ℕ, ◌++◌, append_assoc, append-nil, ap, ◌∙◌}
 use Rattle.pair_picture.proofs.head.append_title.Goals as goal
 
 pub returns : goal.returns
 returns c =
-    five_pieces c.args.out.now.items _ _ _ _ _ c.in_ok-append_words.ensures (c.in_ok-append_number.ensures ∙ ap (λ (n : ℕ). c.append_words.new.out.items ++ decimal n) c.from.ensures)
-    _ _ _ _ _ c.in_ok-append_words-2.ensures (c.in_ok-append_number-2.ensures ∙ ap (λ (n : ℕ). c.append_words-2.new.out.items ++ decimal n) c.from-2.ensures) c.in_ok-append_words-3.ensures
+    c.in_ok-append_pieces.ensures
+    ∙ ap (λ (text : List ℕ). c.args.out.now.items ++ text) (simp (append_assoc, append-nil, c.from.ensures, c.from-2.ensures))

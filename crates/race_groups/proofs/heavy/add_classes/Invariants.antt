@@ -13,7 +13,7 @@ invariant-loop-class l =
       few : index_map_len l.rows ≤ l.limit;
       rows :
           (k : Part) (p q : ℕ) → p ≤ q → count_at k l.rows p q
-          + flagged_sum l.indexed.events (keeps l.classes.lists.keys k) l.classes.numbers.items l.classes.infos.items l.thread (lower_of l.indexed.events l.forced k) p q l.flags l.class
+          + flagged_sum l.basis.indexed.now.events (keeps l.basis.classes.now.lists.keys k) l.basis.classes.now.numbers.items l.basis.classes.now.infos.items l.thread (lower_of l.basis.indexed.now.events l.basis.forced.now k) p q l.flags l.class
           ≡ count_at k l.fn.rows p q
-          + flagged_sum l.indexed.events (keeps l.classes.lists.keys k) l.classes.numbers.items l.classes.infos.items l.thread (upper_of l.indexed.events k) p q l.flags l.class;
+          + flagged_sum l.basis.indexed.now.events (keeps l.basis.classes.now.lists.keys k) l.basis.classes.now.numbers.items l.basis.classes.now.infos.items l.thread (upper_of l.basis.indexed.now.events k) p q l.flags l.class;
     }

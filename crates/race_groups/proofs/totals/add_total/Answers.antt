@@ -1,27 +1,10 @@
-use Rattle.std.proofs.Common.{◌≡◌, ◌+◌, ◌<◌, List, length, slice_index, sum_by, All, Some, ℕ, refl, sym, ap, subst, ◌∙◌, arith}
+use Rattle.std.proofs.Common.{◌≡◌, ◌<◌, List, length, All, Some, ℕ, refl, sym, ap, subst, ◌∙◌, arith}
 use Rattle.std.specs.List.{slice_get}
 use Rattle.std.proofs.lemmas.Option.{slice_get_read}
-use Rattle.race_groups.specs.Counting.{total_ends}
-use Rattle.race_groups.specs.Counts.{keeps}
-use Rattle.race_groups.specs.Rows.{count_at}
-use Rattle.race_groups.specs.Totals.{at_greater, entries_at, weighed_sum}
-use Rattle.race_groups.specs.declared.class.Class.{Class}
-use Rattle.race_groups.proofs.ConflictLemmas.{conflicting_within}
-use Rattle.race_groups.proofs.GreaterLemmas.{greater_nothing}
+use Rattle.race_groups.specs.Totals.{weighed_sum}
 use Rattle.race_groups.proofs.SpreadLemmas.{entries_now}
-use Rattle.race_groups.proofs.TotalLemmas.{owned_none}
-use Rattle.race_groups.proofs.TwoClassLemmas.{class_adds, entries_few, product_few, same_le, total_is, total_none, total_of, totals_fit, weights_are}
-use Rattle.race_groups.proofs.WalkLemmas.{share_of}
+use Rattle.race_groups.proofs.TwoClassLemmas.{entries_few, weights_are}
 use Rattle.race_groups.proofs.totals.add_total.Goals as goal
-
-pub returns-in_default-clause-ok : goal.returns-in_default-clause-ok
-returns-in_default-clause-ok c = λ k p q le.
-    let r = c.args.indexed.now in
-    let infos = c.args.classes.now.infos.items in
-    let info = c.index-info.result.now in
-    let at : slice_get infos c.args.class ≡ Some info = slice_get_read infos (length infos) c.args.class info refl c.requires.class c.index-info.ensures in
-    let none = total_none c.args.classes.now.lists.keys p q r.events (keeps c.args.classes.now.lists.keys k) c.args.classes.now.numbers.items infos (length r.threads) (total_ends r.events k) c.args.class info at (c.in_default.ensures.none refl) in
-    omega (arith, none)
 
 pub weights_of-requires-clause-within : goal.weights_of-requires-clause-within
 weights_of-requires-clause-within c =
@@ -30,8 +13,8 @@ weights_of-requires-clause-within c =
     let v = c.index-spread-class.result in
     let at : slice_get spread j ≡ Some v = slice_get_read spread (length spread) j v refl (omega (arith, c.requires.class, c.requires.spread.len)) c.index-spread-class.is in
     let is = entries_now spread j v c.as_slice-entries.result.now at c.as_slice-entries.ensures.value in
-    subst (λ (n : ℕ). All (λ (e : ℕ × ℕ). e.0 < n) c.as_slice-entries.result.now) (sym c.threads-threads.ensures.len)
-    (subst (λ (xs : List (ℕ × ℕ)). All (λ (e : ℕ × ℕ). e.0 < length c.args.indexed.now.threads) xs) (sym is) (c.requires.spread.within j))
+    subst (λ (n : ℕ). All (λ (e : ℕ × ℕ). e.0 < n) c.as_slice-entries.result.now) (sym c.threads.ensures.len)
+    (subst (λ (xs : List (ℕ × ℕ)). All (λ (e : ℕ × ℕ). e.0 < length c.args.basis.indexed.now.threads) xs) (sym is) (c.requires.spread.within j))
 
 pub weights_of-requires-clause-few : goal.weights_of-requires-clause-few
 weights_of-requires-clause-few c =
@@ -40,106 +23,20 @@ weights_of-requires-clause-few c =
     let v = c.index-spread-class.result in
     let at : slice_get spread j ≡ Some v = slice_get_read spread (length spread) j v refl (omega (arith, c.requires.class, c.requires.spread.len)) c.index-spread-class.is in
     let is = entries_now spread j v c.as_slice-entries.result.now at c.as_slice-entries.ensures.value in
-    let few = entries_few c.args.indexed.now c.requires.formed c.args.classes.now.numbers.items (length c.args.classes.now.infos.items) spread c.requires.spread j c.requires.class in
+    let few = entries_few c.args.basis.indexed.now c.requires.basis.formed c.args.basis.classes.now.numbers.items (length c.args.basis.classes.now.infos.items) spread c.requires.spread j c.requires.class in
     let same = ap (weighed_sum (λ t. 1)) is in
     omega (arith, few, same)
 
-pub add_all-requires-clause-members : goal.add_all-requires-clause-members
-add_all-requires-clause-members c =
-    let infos = c.args.classes.now.infos.items in
-    subst (λ (ys : List Class). All (λ k. k < length ys) c.conflicting-walk.result.members.now) (sym c.as_slice-infos.ensures.value)
-    (conflicting_within infos c.in-Some.variable c.index-info.result.now.op c.conflicting-walk.result.members.now c.conflicting-walk.ensures.members)
-
-pub add_all-requires-clause-can : goal.add_all-requires-clause-can
-add_all-requires-clause-can c = λ x low.
-    let r = c.args.indexed.now in
-    let infos = c.args.classes.now.infos.items in
-    let numbers = c.args.classes.now.numbers.items in
-    let totals = c.args.totals.now in
+pub add_weighed-requires-clause-weights : goal.add_weighed-requires-clause-weights
+add_weighed-requires-clause-weights c =
+    let r = c.args.basis.indexed.now in
     let spread = c.args.spread.now in
-    let weights = c.as_slice-weights.result.now in
     let j = c.args.class in
-    let times : ℕ = slice_index totals j in
-    let n = length infos in
     let v = c.index-spread-class.result in
     let at : slice_get spread j ≡ Some v = slice_get_read spread (length spread) j v refl (omega (arith, c.requires.class, c.requires.spread.len)) c.index-spread-class.is in
-    let mine = weights_are r c.requires.formed numbers n spread c.requires.spread j c.requires.class v c.as_slice-entries.result.now c.in_ok-made.made.items weights c.threads-threads.result
-    at c.as_slice-entries.ensures.value c.as_slice-weights.ensures.value c.threads-threads.ensures.len c.in_ok-made.ensures.weights in
-    let inside : x < n = omega (arith, low, ap length c.as_slice-infos.ensures.value) in
-    let less = same_le r c.requires.formed numbers n spread c.requires.spread totals weights j times c.requires.class c.requires.totals mine refl x inside in
-    let few = product_few r c.requires.formed numbers n spread c.requires.spread totals weights j times c.requires.class c.requires.totals mine refl x inside in
-    let wide : length weights ≡ length r.threads = ap length c.as_slice-weights.ensures.value ∙ c.in_ok-made.ensures.len ∙ c.threads-threads.ensures.len in (
-      omega (arith, inside, c.requires.totals_len),
-      omega (arith, inside, c.requires.spread.len),
-      subst (λ (m : ℕ). All (λ (e : ℕ × ℕ). e.0 < m) (entries_at spread x)) (sym wide) (c.requires.spread.within x),
-      less,
-      omega (arith, few),
-    )
-
-pub add_all-requires-clause-own : goal.add_all-requires-clause-own
-add_all-requires-clause-own c = λ named x low owned k.
-    let r = c.args.indexed.now in
-    let infos = c.args.classes.now.infos.items in
-    let numbers = c.args.classes.now.numbers.items in
-    let totals = c.args.totals.now in
-    let spread = c.args.spread.now in
-    let weights = c.as_slice-weights.result.now in
-    let j = c.args.class in
-    let times : ℕ = slice_index totals j in
-    let n = length infos in
-    let v = c.index-spread-class.result in
-    let at : slice_get spread j ≡ Some v = slice_get_read spread (length spread) j v refl (omega (arith, c.requires.class, c.requires.spread.len)) c.index-spread-class.is in
-    let mine = weights_are r c.requires.formed numbers n spread c.requires.spread j c.requires.class v c.as_slice-entries.result.now c.in_ok-made.made.items weights c.threads-threads.result
-    at c.as_slice-entries.ensures.value c.as_slice-weights.ensures.value c.threads-threads.ensures.len c.in_ok-made.ensures.weights in
-    let inside : x < n = omega (arith, low, ap length c.as_slice-infos.ensures.value) in
-    let owners = c.args.conflicts.now.owners.items in
-    let u = c.owner_of-owner.result in
-    let inside_threads : u < length r.threads = omega (arith, named, c.threads-threads.ensures.len) in
-    let own : slice_index owners x ≡ u = ap (λ xs. slice_index xs x) (sym c.conflicting-walk.ensures.owners) ∙ owned in
-    let is_mine : slice_index owners j ≡ u = ap (λ xs. slice_index xs j) (sym c.as_slice.ensures.value) ∙ sym c.owner_of-owner.ensures in
-    total_is r c.requires.formed numbers n spread c.requires.spread totals weights j times c.requires.class c.requires.totals mine refl k x inside
-    ∙ ap (at_greater j x) (owned_none r.events (length r.threads) numbers owners c.requires.conflicts.owners u inside_threads k j x is_mine own)
-    ∙ greater_nothing j x
-
-pub add_all-requires-clause-room : goal.add_all-requires-clause-room
-add_all-requires-clause-room c = λ k p q le.
-    let r = c.args.indexed.now in
-    let infos = c.args.classes.now.infos.items in
-    let numbers = c.args.classes.now.numbers.items in
-    let totals = c.args.totals.now in
-    let spread = c.args.spread.now in
-    let weights = c.as_slice-weights.result.now in
-    let j = c.args.class in
-    let times : ℕ = slice_index totals j in
-    let n = length infos in
-    let v = c.index-spread-class.result in
-    let at : slice_get spread j ≡ Some v = slice_get_read spread (length spread) j v refl (omega (arith, c.requires.class, c.requires.spread.len)) c.index-spread-class.is in
-    let mine = weights_are r c.requires.formed numbers n spread c.requires.spread j c.requires.class v c.as_slice-entries.result.now c.in_ok-made.made.items weights c.threads-threads.result
-    at c.as_slice-entries.ensures.value c.as_slice-weights.ensures.value c.threads-threads.ensures.len c.in_ok-made.ensures.weights in
-    let fits = totals_fit r c.requires.formed numbers n spread c.requires.spread totals weights j times c.requires.class c.requires.totals mine refl infos refl c.requires.few c.in-Some.variable c.index-info.result.now.op c.conflicting-walk.result.members.now c.conflicting-walk.ensures.members k in
-    omega (arith, fits, c.requires.room k p q le)
-
-pub returns-clause-ok : goal.returns-clause-ok
-returns-clause-ok c = λ k p q le.
-    let r = c.args.indexed.now in
-    let infos = c.args.classes.now.infos.items in
-    let numbers = c.args.classes.now.numbers.items in
-    let totals = c.args.totals.now in
-    let spread = c.args.spread.now in
-    let weights = c.as_slice-weights.result.now in
-    let j = c.args.class in
-    let times : ℕ = slice_index totals j in
-    let n = length infos in
-    let v = c.index-spread-class.result in
-    let at : slice_get spread j ≡ Some v = slice_get_read spread (length spread) j v refl (omega (arith, c.requires.class, c.requires.spread.len)) c.index-spread-class.is in
-    let mine = weights_are r c.requires.formed numbers n spread c.requires.spread j c.requires.class v c.as_slice-entries.result.now c.in_ok-made.made.items weights c.threads-threads.result
-    at c.as_slice-entries.ensures.value c.as_slice-weights.ensures.value c.threads-threads.ensures.len c.in_ok-made.ensures.weights in
-    let info = c.index-info.result.now in
-    let here : slice_get infos j ≡ Some info = slice_get_read infos (length infos) j info refl c.requires.class c.index-info.ensures in
-    let members = c.conflicting-walk.result.members.now in
-    let keep = keeps c.args.classes.now.lists.keys k in
-    let amounts : ℕ → ℕ = total_of totals spread weights times j k in
-    let added = class_adds r c.requires.formed numbers infos c.requires.numbers c.requires.classes keep p q k j c.in-Some.variable info amounts members here c.in-Some.ensures.some c.conflicting-walk.ensures.members
-    (total_is r c.requires.formed numbers n spread c.requires.spread totals weights j times c.requires.class c.requires.totals mine refl k) in
-    let shown = ap (λ (is : List Class). sum_by (share_of keep p q info is amounts) members) c.as_slice-infos.ensures.value in
-    c.in_ok-add_all.ensures.ok k p q le ∙ ap (λ m. count_at k c.args.rows.now p q + m) (shown ∙ added)
+    record {
+      len = ap length c.as_slice.ensures.value ∙ c.in_ok-weights.ensures.len ∙ c.threads.ensures.len;
+      each = weights_are r c.requires.basis.formed c.args.basis.classes.now.numbers.items (length c.args.basis.classes.now.infos.items) spread c.requires.spread j c.requires.class v
+          c.as_slice-entries.result.now c.in_ok-weights.weights.items c.as_slice.result.now c.threads.result at c.as_slice-entries.ensures.value c.as_slice.ensures.value c.threads.ensures.len
+          c.in_ok-weights.ensures.weights;
+    }

@@ -1,20 +1,11 @@
-use Rattle.std.proofs.Common.{◌≡◌, true, ◌<◌, ◌∙◌, ◌++◌, ◌∷◌, [], Ok, Err, ap, subst, refl, arith, length}
-use Rattle.std.proofs.lemmas.List.Elements.{All-nil, All-cons}
-use Rattle.dependence.specs.Lists.{of_client, PushedAll}
-use Rattle.moves.specs.declared.inverse.Inverse.{Inverse}
-use Rattle.moves.specs.Commands.{writes}
-use Rattle.moves.specs.Inverses.{IsStepOf}
-use Rattle.inverse_log.specs.declared.kept.Held.TheVariants.{One}
-use Rattle.moves.specs.Ages.{age}
-use Rattle.moves.proofs.CallerLemmas.{refused_same}
+use Rattle.std.proofs.Common.{◌≡◌, true, ◌<◌, ◌++◌, ◌∷◌, [], Ok, Err, subst, refl, arith, length}
 use Rattle.inverse_log.specs.declared.call.Call.TheVariants.{Do}
 use Rattle.inverse_log.specs.declared.entry.Entry.TheVariants.{Did}
 use Rattle.inverse_log.specs.declared.refusal.Refusal.TheVariants.{Move}
 use Rattle.inverse_log.specs.declared.reply.Reply.TheVariants.{Done}
-use Rattle.inverse_log.specs.Answer.{may_want, answer_of, log_after}
+use Rattle.inverse_log.specs.Answer.{may_want, answer_of, IsLegal}
 use Rattle.inverse_log.specs.Log.{Benched}
-use Rattle.inverse_log.proofs.DoLemmas.{after_ok, bench_same, names_below, clients_below, left_same, of_trace, board_is_of, short, edits_low, do_refused, do_accepted, do_answer, one_runs, done_bench, next_legal}
-use Rattle.inverse_log.proofs.KeptLemmas.{stays_below}
+use Rattle.inverse_log.proofs.DoLemmas.{after_ok, ok_answer, of_trace, do_refused, do_done, next_legal}
 use Rattle.inverse_log.proofs.bench.Bench.perform.Goals as goal
 
 pub check-requires : goal.check-requires
@@ -30,102 +21,36 @@ returns-in-Err-clause-call c =
       refl,
     )
 
-pub returns-in_default-make_room-clause-call : goal.returns-in_default-make_room-clause-call
-returns-in_default-make_room-clause-call c =
+pub put-requires-clause-room : goal.put-requires-clause-room
+put-requires-clause-room c =
     let s = c.self.inside in
-    let number : c.len-number.result ≡ length s.log.items = omega (arith, c.len-number.ensures) in
-    let room : c.len-number.result < 1000000 = omega arith in (
-      subst (λ (v : Benched). may_want (answer_of v.trace v.log c.args.client (Do c.args.command.now)) ≡ true) c.self.view_is
-          (do_accepted s c.self.invariant c.deref.result.now c.len-number.result c.args.client c.args.command.now c.deref.ensures number room (rw (c.workspace.ensures) at c.in_default.ensures)),
-      c.in_default-make_room.ensures.log ∙ ap (λ (v : Benched). v.log) c.self.view_is,
-    )
+    let room : length s.log.items < 1000000 = omega (arith, c.len-number.ensures) in
+    subst (λ (v : Benched). length v.log < 1000000) c.self.view_is room
 
-pub enter-requires-clause-names : goal.enter-requires-clause-names
-enter-requires-clause-names c = names_below c.self.inside c.self.invariant c.len-number.result (omega (arith, c.len-number.ensures))
-
-pub enter-requires-clause-clients : goal.enter-requires-clause-clients
-enter-requires-clause-clients c = clients_below c.self.inside c.self.invariant c.len-number.result c.args.client (omega (arith, c.len-number.ensures))
-
-pub invariant_of-self-in_default-enter : goal.invariant_of-self-in_default-enter
-invariant_of-self-in_default-enter c =
-    let s = c.self.inside in
-    let same = c.in_default-enter.ensures.err in
-    bench_same s c.self.invariant c.make_room.new.log.items s.rows.rows c.make_room.new.steps.items c.enter.new.touches c.enter.new.clients s.rows.edits c.in-Ok.ensures.log refl c.in-Ok.ensures.steps same.0 (λ a. ap (λ X. of_client X a) same.1) refl
-
-pub returns-in_default-enter-clause-call : goal.returns-in_default-enter-clause-call
-returns-in_default-enter-clause-call c =
-    let s = c.self.inside in
-    let number : c.len-number.result ≡ length s.log.items = omega (arith, c.len-number.ensures) in
-    let room : c.len-number.result < 1000000 = omega arith in (
-      subst (λ (v : Benched). may_want (answer_of v.trace v.log c.args.client (Do c.args.command.now)) ≡ true) c.self.view_is
-          (do_accepted s c.self.invariant c.deref.result.now c.len-number.result c.args.client c.args.command.now c.deref.ensures number room (rw (c.workspace.ensures) at c.in_default.ensures)),
-      c.in-Ok.ensures.log ∙ ap (λ (v : Benched). v.log) c.self.view_is,
-    )
-
-pub apply-requires-clause-of_trace : goal.apply-requires-clause-of_trace
-apply-requires-clause-of_trace c = of_trace c.self.inside c.self.invariant c.deref-2.result.now c.deref-2.ensures
-
-pub apply-requires-clause-board : goal.apply-requires-clause-board
-apply-requires-clause-board c = board_is_of c.self.inside c.self.invariant c.deref-2.result.now c.deref-2.ensures
-
-pub apply-requires-clause-late : goal.apply-requires-clause-late
-apply-requires-clause-late c =
-    let s = c.self.inside in
-    stays_below _ s.log.items s.rows.rows s.board s.steps.items c.self.invariant.kept (short s c.self.invariant) c.len-number.result (omega (arith, c.len-number.ensures))
-
-pub apply-requires-clause-few : goal.apply-requires-clause-few
-apply-requires-clause-few c =
+pub put-requires-clause-legal : goal.put-requires-clause-legal
+put-requires-clause-legal c =
     let s = c.self.inside in
     let number : c.len-number.result ≡ length s.log.items = omega (arith, c.len-number.ensures) in
     let room : c.len-number.result < 1000000 = omega arith in
-    edits_low s c.self.invariant c.len-number.result number room
+    let answer = do_done s c.self.invariant c.deref.result.now c.len-number.result c.args.client c.args.command.now c.deref.ensures number room (rw (c.workspace.ensures) at c.in_default.ensures) in
+    subst (λ (v : Benched). IsLegal v.trace (v.log ++ Did c.args.client c.args.command.now ∷ [])) c.self.view_is
+    (next_legal s c.self.invariant _ c.args.client (Do c.args.command.now) (Done c.len-number.result) answer refl c.requires.low c.requires.high)
 
-pub invariant_of-self-in_default-apply : goal.invariant_of-self-in_default-apply
-invariant_of-self-in_default-apply c =
-    let s = c.self.inside in
-    let number : c.len-number.result ≡ length s.log.items = omega (arith, c.len-number.ensures) in
-    let entered = c.in-Ok-enter.ensures.ok in
-    let same = left_same s c.self.invariant c.len-number.result c.args.client c.from_ref-commands.result.now c.enter.new.touches c.leave.new.touches c.enter.new.clients c.leave.new.clients number entered.0 entered.1 c.leave.ensures.names c.leave.ensures.clients in
-    let rows = refused_same c.deref-2.result.now s.board (age c.len-number.result 0) c.args.command.now s.rows.rows c.apply.new.self.rows c.in_default-apply.field-0 c.in_default-apply.ensures.applied in
-    bench_same s c.self.invariant c.make_room.new.log.items c.apply.new.self.rows c.make_room.new.steps.items c.leave.new.touches c.leave.new.clients c.apply.new.self.edits
-    c.in-Ok.ensures.log rows c.in-Ok.ensures.steps same.0 same.1 c.in_default-apply.ensures.same
-
-pub returns-in_default-apply-clause-call : goal.returns-in_default-apply-clause-call
-returns-in_default-apply-clause-call c =
-    let s = c.self.inside in
-    let number : c.len-number.result ≡ length s.log.items = omega (arith, c.len-number.ensures) in
-    let room : c.len-number.result < 1000000 = omega arith in (
-      subst (λ (v : Benched). may_want (answer_of v.trace v.log c.args.client (Do c.args.command.now)) ≡ true) c.self.view_is
-          (do_accepted s c.self.invariant c.deref.result.now c.len-number.result c.args.client c.args.command.now c.deref.ensures number room (rw (c.workspace.ensures) at c.in_default.ensures)),
-      c.in-Ok.ensures.log ∙ ap (λ (v : Benched). v.log) c.self.view_is,
-    )
-
-pub invariant_of-self-2 : goal.invariant_of-self-2
-invariant_of-self-2 c =
+pub returns-in-Ok-clause-call : goal.returns-in-Ok-clause-call
+returns-in-Ok-clause-call c =
     let s = c.self.inside in
     let number : c.len-number.result ≡ length s.log.items = omega (arith, c.len-number.ensures) in
     let room : c.len-number.result < 1000000 = omega arith in
-    let d = c.args.command.now in
-    let i = c.in-Ok-apply.inverse in
-    let one = c.from_ref-commands.ensures.value in
-    let entered = c.in-Ok-enter.ensures.ok in
-    let log : c.add_entry.new.log.items ≡ s.log.items ++ Did c.args.client d ∷ [] = rw (c.in-Ok.ensures.log) at c.add_entry.ensures in
-    let answer = do_answer s c.self.invariant c.deref-2.result.now c.len-number.result c.args.client d c.apply.new.self.rows i c.deref-2.ensures number room c.in-Ok-apply.ensures.applied in
-    let runs = one_runs s c.self.invariant c.deref-2.result.now (age c.len-number.result 0) c.len-number.result d c.apply.new.self.rows i number refl c.in-Ok-apply.ensures.applied in
-    done_bench s c.self.invariant c.add_entry.new.log.items c.deref-2.result.now c.len-number.result c.args.client (Did c.args.client d) (d ∷ []) c.apply.new.self.rows (record { name = writes d; step = i.step } ∷ []) (One i.step)
-    c.add_held.new.steps.items c.enter.new.touches c.enter.new.clients c.apply.new.self.edits c.deref-2.ensures number refl (omega arith) runs refl
-    (All-cons (λ (j : Inverse). IsStepOf c.deref-2.result.now j.step) (record { name = writes d; step = i.step }) [] c.in-Ok-apply.ensures.step (All-nil (λ (j : Inverse). IsStepOf c.deref-2.result.now j.step)))
-    (rw (c.in-Ok.ensures.steps) at c.add_held.ensures) log (subst (λ D. PushedAll c.len-number.result D s.touches c.enter.new.touches) one entered.0) entered.1 c.in-Ok-apply.ensures.counted
-    (next_legal s c.self.invariant c.add_entry.new.log.items c.args.client (Do d) (Done c.len-number.result) answer log c.requires.low c.requires.high)
+    let done = do_done s c.self.invariant c.deref.result.now c.len-number.result c.args.client c.args.command.now c.deref.ensures number room (rw (c.workspace.ensures) at c.in_default.ensures) in
+    let answer = subst (λ (v : Benched). answer_of v.trace v.log c.args.client (Do c.args.command.now) ≡ Ok (Done c.len-number.result)) c.self.view_is done in
+    (answer, after_ok _ _ _ c.args.client (Do c.args.command.now) (Done c.len-number.result) answer c.in-Ok.ensures.ok)
 
-pub returns-clause-call : goal.returns-clause-call
-returns-clause-call c =
+pub returns-in-Err-put-clause-call : goal.returns-in-Err-put-clause-call
+returns-in-Err-put-clause-call c =
     let s = c.self.inside in
     let number : c.len-number.result ≡ length s.log.items = omega (arith, c.len-number.ensures) in
     let room : c.len-number.result < 1000000 = omega arith in
-    let answer = do_answer s c.self.invariant c.deref-2.result.now c.len-number.result c.args.client c.args.command.now c.apply.new.self.rows c.in-Ok-apply.inverse c.deref-2.ensures number room c.in-Ok-apply.ensures.applied in
-    let log : c.add_entry.new.log.items ≡ s.log.items ++ Did c.args.client c.args.command.now ∷ [] = rw (c.in-Ok.ensures.log) at c.add_entry.ensures in (
-      subst (λ (v : Benched). answer_of v.trace v.log c.args.client (Do c.args.command.now) ≡ Ok (Done c.len-number.result)) c.self.view_is answer,
-      subst (λ (v : Benched). c.add_entry.new.log.items ≡ log_after v.trace v.log c.args.client (Do c.args.command.now)) c.self.view_is
-          (after_ok _ s.log.items c.add_entry.new.log.items c.args.client (Do c.args.command.now) (Done c.len-number.result) answer log),
+    let done = do_done s c.self.invariant c.deref.result.now c.len-number.result c.args.client c.args.command.now c.deref.ensures number room (rw (c.workspace.ensures) at c.in_default.ensures) in (
+      subst (λ (v : Benched). may_want (answer_of v.trace v.log c.args.client (Do c.args.command.now)) ≡ true) c.self.view_is (ok_answer _ (Done c.len-number.result) done),
+      c.in-Err-put.ensures.err,
     )

@@ -1,12 +1,10 @@
-use Rattle.std.proofs.Common.{◌≡◌, ◌<◌, rules, true, false, ◌++◌, ◌∷◌, [], Err, None, sym, ◌∙◌, subst, refl, arith, length, slice_get}
+use Rattle.std.proofs.Common.{◌≡◌, ◌<◌, rules, true, false, Err, sym, ◌∙◌, subst, refl, arith, length, slice_get}
 use Rattle.inverse_log.specs.declared.call.Call.TheVariants.{UndoAt}
-use Rattle.inverse_log.specs.declared.entry.Entry.TheVariants.{Undid}
 use Rattle.inverse_log.specs.declared.refusal.Refusal.TheVariants.{NoSuchEntry, NotOwn, NotLive}
-use Rattle.inverse_log.specs.Answer.{answer_of, Called, IsLegal}
-use Rattle.inverse_log.specs.Kept.{IsLive, live_there, IsUndone}
-use Rattle.inverse_log.specs.Log.{Benched, blocker_of, is_own}
-use Rattle.inverse_log.proofs.UndoneLemmas.{undo_legal, undo_called}
-use Rattle.inverse_log.proofs.NumberedLemmas.{at_past, at_other, at_undone, at_live, at_asks}
+use Rattle.inverse_log.specs.Answer.{answer_of}
+use Rattle.inverse_log.specs.Log.{Benched, is_own}
+use Rattle.inverse_log.proofs.UndoneLemmas.{at_asked}
+use Rattle.inverse_log.proofs.NumberedLemmas.{at_past, at_other, at_undone}
 use Rattle.inverse_log.proofs.bench.Bench.undo_at.Goals as goal
 
 pub returns-then-entry-number-clause-call : goal.returns-then-entry-number-clause-call
@@ -48,44 +46,20 @@ returns-then-not-contains-clause-call c =
 
 pub undo_live-requires-clause-room : goal.undo_live-requires-clause-room
 undo_live-requires-clause-room c =
-    let s = c.self.inside in
-    let room : length s.log.items < 1000000 = omega (arith, c.len-number.ensures) in
-    subst (λ (v : Benched). length v.log < 1000000) c.self.view_is room
+    (at_asked c.self.inside c.self.invariant c.args.client c.args.entry c.len-number.result (omega (arith, c.len-number.ensures)) (omega arith) c.deref.result.now c.is_own.result c.contains.result
+    c.deref.ensures.value (search rules) c.is_own.ensures (search rules) c.contains.ensures c.requires.low c.requires.high c.args.self.now c.self.view_is).room
 
 pub undo_live-requires-clause-live : goal.undo_live-requires-clause-live
 undo_live-requires-clause-live c =
-    let s = c.self.inside in
-    let number : c.len-number.result ≡ length s.log.items = omega (arith, c.len-number.ensures) in
-    let room : c.len-number.result < 1000000 = omega arith in
-    let own : c.is_own.result ≡ true = search rules in
-    let mine : c.is_own.result ≡ is_own c.args.client (slice_get s.log.items c.args.entry) = rw (← c.deref.ensures.value) c.is_own.ensures in
-    let so : c.contains.result ≡ true = search rules in
-    subst (λ (v : Benched). IsLive v.log (live_there v.log c.args.client c.args.entry)) c.self.view_is
-    (at_live s c.self.invariant c.len-number.result c.args.client c.args.entry number room (sym own ∙ mine) (sym so ∙ c.contains.ensures))
+    (at_asked c.self.inside c.self.invariant c.args.client c.args.entry c.len-number.result (omega (arith, c.len-number.ensures)) (omega arith) c.deref.result.now c.is_own.result c.contains.result
+    c.deref.ensures.value (search rules) c.is_own.ensures (search rules) c.contains.ensures c.requires.low c.requires.high c.args.self.now c.self.view_is).live
 
 pub undo_live-requires-clause-legal : goal.undo_live-requires-clause-legal
 undo_live-requires-clause-legal c =
-    let s = c.self.inside in
-    let number : c.len-number.result ≡ length s.log.items = omega (arith, c.len-number.ensures) in
-    let room : c.len-number.result < 1000000 = omega arith in
-    let within : length s.log.items < 1000000 = omega (arith, c.len-number.ensures) in
-    let own : c.is_own.result ≡ true = search rules in
-    let mine : c.is_own.result ≡ is_own c.args.client (slice_get s.log.items c.args.entry) = rw (← c.deref.ensures.value) c.is_own.ensures in
-    let so : c.contains.result ≡ true = search rules in
-    let asks = at_asks s c.self.invariant c.len-number.result c.args.client c.args.entry number room (sym own ∙ mine) (sym so ∙ c.contains.ensures) in
-    subst (λ (v : Benched). blocker_of v.log (live_there v.log c.args.client c.args.entry) ≡ None → IsLegal v.trace (v.log ++ Undid c.args.client c.args.entry ∷ [])) c.self.view_is
-    (undo_legal s c.self.invariant c.args.client c.args.entry (UndoAt c.args.entry) asks (λ n j. refl) within c.requires.low c.requires.high)
+    (at_asked c.self.inside c.self.invariant c.args.client c.args.entry c.len-number.result (omega (arith, c.len-number.ensures)) (omega arith) c.deref.result.now c.is_own.result c.contains.result
+    c.deref.ensures.value (search rules) c.is_own.ensures (search rules) c.contains.ensures c.requires.low c.requires.high c.args.self.now c.self.view_is).legal
 
 pub returns-clause-call : goal.returns-clause-call
 returns-clause-call c =
-    let s = c.self.inside in
-    let number : c.len-number.result ≡ length s.log.items = omega (arith, c.len-number.ensures) in
-    let room : c.len-number.result < 1000000 = omega arith in
-    let within : length s.log.items < 1000000 = omega (arith, c.len-number.ensures) in
-    let own : c.is_own.result ≡ true = search rules in
-    let mine : c.is_own.result ≡ is_own c.args.client (slice_get s.log.items c.args.entry) = rw (← c.deref.ensures.value) c.is_own.ensures in
-    let so : c.contains.result ≡ true = search rules in
-    let asks = at_asks s c.self.invariant c.len-number.result c.args.client c.args.entry number room (sym own ∙ mine) (sym so ∙ c.contains.ensures) in
-    let done = subst (λ (v : Benched). IsUndone v.log c.args.client (live_there v.log c.args.client c.args.entry) c.undo_live.result c.undo_live.new.self.log) (sym c.self.view_is) c.undo_live.ensures.undone in
-    subst (λ (v : Benched). Called v.trace v.log c.args.client (UndoAt c.args.entry) c.undo_live.result c.undo_live.new.self.log) c.self.view_is
-    (undo_called s c.self.invariant c.args.client c.args.entry (UndoAt c.args.entry) asks (λ n j. refl) within c.undo_live.new.self.log c.undo_live.result done)
+    (at_asked c.self.inside c.self.invariant c.args.client c.args.entry c.len-number.result (omega (arith, c.len-number.ensures)) (omega arith) c.deref.result.now c.is_own.result c.contains.result
+    c.deref.ensures.value (search rules) c.is_own.ensures (search rules) c.contains.ensures c.requires.low c.requires.high c.args.self.now c.self.view_is).called c.undo_live.result c.undo_live.new.self.log c.undo_live.ensures.undone

@@ -1,4 +1,4 @@
-use Rattle.std.proofs.Common.{◌≡◌, ℕ, ◌<◌, ◌≤◌, length, slice_index, Some, Vec, ap, subst, arith, inl, inr}
+use Rattle.std.proofs.Common.{◌≡◌, ℕ, ◌<◌, ◌≤◌, length, slice_index, Some, Vec, sym, ap, subst, arith, inl, inr}
 use Rattle.std.specs.declared.alloc.Global.{Global}
 use Rattle.std.proofs.lemmas.Option.{slice_get_within}
 use Rattle.race_groups.proofs.OrderCutLemmas.{thread_named}
@@ -8,22 +8,17 @@ use Rattle.must_order.specs.MustBefore.{IsForced}
 use Rattle.must_order.specs.declared.kind.Kind.TheVariants.{Candidate, Open}
 use Rattle.race_groups.specs.Ends.{IsKnownBefore, known_before, counted_before}
 use Rattle.race_groups.proofs.CutLemmas.{IsCut-from}
-use Rattle.least_pairs.specs.Going.{HasCandidate, IsOpenHeld, IsVariableHeld}
+use Rattle.least_pairs.specs.Going.{HasCandidate, IsOpenHeld, IsPassed, IsReached, IsVariableHeld, of_lanes}
 use Rattle.least_pairs.specs.Lanes.{access_op, kind_at}
-use Rattle.least_pairs.specs.declared.lanes.Lane.{Lane}
 use Rattle.least_notes.specs.declared.tries.Between.{Between}
 use Rattle.least_pairs.proofs.AlikeLemmas.{HasCandidate-more, HasOpen-more}
 use Rattle.least_pairs.proofs.HeldLemmas.{AreMore-chain}
 use Rattle.least_pairs.proofs.NoneLemmas.{open_apart}
-use Rattle.least_pairs.proofs.NotedLemmas.{notes_more}
 use Rattle.least_pairs.proofs.LaneFacts.{lane_event, lane_rises, lane_thread, read_is}
 use Rattle.least_pairs.proofs.SeenLemmas.{at_place}
+use Rattle.least_pairs.proofs.SoughtLemmas.{candidate_window, open_window}
 use Rattle.least_pairs.proofs.WindowLemmas.{one_between}
 use Rattle.least_pairs.proofs.leasts.Search.event.Goals as goal
-
--- what the pairs of two lanes are of
-abbrev of_lanes : ℕ → Lane → Lane → Between
-of_lanes x earlier later = record { variable = x; earlier = earlier.thread; later = later.thread }
 
 pub known_end-requires-clause-thread : goal.known_end-requires-clause-thread
 known_end-requires-clause-thread c =
@@ -46,18 +41,42 @@ forced_end-requires-clause-thread c =
     thread_named s.indexed.now c.requires.sound.formed (at_place c.args.earlier.now 0) c.args.earlier.now.thread
     (lane_thread s.indexed.now.events s.classes.now.numbers.items c.args.variable c.args.earlier.now c.requires.lanes.first.plain 0 c.requires.some)
 
-pub take_open-requires-clause-seen : goal.take_open-requires-clause-seen
-take_open-requires-clause-seen c = λ k i from below after inside.
+pub take-requires-clause-window : goal.take-requires-clause-window
+take-requires-clause-window c =
+    let s = c.args.self.now in
+    let later = c.args.later.now in
+    let event = c.index-event.result.now in
+    let known = c.reach-known.ensures.reached in
+    let passed = c.pass-passed.ensures.passed in
+    let w = c.advance.new.self in
+    candidate_window s c.requires.sound c.args.variable c.args.earlier.now later c.requires.lanes c.args.at c.requires.at event
+    (read_is later.events.items c.args.at event c.requires.at c.index-event.ensures) w c.known_end.result c.known_end.ensures
+    (subst (λ (n : ℕ). IsReached s.indexed.now.events c.args.earlier.now c.known_end.result n) (sym c.advance.ensures.start) known)
+    (subst (λ (n : ℕ). IsPassed c.args.earlier.now event n) (sym c.advance.ensures.end) passed)
+
+pub take-requires-2-clause-window : goal.take-requires-2-clause-window
+take-requires-2-clause-window c =
+    let s = c.args.self.now in
+    let T = s.indexed.now.events in
+    let later = c.args.later.now in
+    let event = c.index-event.result.now in
+    let w = c.advance-2.new.self in
+    open_window s c.requires.sound c.args.variable c.args.earlier.now later c.requires.lanes c.args.at c.requires.at event
+    (read_is later.events.items c.args.at event c.requires.at c.index-event.ensures) w c.forced_end.result c.known_end.result c.forced_end.ensures c.known_end.ensures
+    (subst (λ (n : ℕ). IsReached T c.args.earlier.now c.forced_end.result n) (sym c.advance-2.ensures.start) c.reach-forced.ensures.reached)
+    (subst (λ (n : ℕ). IsReached T c.args.earlier.now c.known_end.result n) (sym c.advance-2.ensures.end) c.reach-known.ensures.reached)
+
+pub take-requires-2-clause-seen : goal.take-requires-2-clause-seen
+take-requires-2-clause-seen c = λ k i from below after inside.
     let s = c.args.self.now in
     let seen = ap (λ (v : Vec ℕ Global). slice_index v.items (kind_at c.args.later.now i)) c.advance-2.ensures.seen in
-    HasOpen-more s c.args.leasts.now c.take_candidates.new.leasts (at_place c.args.earlier.now k) (at_place c.args.later.now i)
-    (of_lanes c.args.variable c.args.earlier.now c.args.later.now) c.in_ok-take_candidates.ensures.more
+    HasOpen-more s c.args.leasts.now c.take.new.leasts (at_place c.args.earlier.now k) (at_place c.args.later.now i)
+    (of_lanes c.args.variable c.args.earlier.now c.args.later.now) c.in_ok-take.ensures.more
     (c.requires.opens k i (omega (arith, from, c.advance-2.ensures.start, c.reach-forced.ensures.from)) (omega (arith, below, seen)) after inside)
 
 pub returns-clause-more : goal.returns-clause-more
 returns-clause-more c =
-    AreMore-chain c.args.self.now.most c.args.variable c.args.leasts.now c.take_candidates.new.leasts c.take_open.new.leasts
-    c.in_ok-take_candidates.ensures.more c.in_ok-take_open.ensures.more
+    AreMore-chain c.args.self.now.most c.args.variable c.args.leasts.now c.take.new.leasts c.take-2.new.leasts c.in_ok-take.ensures.more c.in_ok-take-2.ensures.more
 
 pub returns-clause-behind : goal.returns-clause-behind
 returns-clause-behind c =
@@ -65,8 +84,8 @@ returns-clause-behind c =
     let T = s.indexed.now.events in
     let earlier = c.args.earlier.now in
     let later = c.args.later.now in
-    let one = c.in_ok-take_candidates.ensures in
-    let other = c.in_ok-take_open.ensures in
+    let one = c.in_ok-take.ensures in
+    let other = c.in_ok-take-2.ensures in
     let is = read_is later.events.items c.args.at c.index-event.result.now c.requires.at c.index-event.ensures in
     let known_cut = IsCut-from T (IsKnownBefore T) (known_before T) c.requires.sound.known in
     let forced_cut = IsCut-from T (IsForced T) (counted_before s.rows.now T) c.requires.sound.forced in
@@ -113,8 +132,8 @@ returns-clause-behind c =
 
 pub returns-clause-candidates : goal.returns-clause-candidates
 returns-clause-candidates c = λ k i from below after inside.
-    HasCandidate-more c.args.self.now c.take_candidates.new.leasts c.take_open.new.leasts (at_place c.args.earlier.now k) (at_place c.args.later.now i) c.args.variable
-    c.in_ok-take_open.ensures.more (c.in_ok-take_candidates.ensures.seen k i from below after inside)
+    HasCandidate-more c.args.self.now c.take.new.leasts c.take-2.new.leasts (at_place c.args.earlier.now k) (at_place c.args.later.now i) c.args.variable
+    c.in_ok-take-2.ensures.more (c.in_ok-take.ensures.seen k i from below after inside)
 
 pub returns-clause-taken : goal.returns-clause-taken
 returns-clause-taken c = λ k lt pair.
@@ -125,22 +144,18 @@ returns-clause-taken c = λ k lt pair.
     let later = c.args.later.now in
     let a = at_place earlier k in
     let b = at_place later c.args.at in
-    let candidate : IsKind r a b Candidate → HasCandidate s x c.take_open.new.leasts a b = λ kind.
-    HasCandidate-more s c.take_candidates.new.leasts c.take_open.new.leasts a b x c.in_ok-take_open.ensures.more (c.in_ok-take_candidates.ensures.held k lt pair kind)
+    let candidate : IsKind r a b Candidate → HasCandidate s x c.take-2.new.leasts a b = λ kind.
+    HasCandidate-more s c.take.new.leasts c.take-2.new.leasts a b x c.in_ok-take-2.ensures.more (c.in_ok-take.ensures.held k lt pair kind)
     in
-    let opens : IsKind r a b Open → IsOpenHeld (slice_index s.places.now) s.groups.now.rows.items s.most c.take_open.new.leasts (of_lanes x earlier later) a b
-    × IsVariableHeld (slice_index s.places.now) s.groups.now.rows.items x c.take_open.new.leasts a b = λ kind.
-    c.in_ok-take_open.ensures.held k lt pair kind (open_apart s c.requires.sound a b pair kind)
+    let opens : IsKind r a b Open → IsOpenHeld (slice_index s.places.now) s.groups.now.rows.items s.most c.take-2.new.leasts (of_lanes x earlier later) a b
+    × IsVariableHeld (slice_index s.places.now) s.groups.now.rows.items x c.take-2.new.leasts a b = λ kind.
+    c.in_ok-take-2.ensures.held k lt pair kind (open_apart s c.requires.sound a b pair kind)
     in record {
       held = record {
         candidate = λ kind. (candidate kind).0;
         opens = λ of of_these kind.
-            subst (λ (o : Between). IsOpenHeld (slice_index s.places.now) s.groups.now.rows.items s.most c.take_open.new.leasts o a b)
+            subst (λ (o : Between). IsOpenHeld (slice_index s.places.now) s.groups.now.rows.items s.most c.take-2.new.leasts o a b)
             (one_between s x earlier later c.requires.lanes k c.args.at lt c.requires.at of of_these) (opens kind).0;
       };
       counted = λ either. elim either [ inl kind ↦ (candidate kind).1 | inr kind ↦ (opens kind).1 ];
     }
-
-pub returns-clause-noted : goal.returns-clause-noted
-returns-clause-noted c =
-    notes_more c.args.self.now c.args.variable c.take_candidates.new.leasts c.take_open.new.leasts c.take_candidates.new.noted c.in_ok-take_open.ensures.more c.in_ok-take_candidates.ensures.noted

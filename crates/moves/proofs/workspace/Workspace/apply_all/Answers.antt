@@ -3,6 +3,15 @@ use Rattle.moves.specs.Ages.{age}
 use Rattle.moves.proofs.BatchLemmas.{all-back, all-of_trace, all-late, all-traced, all-below}
 use Rattle.moves.proofs.workspace.Workspace.apply_all.Goals as goal
 
+pub run_all-requires : goal.run_all-requires
+run_all-requires c = record {
+  listing = c.len.ensures.listing;
+  of_trace = c.requires.of_trace;
+  board = c.requires.board;
+  late = c.requires.late;
+  few = c.requires.few;
+}
+
 pub returns-clause-back : goal.returns-clause-back
 returns-clause-back c =
     all-back c.args.indexed.now c.args.board.now c.args.commands.now (age c.args.entry 0) 0 c.args.self.now c.run_all.new.self

@@ -4,16 +4,17 @@ use Rattle.schedule.specs.Refusals.{refusal_of}
 use Rattle.schedule.specs.Reordering.{IsCorrectReordering, IsEnabled}
 use Rattle.schedule.specs.Tables.{AreTables}
 use Rattle.schedule.proofs.EnabledLemmas.{IsEnabled-none}
+use Rattle.schedule.proofs.InsideLemmas.{IsCorrectReordering-seen}
 use Rattle.schedule.proofs.schedule.Schedule.extend.Goals as goal
 
 pub note-requires-clause-enabled : goal.note-requires-clause-enabled
 note-requires-clause-enabled c =
     let T = c.args.indexed.now.events in
-    let P = c.deref-3.result.now in
-    let none : refusal_of T P c.args.event ≡ None = search rules in
-    let is : IsCorrectReordering T P = search rules in
-    let disciplined : IsDisciplined T = search rules in
-    IsEnabled-none T P c.args.event disciplined is none
+    let same : c.self.inside.trace.value ≡ c.args.indexed.now = ap (λ v. v.trace) c.self.view_is ∙ c.requires in
+    let none : refusal_of T c.deref-3.result.now c.args.event ≡ None =
+    subst (λ l. refusal_of T l c.args.event ≡ None) (c.deref-2.ensures.value ∙ sym c.deref-3.ensures.value) (sym c.in_default.ensures) in
+    IsEnabled-none T c.deref-3.result.now c.args.event (subst (λ r. IsDisciplined r.events) same c.self.invariant.1)
+    (IsCorrectReordering-seen c.self.inside.trace.value c.args.indexed.now c.self.inside.events.items c.deref-3.result.now same c.deref-3.ensures.value c.self.invariant.2) none
 
 pub invariant_of-self-in-Ok-push : goal.invariant_of-self-in-Ok-push
 invariant_of-self-in-Ok-push c =

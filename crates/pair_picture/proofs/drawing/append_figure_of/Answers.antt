@@ -1,0 +1,19 @@
+use Rattle.std.proofs.Common.{refl}
+use Rattle.pair_picture.proofs.PieceLemmas.{three_pieces}
+use Rattle.pair_picture.proofs.drawing.append_figure_of.Goals as goal
+
+pub returns : goal.returns
+returns c =
+    let whole = three_pieces _ _ _ _ _ _ c.in_ok-append_root.ensures c.in_ok-append_title.ensures _ c.in_ok-append_drawn.ensures in (
+      _,
+      whole,
+      record {
+        width = c.args.size.width;
+        height = c.args.size.height;
+        shown_width = c.args.size.shown_width;
+        shown_height = c.args.size.shown_height;
+        shapes = c.bytes.result.now;
+        printed = refl;
+        drawn = rw c.bytes.ensures.text c.bytes.ensures.shapes;
+      },
+    )

@@ -1,0 +1,137 @@
+-- What the counts of a trace go by, and what is known of it. No public clause cites this module.
+use Rattle.std.specs.Prelude.{◌≡◌, ℕ, ◌+◌, ◌-◌, ◌^◌, ◌<◌, ◌≤◌, All, Bool, List, length, slice_index}
+use Rattle.indexmap.specs.IndexMap.{IndexMap}
+use Rattle.rapid_text.specs.Recording.{IsWellFormed}
+use Rattle.event_index.specs.Lookups.{count_before, events_of}
+use Rattle.must_order.specs.MustBefore.{IsForced}
+use Rattle.shb_clocks.specs.SharedRows.{len_of}
+use Rattle.race_groups.specs.Classes.{AreMembers}
+use Rattle.race_groups.specs.Counting.{AreCuts, AreFrontsAt, IsBlank, below_sum, class_sum, flagged_class, flagged_sum, later_count, thread_sum, threads_sum, total_ends, unflagged_count}
+use Rattle.race_groups.specs.Counts.{keeps}
+use Rattle.race_groups.specs.Cuts.{IsCutOf}
+use Rattle.race_groups.specs.Ends.{IsKnownBefore, counted_before, known_before, lower_of, upper_of}
+use Rattle.race_groups.specs.Owners.{AreConflicts}
+use Rattle.race_groups.specs.Rows.{Part, by_part, count_at}
+use Rattle.race_groups.specs.declared.basis.Basis.{Basis}
+use Rattle.race_groups.specs.declared.class.Class.{Class}
+use Rattle.race_groups.specs.declared.counting.Front.{Front}
+use Rattle.race_groups.specs.declared.fronts.Fronts.{Fronts}
+use Rattle.race_groups.specs.declared.rows.Sums.{Sums}
+
+-- All of it is of one trace.
+pub record IsBasis (b : Basis) : Type 0 where
+  pub clocks : b.clocks.now ≡ b.indexed.now
+  pub width : b.forced.now.width ≡ length b.indexed.now.threads
+  pub len : len_of b.forced.now ≡ length b.indexed.now.events
+  pub formed : IsWellFormed b.indexed.now
+  pub cuts : AreCuts b.indexed.now.events b.forced.now
+  pub known : IsCutOf b.indexed.now.events (IsKnownBefore b.indexed.now.events) (known_before b.indexed.now.events)
+  pub must : IsCutOf b.indexed.now.events (IsForced b.indexed.now.events) (counted_before b.forced.now b.indexed.now.events)
+  pub numbers : length b.classes.now.numbers.items ≡ length b.indexed.now.events
+  pub classes : All (λ c. c < length b.classes.now.infos.items) b.classes.now.numbers.items
+  pub few : length b.classes.now.infos.items ≤ 1048576
+  pub members : AreMembers b.classes.now.infos.items b.classes.now.members.items
+  pub conflicts :
+      AreConflicts b.indexed.now.events (length b.indexed.now.threads) b.classes.now.numbers.items b.classes.now.infos.items b.classes.now.members.items
+      b.conflicts.now
+
+-- the fronts of the three cuts before event i of thread u's events
+abbrev pub AreFrontsBefore : Basis → ℕ → ℕ → Fronts → Type 0
+AreFrontsBefore b u i fronts =
+    AreFrontsAt b.indexed.now.events (length b.indexed.now.threads) (length b.classes.now.infos.items) b.classes.now.numbers.items u b.forced.now i fronts
+
+-- how many pairs a later event has below a cut, of those that are kept and lie between two places: event e of thread u
+abbrev pub later_of : Basis → ℕ → ℕ → (Class → Class → Bool) → (ℕ → ℕ → ℕ) → ℕ → ℕ → ℕ
+later_of b u e keep end p q = later_count b.indexed.now.events keep b.classes.now.numbers.items b.classes.now.infos.items u end p q e
+
+-- the same event, where it is not of a flagged class
+abbrev pub unflagged_of : Basis → ℕ → List ℕ → ℕ → (Class → Class → Bool) → (ℕ → ℕ → ℕ) → ℕ → ℕ → ℕ
+unflagged_of b u flags e keep end p q = unflagged_count b.indexed.now.events keep b.classes.now.numbers.items b.classes.now.infos.items u end p q flags e
+
+-- all events of thread u that are of class c
+abbrev pub class_of : Basis → ℕ → ℕ → (Class → Class → Bool) → (ℕ → ℕ → ℕ) → ℕ → ℕ → ℕ
+class_of b u c keep end p q = class_sum b.indexed.now.events keep b.classes.now.numbers.items b.classes.now.infos.items u end p q c
+
+-- the same, where the class is flagged
+abbrev pub flagged_of : Basis → ℕ → List ℕ → ℕ → (Class → Class → Bool) → (ℕ → ℕ → ℕ) → ℕ → ℕ → ℕ
+flagged_of b u flags c keep end p q = flagged_class b.indexed.now.events keep b.classes.now.numbers.items b.classes.now.infos.items u end p q flags c
+
+-- the same of the first n classes
+abbrev pub all_flagged : Basis → ℕ → List ℕ → ℕ → (Class → Class → Bool) → (ℕ → ℕ → ℕ) → ℕ → ℕ → ℕ
+all_flagged b u flags n keep end p q = flagged_sum b.indexed.now.events keep b.classes.now.numbers.items b.classes.now.infos.items u end p q flags n
+
+-- all events of thread u
+abbrev pub thread_of : Basis → ℕ → (Class → Class → Bool) → (ℕ → ℕ → ℕ) → ℕ → ℕ → ℕ
+thread_of b u keep end p q = thread_sum b.indexed.now.events keep b.classes.now.numbers.items b.classes.now.infos.items end p q u
+
+-- Each part has more than it had by what comes below its upper cut and not below its lower one.
+abbrev pub AreAdded : {S : Type 0} → Basis → ((Class → Class → Bool) → (ℕ → ℕ → ℕ) → ℕ → ℕ → ℕ) → IndexMap (ℕ × ℕ) Sums S → IndexMap (ℕ × ℕ) Sums S → Type 0
+AreAdded b pairs old new =
+    (k : Part) (p q : ℕ) → p ≤ q
+    → count_at k new p q + pairs (keeps b.classes.now.lists.keys k) (lower_of b.indexed.now.events b.forced.now k) p q
+    ≡ count_at k old p q + pairs (keeps b.classes.now.lists.keys k) (upper_of b.indexed.now.events k) p q
+
+-- Each part has no more than it had and what comes below its upper cut.
+abbrev pub AreFew : {S : Type 0} → Basis → ((Class → Class → Bool) → (ℕ → ℕ → ℕ) → ℕ → ℕ → ℕ) → IndexMap (ℕ × ℕ) Sums S → IndexMap (ℕ × ℕ) Sums S → Type 0
+AreFew b pairs old new =
+    (k : Part) (p q : ℕ) → p ≤ q
+    → count_at k new p q ≤ count_at k old p q + pairs (keeps b.classes.now.lists.keys k) (upper_of b.indexed.now.events k) p q
+
+-- all pairs, each twice, as they are told class by class
+abbrev pub totals_of : Basis → Part → ℕ → ℕ → ℕ
+totals_of b k p q =
+    threads_sum b.indexed.now.events (keeps b.classes.now.lists.keys k) b.classes.now.numbers.items b.classes.now.infos.items (total_ends b.indexed.now.events k) p q
+    (length b.indexed.now.threads)
+
+-- all events of the first n threads
+abbrev pub threads_of : Basis → ℕ → (Class → Class → Bool) → (ℕ → ℕ → ℕ) → ℕ → ℕ → ℕ
+threads_of b n keep end p q = threads_sum b.indexed.now.events keep b.classes.now.numbers.items b.classes.now.infos.items end p q n
+
+-- All pairs are counted twice, and besides what the events of the first n threads have below one cut and not below the next.
+abbrev pub AreSummed : {S : Type 0} → Basis → ℕ → IndexMap (ℕ × ℕ) Sums S → Type 0
+AreSummed b n rows =
+    (k : Part) (p q : ℕ) → p ≤ q
+    → count_at k rows p q + threads_of b n (keeps b.classes.now.lists.keys k) (lower_of b.indexed.now.events b.forced.now k) p q
+    ≡ totals_of b k p q + threads_of b n (keeps b.classes.now.lists.keys k) (upper_of b.indexed.now.events k) p q
+
+-- None counts more than that of all threads.
+abbrev pub AreFewAll : {S : Type 0} → Basis → IndexMap (ℕ × ℕ) Sums S → Type 0
+AreFewAll b rows =
+    (k : Part) (p q : ℕ) → p ≤ q
+    → count_at k rows p q ≤ totals_of b k p q + threads_of b (length b.indexed.now.threads) (keeps b.classes.now.lists.keys k) (upper_of b.indexed.now.events k) p q
+
+-- so many more may be added to each
+abbrev pub HasRoom : {S : Type 0} → ℕ → IndexMap (ℕ × ℕ) Sums S → Type 0
+HasRoom n rows = (k : Part) (p q : ℕ) → p ≤ q → count_at k rows p q + n ≤ 2 ^ 42
+
+-- nothing comes before the fronts yet
+pub record AreBlank (b : Basis) (fronts : Fronts) : Type 0 where
+  pub earlier : IsBlank (length b.indexed.now.threads) (length b.classes.now.infos.items) fronts.earlier
+  pub known : IsBlank (length b.indexed.now.threads) (length b.classes.now.infos.items) fronts.known
+  pub forced : IsBlank (length b.indexed.now.threads) (length b.classes.now.infos.items) fronts.forced
+
+-- The counts are how many events of each class come below the cuts of thread u's events of class j, together.
+pub record IsBelow (b : Basis) (u j : ℕ) (end : ℕ → ℕ → ℕ) (front : Front) : Type 0 where
+  pub len : length front.counts.items ≡ length b.classes.now.infos.items
+  pub counted : (c : ℕ) → c < length b.classes.now.infos.items → slice_index front.counts.items c
+      ≡ below_sum b.indexed.now.events (length b.indexed.now.threads) b.classes.now.numbers.items u end j c (events_of b.indexed.now.events u)
+
+pub record AreBelow (b : Basis) (u j : ℕ) (fronts : Fronts) : Type 0 where
+  pub earlier : IsBelow b u j (count_before b.indexed.now.events) fronts.earlier
+  pub known : IsBelow b u j (known_before b.indexed.now.events) fronts.known
+  pub forced : IsBelow b u j (counted_before b.forced.now b.indexed.now.events) fronts.forced
+
+-- Of each class, how many events come below the three cuts, each of them within the one before it; none of a class of which thread u has all
+-- events.
+pub record AreLoose (b : Basis) (u : ℕ) (fronts : Fronts) : Type 0 where
+  pub earlier_len : length fronts.earlier.counts.items ≡ length b.classes.now.infos.items
+  pub known_len : length fronts.known.counts.items ≡ length b.classes.now.infos.items
+  pub forced_len : length fronts.forced.counts.items ≡ length b.classes.now.infos.items
+  pub under : (c : ℕ) → c < length b.classes.now.infos.items → slice_index fronts.known.counts.items c ≤ slice_index fronts.earlier.counts.items c
+  pub within : (c : ℕ) → c < length b.classes.now.infos.items → slice_index fronts.forced.counts.items c ≤ slice_index fronts.known.counts.items c
+  pub own : (c : ℕ) → c < length b.classes.now.infos.items → slice_index b.conflicts.now.owners.items c ≡ u → slice_index fronts.earlier.counts.items c ≡ 0
+  pub few : (c : ℕ) → c < length b.classes.now.infos.items → slice_index fronts.earlier.counts.items c ≤ 1099511627776
+
+-- what each class adds to a part, from what comes below the three cuts
+abbrev pub loose_of : List ℕ → List ℕ → List ℕ → Part → ℕ → ℕ
+loose_of earlier known forced k c = by_part 0 (slice_index earlier c - slice_index known c) (slice_index known c - slice_index forced c) k

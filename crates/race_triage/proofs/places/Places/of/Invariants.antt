@@ -1,5 +1,0 @@
-use Rattle.race_triage.specs.Places.{AreNumbered}
-use Rattle.race_triage.proofs.places.Places.of.Given as goal
-
-abbrev pub invariant-loop-event : goal.invariant-loop-event
-invariant-loop-event l = AreNumbered l.indexed l.event l.locations.keys l.numbers.items
