@@ -2,11 +2,12 @@
 use Rattle.std.proofs.Common.{◌≡◌, ◌≢◌, ◌⊎◌, ◌++◌, ℕ, List, [], Option, Result, Ok, Err, OnOk, OnErr, IfErr, refl, sym, ap, ◌∙◌, subst, inl, inr}
 use Rattle.rapid_text.specs.Recording.{Recording}
 use Rattle.std.specs.Io.KnownBytes.{Appends}
+use Rattle.client_scripts.specs.Loading.{IsTraceOf}
 use Rattle.client_scripts.specs.Replay.{AppendsPart, IsFault, of_trace}
 use Rattle.client_scripts.specs.declared.fault.ReadCause.{ReadCause}
 use Rattle.client_scripts.specs.declared.fault.ReplayFault.{ReplayFault}
 use Rattle.client_scripts.specs.declared.fault.ReplayFault.TheVariants.{Text, Rule, Script, Read, Write, OutOfMemory}
-use Rattle.pair_calls.specs.Answers.{IsAnswered, IsListed, IsPairOf, IsRead, IsUnexplained, IsUnlisted, IsUnwitnessed, IsWitness, IsWritten}
+use Rattle.pair_calls.specs.Answers.{IsAnswered, IsListed, IsPairOf, IsUnexplained, IsUnlisted, IsUnwitnessed, IsWitness, IsWritten}
 use Rattle.pair_calls.specs.Forms.{IsPrinted}
 use Rattle.pair_calls.specs.declared.fault.PairFault.{PairFault}
 use Rattle.pair_calls.specs.declared.form.Form.{Form}
@@ -27,7 +28,7 @@ module _ (Prints : Recording → List ℕ → Type 0) (Refuses : Recording → P
   answered-unread bytes known Write h = absurd (fault_of bytes Write (λ e. cc e) h)
   answered-unread bytes known OutOfMemory h = refl
 
-  module _ (r : Recording) (bytes : List ℕ) (old new : Option (List ℕ)) (read : IsRead bytes r) (only_memory : (fault : ReplayFault) → Refuses r (Replay fault) → fault ≡ OutOfMemory) where
+  module _ (r : Recording) (bytes : List ℕ) (old new : Option (List ℕ)) (read : IsTraceOf bytes r) (only_memory : (fault : ReplayFault) → Refuses r (Replay fault) → fault ≡ OutOfMemory) where
     -- what was written of the trace that the bytes say
     pub answered-written : (result : Result Unit PairFault) → IsWritten Prints Refuses r old new result → IsAnswered Prints Refuses bytes old new result
     answered-written (Ok done) w = (r, read, w)

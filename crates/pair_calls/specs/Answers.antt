@@ -15,9 +15,8 @@ use Rattle.pair_findings.specs.Findings.{IsFinding, IsNeverShown, IsShownByNone}
 use Rattle.pair_findings.specs.declared.finding.Finding.{Finding}
 use Rattle.pair_findings.specs.declared.finding.Finding.TheVariants.{Race, Forced, Guarded, Undecided}
 use Rattle.pair_findings.specs.declared.searching.TheConstants.{BUDGET}
-use Rattle.client_scripts.specs.Replay.{AppendsPart, IsFault, IsShort, of_trace}
-use Rattle.client_scripts.specs.Traces.{trace_of}
-use Rattle.client_scripts.specs.declared.fault.ReplayFault.{ReplayFault}
+use Rattle.client_scripts.specs.Loading.{IsTraceOf}
+use Rattle.client_scripts.specs.Replay.{AppendsPart, IsFault, of_trace}
 use Rattle.client_scripts.specs.declared.fault.ReplayFault.TheVariants.{Write, OutOfMemory}
 use Rattle.pair_calls.specs.Forms.{IsPrinted}
 use Rattle.pair_calls.specs.declared.fault.PairFault.{PairFault}
@@ -99,21 +98,17 @@ IsWritten Prints Refuses r old new (Ok done) = (text : List ℕ) × Prints r tex
 IsWritten Prints Refuses r old new (Err (Replay Write)) = (text : List ℕ) × Prints r text × AppendsPart old new text
 IsWritten Prints Refuses r old new (Err fault) = Refuses r fault × (new ≡ old)
 
--- The bytes are of the trace r.
-abbrev pub IsRead : List ℕ → Recording → Type 0
-IsRead bytes r = IsShort bytes × (trace_of bytes ≡ Ok r)
-
 -- The same of the trace that the bytes say; at a fault of theirs nothing was written.
 abbrev pub IsAnswered : (Recording → List ℕ → Type 0) → (Recording → PairFault → Type 0) → List ℕ → Option (List ℕ) → Option (List ℕ) → Result Unit PairFault → Type 0
-IsAnswered Prints Refuses bytes old new (Ok done) = (r : Recording) × IsRead bytes r × IsWritten Prints Refuses r old new (Ok done)
+IsAnswered Prints Refuses bytes old new (Ok done) = (r : Recording) × IsTraceOf bytes r × IsWritten Prints Refuses r old new (Ok done)
 IsAnswered Prints Refuses bytes old new (Err (Replay Write)) =
-    (r : Recording) × IsRead bytes r × IsWritten Prints Refuses r old new (Err (Replay Write))
+    (r : Recording) × IsTraceOf bytes r × IsWritten Prints Refuses r old new (Err (Replay Write))
 IsAnswered Prints Refuses bytes old new (Err (Replay OutOfMemory)) = new ≡ old
 IsAnswered Prints Refuses bytes old new (Err (Replay fault)) = IsFault (of_trace bytes) fault × (new ≡ old)
 IsAnswered Prints Refuses bytes old new (Err NoSuchPair) =
-    (r : Recording) × IsRead bytes r × IsWritten Prints Refuses r old new (Err NoSuchPair)
+    (r : Recording) × IsTraceOf bytes r × IsWritten Prints Refuses r old new (Err NoSuchPair)
 IsAnswered Prints Refuses bytes old new (Err (NotShown kind)) =
-    (r : Recording) × IsRead bytes r × IsWritten Prints Refuses r old new (Err (NotShown kind))
+    (r : Recording) × IsTraceOf bytes r × IsWritten Prints Refuses r old new (Err (NotShown kind))
 
 -- what `explain` answers of the pair
 abbrev pub IsExplained : List ℕ → ℕ → ℕ → Option (List ℕ) → Option (List ℕ) → Result Unit PairFault → Type 0

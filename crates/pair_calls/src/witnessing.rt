@@ -4,7 +4,6 @@ ghost use Rattle.client_scripts.specs.declared.fault.ReadCause.{ReadCause};
 ghost use Rattle.client_scripts.specs.declared.fault.ReadCause.TheVariants.{Device};
 ghost use Rattle.client_scripts.specs.declared.fault.ReplayFault.TheVariants.{Write, Read};
 ghost use Rattle.event_index.specs.Relations.{IsConflicting};
-ghost use Rattle.pair_findings.specs.Findings.{IsFinding};
 ghost use Rattle.pair_calls.specs.Answers.{IsUnwitnessed, IsWitness, IsWitnessed, IsWritten, IsListed, IsUnlisted};
 ghost use Rattle.pair_calls.specs.declared.fault.PairFault.TheVariants.{Replay};
 

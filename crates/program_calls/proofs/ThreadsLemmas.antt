@@ -2,12 +2,12 @@
 use Rattle.std.proofs.Common.{◌≡◌, ◌⊎◌, ℕ, suc, length, arith, List, Bool, true, false, IfOk, IfErr, Option, Result, Ok, Err, refl, subst, sym, ap, ◌∙◌, inl, inr}
 use Rattle.rapid_text.specs.Recording.{Recording}
 use Rattle.client_scripts.specs.Replay.{IsFault, IsShort, of_trace}
-use Rattle.client_scripts.specs.Loading.{IsUnreadFrom}
+use Rattle.client_scripts.specs.Loading.{IsTold, IsUnreadFrom}
 use Rattle.client_scripts.specs.Traces.{trace_of}
 use Rattle.client_scripts.specs.declared.fault.ReplayFault.{ReplayFault}
 use Rattle.client_scripts.specs.declared.fault.ReplayFault.TheVariants.{Read, Write, OutOfMemory}
 use Rattle.client_scripts.specs.declared.fault.ReadCause.TheVariants.{Device}
-use Rattle.program_calls.specs.ScriptInputs.{IsFirstFault, IsScriptFault, IsTold}
+use Rattle.program_calls.specs.ScriptInputs.{IsFirstFault, IsScriptFault}
 use Rattle.program_calls.specs.Threads.{IsRunFault, StopsRun}
 use Rattle.program_calls.specs.declared.fault.BenchFault.{BenchFault}
 use Rattle.program_calls.specs.declared.fault.BenchFault.TheVariants.{Replay}

@@ -1,6 +1,7 @@
 -- The scripts that are to run at once: input i + 1 is the script of client i. All notions here are this project's own.
 use Rattle.std.specs.Prelude.{◌≡◌, ◌⊎◌, ◌==◌, ◌<◌, ℕ, suc, ◌+◌, not, find, option_map, List, [], ◌∷◌, ◌++◌, length, All, Option, Some, Ok, Err, IfSome, ⊤}
 use Rattle.script_language.specs.Scripts.{Asked, IsScript}
+use Rattle.client_scripts.specs.Loading.{IsTold}
 use Rattle.client_scripts.specs.Replay.{IsShort}
 use Rattle.client_scripts.specs.declared.fault.TheConstants.{LIMIT}
 use Rattle.client_scripts.specs.declared.fault.ReadCause.TheVariants.{Device, TooLong}
@@ -10,10 +11,6 @@ use Rattle.script_language.specs.declared.refusal.ScriptCause.TheVariants.{BadCl
 use Rattle.script_language.specs.declared.refusal.ScriptRefusal.{ScriptRefusal}
 use Rattle.program_calls.specs.declared.fault.BenchFault.{BenchFault}
 use Rattle.program_calls.specs.declared.fault.BenchFault.TheVariants.{Replay, Script}
-
--- the bytes are those that the reader tells, where it tells them
-abbrev pub IsTold : Option (List ℕ) → List ℕ → Type 0
-IsTold rest bytes = IfSome rest (λ told. bytes ≡ told)
 
 -- the bytes are within the limit of an input, and those that the reader tells, where it tells them
 abbrev pub IsReadAs : Option (List ℕ) → List ℕ → Type 0

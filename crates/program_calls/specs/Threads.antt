@@ -1,12 +1,13 @@
 -- What `threads` writes and answers of a trace's bytes and of its readers of scripts. All notions here are this project's own.
 use Rattle.std.specs.Prelude.{◌≡◌, ◌⊎◌, ◌<◌, ℕ, List, Bool, true, Option, Ok}
 use Rattle.rapid_text.specs.Recording.{Recording}
+use Rattle.client_scripts.specs.Loading.{IsTold}
 use Rattle.client_scripts.specs.Replay.{IsAccepted, IsFault, IsShort, of_trace}
 use Rattle.script_language.specs.Scripts.{Asked}
 use Rattle.client_scripts.specs.Traces.{trace_of}
 use Rattle.client_scripts.specs.declared.fault.ReplayFault.{ReplayFault}
 use Rattle.client_scripts.specs.declared.fault.ReplayFault.TheVariants.{Write, OutOfMemory}
-use Rattle.program_calls.specs.ScriptInputs.{AreScripts, IsFirstFault, IsTold}
+use Rattle.program_calls.specs.ScriptInputs.{AreScripts, IsFirstFault}
 use Rattle.program_calls.specs.Told.{AreTold}
 use Rattle.program_calls.specs.declared.fault.BenchFault.{BenchFault}
 use Rattle.program_calls.specs.declared.fault.BenchFault.TheVariants.{Replay, NoThread, TooManyScripts}

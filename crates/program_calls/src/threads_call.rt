@@ -2,9 +2,10 @@
 ghost use Rattle.std.specs.Prelude.{◌≡◌, ◌≢◌, ◌⊎◌, ◌<◌, ◌≤◌, ℕ, List, All, false, true, map, vec_len, IfErr, OnErr, OnOk, Err};
 ghost use Rattle.std.specs.Io.KnownBytes.{Appends};
 ghost use Rattle.script_language.specs.Scripts.{Asked};
+ghost use Rattle.client_scripts.specs.Loading.{IsTold};
 ghost use Rattle.client_scripts.specs.declared.fault.ReplayFault.TheVariants.{Write, Read};
 ghost use Rattle.client_scripts.specs.declared.fault.ReadCause.TheVariants.{Device};
-ghost use Rattle.program_calls.specs.ScriptInputs.{AreScripts, IsFirstFault, IsTold};
+ghost use Rattle.program_calls.specs.ScriptInputs.{AreScripts, IsFirstFault};
 ghost use Rattle.program_calls.specs.Threads.{IsRunFault, RunsTogether, StopsRun};
 ghost use Rattle.program_calls.specs.Told.{AreTold};
 ghost use Rattle.program_calls.specs.declared.fault.BenchFault.TheVariants.{Replay, TooManyScripts};

@@ -51,7 +51,7 @@ fn write_access(
     write_line(piece, &mut text, indexed, must, event)
 }
 
-/// Writes the line of an access. Its words are put into a text that is empty.
+/// Writes the line of an access, whose words are made in a text of their own.
 fn write_line(
     piece: &mut Piece,
     text: &mut Vec<u8>,

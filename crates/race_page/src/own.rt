@@ -5,7 +5,7 @@ ghost use Rattle.race_page.specs.Own.{begin_text, end_text, part_text};
 use crate::style::{BODY, FOOT, TOP};
 
 /// An element of the page.
-#[derive(Clone, Copy)]
+#[derive(Clone, Copy, PartialEq, Eq, Debug)]
 pub enum Tag {
     /// The title of the window.
     Title,
@@ -25,7 +25,7 @@ pub enum Tag {
     PartHeading,
     /// A paragraph.
     Paragraph,
-    /// Text from outside, whose direction of writing stays its own.
+    /// Text from outside: what is written in another direction turns nothing around it.
     Isolated,
     /// A table.
     Table,
@@ -60,7 +60,7 @@ pub enum Tag {
 }
 
 /// A part of the page that is always the same.
-#[derive(Clone, Copy)]
+#[derive(Clone, Copy, PartialEq, Eq, Debug)]
 pub enum Part {
     /// What stands before the title.
     Top,

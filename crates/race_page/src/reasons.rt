@@ -33,7 +33,7 @@ pub(crate) fn write_reason(
     write_line(piece, &mut text, indexed, must, verdict, shown)
 }
 
-/// Writes the line. The reason is put into a text that is empty.
+/// Writes the line, whose words are made in a text of their own.
 fn write_line(
     piece: &mut Piece,
     text: &mut Vec<u8>,

@@ -97,7 +97,7 @@ fn write_runs(
     write_explained(piece, &mut text, indexed, &verdict, shown)
 }
 
-/// Writes what is told of the verdict. It is put into a text that is empty.
+/// Writes what is told of the verdict, whose words are made in a text of their own.
 fn write_explained(
     piece: &mut Piece,
     text: &mut Vec<u8>,

@@ -1,5 +1,4 @@
 //! Texts of several lines.
-ghost use Rattle.std.specs.Prelude.{◌≡◌, ◌≤◌, length};
 
 use crate::own::{Part, Tag};
 use crate::piece::{Item, Piece};

@@ -10,7 +10,7 @@ use Rattle.client_scripts.specs.declared.fault.ReplayFault.{ReplayFault}
 use Rattle.client_scripts.specs.declared.fault.ReplayFault.TheVariants.{Text, Rule, Script, Read, Write, OutOfMemory}
 use Rattle.client_scripts.specs.declared.fault.ReadCause.TheVariants.{Device, TooLong}
 use Rattle.client_scripts.specs.declared.fault.TheConstants.{LIMIT}
-use Rattle.pair_calls.specs.Answers.{IsRead}
+use Rattle.client_scripts.specs.Loading.{IsTraceOf}
 use Rattle.triage_calls.specs.Answers.{given_text, IsKnownFault, IsKnownRead, IsKnownUnread, IsTriaged, IsWritten}
 use Rattle.triage_calls.specs.declared.fault.TriageFault.{TriageFault}
 use Rattle.triage_calls.specs.declared.fault.TriageFault.TheVariants.{Replay, TooMany}
@@ -59,7 +59,7 @@ module _ {X : Type 0} (bytes listed : List ℕ) (given : Option X) (asked : Aske
   unread-triaged known (Read input why) other (inl e) = absurd (cc e)
 
 -- what was written of the trace that the bytes say
-module _ {X : Type 0} (bytes listed : List ℕ) (given : Option X) (asked : Asked) (r : Recording) (old new : Option (List ℕ)) (read : IsRead bytes r) where
+module _ {X : Type 0} (bytes listed : List ℕ) (given : Option X) (asked : Asked) (r : Recording) (old new : Option (List ℕ)) (read : IsTraceOf bytes r) where
   pub written-triaged : (result : Result ℕ TriageFault) → IsWritten r (given_text given listed) asked old new result → IsTriaged bytes listed given asked old new result
   written-triaged (Ok races) (shown, listing, appended) = (shown, (r, read, listing), appended)
   written-triaged (Err (Replay Write)) (races, shown, listing, appended) = (races, shown, (r, read, listing), appended)

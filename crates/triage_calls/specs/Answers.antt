@@ -19,7 +19,7 @@ use Rattle.client_scripts.specs.Replay.{AppendsPart, IsAccepted, IsFault, IsUnre
 use Rattle.client_scripts.specs.declared.fault.ReplayFault.{ReplayFault}
 use Rattle.client_scripts.specs.declared.fault.ReplayFault.TheVariants.{Read, Write, OutOfMemory}
 use Rattle.client_scripts.specs.Steps.{IsInput}
-use Rattle.pair_calls.specs.Answers.{IsRead}
+use Rattle.client_scripts.specs.Loading.{IsTraceOf}
 use Rattle.triage_calls.specs.declared.fault.TriageFault.{TriageFault}
 use Rattle.triage_calls.specs.declared.fault.TriageFault.TheVariants.{Replay, TooMany}
 use Rattle.triage_calls.specs.declared.listing.Asked.{Asked}
@@ -105,7 +105,7 @@ IsKnownFault bytes listed fault = ⊥
 -- the trace's bytes are accepted, and the text tells what was asked for
 abbrev pub IsAnswer : List ℕ → Option (List ℕ) → Asked → ℕ → List ℕ → Type 0
 IsAnswer bytes given asked races text =
-    (r : Recording) × IsRead bytes r × IsListing r given asked races text
+    (r : Recording) × IsTraceOf bytes r × IsListing r given asked races text
 
 -- What is answered, and what the writer has taken: the whole text; or the writer failed, and it is a beginning of the text; or, at another
 -- fault, nothing.
@@ -115,4 +115,4 @@ IsTriaged bytes listed given asked old new (Err (Replay Write)) =
     (races : ℕ) × (text : List ℕ) × IsAnswer bytes (given_text given listed) asked races text × AppendsPart old new text
 IsTriaged bytes listed given asked old new (Err (Replay OutOfMemory)) = new ≡ old
 IsTriaged bytes listed given asked old new (Err (Replay fault)) = (IsFault (of_trace bytes) fault ⊎ IsKnownFault bytes listed fault) × (new ≡ old)
-IsTriaged bytes listed given asked old new (Err TooMany) = (r : Recording) × IsRead bytes r × IsCrowded r × (new ≡ old)
+IsTriaged bytes listed given asked old new (Err TooMany) = (r : Recording) × IsTraceOf bytes r × IsCrowded r × (new ≡ old)

@@ -2,7 +2,7 @@
 ghost use Rattle.std.specs.Prelude.{◌≡◌, ◌≢◌, ◌++◌, ℕ, List, None, Err, IfErr, IfOk, IfSome, length, option_map, true, false};
 ghost use Rattle.client_scripts.specs.declared.fault.ReadCause.TheVariants.{Device};
 ghost use Rattle.client_scripts.specs.declared.fault.ReplayFault.TheVariants.{Read, Write};
-ghost use Rattle.pair_calls.specs.Answers.{IsRead};
+ghost use Rattle.client_scripts.specs.Loading.{IsTraceOf};
 ghost use Rattle.race_triage.specs.Chosen.{known_places, AreChosen};
 ghost use Rattle.race_triage.specs.Places.{AreNumbered};
 ghost use Rattle.triage_calls.specs.Answers.{hide_of, only_of, AreVerdicts, IsGiven, IsKnownRead, IsKnownUnread, IsListing, IsToldIn, IsTriaged, IsUntold, IsWritten};
@@ -101,7 +101,7 @@ fn triage_on<R: Threads + Sync, L: Source + Drop, K: Sink, W: Watch + Sync>(
 ) -> Result<u64, TriageFault>
     requires known { IfSome known (λ k. L.has_failed k ≡ false) }
     requires writer { K.has_failed writer.old ≡ false }
-    ensures triaged { (bytes : List ℕ) → IsRead bytes indexed.now → (listed : List ℕ)
+    ensures triaged { (bytes : List ℕ) → IsTraceOf bytes indexed.now → (listed : List ℕ)
         × IfSome known (λ k. IfSome (L.rest k) (λ told. listed ≡ told))
         × IsTriaged bytes listed known asked.entry (K.taken writer.old) (K.taken writer.new) result }
     ensures write { result ≡ Err (Replay Write) → K.has_failed writer.new ≡ true }
