@@ -163,7 +163,7 @@ impl Ordering {
         self.take_rest(list)
     }
 
-    /// Nothing is taken.
+    /// Notes what is known of the list before anything is taken.
     fn begin(&mut self, alloc: Global, indexed: &Indexed, list: &[u32]) -> Result<(), OutOfMemory> {
         add_needs(alloc, indexed, list, &mut self.needs)?;
         add_lists(alloc, &mut self.left, indexed.threads())?;

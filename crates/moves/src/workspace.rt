@@ -233,7 +233,7 @@ impl Workspace {
         }
     }
 
-    // The same, with what takes the commands back where there is room for it.
+    // Fills `items`, which has room for an inverse of each command.
     fn run_on_copy(
         &mut self,
         items: &mut Vec<Inverse>,
@@ -335,7 +335,7 @@ impl Workspace {
         }
     }
 
-    // The same, by steps of its own.
+    // Takes the steps on a copy. They are lent, so that the caller gives them back where memory is wanting.
     fn turn_on_copy(&mut self, indexed: &Indexed, inverses: &[Inverse]) -> Result<(), OutOfMemory>
         requires of_trace { IsOfTrace indexed.now self.old }
         requires steps { AreOfTrace indexed.now inverses.now }

@@ -92,7 +92,7 @@ impl Rows {
         self.add_by(indexed, &mut row, &mut spare)
     }
 
-    // The same, with room for two rows.
+    // The same, by two lists that are empty: a loop that owns them would prove at each way out how they are dropped.
     fn add_by(
         &mut self,
         indexed: &Indexed,

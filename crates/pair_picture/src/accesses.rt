@@ -30,7 +30,7 @@ pub(crate) fn note_locks(
     note_held(locks, &depths)
 }
 
-/// Appends the numbers of the locks that are held so often.
+/// Appends the numbers of the locks whose depth is above 0.
 fn note_held(locks: &mut Vec<u32>, depths: &[u32]) -> Result<(), OutOfMemory> {
     let mut lock = 0u32;
     for depth in depths {

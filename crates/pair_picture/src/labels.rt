@@ -1,4 +1,4 @@
-//! Lines of text in a picture.
+//! Words and names of a picture's lines.
 ghost use Rattle.std.specs.Prelude.{◌<◌, length, IfSome};
 ghost use Rattle.rapid_text.specs.Recording.{IsNamedOp};
 

@@ -137,7 +137,7 @@ pub(crate) fn heavies(alloc: Global, basis: Basis<'_>, thread: u32) -> Result<Ve
     Ok(flags)
 }
 
-// Flags each class, from a list of nothing but 0.
+// Flags the heavy classes. No class is flagged yet.
 fn flag(flags: &mut [u32], basis: Basis<'_>, thread: u32)
     requires basis { IsBasis basis }
     requires thread { thread < length basis.indexed.now.threads }

@@ -51,7 +51,8 @@ fn add_pairs(
     Ok(())
 }
 
-// The same of the class of this number. It is looked at only where there is something to add.
+// The same of the class of this number. It is looked at only where there is something to add, so for most classes
+// this step is all, and a call would cost more than it does.
 #[inline(always)]
 fn add_share(
     rows: &mut Rows,
