@@ -29,6 +29,26 @@ def locked_trace(events, threads, location, seed):
     return lines
 
 
+def guarded_trace(events, threads, seed):
+    """Blocks of four events, each access under the lock of its variable: 1,000 variables, 100 locks. No candidate."""
+    pick = random.Random(seed)
+    lines = []
+    while len(lines) + 4 <= events:
+        t, x = pick.randrange(threads), pick.randrange(1_000)
+        for op in (f"acq(L{x % 100})", f"r(V{x})", f"w(V{x})", f"rel(L{x % 100})"):
+            lines.append(f"T{t}|{op}|{len(lines) % 1000}")
+    return lines
+
+
+def loose_trace(events, threads, seed):
+    """The same, and at the end T0 and T1 take each lock once and then no more: T0 writes 999 of the variables, and T1
+    reads them. One candidate each, the last two accesses of the variable."""
+    end = [f"T{t}|{op}(L{l})|end" for t in (0, 1) for l in range(100) for op in ("acq", "rel")]
+    for x in range(999):
+        end += [f"T0|w(V{x})|loose", f"T1|r(V{x})|loose"]
+    return guarded_trace(max(events - len(end), 0), threads, seed) + end
+
+
 def named_trace(events, threads, names):
     return [f"T{i % threads}|w({names[i % len(names)]})|{i}" for i in range(events)]
 
@@ -105,6 +125,9 @@ def write_traces(folder):
             write_trace(folder, f"readers_{threads}_{events}", readers(events, threads))
     for threads in (4, 256):
         write_trace(folder, f"locked_{threads}_{MOST_EVENTS}", locked_trace(MOST_EVENTS, threads, short, 1))
+    for threads in (64, 256):
+        write_trace(folder, f"guarded_{threads}_{MOST_EVENTS}", guarded_trace(MOST_EVENTS, threads, 5))
+    write_trace(folder, f"loose_64_{MOST_EVENTS}", loose_trace(MOST_EVENTS, 64, 5))
     write_trace(folder, f"one_variable_256_{MOST_EVENTS}", one_variable(MOST_EVENTS, 256))
     write_trace(folder, f"nested_{EVENTS}", nested(EVENTS))
     write_trace(folder, f"many_names_{EVENTS}", named_trace(EVENTS, 64, [f"variable_{i}" for i in range(EVENTS)]))

@@ -1,3 +1,4 @@
+pub mod AheadLemmas
 pub mod CallerLemmas
 pub mod ChainLemmas
 pub mod CountLemmas

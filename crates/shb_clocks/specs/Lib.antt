@@ -3,6 +3,8 @@ pub mod Candidates
 pub mod HappensBefore
 pub mod Known
 pub mod Layout
+pub mod Partners
+pub mod Rivals
 pub mod Search
 pub mod SharedLayout
 pub mod SharedRows

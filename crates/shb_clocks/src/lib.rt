@@ -1,10 +1,13 @@
 //! The order SHB of a trace's events, and the candidates for races that it leaves.
 #![tactic(auto)]
 
+mod ahead;
 mod candidates;
 mod chains;
 mod clocks;
 mod laws;
+mod partners;
+mod rivals;
 mod rows;
 mod shared_rows;
 mod spots;

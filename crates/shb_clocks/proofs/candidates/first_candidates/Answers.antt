@@ -1,6 +1,7 @@
-use Rattle.std.proofs.Common.{ℕ, arith, ◌<◌, ◌≤◌, length, ◌∙◌}
+use Rattle.std.proofs.Common.{arith, ◌<◌, ◌≤◌, length, ◌∙◌}
+use Rattle.std.proofs.lemmas.Option.{slice_get_within}
 use Rattle.shb_clocks.proofs.ListedLemmas.{AreListed-room, AreFirstCandidates-full, AreFirstCandidates-all, AreFirstBelow-none}
-use Rattle.shb_clocks.proofs.PartnerLemmas.{no_partner}
+use Rattle.shb_clocks.proofs.AheadLemmas.{IsWithoutPartner-left}
 use Rattle.shb_clocks.proofs.candidates.first_candidates.Goals as goal
 use Rattle.shb_clocks.proofs.candidates.first_candidates.Goals.{in-Some+in_ok-seek+in_ok-list, in_default}
 
@@ -24,10 +25,11 @@ loop-first-preserved c =
       writes = c.pass-in-loop-first.ensures.chains;
       of_writes = c.pass-in-loop-first.ensures.writes ∙ i.of_writes;
       listed =
-          elim c.match-sought.branch [
+          elim c.match-found.branch [
             | in-Some+in_ok-seek+in_ok-list w ↦ rw w.pairs-is w.in_ok-list.ensures
             | in_default w ↦
-                let none = λ (b : ℕ). no_partner c.args.indexed.now.events c.loop-first.first b c.event-op.result c.event-op.ensures.found (c.sought.ensures.none w.in_default.is) in
+                let none =
+                IsWithoutPartner-left c.args.indexed.now.events c.in_ok-marks.marks.items c.loop-first.first _ c.event-op.result c.in_ok-marks.ensures (slice_get_within c.args.indexed.now.events c.loop-first.first c.event-op.result c.event-op.ensures.found) c.index.ensures c.event-op.ensures.found (c.sought-found.ensures.none w.in_default.is) in
                 rw w.pairs-is (AreFirstBelow-none c.args.indexed.now.events c.loop-first.first c.args.limit c.loop-first.pairs i.listed room none)
           ];
     }
