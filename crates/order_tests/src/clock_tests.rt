@@ -3,7 +3,7 @@
 ghost use Rattle.std.specs.Prelude.{◌≡◌};
 
 use crate::fixtures::{ONE_LOCK, TWO_PAIRS};
-use crate::questions::{Question, first_wrong};
+use crate::questions::{Question, first_wrong, is_answered};
 use event_index::Indexed;
 use shb_clocks::Clocks;
 use std::alloc::Global;
@@ -20,6 +20,22 @@ fn are_ordered(clocks: &Clocks, indexed: &Indexed, pairs: &[(u32, u32, bool)]) -
             && *first < len
             && *second < len
             && clocks.ordered(*first, *second) == *wanted;
+    }
+    are_right
+}
+
+// Whether each event knows as many events of the thread as is wanted.
+fn are_known(clocks: &Clocks, indexed: &Indexed, wanted: &[(u32, u32, u32)]) -> bool
+    requires { clocks.now ≡ indexed.now }
+{
+    let len = indexed.len();
+    let threads = indexed.threads();
+    let mut are_right = true;
+    for (event, thread, count) in wanted {
+        are_right = are_right
+            && *event < len
+            && *thread < threads
+            && clocks.known(indexed, *event, *thread) == *count;
     }
     are_right
 }
@@ -71,6 +87,8 @@ fn is_told_with(
 {
     match question {
         Question::Ordered(pairs) => Some(are_ordered(clocks, indexed, pairs)),
+        Question::Known(wanted) => Some(are_known(clocks, indexed, wanted)),
+        Question::Rows(wanted) => Some(clocks.rows() == wanted),
         Question::Candidates(limit, wanted) => are_first(alloc, clocks, indexed, limit, wanted),
         Question::Slice(pair, wanted) => is_slice(alloc, clocks, indexed, pair, wanted),
         _ => Some(false),
@@ -100,6 +118,26 @@ const FORK_AND_JOIN: &[u8] = b"M|fork(W)|1\nW|w(x)|2\nM|join(W)|3\nM|r(x)|4";
 
 // A thread is forked and joined and does nothing; the event before the fork comes before that after the join.
 const IDLE_THREAD: &[u8] = b"A|w(x)|\nA|fork(W)|\nB|join(W)|\nB|w(x)|";
+
+// Each number counted by hand along the edges of the trace.
+const COUNTS: &[(&[u8], Question)] = &[
+    (
+        TWO_PAIRS,
+        Question::Known(&[(2, 0, 1), (2, 1, 2), (3, 1, 0), (3, 0, 2)]),
+    ),
+    (
+        ONE_LOCK,
+        Question::Known(&[(5, 0, 3), (5, 1, 3), (2, 1, 0)]),
+    ),
+    (
+        FORK_AND_JOIN,
+        Question::Known(&[(1, 0, 1), (3, 1, 1), (3, 0, 3)]),
+    ),
+    (TWO_PAIRS, Question::Rows(2)),
+    (ONE_LOCK, Question::Rows(3)),
+    (FORK_AND_JOIN, Question::Rows(4)),
+    (b"", Question::Rows(0)),
+];
 
 const CANDIDATES: &[(&[u8], Question)] = &[
     (
@@ -152,6 +190,45 @@ const SLICES: &[(&[u8], Question)] = &[
         Question::Slice((0, 5), Err(SliceRefusal::NotCandidate)),
     ),
 ];
+
+// A read of another thread after 65,536 writes: more events than 16 bits count.
+const BEHIND_WRITES: &[Question] = &[
+    Question::Candidates(2, &[(0, 65_536), (1, 65_536)]),
+    Question::Rows(2),
+    Question::Known(&[(65_535, 0, 65_536), (65_536, 0, 65_536)]),
+];
+
+fn many_writes(alloc: Global) -> Option<Vec<u8>> {
+    let mut text = Vec::new(alloc);
+    for _line in 0..65_536 {
+        text.extend_from_slice(b"T1|w(x)|1\n").ok()?;
+    }
+    text.extend_from_slice(b"T2|r(x)|2").ok()?;
+    Some(text)
+}
+
+// The first of these questions that is answered otherwise.
+fn first_wrong_behind(alloc: Global, text: &[u8]) -> Option<usize> {
+    for at in 0..BEHIND_WRITES.len() {
+        if is_answered(alloc, text, BEHIND_WRITES[at]) != Some(true) {
+            return Some(at);
+        }
+    }
+    None
+}
+
+#[test]
+fn questions_behind_65536_writes(rt: HostRuntime) {
+    match many_writes(rt.alloc()) {
+        Some(text) => assert_eq!(rt; first_wrong_behind(rt.alloc(), text.as_slice()), None),
+        None => assert!(rt; false),
+    }
+}
+
+#[test]
+fn memory_known_events_are_counted_when_asked_again(rt: HostRuntime) {
+    assert_eq!(rt; first_wrong(rt.alloc(), COUNTS), None);
+}
 
 #[test]
 fn memory_candidates_are_told_when_asked_again(rt: HostRuntime) {

@@ -247,6 +247,27 @@ fn pool_serves_on_one_thread(rt: HostRuntime) {
     assert!(rt; pool_serves(&rt, rt.alloc()));
 }
 
+// Whether a pool of one worker, asked once, starts, takes a request and answers it.
+fn pool_answers<R: Threads + Wait + Clone + Send + Drop + 'static>(rt: &R, alloc: Global) -> bool {
+    let Some(is_open) = flag_of(alloc, true) else {
+        return false;
+    };
+    match pool_of(rt, alloc, 1, &is_open) {
+        Some(Ok(mut pool)) => {
+            let is_taken = pool.submit(rt, greedy_request(alloc)) == Ok(0);
+            let is_answered = is_witness(pool.collect(rt), 0);
+            pool.stop(rt);
+            is_taken && is_answered
+        }
+        _ => false,
+    }
+}
+
+#[test]
+fn pool_always_out_of_memory(rt: HostRuntime) {
+    assert!(rt; pool_answers(&rt, rt.alloc()));
+}
+
 // How many requests are taken, up to 70, before one is refused; and whether that is since so many are pending.
 fn count_taken<R: Wait>(rt: &R, pool: &mut Pool<Holds>) -> (u32, bool) {
     for taken in 0..70u32 {

@@ -29,6 +29,10 @@ pub(crate) enum Question {
     Hashers(&'static [u8], bool),
     // Which of these pairs of events are in order.
     Ordered(&'static [(u32, u32, bool)]),
+    // How many events of a thread an event knows: the event, the thread, the number.
+    Known(&'static [(u32, u32, u32)]),
+    // How many events begin a row of counts.
+    Rows(u32),
     // The first candidates up to a limit.
     Candidates(u32, &'static [Pair]),
     // The slice of a pair, or why it has none.
@@ -60,9 +64,11 @@ fn is_answered_on(alloc: Global, indexed: &Indexed, question: Question) -> Optio
         Question::Events(events) => Some(are_events(indexed, events)),
         Question::Sections(ends) => Some(are_sections(indexed, ends)),
         Question::Hashers(text, wanted) => Some(has_hashers_of(indexed, text) == wanted),
-        Question::Ordered(..) | Question::Candidates(..) | Question::Slice(..) => {
-            is_told_by_clocks(alloc, indexed, question)
-        },
+        Question::Ordered(..)
+        | Question::Known(..)
+        | Question::Rows(..)
+        | Question::Candidates(..)
+        | Question::Slice(..) => is_told_by_clocks(alloc, indexed, question),
         Question::Search(start, pair, budget, wanted) => {
             is_found(alloc, indexed, start, pair, budget, wanted)
         },
@@ -78,7 +84,7 @@ fn is_answered_on(alloc: Global, indexed: &Indexed, question: Question) -> Optio
 }
 
 // What is large is dropped by `drop`, of which it has been proved how it drops what is of any type.
-fn is_answered(alloc: Global, text: &[u8], question: Question) -> Option<bool> {
+pub(crate) fn is_answered(alloc: Global, text: &[u8], question: Question) -> Option<bool> {
     match indexed_of(alloc, text) {
         Some(indexed) => {
             let answer = is_answered_on(alloc, &indexed, question);

@@ -4,10 +4,11 @@ ghost use Rattle.schedule.specs.Reordering.{IsCorrectReordering};
 ghost use Rattle.schedule.specs.Shows.{Shows};
 ghost use Rattle.must_order.specs.Kinds.{IsKind};
 ghost use Rattle.must_order.specs.declared.kind.Kind.TheVariants.{Candidate, Forced, Open};
+ghost use Rattle.in_order.specs.InOrder.{IsInOrder};
 ghost use Rattle.in_order.specs.Laws.{HasListInOrder};
 ghost use Rattle.in_order.specs.Refusals.{IsNeverShownInOrder};
 ghost use Rattle.in_order.specs.declared.refusal.InOrderRefusal.TheVariants.{OutOfMemory as NoMemory};
-ghost use Rattle.pair_findings.specs.Findings.{IsFinding, IsListInOrder, IsShownAs, IsNeverShown};
+ghost use Rattle.pair_findings.specs.Findings.{IsFinding, IsFoundAs, IsListInOrder, IsShownAs, IsNeverShown};
 
 use crate::finding::Finding;
 use event_index::{EventList, Indexed};
@@ -80,6 +81,7 @@ fn list_in_order(
     second: u32,
 ) -> Result<Option<EventList>, OutOfMemory>
     ensures listed { IfOk result (λ found. IfSome found (IsListInOrder indexed.now.events first second)) }
+    ensures least { IfOk result (λ found. IfSome found (IsInOrder indexed.now.events first second)) }
     ensures never { IfOk result (λ found. found ≡ None → IsNeverShownInOrder indexed.now.events first second) }
     ensures none { IfOk result (λ found. found ≡ None → ¬ HasListInOrder indexed.now.events first second) }
 {
@@ -138,6 +140,7 @@ fn race(
     requires reordering { IsCorrectReordering indexed.now.events list.now }
     requires shows { Shows indexed.now.events list.now first second }
     requires how { IsShownAs indexed.now first second how }
+    requires found { IsFoundAs indexed.now.events first second how list.now }
     ensures { IfOk result (IsFinding indexed.now first second) }
 {
     let events = fewer_runs(alloc, indexed, list, first, second)?;

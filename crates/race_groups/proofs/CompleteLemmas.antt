@@ -1,18 +1,23 @@
 -- Which rows there are, and where they stand.
-use Rattle.std.proofs.Common.{◌≡◌, ℕ, zero, suc, ◌*◌, ◌<◌, ◌≤◌, ◌==◌, ◌&&◌, ◌⊎◌, Bool, true, false, not, nat_lt, List, [], ◌∷◌, length, map, All, Contains, count_by, get_or, Option, Some, None, Result, Err, refl, sym, ap, subst, ◌∙◌, inl, inr, arith}
+use Rattle.std.proofs.Common.{◌≡◌, ℕ, zero, suc, ◌*◌, ◌<◌, ◌≤◌, ◌==◌, ◌&&◌, ◌⊎◌, Bool, true, false, not, nat_lt, List, [], ◌∷◌, length, map, All, Contains, count_by, get_or, Option, Some, None, Result, Err, Vec, refl, sym, ap, subst, ◌∙◌, inl, inr, arith}
 use Rattle.std.specs.List.{slice_get}
 use Rattle.std.specs.Option.{option_map, IfSome}
 use Rattle.std.specs.Map.{keys_of, lookup}
+use Rattle.std.specs.declared.alloc.Global.{Global}
 use Rattle.std.proofs.lemmas.Bool.{cases_Bool, cases_order, cases_lt, cond-true, cond-false, and_parts, and_from, false_from_ne_true, true≢false, lt-ltb, le-ltb, eq-eqb, or_left, or_right}
 use Rattle.std.proofs.lemmas.List.{length-map}
 use Rattle.std.proofs.lemmas.List.Elements.{All-contains, All-head, All-tail, All-nil, All-cons, filter_passes}
 use Rattle.std.proofs.lemmas.Map.Keys.{apart_from_distinct}
 use Rattle.std.proofs.lemmas.Option.{same_Some, slice_get_within, get_or_from_slice_get, slice_get-map}
 use Rattle.rapid_text.specs.declared.event.Event.{Event}
+use Rattle.event_index.specs.Lookups.{count_before}
 use Rattle.indexmap.specs.IndexMap.{IndexMap, IsUnique, get, keys}
+use Rattle.race_groups.specs.Counts.{AreCounted, is_below}
+use Rattle.race_groups.specs.Ends.{known_before}
 use Rattle.race_groups.specs.Found.{HaveConflict, AreComplete, AreOnce, AreTooMany, are_places}
 use Rattle.race_groups.specs.Groups.{group_of, conflicts, count_of, is_between}
-use Rattle.race_groups.specs.Rows.{Part, same_places, count_at, AreMore}
+use Rattle.race_groups.specs.Rows.{Part, of_all, of_candidates, of_ordered, of_guarded, same_places, count_at, AreMore}
+use Rattle.race_groups.specs.declared.class.Class.{Class}
 use Rattle.race_groups.specs.declared.kinds.Row.{Row}
 use Rattle.race_groups.specs.declared.rows.Sums.{Sums}
 use Rattle.race_groups.proofs.ApartLemmas.{in_group}
@@ -209,3 +214,31 @@ AreTooMany-from T place limit m are fits = record {
       let le = fits some.0 p.0 p.1 low in
       have_some T place p.0 p.1 (omega (arith, le, some.1)));
 }
+
+-- what is counted of two places is of a conflicting pair
+module _
+    {S : Type 0} (T : List Event) (place : ℕ → ℕ) (classes : List ℕ) (infos : List Class) (lists : List (Vec ℕ Global)) (m : IndexMap (ℕ × ℕ) Sums S)
+    (counted : AreCounted T place classes infos lists m) where
+  counted_conflict : (p q : ℕ) → p ≤ q → (k : Part) → 0 < count_at k m p q → HaveConflict T place (p, q)
+  counted_conflict p q low of_all some = let all = counted.all p q low in have_some T place p q (omega (arith, all, some))
+  counted_conflict p q low of_candidates some =
+      let more = counted.candidates p q low in
+      have_conflict T place (is_below T classes infos lists of_candidates (count_before T)) p q (omega (arith, more, some))
+  counted_conflict p q low of_ordered some =
+      let more = counted.ordered p q low in
+      have_conflict T place (is_below T classes infos lists of_ordered (known_before T)) p q (omega (arith, more, some))
+  counted_conflict p q low of_guarded some =
+      let more = counted.guarded p q low in
+      have_conflict T place (is_below T classes infos lists of_guarded (known_before T)) p q (omega (arith, more, some))
+
+  -- so each row has one
+  pub AreConflicting-from : (rows : List Row) → places_of rows ≡ keys m → All (λ (row : Row). HaveConflict T place row.places) rows
+  AreConflicting-from rows is =
+      All-from_slice_get (λ (row : Row). HaveConflict T place row.places) rows
+      (λ i row at.
+      let p = row.places in
+      let key = key_from_row rows (keys m) i row is at in
+      let there : Contains (keys m) p = (i, slice_get_within (keys m) i p key, get_or_from_slice_get (keys m) i p p key) in
+      let some = counted.are.counted p.0 p.1 there in
+      let low : p.0 ≤ p.1 = All-contains (λ (e : ℕ × ℕ). e.0 ≤ e.1) (keys m) p counted.are.rising there in
+      counted_conflict p.0 p.1 low some.0 some.1)

@@ -1,5 +1,5 @@
 //! Pairs of places whose conflicting pairs no correct reordering shows.
-ghost use Rattle.std.specs.Prelude.{◌≡◌, true, slice_index};
+ghost use Rattle.std.specs.Prelude.{◌≡◌, ◌↔◌, IsTrue, true, slice_index};
 ghost use Rattle.race_groups.specs.Kinds.{IsRow, IsNeverShownBetween};
 
 use crate::kinds::Row;
@@ -9,8 +9,9 @@ use must_order::apart_is_never_shown;
 /// Whether all conflicting pairs of the row's two places are forced or guarded. `places` has for each event the number of its place.
 pub fn is_apart(indexed: &Indexed, places: &[u32], row: Row) -> bool
     requires { IsRow indexed.now (slice_index places.now) row }
+    ensures counts { IsTrue result ↔ ((row.counts.candidates ≡ 0) × (row.counts.open_pairs ≡ 0)) }
     // Then no correct reordering shows any two events of these places.
-    ensures { result ≡ true → IsNeverShownBetween indexed.now.events (slice_index places.now) row.places.0 row.places.1 }
+    ensures never { result ≡ true → IsNeverShownBetween indexed.now.events (slice_index places.now) row.places.0 row.places.1 }
 {
     apart_is_never_shown();
     let _len = indexed.len();

@@ -1,7 +1,7 @@
 //! The conflicting pairs of a trace by pair of places and by kind.
 ghost use Rattle.std.specs.Prelude.{◌≡◌, ◌≤◌, ℕ, All, IfOk, IfSome, Err, Some, None, true, false, length, map, slice_get, slice_index};
 ghost use Rattle.indexmap.specs.IndexMap.{IsUnique, keys};
-ghost use Rattle.race_groups.specs.Found.{AreComplete, AreOnce, AreTooMany, are_places};
+ghost use Rattle.race_groups.specs.Found.{AreComplete, AreOnce, AreTooMany, HaveConflict, are_places};
 ghost use Rattle.race_groups.specs.Groups.{is_between};
 ghost use Rattle.race_groups.specs.Rows.{same_places};
 ghost use Rattle.race_groups.specs.Classes.{AreClasses, AreLocks, AreMembers};
@@ -111,8 +111,10 @@ pub fn groups_of(
     requires locks { AreLocks indexed.now.events classes.now.lists.keys classes.now.numbers.items classes.now.infos.items }
     // The four counts of each row are those of the conflicting pairs of its places that are of each kind.
     ensures rows { IfOk result (λ found. All (IsRow indexed.now (slice_index places.now)) found.rows.items) }
-    // Each two events that conflict have a row, no two rows have the same places, and there are no more than `limit`.
+    // Each two events that conflict have a row, each row's places have two, no two rows have the same places, and there are no more
+    // than `limit`.
     ensures complete { IfOk result (λ found. AreComplete indexed.now.events (slice_index places.now) found.rows.items) }
+    ensures there { IfOk result (λ found. All (λ row. HaveConflict indexed.now.events (slice_index places.now) row.places) found.rows.items) }
     ensures once { IfOk result (λ found. AreOnce found.rows.items) }
     ensures few_rows { IfOk result (λ found. length found.rows.items ≤ limit) }
     // It is refused only where more pairs of places have a conflicting pair, or for want of memory.

@@ -13,8 +13,8 @@ use Rattle.rapid_text.specs.Reading.{is_line_feed}
 use Rattle.rapid_text.specs.Recording.{Recording}
 use Rattle.race_groups.specs.Rows.{same_places}
 use Rattle.race_groups.proofs.RowLemmas.{between_cases, same_places_are}
-use Rattle.race_triage.specs.Blocks.{ArePair, IsAhead, IsNoted, IsPlace, IsReadUpTo, IsRead, IsTold}
-use Rattle.race_triage.specs.Known.{accesses_in, is_access, is_head, AreFirstTwo, AreKnown, IsBlock, NamesRace, OnlyNamed}
+use Rattle.race_triage.specs.Blocks.{AreAhead, ArePair, IsAhead, IsNoted, IsPlace, IsReadUpTo, IsRead, IsTold}
+use Rattle.race_triage.specs.Known.{accesses_in, is_access, is_head, AreFirstTwo, AreKnown, HasBlock, IsBlock, NamesRace, OnlyNamed}
 use Rattle.race_triage.specs.Places.{AreNumbered, IsSpot}
 use Rattle.race_triage.proofs.PlaceLemmas.{is_text, one_text}
 use Rattle.race_triage.specs.declared.known.Block.{Block}
@@ -273,6 +273,28 @@ module _ (keys : List (Vec ℕ Global)) where
           | inr had ↦ had p q (places.0, places.1, (named.0, names.3, places.2), (named.1, names.4, places.3), places.4, places.5)
         ],
   )
+
+module _ (all left rest : List (List ℕ)) (line : List ℕ) (block next : Block) (told : Option (Bor (List ℕ) × Bor (List ℕ)))
+    (are : AreAhead all left block) (split : left ≡ line ∷ rest) (reads : IsRead block line next told) where
+  -- what a line more tells stands among all lines
+  told-block : (one other : List ℕ) → IsTold told one other ⊎ IsAhead next rest one other → IsBlock all one other
+  told-block one other h = (are one other).0 (subst (λ ls. IsAhead block ls one other) (sym split) ((reads rest one other).1 h))
+
+  pub AreAhead-step : told ≡ None → AreAhead all rest next
+  AreAhead-step none one other = (
+    λ ahead. told-block one other (inr ahead),
+    λ whole. elim ((reads rest one other).0 (subst (λ ls. IsAhead block ls one other) split ((are one other).1 whole))) [
+      | inl now ↦ absurd (subst (λ t. IsTold t one other) none now)
+      | inr ahead ↦ ahead
+    ],
+  )
+
+  pub AreAhead-found : (one other : Bor (List ℕ)) → told ≡ Some (one, other) → (x y : List ℕ) × IsBlock all x y
+  AreAhead-found one other is = (one.now, other.now, told-block one.now other.now (inl (subst (λ t. IsTold t one.now other.now) (sym is) (refl, refl))))
+
+-- where no line is left there is no block
+pub AreAhead-end : (text : List ℕ) (block : Block) → AreAhead (slice_split is_line_feed text) [] block → ¬ HasBlock text
+AreAhead-end text block are has = nothing_ahead [] block has.0 has.1 ((are has.0 has.1).1 has.2)
 
 -- the two numbers of a pair are those of two others, in one order or the other
 two_orders : (p q a b m n : ℕ) → p ≡ min m n → q ≡ max m n → ((a ≡ p) × (b ≡ q)) ⊎ ((a ≡ q) × (b ≡ p)) → ((a ≡ m) × (b ≡ n)) ⊎ ((a ≡ n) × (b ≡ m))

@@ -1,13 +1,19 @@
 mod ChosenLemmas
+mod CountLemmas
 mod FilterLemmas
 pub mod HeldLemmas
 mod KnownLemmas
+mod ListLemmas
 mod MarkLemmas
+pub mod NumberLemmas
+mod OnceLemmas
+mod OneLemmas
 mod OpenLemmas
 mod OutcomeLemmas
 mod PieceLemmas
 mod PlaceLemmas
 mod RowLemmas
+pub mod SameLemmas
 pub mod VerdictLemmas
 mod WorkerLemmas
 mod TotalLemmas

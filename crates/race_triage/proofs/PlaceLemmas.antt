@@ -1,19 +1,19 @@
 -- Locations that are numbered by their first uses.
-use Rattle.std.proofs.Common.{◌≡◌, ℕ, ◌+◌, ◌<◌, List, [], ◌∷◌, ◌++◌, Bool, true, false, Vec, length, Some, position, get_or, refl, sym, ap, ◌∙◌, subst, arith, inl, inr}
+use Rattle.std.proofs.Common.{◌≡◌, ℕ, ◌+◌, ◌<◌, List, [], ◌∷◌, ◌++◌, ◌||◌, cond, map, take, Bool, true, false, Vec, length, Some, position, get_or, refl, sym, ap, ◌∙◌, subst, arith, inl, inr}
 use Rattle.std.specs.Bool.{if◌then◌else◌}
 use Rattle.std.specs.List.{slice_get, list_any, position_or_len}
 use Rattle.std.specs.Prelude.{nat_eq, slice_index}
 use Rattle.std.specs.Cmp.Lexicographic.{pointwise, bytes_decides}
 use Rattle.std.specs.declared.alloc.Global.{Global}
-use Rattle.std.proofs.lemmas.Bool.{cases_lt}
-use Rattle.std.proofs.lemmas.List.{length-append, get_or_append_left}
+use Rattle.std.proofs.lemmas.Bool.{cases_lt, cond-true, cond-false}
+use Rattle.std.proofs.lemmas.List.{length-append, get_or_append_left, map-append}
 use Rattle.std.proofs.Math.Seq.{get_or-append_seam}
 use Rattle.std.proofs.lemmas.List.Quantifiers.{position-Some}
-use Rattle.std.proofs.lemmas.List.Sums.{position_or_len_is, passes_at_first, fails_before_first}
-use Rattle.std.proofs.lemmas.Option.{slice_get-get_or, same_Some}
+use Rattle.std.proofs.lemmas.List.Sums.{fold_more, position_or_len_is, passes_at_first, fails_before_first}
+use Rattle.std.proofs.lemmas.Option.{get_or_from_slice_get, slice_get-get_or, slice_get_within, same_Some}
 use Rattle.rapid_text.specs.Recording.{Recording, IsWellFormed}
 use Rattle.rapid_text.proofs.Positions.{none-position}
-use Rattle.race_triage.specs.Places.{AreNumbers, AreNumbered, AreKept, IsSpot}
+use Rattle.race_triage.specs.Places.{AreFirstUses, AreNumbers, AreNumbered, AreKept, IsSpot, first_uses, texts_of, with_text}
 
 -- whether a key is the text
 abbrev pub is_text : List ℕ → Vec ℕ Global → Bool
@@ -68,6 +68,36 @@ IsSpot-insert old new key name n same none is at =
     let here : n ≡ length old = at ∙ ap (λ (t : List ℕ). position_or_len (is_text t) old) same ∙ past in
     let equal : is_text name key ≡ true = (bytes_decides name key.items).1 (sym same) in
     subst (λ (m : ℕ). IsSpot new name m) (sym here) (subst (λ (keys : List (Vec ℕ Global)). IsSpot keys name (length old)) (sym grown) (new_push old key name equal past))
+
+-- the texts of the set, with one more
+any_texts : (name : List ℕ) (keys : List (Vec ℕ Global)) → list_any (pointwise nat_eq name) (texts_of keys) ≡ list_any (is_text name) keys
+any_texts name [] = refl
+any_texts name (key ∷ keys) = ap (λ (b : Bool). is_text name key || b) (any_texts name keys)
+
+pub with_text-there : (keys : List (Vec ℕ Global)) (name : List ℕ) → list_any (is_text name) keys ≡ true → texts_of keys ≡ with_text (texts_of keys) name
+with_text-there keys name there =
+    sym (cond-true (list_any (pointwise nat_eq name) (texts_of keys)) (texts_of keys) (texts_of keys ++ name ∷ []) (any_texts name keys ∙ there))
+
+pub with_text-insert :
+    (old new : List (Vec ℕ Global)) (key : Vec ℕ Global) (name : List ℕ) → key.items ≡ name → list_any (is_text name) old ≡ false
+    → new ≡ (if list_any (is_text key.items) old then old else old ++ key ∷ []) → texts_of new ≡ with_text (texts_of old) name
+with_text-insert old new key name same none is =
+    let absent : list_any (is_text key.items) old ≡ false = ap (λ (t : List ℕ). list_any (is_text t) old) same ∙ none in
+    let grown : new ≡ old ++ key ∷ [] = is ∙ ap (λ (b : Bool). if b then old else old ++ key ∷ []) absent in
+    ap texts_of grown
+    ∙ map-append (λ (v : Vec ℕ Global). v.items) old (key ∷ [])
+    ∙ ap (λ (t : List ℕ). texts_of old ++ t ∷ []) same
+    ∙ sym (cond-false (list_any (pointwise nat_eq name) (texts_of old)) (texts_of old) (texts_of old ++ name ∷ []) (any_texts name old ∙ none))
+
+pub AreFirstUses-push : (r : Recording) (n : ℕ) (old new : List (Vec ℕ Global)) (name : List ℕ) → AreFirstUses r n old → slice_get r.locations n ≡ Some name
+    → texts_of new ≡ with_text (texts_of old) name → AreFirstUses r (n + 1) new
+AreFirstUses-push r n old new name are at noted =
+    let more = fold_more with_text [] r.locations n name (slice_get_within r.locations n name at) in
+    let here = get_or_from_slice_get r.locations n name name at in
+    noted
+    ∙ ap (λ (ts : List (List ℕ)). with_text ts name) are
+    ∙ ap (λ (t : List ℕ). with_text (first_uses (take n r.locations)) t) (sym here)
+    ∙ sym more
 
 index_before : (numbers : List ℕ) (m e : ℕ) → e < length numbers → slice_index (numbers ++ m ∷ []) e ≡ slice_index numbers e
 index_before numbers m e lt = get_or_append_left numbers (m ∷ []) 0 e lt

@@ -3,16 +3,19 @@ use Rattle.std.proofs.Common.{◌≡◌, ◌≢◌, ℕ, ◌+◌, ◌*◌, ◌<�
 use Rattle.std.specs.List.Sorted.{IsNonDecreasingBy}
 use Rattle.std.proofs.lemmas.Bool.{cases_order}
 use Rattle.std.proofs.lemmas.List.Elements.{All-get_or, All-weaker}
+use Rattle.std.proofs.lemmas.Option.{slice_get_within}
 use Rattle.rapid_text.specs.Recording.{Recording}
+use Rattle.rapid_text.specs.declared.event.Event.{Event}
 use Rattle.explain_report.specs.declared.verdict.How.{How}
 use Rattle.explain_report.specs.declared.verdict.How.TheVariants.{Candidate, Beyond, Turned}
 use Rattle.event_index.specs.Lookups.{before}
+use Rattle.race_groups.specs.Found.{HaveConflict}
 use Rattle.race_groups.specs.Groups.{IsCountOf}
 use Rattle.race_groups.specs.Kinds.{IsRow, IsNeverShownBetween}
 use Rattle.race_groups.specs.declared.kinds.Counts.{Counts}
 use Rattle.race_groups.specs.declared.kinds.Row.{Row}
 use Rattle.least_pairs.specs.Pairs.{IsPair, AreAt, HasPair, IsLeastPair}
-use Rattle.least_pairs.specs.declared.wanted.Wanted.TheVariants.{Candidate as CandidatePair}
+use Rattle.least_pairs.specs.declared.wanted.Wanted.TheVariants.{Candidate as CandidatePair, Any as AnyPair}
 use Rattle.race_triage.specs.Verdicts.{IsOutcome, IsOutcomeFor, IsRaceOf, IsOpenRace, HasOpen, IsTold, IsPairFor, IsFirstOfTried, IsVerdictOn, IsNoLater, AreRising}
 use Rattle.race_triage.specs.declared.verdicts.Outcome.{Outcome}
 use Rattle.race_triage.specs.declared.verdicts.Outcome.TheVariants.{Race, Undecided, Apart}
@@ -23,15 +26,16 @@ module _
     (r : Recording) (place : ℕ → ℕ) (tries : ℕ) (apart : Bool) (row : Row) (a b n : ℕ) (o : Outcome) (v : Verdict) (at_first : v.first ≡ a)
     (at_second : v.second ≡ b) (at_row : v.row ≡ row) (at_variables : v.variables ≡ n) (at_outcome : v.outcome ≡ o) where
   pub IsVerdict-made :
-      a < length r.events → b < length r.events → IsRow r place row → (IsTold apart o → IsPair r.events a b × AreAt place row.places a b)
+      a < length r.events → b < length r.events → IsRow r place row → HaveConflict r.events place row.places → (IsTold apart o → IsPair r.events a b × AreAt place row.places a b)
       → IsOutcome r a b o → IsOutcomeFor row.counts o → (o ≡ Apart → IsNeverShownBetween r.events place row.places.0 row.places.1)
       → IsCountOf (HasPair r place row.places) (before (length r.variables)) n → IsPairFor r place tries apart row.places (b, a) o
       → IsVerdictOn r place tries apart row v
-  IsVerdict-made first second counted pair shown counts never variables least = (
+  IsVerdict-made first second counted there pair shown counts never variables least = (
     record {
       first = subst (λ (k : ℕ). k < length r.events) (sym at_first) first;
       second = subst (λ (k : ℕ). k < length r.events) (sym at_second) second;
       row = subst (λ (w : Row). IsRow r place w) (sym at_row) counted;
+      there = subst (λ (w : Row). HaveConflict r.events place w.places) (sym at_row) there;
       pair = λ told.
           let here = pair (subst (IsTold apart) at_outcome told) in (
             subst (λ (k : ℕ). IsPair r.events k v.second) (sym at_first) (subst (λ (k : ℕ). IsPair r.events a k) (sym at_second) here.0),
@@ -51,6 +55,21 @@ module _
     },
     at_row,
   )
+
+-- where two events conflict there are some
+pub some_events : (T : List Event) (place : ℕ → ℕ) (places : ℕ × ℕ) → HaveConflict T place places → 0 < length T
+some_events T place places there =
+    let within = slice_get_within T there.second there.conflict.w there.conflict.second in
+    omega (arith, within)
+
+-- a pair that conflicts is a pair of any kind
+pub none_fits : (r : Recording) (place : ℕ → ℕ) (places : ℕ × ℕ) → HaveConflict r.events place places → IsLeastPair r place places AnyPair None → ⊥
+none_fits r place places there none =
+    none there.first there.second (record {
+      pair = record { conflict = there.conflict; earlier = there.earlier; within = slice_get_within r.events there.second there.conflict.w there.conflict.second };
+      at = there.between;
+      kind = tt;
+    })
 
 race_apart : (how : How) (n k : ℕ) → Race how n k ≢ Apart
 race_apart how n k same = cc

@@ -1,5 +1,5 @@
 -- Parts of the verdicts, put together.
-use Rattle.std.proofs.Common.{◌≡◌, ℕ, ◌<◌, ◌%◌, Bool, List, ◌++◌, All, Contains, length, slice_index_or, sym, subst, inl, inr}
+use Rattle.std.proofs.Common.{◌≡◌, ℕ, ◌<◌, ◌%◌, Bool, List, ◌++◌, All, Contains, length, slice_index_or, sym, subst}
 use Rattle.std.proofs.lemmas.List.Elements.{All-append, Contains-append_left, Contains-append_right}
 use Rattle.std.proofs.lemmas.Option.{slice_get_within, get_or_from_slice_get}
 use Rattle.rapid_text.specs.Recording.{Recording}
@@ -10,18 +10,15 @@ use Rattle.race_triage.specs.Verdicts.{IsVerdict, IsAnswered, AreAllTold, ArePar
 use Rattle.race_triage.specs.declared.verdicts.Verdict.{Verdict}
 
 module _ (r : Recording) (place : ℕ → ℕ) where
-  pub IsAnswered-weaker : (vs ws : List Verdict) (row : Row) → ((v : Verdict) → Contains vs v → Contains ws v) → IsAnswered r place vs row → IsAnswered r place ws row
-  IsAnswered-weaker vs ws row kept is = elim is [
-    | inl told ↦ inl (told.0, kept told.0 told.1, told.2)
-    | inr none ↦ inr none
-  ]
+  pub IsAnswered-weaker : (vs ws : List Verdict) (row : Row) → ((v : Verdict) → Contains vs v → Contains ws v) → IsAnswered vs row → IsAnswered ws row
+  IsAnswered-weaker vs ws row kept is = (is.0, kept is.0 is.1, is.2)
 
   -- a part behind what there is
   module _ (tries : ℕ) (apart : Bool) (rows : List Row) (from every : ℕ) (old part new : List Verdict) (is : new ≡ old ++ part) where
     pub all_added : All (IsVerdict r place tries apart) old → ArePart r place tries apart rows from every part → All (IsVerdict r place tries apart) new
     all_added all some = subst (All (IsVerdict r place tries apart)) (sym is) (All-append (IsVerdict r place tries apart) old part all some.verdicts)
 
-    pub part_answered : ArePart r place tries apart rows from every part → (k : ℕ) (d : Row) → k < length rows → k % every ≡ from → IsAnswered r place new (slice_index_or rows k d)
+    pub part_answered : ArePart r place tries apart rows from every part → (k : ℕ) (d : Row) → k < length rows → k % every ≡ from → IsAnswered new (slice_index_or rows k d)
     part_answered some k d lt own =
         IsAnswered-weaker part new (slice_index_or rows k d)
         (λ v there. subst (λ (vs : List Verdict). Contains vs v) (sym is) (Contains-append_right old part v there))
@@ -37,8 +34,5 @@ module _ (r : Recording) (place : ℕ → ℕ) where
       let row : Row = found.row in
       let lt = slice_get_within rows found.at row found.is in
       let same : slice_index_or rows found.at row ≡ row = get_or_from_slice_get rows found.at row row found.is in
-      let answered = subst (λ (w : Row). IsAnswered r place vs w) same (whole.answered found.at row lt) in
-      elim answered [
-        | inl told ↦ (told.0, told.1, subst (λ (w : Row). AreAt place w.places a b) (sym told.2) found.between)
-        | inr none ↦ absurd (none a b (record { pair = pair; at = found.between; kind = tt }))
-      ]
+      let answered = subst (λ (w : Row). IsAnswered vs w) same (whole.answered found.at row lt) in
+      (answered.0, answered.1, subst (λ (w : Row). AreAt place w.places a b) (sym answered.2) found.between)

@@ -46,3 +46,7 @@ pub record IsReadUpTo (keys : List (Vec ℕ Global)) (all left : List (List ℕ)
   pub found : (one other : List ℕ) → IsBlock all one other
       → IsAhead block left one other ⊎ ((p q : ℕ) → ArePair keys one other p q → Contains known (p, q))
   pub named : (p q : ℕ) → Contains known (p, q) → (one other : List ℕ) × IsBlock all one other × ArePair keys one other p q
+
+-- No block has ended yet: what is ahead is what stands among all lines.
+abbrev pub AreAhead : List (List ℕ) → List (List ℕ) → Block → Type 0
+AreAhead all left block = (one other : List ℕ) → IsAhead block left one other ↔ IsBlock all one other

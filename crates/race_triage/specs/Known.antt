@@ -40,6 +40,10 @@ pub record IsBlock (lines : List (List ℕ)) (one other : List ℕ) : Type 0 whe
   pub race : is_head head ≡ true
   pub accesses : AreFirstTwo behind one other
 
+-- a block `race` with two accesses stands in the text
+abbrev pub HasBlock : List ℕ → Type 0
+HasBlock text = (one other : List ℕ) × IsBlock (slice_split is_line_feed text) one other
+
 -- A block `race` of the text names these two locations, that of its first access first.
 abbrev pub NamesRace : List ℕ → List ℕ → List ℕ → Type 0
 NamesRace text x y =

@@ -3,5 +3,7 @@ pub mod Chosen
 pub mod Known
 pub mod Pieces
 pub mod Places
+pub mod Same
 pub mod Texts
+pub mod Totals
 pub mod Verdicts

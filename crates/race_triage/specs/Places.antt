@@ -1,6 +1,6 @@
 -- Places: the locations of events, by their numbers. `r` is the recording of a trace.
-use Rattle.std.specs.Prelude.{◌≡◌, ◌↔◌, ℕ, ◌<◌, nat_eq, List, Some, Vec, length, slice_get, slice_index}
-use Rattle.std.specs.List.{position_or_len}
+use Rattle.std.specs.Prelude.{◌≡◌, ◌↔◌, ℕ, ◌<◌, nat_eq, cond, map, take, List, [], ◌∷◌, ◌++◌, Some, Vec, length, slice_get, slice_index}
+use Rattle.std.specs.List.{fold, list_any, position_or_len}
 use Rattle.std.specs.Cmp.Lexicographic.{pointwise}
 use Rattle.std.specs.declared.alloc.Global.{Global}
 use Rattle.rapid_text.specs.Recording.{Recording}
@@ -23,3 +23,19 @@ AreKept old new = (name : List ℕ) (k : ℕ) → IsSpot old name k → IsSpot n
 pub record AreNumbered (r : Recording) (n : ℕ) (keys : List (Vec ℕ Global)) (numbers : List ℕ) : Type 0 where
   pub len : length numbers ≡ n
   pub spots : (e : ℕ) (name : List ℕ) → e < n → slice_get r.locations e ≡ Some name → IsSpot keys name (slice_index numbers e)
+
+-- the texts with one more, where it is not among them
+abbrev pub with_text : List (List ℕ) → List ℕ → List (List ℕ)
+with_text texts name = cond (list_any (pointwise nat_eq name) texts) texts (texts ++ name ∷ [])
+
+-- the texts of a list, each once, in the order of their first uses
+abbrev pub first_uses : List (List ℕ) → List (List ℕ)
+first_uses names = fold with_text [] names
+
+-- the texts of a numbered set
+abbrev pub texts_of : List (Vec ℕ Global) → List (List ℕ)
+texts_of keys = map (λ (v : Vec ℕ Global). v.items) keys
+
+-- The set has the locations of the first n events, by their first uses: so the trace alone says which number a location has.
+abbrev pub AreFirstUses : Recording → ℕ → List (Vec ℕ Global) → Type 0
+AreFirstUses r n keys = texts_of keys ≡ first_uses (take n r.locations)

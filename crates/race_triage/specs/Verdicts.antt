@@ -1,6 +1,6 @@
 -- What is said of a pair of places, and of the pair of events that is told of it. `T` is the events of a trace, `r` its recording, `place`
 -- tells the place of each event. All notions here are this project's own.
-use Rattle.std.specs.Prelude.{◌≡◌, ◌⊎◌, ℕ, ◌<◌, ◌≤◌, ◌%◌, max, Bool, true, List, All, Contains, length, take, slice_get, slice_index_or, Option, Some, None, ⊤}
+use Rattle.std.specs.Prelude.{◌≡◌, ◌≢◌, ◌⊎◌, ℕ, ◌<◌, ◌≤◌, ◌%◌, max, Bool, true, false, List, [], ◌∷◌, ◌++◌, All, AllPairs, Contains, length, take, slice_get, slice_index_or, Option, Some, None, ⊤}
 use Rattle.rapid_text.specs.Recording.{Recording}
 use Rattle.rapid_text.specs.declared.event.Event.{Event}
 use Rattle.event_index.specs.Lookups.{before}
@@ -13,13 +13,14 @@ use Rattle.explain_report.specs.declared.verdict.How.{How}
 use Rattle.explain_report.specs.declared.verdict.How.TheVariants.{Candidate, Beyond, Turned}
 use Rattle.must_order.specs.Kinds.{IsKind}
 use Rattle.must_order.specs.declared.kind.Kind.TheVariants.{Open as OpenKind}
-use Rattle.pair_findings.specs.Findings.{IsShownAs}
+use Rattle.pair_findings.specs.Findings.{IsFoundAs, IsShownAs}
 use Rattle.pair_findings.specs.declared.searching.TheConstants.{BUDGET}
+use Rattle.race_groups.specs.Found.{AreOnce, HaveConflict}
 use Rattle.race_groups.specs.Groups.{IsCountOf}
 use Rattle.race_groups.specs.Kinds.{IsRow, IsNeverShownBetween}
 use Rattle.race_groups.specs.declared.kinds.Counts.{Counts}
 use Rattle.race_groups.specs.declared.kinds.Row.{Row}
-use Rattle.least_pairs.specs.Pairs.{AreAt, AreFirstTries, AreLeasts, HasPair, IsFit, IsLeastPair, IsPair}
+use Rattle.least_pairs.specs.Pairs.{AreAt, AreFirstTries, AreLeasts, HasPair, IsLeastPair, IsPair}
 use Rattle.least_notes.specs.declared.least.Least.{Least}
 use Rattle.least_notes.specs.declared.tries.Try.{Try}
 use Rattle.least_pairs.specs.declared.wanted.Wanted.TheVariants.{Candidate as CandidatePair, Open as OpenPair, Any as AnyPair}
@@ -28,16 +29,17 @@ use Rattle.race_triage.specs.declared.verdicts.Outcome.{Outcome}
 use Rattle.race_triage.specs.declared.verdicts.Outcome.TheVariants.{Race, Undecided, Apart}
 use Rattle.race_triage.specs.declared.verdicts.Verdict.{Verdict}
 
--- A schedule of so many events, which are of so many threads, shows the pair.
-pub record IsShownBy (T : List Event) (a b events threads : ℕ) : Type 0 where
+-- A schedule of so many events, which are of so many threads, shows the pair: the list that is found of a race of this kind.
+pub record IsShownBy (T : List Event) (a b : ℕ) (how : How) (events threads : ℕ) : Type 0 where
   pub schedule : List ℕ
+  pub found : IsFoundAs T a b how schedule
   pub reordering : IsCorrectReordering T schedule
   pub shows : Shows T schedule a b
   pub size : HasSize T schedule events threads
 
 -- the outcome is a race that such a schedule shows, found as is told
 abbrev pub IsRaceOf : Recording → ℕ → ℕ → How → Outcome → Type 0
-IsRaceOf r a b how o = (events threads : ℕ) × (o ≡ Race how events threads) × IsShownBy r.events a b events threads × IsShownAs r a b how
+IsRaceOf r a b how o = (events threads : ℕ) × (o ≡ Race how events threads) × IsShownBy r.events a b how events threads × IsShownAs r a b how
 
 -- the same of an open pair
 abbrev pub IsOpenRace : Recording → ℕ → ℕ → Outcome → Type 0
@@ -45,7 +47,7 @@ IsOpenRace r a b o = IsRaceOf r a b Beyond o ⊎ IsRaceOf r a b Turned o
 
 -- What an outcome says of the pair of events: a race is shown by a schedule, and how it is shown is as told.
 abbrev pub IsOutcome : Recording → ℕ → ℕ → Outcome → Type 0
-IsOutcome r a b (Race how events threads) = IsShownBy r.events a b events threads × IsShownAs r a b how
+IsOutcome r a b (Race how events threads) = IsShownBy r.events a b how events threads × IsShownAs r a b how
 IsOutcome r a b (Undecided tried) = ⊤
 IsOutcome r a b Apart = ⊤
 
@@ -97,14 +99,19 @@ pub record AreTriedInVain (r : Recording) (place : ℕ → ℕ) (tries : ℕ) (p
   pub len : length tried ≡ count
   pub none : AreNotFound r.events tried
 
+-- of what is apart the least of all, where it is told; else 0 and 0
+abbrev pub IsPairApart : Recording → (ℕ → ℕ) → Bool → ℕ × ℕ → ℕ × ℕ → Type 0
+IsPairApart r place true places pair = IsLeastPair r place places AnyPair (Some pair)
+IsPairApart r place false places pair = pair ≡ (0, 0)
+
 -- Which pair is told, by its later event and then by its earlier one: of a race with a candidate the least candidate, of another race the first
--- that was found of those that were tried, of what is undecided the least open pair, and of what is apart, where it is told, the least of all.
+-- that was found of those that were tried, and of what is undecided the least open pair.
 abbrev pub IsPairFor : Recording → (ℕ → ℕ) → ℕ → Bool → ℕ × ℕ → ℕ × ℕ → Outcome → Type 0
 IsPairFor r place tries apart places pair (Race Candidate events threads) = IsLeastPair r place places CandidatePair (Some pair)
 IsPairFor r place tries apart places pair (Race how events threads) = IsFirstOfTried r place tries places pair
 IsPairFor r place tries apart places pair (Undecided tried) =
     IsLeastPair r place places OpenPair (Some pair) × AreTriedInVain r place tries places tried
-IsPairFor r place tries apart places pair Apart = apart ≡ true → IsLeastPair r place places AnyPair (Some pair)
+IsPairFor r place tries apart places pair Apart = IsPairApart r place apart places pair
 
 -- What holds of each verdict, where the first `tries` open pairs of two places are tried.
 pub record IsVerdict (r : Recording) (place : ℕ → ℕ) (tries : ℕ) (apart : Bool) (v : Verdict) : Type 0 where
@@ -112,6 +119,8 @@ pub record IsVerdict (r : Recording) (place : ℕ → ℕ) (tries : ℕ) (apart 
   pub second : v.second < length r.events
   -- The counts are those of all conflicting pairs of the two places.
   pub row : IsRow r place v.row
+  -- There is one at least.
+  pub there : HaveConflict r.events place v.row.places
   pub pair : IsTold apart v.outcome → IsPair r.events v.first v.second × AreAt place v.row.places v.first v.second
   pub outcome : IsOutcome r v.first v.second v.outcome
   pub counts : IsOutcomeFor v.row.counts v.outcome
@@ -137,6 +146,8 @@ pub record IsShownFirst (r : Recording) (tried : List Try) (pair : ℕ × ℕ) (
 -- What was found of all rows: of each its least pairs; and where `apart` is true its least conflicting pair.
 pub record IsFound (r : Recording) (place : ℕ → ℕ) (tries : ℕ) (apart : Bool) (found : Found) : Type 0 where
   pub rows : All (IsRow r place) found.groups.rows.items
+  pub there : All (λ (row : Row). HaveConflict r.events place row.places) found.groups.rows.items
+  pub once : AreOnce found.groups.rows.items
   pub leasts_len : length found.leasts.items ≡ length found.groups.rows.items
   pub leasts : (at : ℕ) (row : Row) (l : Least) → slice_get found.groups.rows.items at ≡ Some row → slice_get found.leasts.items at ≡ Some l
       → AreLeasts r place row.places (max tries 1) l
@@ -149,20 +160,48 @@ abbrev pub AreAllTold : List Event → (ℕ → ℕ) → List Verdict → Type 0
 AreAllTold T place vs =
     (a b : ℕ) → IsPair T a b → (v : Verdict) × Contains vs v × AreAt place v.row.places a b
 
--- the row has a verdict, or there is no conflicting pair of its places
-abbrev pub IsAnswered : Recording → (ℕ → ℕ) → List Verdict → Row → Type 0
-IsAnswered r place vs row =
-    ((v : Verdict) × Contains vs v × (v.row ≡ row)) ⊎ ((a b : ℕ) → ¬ IsFit r place row.places AnyPair a b)
+-- no two verdicts are on the same two places
+abbrev pub AreOnceTold : List Verdict → Type 0
+AreOnceTold vs = AllPairs (λ (v w : Verdict). v.row.places ≢ w.row.places) vs
 
--- The verdicts on every so many rows, from one of them on: each of these rows is answered.
+-- the row has a verdict
+abbrev pub IsAnswered : List Verdict → Row → Type 0
+IsAnswered vs row = (v : Verdict) × Contains vs v × (v.row ≡ row)
+
+-- the row is one of those that stand where `At` says
+abbrev pub IsOneAt : List Row → (ℕ → Type 0) → Row → Type 0
+IsOneAt rows At row = (at : ℕ) × At at × (slice_get rows at ≡ Some row)
+
+-- Each verdict is on a row that stands where `At` says, and no two are on the same places.
+pub record AreOn (rows : List Row) (At : ℕ → Type 0) (vs : List Verdict) : Type 0 where
+  pub on : All (λ (v : Verdict). IsOneAt rows At v.row) vs
+  pub once : AreOnceTold vs
+
+-- every so many places, from one of them on, and before an end
+abbrev pub IsOwn : ℕ → ℕ → ℕ → ℕ → Type 0
+IsOwn from every end at = (at < end) × (at % every ≡ from)
+
+-- every so many places from the first few on
+abbrev pub IsBelow : ℕ → ℕ → ℕ → Type 0
+IsBelow every parts at = at % every < parts
+
+-- A verdict more, on this row.
+pub record IsAdded (r : Recording) (place : ℕ → ℕ) (tries : ℕ) (apart : Bool) (row : Row) (old new : List Verdict) : Type 0 where
+  pub verdict : Verdict
+  pub is : IsVerdictOn r place tries apart row verdict
+  pub added : new ≡ old ++ verdict ∷ []
+
+-- The verdicts on every so many rows, from one of them on: each of these rows is answered, and no other.
 pub record ArePart (r : Recording) (place : ℕ → ℕ) (tries : ℕ) (apart : Bool) (rows : List Row) (from every : ℕ) (vs : List Verdict) : Type 0 where
   pub verdicts : All (IsVerdict r place tries apart) vs
-  pub answered : (at : ℕ) (d : Row) → at < length rows → at % every ≡ from → IsAnswered r place vs (slice_index_or rows at d)
+  pub answered : (at : ℕ) (d : Row) → at < length rows → at % every ≡ from → IsAnswered vs (slice_index_or rows at d)
+  pub on : AreOn rows (λ at. at % every ≡ from) vs
 
 -- The verdicts on all rows.
 pub record AreWhole (r : Recording) (place : ℕ → ℕ) (tries : ℕ) (apart : Bool) (rows : List Row) (vs : List Verdict) : Type 0 where
   pub verdicts : All (IsVerdict r place tries apart) vs
-  pub answered : (at : ℕ) (d : Row) → at < length rows → IsAnswered r place vs (slice_index_or rows at d)
+  pub answered : (at : ℕ) (d : Row) → at < length rows → IsAnswered vs (slice_index_or rows at d)
+  pub on : AreOn rows (λ at. ⊤) vs
 
 -- v does not stand behind w: by the later event, and then by the earlier
 abbrev pub IsNoLater : Verdict → Verdict → Type 0

@@ -1,7 +1,7 @@
 //! What is counted of each pair of places, and its least pairs of events.
 ghost use Rattle.std.specs.Prelude.{◌≡◌, ◌<◌, ◌≤◌, All, Err, IfOk, Some, length, slice_get, slice_index};
 ghost use Rattle.race_groups.specs.Classes.{AreClasses, AreLocks, AreMembers};
-ghost use Rattle.race_groups.specs.Found.{AreComplete, AreOnce, AreTooMany};
+ghost use Rattle.race_groups.specs.Found.{AreComplete, AreOnce, AreTooMany, HaveConflict};
 ghost use Rattle.race_groups.specs.Kinds.{IsRow};
 ghost use Rattle.race_triage.specs.Verdicts.{IsFound};
 
@@ -46,6 +46,7 @@ pub(crate) fn found_of(
     requires places { length tables.places.now ≡ length tables.indexed.now.events }
     ensures found { IfOk result (IsFound tables.entry.indexed.now (slice_index tables.entry.places.now) tries apart) }
     ensures complete { IfOk result (λ found. AreComplete tables.entry.indexed.now.events (slice_index tables.entry.places.now) found.groups.rows.items) }
+    ensures few { IfOk result (λ found. length found.groups.rows.items ≤ MAX_PLACES) }
     ensures too_many { result ≡ Err TriageRefusal.TooMany
         → AreTooMany tables.entry.indexed.now.events (slice_index tables.entry.places.now) MAX_PLACES }
 {
@@ -70,6 +71,7 @@ fn found_by(
     requires locks { AreLocks tables.indexed.now.events classes.now.lists.keys classes.now.numbers.items classes.now.infos.items }
     ensures found { IfOk result (IsFound tables.entry.indexed.now (slice_index tables.entry.places.now) tries apart) }
     ensures complete { IfOk result (λ found. AreComplete tables.entry.indexed.now.events (slice_index tables.entry.places.now) found.groups.rows.items) }
+    ensures few { IfOk result (λ found. length found.groups.rows.items ≤ MAX_PLACES) }
     ensures too_many { result ≡ Err TriageRefusal.TooMany
         → AreTooMany tables.entry.indexed.now.events (slice_index tables.entry.places.now) MAX_PLACES }
 {
@@ -108,7 +110,10 @@ fn counted(alloc: Global, tables: Tables<'_>, classes: &Classes) -> Result<Group
     requires locks { AreLocks tables.indexed.now.events classes.now.lists.keys classes.now.numbers.items classes.now.infos.items }
     ensures rows { IfOk result (λ groups. All (IsRow tables.entry.indexed.now (slice_index tables.entry.places.now)) groups.rows.items) }
     ensures complete { IfOk result (λ groups. AreComplete tables.entry.indexed.now.events (slice_index tables.entry.places.now) groups.rows.items) }
+    ensures there { IfOk result (λ groups. All
+        (λ row. HaveConflict tables.entry.indexed.now.events (slice_index tables.entry.places.now) row.places) groups.rows.items) }
     ensures once { IfOk result (λ groups. AreOnce groups.rows.items) }
+    ensures few { IfOk result (λ groups. length groups.rows.items ≤ MAX_PLACES) }
     ensures too_many { result ≡ Err TriageRefusal.TooMany
         → AreTooMany tables.entry.indexed.now.events (slice_index tables.entry.places.now) MAX_PLACES }
 {

@@ -1,7 +1,8 @@
 //! The verdict on a row.
-ghost use Rattle.std.specs.Prelude.{◌≡◌, ◌<◌, ℕ, IfOk, IfSome, Ok, None, length, max, slice_index, take, true};
-ghost use Rattle.race_groups.specs.Kinds.{IsRow};
-ghost use Rattle.least_pairs.specs.Pairs.{AreLeasts, IsFit, IsLeastPair};
+ghost use Rattle.std.specs.Prelude.{◌≡◌, ◌<◌, IfOk, IfSome, None, length, max, slice_index, take, true};
+ghost use Rattle.race_groups.specs.Found.{HaveConflict};
+ghost use Rattle.race_groups.specs.Kinds.{IsNeverShownBetween, IsRow};
+ghost use Rattle.least_pairs.specs.Pairs.{AreLeasts, IsLeastPair};
 ghost use Rattle.least_pairs.specs.declared.wanted.Wanted.TheVariants.{Any as AnyPair};
 ghost use Rattle.race_triage.specs.Verdicts.{AreNotFound, AreOpenPairs, IsShownFirst, IsVerdictOn};
 
@@ -9,14 +10,13 @@ use crate::places::small;
 use crate::tables::Tables;
 use crate::verdicts::{Outcome, Verdict};
 use least_notes::{Least, Pair, Try};
-use must_order::apart_is_never_shown;
-use race_groups::Row;
+use race_groups::{Row, is_apart};
 use rapid_text::OutOfMemory;
 use std::alloc::Global;
 
 impl Tables<'_> {
     /// The verdict on a row, of which these are the least pairs; `first` is its least conflicting pair, where `apart` is true: then the pair of events
-    /// of what is apart is told. The first `tries` open pairs are tried. None where no two events of the row's places conflict.
+    /// of what is apart is told. The first `tries` open pairs are tried.
     pub(crate) fn verdict(
         &self,
         alloc: Global,
@@ -25,25 +25,24 @@ impl Tables<'_> {
         first: Option<Pair>,
         tries: u32,
         apart: bool,
-    ) -> Result<Option<Verdict>, OutOfMemory>
+    ) -> Result<Verdict, OutOfMemory>
         requires clocks { self.now.clocks.now ≡ self.now.indexed.now }
         requires must { self.now.must.now ≡ self.now.indexed.now }
         requires acquires { self.now.acquires.now ≡ self.now.indexed.now }
         requires places { length self.now.places.now ≡ length self.now.indexed.now.events }
-        requires some { 0 < length self.now.indexed.now.events }
         requires row { IsRow self.now.indexed.now (slice_index self.now.places.now) row }
+        requires there { HaveConflict self.now.indexed.now.events (slice_index self.now.places.now) row.places }
         requires least { AreLeasts self.now.indexed.now (slice_index self.now.places.now) row.places (max tries 1) least.now }
         requires first { apart ≡ true → IsLeastPair self.now.indexed.now (slice_index self.now.places.now) row.places AnyPair first }
-        ensures verdict { IfOk result (λ found. IfSome found (IsVerdictOn self.now.indexed.now (slice_index self.now.places.now) tries apart row)) }
-        ensures none { result ≡ Ok None → (a b : ℕ) → ¬ IsFit self.now.indexed.now (slice_index self.now.places.now) row.places AnyPair a b }
+        ensures { IfOk result (IsVerdictOn self.now.indexed.now (slice_index self.now.places.now) tries apart row) }
     {
+        if is_apart(self.indexed, self.places, row) {
+            return Ok(self.apart_row(row, least, first, tries, apart));
+        }
         if row.counts.candidates > 0 {
             return self.candidate_row(alloc, row, least, tries, apart);
         }
-        if row.counts.open_pairs > 0 {
-            return self.open_row(alloc, row, least, tries, apart);
-        }
-        Ok(self.apart_row(row, least, first, tries, apart))
+        self.open_row(alloc, row, least, tries, apart)
     }
 
     // The verdict on a row with candidates.
@@ -54,22 +53,22 @@ impl Tables<'_> {
         least: &Least,
         _tries: u32,
         _apart: bool,
-    ) -> Result<Option<Verdict>, OutOfMemory>
+    ) -> Result<Verdict, OutOfMemory>
         requires clocks { self.now.clocks.now ≡ self.now.indexed.now }
         requires must { self.now.must.now ≡ self.now.indexed.now }
         requires acquires { self.now.acquires.now ≡ self.now.indexed.now }
         requires places { length self.now.places.now ≡ length self.now.indexed.now.events }
         requires row { IsRow self.now.indexed.now (slice_index self.now.places.now) row }
+        requires there { HaveConflict self.now.indexed.now.events (slice_index self.now.places.now) row.places }
         requires least { AreLeasts self.now.indexed.now (slice_index self.now.places.now) row.places (max _tries 1) least.now }
         requires candidates { 0 < row.counts.candidates }
-        ensures verdict { IfOk result (λ found. IfSome found (IsVerdictOn self.now.indexed.now (slice_index self.now.places.now) _tries _apart row)) }
-        ensures none { result ≡ Ok None → (a b : ℕ) → ¬ IsFit self.now.indexed.now (slice_index self.now.places.now) row.places AnyPair a b }
+        ensures { IfOk result (IsVerdictOn self.now.indexed.now (slice_index self.now.places.now) _tries _apart row) }
     {
         let Some(pair) = least.candidate else {
-            return Ok(None);
+            unreachable!()
         };
         let outcome = self.race_of_candidate(alloc, pair.1, pair.0)?;
-        Ok(Some(of_pair(row, least.variables, pair, outcome)))
+        Ok(of_pair(row, least.variables, pair, outcome))
     }
 
     // The verdict on a row without candidates that has open pairs.
@@ -80,29 +79,29 @@ impl Tables<'_> {
         least: &Least,
         tries: u32,
         _apart: bool,
-    ) -> Result<Option<Verdict>, OutOfMemory>
+    ) -> Result<Verdict, OutOfMemory>
         requires clocks { self.now.clocks.now ≡ self.now.indexed.now }
         requires must { self.now.must.now ≡ self.now.indexed.now }
         requires acquires { self.now.acquires.now ≡ self.now.indexed.now }
         requires places { length self.now.places.now ≡ length self.now.indexed.now.events }
         requires row { IsRow self.now.indexed.now (slice_index self.now.places.now) row }
+        requires there { HaveConflict self.now.indexed.now.events (slice_index self.now.places.now) row.places }
         requires least { AreLeasts self.now.indexed.now (slice_index self.now.places.now) row.places (max tries 1) least.now }
         requires candidates { row.counts.candidates ≡ 0 }
         requires open_pairs { 0 < row.counts.open_pairs }
-        ensures verdict { IfOk result (λ found. IfSome found (IsVerdictOn self.now.indexed.now (slice_index self.now.places.now) tries _apart row)) }
-        ensures none { result ≡ Ok None → (a b : ℕ) → ¬ IsFit self.now.indexed.now (slice_index self.now.places.now) row.places AnyPair a b }
+        ensures { IfOk result (IsVerdictOn self.now.indexed.now (slice_index self.now.places.now) tries _apart row) }
     {
         let all = least.tries.as_slice();
         if all.is_empty() {
-            return Ok(None);
+            unreachable!()
         }
         let tried = beginning(all, tries as usize);
         match self.first_shown(alloc, tried)? {
-            Some((pair, outcome)) => Ok(Some(of_pair(row, least.variables, pair, outcome))),
+            Some((pair, outcome)) => Ok(of_pair(row, least.variables, pair, outcome)),
             None => {
                 let pair = all[0].pair;
                 let tried = small(tried.len())?;
-                Ok(Some(of_pair(row, least.variables, pair, Outcome::Undecided { tried })))
+                Ok(of_pair(row, least.variables, pair, Outcome::Undecided { tried }))
             }
         }
     }
@@ -136,24 +135,22 @@ impl Tables<'_> {
         first: Option<Pair>,
         _tries: u32,
         apart: bool,
-    ) -> Option<Verdict>
-        requires some { 0 < length self.now.indexed.now.events }
+    ) -> Verdict
         requires row { IsRow self.now.indexed.now (slice_index self.now.places.now) row }
+        requires there { HaveConflict self.now.indexed.now.events (slice_index self.now.places.now) row.places }
         requires least { AreLeasts self.now.indexed.now (slice_index self.now.places.now) row.places (max _tries 1) least.now }
         requires first { apart ≡ true → IsLeastPair self.now.indexed.now (slice_index self.now.places.now) row.places AnyPair first }
         requires candidates { row.counts.candidates ≡ 0 }
         requires open_pairs { row.counts.open_pairs ≡ 0 }
-        ensures verdict { IfSome result (IsVerdictOn self.now.indexed.now (slice_index self.now.places.now) _tries apart row) }
-        ensures none { result ≡ None → (a b : ℕ) → ¬ IsFit self.now.indexed.now (slice_index self.now.places.now) row.places AnyPair a b }
+        requires never { IsNeverShownBetween self.now.indexed.now.events (slice_index self.now.places.now) row.places.0 row.places.1 }
+        ensures { IsVerdictOn self.now.indexed.now (slice_index self.now.places.now) _tries apart row result }
     {
-        apart_is_never_shown();
-        let _len = self.indexed.len();
         if !apart {
-            return Some(of_pair(row, least.variables, (0, 0), Outcome::Apart));
+            return of_pair(row, least.variables, (0, 0), Outcome::Apart);
         }
         match first {
-            Some(pair) => Some(of_pair(row, least.variables, pair, Outcome::Apart)),
-            None => None,
+            Some(pair) => of_pair(row, least.variables, pair, Outcome::Apart),
+            None => unreachable!(),
         }
     }
 }

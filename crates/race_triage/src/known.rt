@@ -5,7 +5,7 @@ ghost use Rattle.rapid_text.specs.LinesLeft.{bytes_left, lines_left};
 ghost use Rattle.rapid_text.specs.Reading.{is_bar, is_line_feed};
 ghost use Rattle.rapid_text.specs.Recording.{Recording};
 ghost use Rattle.race_triage.specs.Blocks.{ArePair, IsNoted, IsPlace, IsRead};
-ghost use Rattle.race_triage.specs.Known.{is_access, is_head, AreKnown, IsLocation, OnlyNamed};
+ghost use Rattle.race_triage.specs.Known.{is_access, is_head, AreKnown, HasBlock, IsLocation, OnlyNamed};
 ghost use Rattle.race_triage.specs.Places.{AreNumbered};
 
 use crate::places::Places;
@@ -36,6 +36,26 @@ pub fn known_of(alloc: Global, places: &Places, text: &[u8]) -> Result<Known, Ou
         left = rest;
     }
     Ok(known)
+}
+
+/// Whether a block `race` with two accesses stands in the text.
+pub fn has_block(text: &[u8]) -> bool
+    ensures yes { result ≡ true → HasBlock text.now }
+    ensures no { result ≡ false → ¬ HasBlock text.now }
+{
+    let mut block = Block::Nothing;
+    let mut left = Some(text);
+    while let Some(lines) = left {
+        let (line, rest) = first_line(lines);
+        let (next, told) = read(block, line);
+        match told {
+            Some(_) => return true,
+            None => {}
+        }
+        block = next;
+        left = rest;
+    }
+    false
 }
 
 // What was read of a block.

@@ -8,6 +8,7 @@ mod filters;
 mod found;
 mod judging;
 mod known;
+mod laws;
 mod outcomes;
 mod pieces;
 mod places;
@@ -20,7 +21,8 @@ mod workers;
 
 pub use chosen::{Chosen, chosen_of, is_kept, is_known};
 pub use filters::Filters;
-pub use known::{Known, known_of};
+pub use known::{Known, has_block, known_of};
+pub use laws::{texts_are_one, totals_are_of_the_trace, verdicts_are_one};
 pub use pieces::append_event;
 pub use places::Places;
 pub use race_groups::{Counts, Row};

@@ -1,6 +1,6 @@
 //! Places: the locations of events, numbered by their first uses.
-ghost use Rattle.std.specs.Prelude.{◌≡◌, ℕ, IfNone, IfOk, IfSome, OnOk, length};
-ghost use Rattle.race_triage.specs.Places.{AreNumbered, AreNumbers, AreKept, IsSpot};
+ghost use Rattle.std.specs.Prelude.{◌≡◌, ℕ, [], IfNone, IfOk, IfSome, OnOk, length};
+ghost use Rattle.race_triage.specs.Places.{AreFirstUses, AreNumbered, AreNumbers, AreKept, IsSpot, texts_of, with_text};
 
 use event_index::Indexed;
 use indexmap::IndexSet;
@@ -25,6 +25,8 @@ impl Places {
         ensures numbers { IfOk result (λ places. AreNumbers indexed.now places.numbers.items) }
         // The number of an event is that of its location.
         ensures spots { IfOk result (λ places. AreNumbered indexed.now (length indexed.now.events) places.locations.keys places.numbers.items) }
+        // Locations are numbered in the order of their first uses.
+        ensures firsts { IfOk result (λ places. AreFirstUses indexed.now (length indexed.now.events) places.locations.keys) }
     {
         let numbers = Vec::with_capacity(alloc, indexed.len() as usize)?;
         let mut places = Places {
@@ -39,9 +41,11 @@ impl Places {
 
     // Numbers the locations of all events, where none is numbered yet.
     fn number_all(&mut self, alloc: Global, indexed: &Indexed) -> Result<(), OutOfMemory>
-        requires { AreNumbered indexed.now 0 self.old.locations.keys self.old.numbers.items }
+        requires numbered { AreNumbered indexed.now 0 self.old.locations.keys self.old.numbers.items }
+        requires empty { texts_of self.old.locations.keys ≡ [] }
         ensures numbers { OnOk result (AreNumbers indexed.now self.new.numbers.items) }
         ensures spots { OnOk result (AreNumbered indexed.now (length indexed.now.events) self.new.locations.keys self.new.numbers.items) }
+        ensures firsts { OnOk result (AreFirstUses indexed.now (length indexed.now.events) self.new.locations.keys) }
     {
         let _len = indexed.len();
         let raw = indexed.trace().raw();
@@ -68,6 +72,7 @@ impl Places {
 fn number_of(locations: &mut Locations, alloc: Global, location: &[u8]) -> Result<u32, OutOfMemory>
     ensures at { IfOk result (λ n. IsSpot locations.new.keys location.now n) }
     ensures kept { OnOk result (AreKept locations.old.keys locations.new.keys) }
+    ensures noted { OnOk result (texts_of locations.new.keys ≡ with_text (texts_of locations.old.keys) location.now) }
 {
     if let Some(at) = locations.get_index_of(location) {
         return small(at);

@@ -1,10 +1,14 @@
 //! The verdict on each pair of places.
-ghost use Rattle.std.specs.Prelude.{◌≡◌, ℕ, ◌<◌, All, Err, IfOk, List, length, slice_index};
+ghost use Rattle.std.specs.Prelude.{◌≡◌, ℕ, ◌<◌, ◌≤◌, All, Err, IfOk, List, length, slice_index};
 ghost use Rattle.race_groups.specs.Found.{AreTooMany};
-ghost use Rattle.race_triage.specs.Places.{AreNumbered, AreNumbers};
-ghost use Rattle.race_triage.specs.Verdicts.{IsVerdict, AreAllTold, AreRising};
+ghost use Rattle.race_triage.specs.Places.{AreFirstUses, AreNumbered, AreNumbers};
+ghost use Rattle.race_triage.specs.Texts.{AreTotals};
+ghost use Rattle.race_triage.specs.Totals.{AreTotalsOf};
+ghost use Rattle.race_triage.specs.declared.totals.Totals.{Totals as Sums};
+ghost use Rattle.race_triage.specs.Verdicts.{IsVerdict, AreAllTold, AreOnceTold, AreRising};
 
 use crate::found::found_of;
+use crate::laws::totals_are_of_the_trace;
 use crate::places::Places;
 use crate::tables::Tables;
 use crate::watch::Watch;
@@ -132,17 +136,26 @@ pub fn triage<R: Threads + Sync, W: Watch + Sync>(
     ensures places { IfOk result (λ found. AreNumbers indexed.now found.places.numbers.items) }
     // It is that of its location.
     ensures spots { IfOk result (λ found. AreNumbered indexed.now (length indexed.now.events) found.places.locations.keys found.places.numbers.items) }
+    // Locations are numbered in the order of their first uses.
+    ensures firsts { IfOk result (λ found. AreFirstUses indexed.now (length indexed.now.events) found.places.locations.keys) }
     // The counts are exact; the two events conflict, and are told with the earlier first; a schedule shows those of a race; none shows
     // two events of places that are apart. The two are the least pair of their kind; of open pairs, the first that was found of those that
     // were tried, which are the first `tries`.
     ensures verdicts { IfOk result (λ found. All (IsVerdict indexed.now (slice_index found.places.numbers.items) tries apart) found.verdicts.items) }
-    // Each conflicting pair has its places' verdict.
+    // Each conflicting pair has its places' verdict, no two verdicts are on the same places, and there are no more than `MAX_PLACES`.
     ensures complete { IfOk result (λ found. AreAllTold indexed.now.events (slice_index found.places.numbers.items) found.verdicts.items) }
+    ensures once { IfOk result (λ found. AreOnceTold found.verdicts.items) }
+    ensures few { IfOk result (λ found. length found.verdicts.items ≤ MAX_PLACES) }
     ensures rising { IfOk result (λ found. AreRising found.verdicts.items) }
+    // What is counted of them is counted of the whole trace.
+    ensures totals { IfOk result (λ found. (t : Sums) → AreTotals indexed.now found.verdicts.items t
+        → AreTotalsOf indexed.now (slice_index found.places.numbers.items) t) }
     // It is refused only where more pairs of places have a conflicting pair, or for want of memory.
     ensures too_many { result ≡ Err TriageRefusal.TooMany
         → (numbers : List ℕ) × AreNumbers indexed.now numbers × AreTooMany indexed.now.events (slice_index numbers) MAX_PLACES }
 {
+    totals_are_of_the_trace();
+    let _len = indexed.len();
     let places = Places::of(alloc, indexed)?;
     let numbers = places.numbers.as_slice();
     let verdicts = verdicts_at(
@@ -169,6 +182,8 @@ fn verdicts_at<R: Threads + Sync, W: Watch + Sync>(
     requires places { length places.now ≡ length indexed.now.events }
     ensures verdicts { IfOk result (λ vs. All (IsVerdict indexed.now (slice_index places.now) tries apart) vs.items) }
     ensures complete { IfOk result (λ vs. AreAllTold indexed.now.events (slice_index places.now) vs.items) }
+    ensures once { IfOk result (λ vs. AreOnceTold vs.items) }
+    ensures few { IfOk result (λ vs. length vs.items ≤ MAX_PLACES) }
     ensures rising { IfOk result (λ vs. AreRising vs.items) }
     ensures too_many { result ≡ Err TriageRefusal.TooMany → AreTooMany indexed.now.events (slice_index places.now) MAX_PLACES }
 {
@@ -199,6 +214,8 @@ fn verdicts_by<R: Threads + Sync, W: Watch + Sync>(
     requires places { length tables.places.now ≡ length tables.indexed.now.events }
     ensures verdicts { IfOk result (λ vs. All (IsVerdict tables.entry.indexed.now (slice_index tables.entry.places.now) tries apart) vs.items) }
     ensures complete { IfOk result (λ vs. AreAllTold tables.entry.indexed.now.events (slice_index tables.entry.places.now) vs.items) }
+    ensures once { IfOk result (λ vs. AreOnceTold vs.items) }
+    ensures few { IfOk result (λ vs. length vs.items ≤ MAX_PLACES) }
     ensures rising { IfOk result (λ vs. AreRising vs.items) }
     ensures too_many { result ≡ Err TriageRefusal.TooMany
         → AreTooMany tables.entry.indexed.now.events (slice_index tables.entry.places.now) MAX_PLACES }
@@ -217,8 +234,12 @@ fn verdicts_by<R: Threads + Sync, W: Watch + Sync>(
 fn sort(tables: Tables<'_>, verdicts: &mut Vec<Verdict>, _tries: u32, _apart: bool)
     requires verdicts { All (IsVerdict tables.indexed.now (slice_index tables.places.now) _tries _apart) verdicts.old.items }
     requires complete { AreAllTold tables.indexed.now.events (slice_index tables.places.now) verdicts.old.items }
+    requires once { AreOnceTold verdicts.old.items }
+    requires few { length verdicts.old.items ≤ MAX_PLACES }
     ensures verdicts { All (IsVerdict tables.entry.indexed.now (slice_index tables.entry.places.now) _tries _apart) verdicts.new.items }
     ensures complete { AreAllTold tables.entry.indexed.now.events (slice_index tables.entry.places.now) verdicts.new.items }
+    ensures once { AreOnceTold verdicts.new.items }
+    ensures few { length verdicts.new.items ≤ MAX_PLACES }
     ensures rising { AreRising verdicts.new.items }
 {
     let _len = tables.indexed.len();

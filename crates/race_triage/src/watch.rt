@@ -5,6 +5,9 @@ pub trait Watch {
     /// So many events were read.
     fn read(&self, events: u32);
 
+    /// A text of known races was read, and whether a block `race` stands in it.
+    fn known(&self, has_block: bool);
+
     /// One more pair of places has its verdict, of so many.
     fn judged(&self, of: usize);
 
@@ -18,6 +21,8 @@ pub struct Silent;
 
 impl Watch for Silent {
     fn read(&self, _events: u32) {}
+
+    fn known(&self, _has_block: bool) {}
 
     fn judged(&self, _of: usize) {}
 

@@ -1,11 +1,12 @@
 //! The verdicts on all rows, by one thread or by several.
-ghost use Rattle.std.specs.Prelude.{◌≡◌, ℕ, ◌<◌, ◌%◌, All, Contains, IfOk, OnOk, Result, Vec, length, max, slice_index, slice_index_or, true};
+ghost use Rattle.std.specs.Prelude.{◌≡◌, ℕ, ◌+◌, ◌<◌, ◌%◌, All, Contains, IfOk, OnOk, Result, Vec, length, max, slice_index, slice_index_or, true};
 ghost use Rattle.std.specs.declared.alloc.Global.{Global};
+ghost use Rattle.race_groups.specs.Found.{AreOnce, HaveConflict};
 ghost use Rattle.race_groups.specs.Kinds.{IsRow};
 ghost use Rattle.race_groups.specs.declared.kinds.Row.{Row as Counted};
 ghost use Rattle.least_pairs.specs.Pairs.{AreLeasts, IsLeastPair};
 ghost use Rattle.least_pairs.specs.declared.wanted.Wanted.TheVariants.{Any as AnyPair};
-ghost use Rattle.race_triage.specs.Verdicts.{ArePart, AreWhole, IsAnswered, IsFound, IsVerdict};
+ghost use Rattle.race_triage.specs.Verdicts.{AreOn, ArePart, AreWhole, IsAdded, IsAnswered, IsBelow, IsFound, IsOwn, IsVerdict};
 ghost use Rattle.race_triage.specs.declared.verdicts.Verdict.{Verdict as Told};
 
 use crate::found::Found;
@@ -99,9 +100,6 @@ fn part_of<W: Watch>(
         (λ vs. ArePart tables.entry.indexed.now (slice_index tables.entry.places.now) tries apart found.now.groups.rows.items from every vs.items) }
 {
     let mut verdicts = Vec::new(alloc);
-    if tables.indexed.len() == 0 {
-        return Ok(verdicts);
-    }
     for at in 0..found.groups.rows.len() {
         add_own(
             alloc,
@@ -136,14 +134,15 @@ fn add_own<W: Watch>(
     requires must { tables.must.now ≡ tables.indexed.now }
     requires acquires { tables.acquires.now ≡ tables.indexed.now }
     requires places { length tables.places.now ≡ length tables.indexed.now.events }
-    requires some { 0 < length tables.indexed.now.events }
     requires found { IsFound tables.indexed.now (slice_index tables.places.now) tries apart found.now }
     requires at { at < length found.now.groups.rows.items }
     requires every { 0 < every }
     requires verdicts { All (IsVerdict tables.indexed.now (slice_index tables.places.now) tries apart) verdicts.old.items }
+    requires on { AreOn found.now.groups.rows.items (IsOwn from every at) verdicts.old.items }
     ensures verdicts { OnOk result (All (IsVerdict tables.entry.indexed.now (slice_index tables.entry.places.now) tries apart) verdicts.new.items) }
+    ensures on { OnOk result (AreOn found.now.groups.rows.items (IsOwn from every (at + 1)) verdicts.new.items) }
     ensures answered { OnOk result (at % every ≡ from → (d : Counted)
-        → IsAnswered tables.entry.indexed.now (slice_index tables.entry.places.now) verdicts.new.items (slice_index_or found.now.groups.rows.items at d)) }
+        → IsAnswered verdicts.new.items (slice_index_or found.now.groups.rows.items at d)) }
     ensures kept { OnOk result ((v : Told) → Contains verdicts.old.items v → Contains verdicts.new.items v) }
 {
     if at % every != from {
@@ -165,7 +164,7 @@ fn add_own<W: Watch>(
     Ok(())
 }
 
-// Adds the verdict on a row, where there is one.
+// Adds the verdict on a row.
 fn add(
     alloc: Global,
     tables: Tables<'_>,
@@ -180,18 +179,15 @@ fn add(
     requires must { tables.must.now ≡ tables.indexed.now }
     requires acquires { tables.acquires.now ≡ tables.indexed.now }
     requires places { length tables.places.now ≡ length tables.indexed.now.events }
-    requires some { 0 < length tables.indexed.now.events }
     requires row { IsRow tables.indexed.now (slice_index tables.places.now) row }
+    requires there { HaveConflict tables.indexed.now.events (slice_index tables.places.now) row.places }
     requires least { AreLeasts tables.indexed.now (slice_index tables.places.now) row.places (max tries 1) least.now }
     requires first { apart ≡ true → IsLeastPair tables.indexed.now (slice_index tables.places.now) row.places AnyPair first }
-    requires verdicts { All (IsVerdict tables.indexed.now (slice_index tables.places.now) tries apart) verdicts.old.items }
-    ensures verdicts { OnOk result (All (IsVerdict tables.entry.indexed.now (slice_index tables.entry.places.now) tries apart) verdicts.new.items) }
-    ensures answered { OnOk result (IsAnswered tables.entry.indexed.now (slice_index tables.entry.places.now) verdicts.new.items row) }
-    ensures kept { OnOk result ((v : Told) → Contains verdicts.old.items v → Contains verdicts.new.items v) }
+    ensures { OnOk result
+        (IsAdded tables.entry.indexed.now (slice_index tables.entry.places.now) tries apart row verdicts.old.items verdicts.new.items) }
 {
-    if let Some(verdict) = tables.verdict(alloc, row, least, first, tries, apart)? {
-        verdicts.push(verdict)?;
-    }
+    let verdict = tables.verdict(alloc, row, least, first, tries, apart)?;
+    verdicts.push(verdict)?;
     Ok(())
 }
 
@@ -206,6 +202,7 @@ fn joined(
     every: usize,
 ) -> Result<Vec<Verdict>, OutOfMemory>
     requires every { 0 < every }
+    requires once { AreOnce found.now.groups.rows.items }
     requires len { length parts.now ≡ every }
     requires parts { (i : ℕ) (d : Result (Vec Told Global) OutOfMemory) → i < length parts.now → IfOk (slice_index_or parts.now i d)
         (λ vs. ArePart tables.indexed.now (slice_index tables.places.now) tries apart found.now.groups.rows.items i every vs.items) }
@@ -230,11 +227,14 @@ fn add_part(
     _every: usize,
 ) -> Result<(), OutOfMemory>
     requires all { All (IsVerdict _tables.indexed.now (slice_index _tables.places.now) _tries _apart) all.old.items }
+    requires once { AreOnce _found.now.groups.rows.items }
+    requires on { AreOn _found.now.groups.rows.items (IsBelow _every _from) all.old.items }
     requires part { IfOk part.now
         (λ vs. ArePart _tables.indexed.now (slice_index _tables.places.now) _tries _apart _found.now.groups.rows.items _from _every vs.items) }
     ensures all { OnOk result (All (IsVerdict _tables.entry.indexed.now (slice_index _tables.entry.places.now) _tries _apart) all.new.items) }
     ensures answered { OnOk result ((k : ℕ) (d : Counted) → k < length _found.now.groups.rows.items → k % _every ≡ _from
-        → IsAnswered _tables.entry.indexed.now (slice_index _tables.entry.places.now) all.new.items (slice_index_or _found.now.groups.rows.items k d)) }
+        → IsAnswered all.new.items (slice_index_or _found.now.groups.rows.items k d)) }
+    ensures on { OnOk result (AreOn _found.now.groups.rows.items (IsBelow _every (_from + 1)) all.new.items) }
     ensures kept { OnOk result ((v : Told) → Contains all.old.items v → Contains all.new.items v) }
 {
     match part {

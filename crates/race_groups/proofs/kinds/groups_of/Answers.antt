@@ -1,7 +1,7 @@
 use Rattle.std.proofs.Common.{slice_index}
 use Rattle.indexmap.specs.IndexMap.{keys}
 use Rattle.race_groups.specs.Rows.{of_all}
-use Rattle.race_groups.proofs.CompleteLemmas.{are_places-from, AreComplete-from, AreOnce-from}
+use Rattle.race_groups.proofs.CompleteLemmas.{are_places-from, AreComplete-from, AreConflicting-from, AreOnce-from}
 use Rattle.race_groups.proofs.kinds.groups_of.Goals as goal
 
 pub invariant_of-result : goal.invariant_of-result
@@ -16,3 +16,8 @@ returns-clause-complete c =
 
 pub returns-clause-once : goal.returns-clause-once
 returns-clause-once c = AreOnce-from c.in-Ok.index c.in_ok-rows.rows.items c.in_ok-rows.ensures.once c.in_ok-rows.ensures.places
+
+pub returns-clause-there : goal.returns-clause-there
+returns-clause-there c =
+    AreConflicting-from c.args.indexed.now.events (slice_index c.args.places.now) c.args.classes.now.numbers.items c.args.classes.now.infos.items
+    c.args.classes.now.lists.keys c.in-Ok.index c.in-Ok.ensures.counted c.in_ok-rows.rows.items c.in_ok-rows.ensures.places

@@ -13,6 +13,8 @@ returns-clause-found c =
     let most : c.max-most.result ≡ max c.args.tries 1 = c.max-most.ensures in
     record {
       rows = c.in_ok-groups.ensures.rows;
+      there = c.in_ok-groups.ensures.there;
+      once = c.in_ok-groups.ensures.once;
       leasts_len = c.in_ok-leasts.ensures.len;
       leasts = λ at row l here there. subst (λ (n : ℕ). AreLeasts r place row.places n l) most (c.in_ok-leasts.ensures.leasts at row l here there);
       firsts_len = λ told. elim c.if-apart.branch [

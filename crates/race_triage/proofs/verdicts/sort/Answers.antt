@@ -1,7 +1,8 @@
-use Rattle.std.proofs.Common.{◌<◌, length, rules, slice_index}
+use Rattle.std.proofs.Common.{◌<◌, length, arith, rules, slice_index}
 use Rattle.std.proofs.lemmas.List.Elements.{All-weaker}
-use Rattle.std.proofs.lemmas.List.Sorted.{IsNonDecreasingBy-from_sort_by_key, All-permutation, Contains-permutation}
+use Rattle.std.proofs.lemmas.List.Sorted.{IsNonDecreasingBy-from_sort_by_key, All-permutation, Contains-permutation, length_permutation}
 use Rattle.race_triage.specs.Verdicts.{IsVerdict}
+use Rattle.race_triage.proofs.OnceLemmas.{once-permutation}
 use Rattle.race_triage.proofs.VerdictLemmas.{AreRising-from, verdict_key, verdicts_small}
 use Rattle.race_triage.proofs.verdicts.sort.Goals as goal
 
@@ -28,3 +29,12 @@ returns-clause-rising c =
     AreRising-from vs
     (verdicts_small r vs c.len-len.ensures.well_formed.events (All-weaker P (λ v. v.first < length r.events) (λ v is. is.first) vs all))
     (IsNonDecreasingBy-from_sort_by_key verdict_key _ c.sort_unstable_by_key.ensures.sorted (λ a r q k. search rules))
+
+pub returns-clause-once : goal.returns-clause-once
+returns-clause-once c =
+    once-permutation c.args.verdicts.now.items c.sort_unstable_by_key.new.self.items c.sort_unstable_by_key.ensures.permutation c.requires.once
+
+pub returns-clause-few : goal.returns-clause-few
+returns-clause-few c =
+    let long = length_permutation c.args.verdicts.now.items c.sort_unstable_by_key.new.self.items c.sort_unstable_by_key.ensures.permutation in
+    omega (arith, long, c.requires.few)

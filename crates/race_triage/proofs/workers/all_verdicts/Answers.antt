@@ -1,4 +1,6 @@
-use Rattle.std.proofs.Common.{arith}
+use Rattle.std.specs.Prelude.{⊤}
+use Rattle.std.proofs.Common.{◌≡◌, ◌%◌, arith}
+use Rattle.race_triage.proofs.OnceLemmas.{AreOn-weaker}
 use Rattle.race_triage.proofs.workers.all_verdicts.Goals as goal
 
 pub returns-then-workers-eq0 : goal.returns-then-workers-eq0
@@ -7,4 +9,5 @@ returns-then-workers-eq0 g c =
     record {
       verdicts = part.verdicts;
       answered = λ k d lt. part.answered k d lt (omega arith);
+      on = AreOn-weaker c.args.found.now.groups.rows.items (λ at. at % 1 ≡ 0) (λ at. ⊤) c.in_ok-part.part.items (λ k own. tt) part.on;
     }

@@ -1,6 +1,9 @@
+use Rattle.std.specs.Prelude.{⊤}
 use Rattle.std.proofs.Common.{◌%◌, slice_index, slice_index_or, arith, inl, inr}
 use Rattle.std.proofs.Math.Nat.{mod-lt}
 use Rattle.std.proofs.lemmas.Bool.{cases_lt}
+use Rattle.race_triage.specs.Verdicts.{IsBelow}
+use Rattle.race_triage.proofs.OnceLemmas.{AreOn-weaker}
 use Rattle.race_triage.proofs.WorkerLemmas.{IsAnswered-weaker}
 use Rattle.race_triage.proofs.workers.joined.Goals as goal
 
@@ -15,6 +18,7 @@ loop-at-preserved c =
             IsAnswered-weaker r place c.loop-at.all.items c.add_part.new.all.items (slice_index_or rows k d) c.in_ok-add_part.ensures.kept (c.loop-at.invariant.1 k d lt earlier)
         | inr late ↦ c.in_ok-add_part.ensures.answered k d lt (omega (arith, late, below))
       ],
+      c.in_ok-add_part.ensures.on,
     )
 
 pub returns : goal.returns
@@ -24,4 +28,5 @@ returns c =
       answered = λ k d lt.
           let within = mod-lt k c.requires.every in
           c.loop-at.invariant.1 k d lt (omega (arith, within, c.loop-at-test.false, c.requires.len));
+      on = AreOn-weaker c.args.found.now.groups.rows.items (IsBelow c.args.every c.loop-at.at) (λ at. ⊤) c.loop-at.all.items (λ k low. tt) c.loop-at.invariant.2;
     }

@@ -1,10 +1,11 @@
 use Rattle.std.proofs.Common.{◌≡◌, ℕ, ◌<◌, ◌%◌, All, length, slice_index, slice_index_or}
 use Rattle.race_groups.specs.declared.kinds.Row.{Row}
-use Rattle.race_triage.specs.Verdicts.{IsVerdict, IsAnswered}
+use Rattle.race_triage.specs.Verdicts.{AreOn, IsAnswered, IsOwn, IsVerdict}
 use Rattle.race_triage.proofs.workers.part_of.Given as goal
 
 abbrev pub invariant-loop-at : goal.invariant-loop-at
 invariant-loop-at g l =
     All (IsVerdict l.tables.indexed.now (slice_index l.tables.places.now) l.fn.tries l.fn.apart) l.verdicts.items
     × ((k : ℕ) (d : Row) → k < l.at → k < length l.found.groups.rows.items → k % l.every ≡ l.from
-    → IsAnswered l.tables.indexed.now (slice_index l.tables.places.now) l.verdicts.items (slice_index_or l.found.groups.rows.items k d))
+    → IsAnswered l.verdicts.items (slice_index_or l.found.groups.rows.items k d))
+    × AreOn l.found.groups.rows.items (IsOwn l.from l.every l.at) l.verdicts.items

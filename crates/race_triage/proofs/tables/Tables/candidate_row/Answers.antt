@@ -7,16 +7,16 @@ use Rattle.race_triage.proofs.RowLemmas.{no_candidate}
 use Rattle.race_triage.proofs.VerdictLemmas.{IsVerdict-made, candidate_counts, candidate_pair, race_is_not_apart, race_outcome}
 use Rattle.race_triage.proofs.tables.Tables.candidate_row.Goals as goal
 
-pub returns-in_default-clause-none : goal.returns-in_default-clause-none
-returns-in_default-clause-none c =
+pub unreachable-requires : goal.unreachable-requires
+unreachable-requires c =
     let r = c.args.self.now.indexed.now in
     let place = slice_index c.args.self.now.places.now in
     let row = c.args.row in
     let none = no_candidate r place row c.requires.row (subst (λ (o : Option (ℕ × ℕ)). IsLeastPair r place row.places Candidate o) c.in_default.is c.requires.least.candidate) in
-    λ _ a b fit. absurd (omega (arith, none, c.requires.candidates))
+    omega (arith, none, c.requires.candidates)
 
-pub returns-clause-verdict : goal.returns-clause-verdict
-returns-clause-verdict c =
+pub returns : goal.returns
+returns c =
     let r = c.args.self.now.indexed.now in
     let place = slice_index c.args.self.now.places.now in
     let row = c.args.row in
@@ -27,6 +27,6 @@ returns-clause-verdict c =
     let race : IsRaceOf r pair.1 pair.0 CandidateHow o = c.in_ok-outcome.ensures in
     let v = c.of_pair.ensures in
     IsVerdict-made r place c.args._tries c.args._apart row pair.1 pair.0 c.args.least.now.variables o c.of_pair.result v.first v.second v.row v.variables v.outcome
-    (omega (arith, fit.pair.earlier, fit.pair.within)) fit.pair.within c.requires.row (λ _. (fit.pair, fit.at)) (race_outcome r pair.1 pair.0 row.counts CandidateHow o race)
+    (omega (arith, fit.pair.earlier, fit.pair.within)) fit.pair.within c.requires.row c.requires.there (λ _. (fit.pair, fit.at)) (race_outcome r pair.1 pair.0 row.counts CandidateHow o race)
     (candidate_counts r pair.1 pair.0 row.counts o race c.requires.candidates) (λ same. absurd (race_is_not_apart r pair.1 pair.0 row.counts CandidateHow o race same))
     c.requires.least.variables (candidate_pair r pair.1 pair.0 row.counts place c.args._tries c.args._apart row.places o race least)

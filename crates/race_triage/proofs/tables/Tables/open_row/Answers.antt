@@ -11,15 +11,15 @@ use Rattle.race_triage.proofs.OpenLemmas.{found_fits, least_open, none_left, som
 use Rattle.race_triage.proofs.VerdictLemmas.{IsVerdict-made, open_counts, open_is_not_apart, open_outcome, open_pair, undecided_apart}
 use Rattle.race_triage.proofs.tables.Tables.open_row.Goals as goal
 
-pub returns-then-is_empty-clause-none : goal.returns-then-is_empty-clause-none
-returns-then-is_empty-clause-none c =
+pub unreachable-requires : goal.unreachable-requires
+unreachable-requires c =
     let r = c.args.self.now.indexed.now in
     let place = slice_index c.args.self.now.places.now in
     let l = c.args.least.now in
     let size : length c.as_slice-all.result.now ≡ length l.tries.items = ap (λ (ts : List Try). length ts) c.as_slice-all.ensures.value in
     let empty : length c.as_slice-all.result.now ≡ 0 = eqb-true (length c.as_slice-all.result.now) 0 (sym c.is_empty.ensures ∙ c.if-is_empty.true) in
     let none = none_left r place c.args.row c.requires.row c.args.tries l c.requires.least c.requires.candidates (omega (arith, size, empty)) in
-    λ _ a b fit. absurd (omega (arith, none, c.requires.open_pairs))
+    omega (arith, none, c.requires.open_pairs)
 
 pub first_shown-requires-clause-opens : goal.first_shown-requires-clause-opens
 first_shown-requires-clause-opens c =
@@ -30,8 +30,8 @@ first_shown-requires-clause-opens c =
     let same : c.beginning-tried.result.now ≡ take tries l.tries.items = c.beginning-tried.ensures ∙ ap (λ (ts : List Try). take tries ts) c.as_slice-all.ensures.value in
     subst (AreOpenPairs r) (sym same) (tried_open r place c.args.row c.requires.row tries l c.requires.least c.requires.candidates)
 
-pub returns-in-Some-clause-verdict : goal.returns-in-Some-clause-verdict
-returns-in-Some-clause-verdict c =
+pub returns-in-Some : goal.returns-in-Some
+returns-in-Some c =
     let r = c.args.self.now.indexed.now in
     let place = slice_index c.args.self.now.places.now in
     let row = c.args.row in
@@ -48,13 +48,13 @@ returns-in-Some-clause-verdict c =
     let first = tried_first r place row c.requires.row tries l c.requires.least c.requires.candidates in
     let v = c.of_pair.ensures in
     IsVerdict-made r place tries c.args._apart row pair.1 pair.0 l.variables o c.of_pair.result v.first v.second v.row v.variables v.outcome
-    (omega (arith, fit.pair.earlier, fit.pair.within)) fit.pair.within c.requires.row (λ _. (fit.pair, fit.at)) (open_outcome r pair.1 pair.0 row.counts o race)
+    (omega (arith, fit.pair.earlier, fit.pair.within)) fit.pair.within c.requires.row c.requires.there (λ _. (fit.pair, fit.at)) (open_outcome r pair.1 pair.0 row.counts o race)
     (open_counts r pair.1 pair.0 row.counts o race (c.requires.candidates, c.requires.open_pairs)) (λ same'. absurd (open_is_not_apart r pair.1 pair.0 row.counts o race same'))
     c.requires.least.variables
     (open_pair r pair.1 pair.0 row.counts place tries c.args._apart row.places o race (record { tried = take tries l.tries.items; first = first; found = found }))
 
-pub returns-in_ok-tried-in-None-clause-verdict : goal.returns-in_ok-tried-in-None-clause-verdict
-returns-in_ok-tried-in-None-clause-verdict c =
+pub returns-in_ok-tried-in-None : goal.returns-in_ok-tried-in-None
+returns-in_ok-tried-in-None c =
     let r = c.args.self.now.indexed.now in
     let place = slice_index c.args.self.now.places.now in
     let row = c.args.row in
@@ -75,5 +75,5 @@ returns-in_ok-tried-in-None-clause-verdict c =
     let first = tried_first r place row c.requires.row tries l c.requires.least c.requires.candidates in
     let v = c.of_pair-in-None.ensures in
     IsVerdict-made r place tries c.args._apart row pair.1 pair.0 l.variables (Undecided count) c.of_pair-in-None.result v.first v.second v.row v.variables v.outcome
-    (omega (arith, fit.pair.earlier, fit.pair.within)) fit.pair.within c.requires.row (λ _. (fit.pair, fit.at)) tt (c.requires.candidates, c.requires.open_pairs)
+    (omega (arith, fit.pair.earlier, fit.pair.within)) fit.pair.within c.requires.row c.requires.there (λ _. (fit.pair, fit.at)) tt (c.requires.candidates, c.requires.open_pairs)
     (λ same'. absurd (undecided_apart count same')) c.requires.least.variables (least, record { tried = take tries l.tries.items; first = first; len = long; none = none })

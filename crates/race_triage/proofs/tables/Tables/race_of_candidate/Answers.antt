@@ -1,7 +1,7 @@
 use Rattle.std.proofs.Common.{ℕ, Option, IfSome, subst}
 use Rattle.in_order.specs.Laws.{HasListInOrder}
 use Rattle.in_order.specs.Sizes.{IsSizeInOrder}
-use Rattle.race_triage.proofs.OutcomeLemmas.{shown_in_order}
+use Rattle.race_triage.proofs.OutcomeLemmas.{candidate_in_order}
 use Rattle.race_triage.proofs.tables.Tables.race_of_candidate.Goals as goal
 
 pub returns : goal.returns
@@ -11,4 +11,4 @@ returns c =
     let b = c.args.second in
     let size = subst (λ (o : Option (ℕ × ℕ)). IfSome o (IsSizeInOrder r.events a b)) c.in-Some.is c.in_ok-size.ensures.size in
     let there = subst (λ (o : Option (ℕ × ℕ)). IfSome o (λ s. HasListInOrder r.events a b)) c.in-Some.is c.in_ok-size.ensures.there in
-    (c.in-Some.size.0, c.in-Some.size.1, c.race.ensures, shown_in_order r.events a b c.in_order_is_sound.ensures c.len-len.ensures.disciplined there c.in-Some.size size, c.requires.kind)
+    (c.in-Some.size.0, c.in-Some.size.1, c.race.ensures, candidate_in_order r.events a b c.in_order_is_sound.ensures c.len-len.ensures.disciplined there c.in-Some.size size, c.requires.kind)

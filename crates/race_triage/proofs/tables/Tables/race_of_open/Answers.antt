@@ -2,7 +2,7 @@ use Rattle.std.proofs.Common.{ℕ, Option, IfSome, subst, inl}
 use Rattle.std.proofs.lemmas.Result.{IfOk-weaker}
 use Rattle.in_order.specs.Laws.{HasListInOrder}
 use Rattle.in_order.specs.Sizes.{IsSizeInOrder}
-use Rattle.race_triage.proofs.OutcomeLemmas.{shown_in_order, list_in_order}
+use Rattle.race_triage.proofs.OutcomeLemmas.{beyond_in_order, list_in_order}
 use Rattle.race_triage.proofs.VerdictLemmas.{turned_open}
 use Rattle.race_triage.proofs.tables.Tables.race_of_open.Goals as goal
 
@@ -22,7 +22,7 @@ returns-in-Some-clause-race c =
       c.in-Some.size.0,
       c.in-Some.size.1,
       c.race.ensures,
-      shown_in_order r.events a b law rules there c.in-Some.size size,
+      beyond_in_order r.events a b law rules there c.in-Some.size size,
       (c.requires.kind, list_in_order r.events a b law rules there c.in-Some.size size),
     )
 

@@ -1,0 +1,436 @@
+-- A right verdict on two places is one, whichever call finds it.
+use Rattle.std.proofs.Common.{◌≡◌, ◌≢◌, ℕ, ◌+◌, ◌<◌, ◌≤◌, ◌==◌, ◌⊎◌, ◌↔◌, max, Bool, true, false, cond, IsTrue, List, [], ◌∷◌, ◌++◌, All, AllPairs, Any, Contains, length, take, filter, count_by, get_or, Option, Some, None, refl, sym, ap, ◌∙◌, subst, arith, inl, inr}
+use Rattle.std.specs.List.{slice_get}
+use Rattle.std.proofs.lemmas.Bool.{cases_Bool, cases_order, eqb-true, or_cases, true≢false}
+use Rattle.std.proofs.lemmas.List.{get_or-take, get_or_default, length-take}
+use Rattle.std.proofs.lemmas.List.Kept.{AllPairs-cons}
+use Rattle.std.proofs.lemmas.List.Elements.{All-contains, All-cons, All-get_or, All-head, All-nil, All-tail, All-weaker}
+use Rattle.std.proofs.lemmas.List.Sums.{sum_by-cons}
+use Rattle.std.proofs.lemmas.Option.{same_Some, slice_get_within, get_or_from_slice_get}
+use Rattle.rapid_text.specs.Recording.{Recording}
+use Rattle.rapid_text.specs.declared.event.Event.{Event}
+use Rattle.rapid_text.specs.declared.event.Op.{Op}
+use Rattle.rapid_text.specs.declared.event.Op.TheVariants.{Read, Write, Acquire, Release, Fork, Join}
+use Rattle.event_index.specs.Events.{passes_by, thread_at}
+use Rattle.event_index.specs.Lookups.{before}
+use Rattle.event_index.specs.Relations.{is_access}
+use Rattle.witness_search.specs.Greedy.{IsGreedyAnswer}
+use Rattle.witness_search.proofs.CallerLemmas.{IsGreedyAnswer-unique}
+use Rattle.witness_search.proofs.RisingLemmas.{rising-unique}
+use Rattle.in_order.specs.InOrder.{AreNeeded, IsInOrder}
+use Rattle.in_order.specs.Orders.{IsTurned}
+use Rattle.in_order.specs.Refusals.{IsNeverShownInOrder}
+use Rattle.in_order.specs.Sizes.{HasSize}
+use Rattle.must_order.specs.Kinds.{IsKind}
+use Rattle.must_order.specs.declared.kind.Kind.{Kind}
+use Rattle.must_order.specs.declared.kind.Kind.TheVariants.{Candidate as CandidateKind, Open as OpenKind, Guarded as GuardedKind, Forced as ForcedKind}
+use Rattle.explain_report.specs.declared.verdict.How.{How}
+use Rattle.explain_report.specs.declared.verdict.How.TheVariants.{Candidate, Beyond, Turned}
+use Rattle.pair_findings.specs.Findings.{IsFoundAs, IsShownAs, IsShownInOrder}
+use Rattle.pair_findings.specs.declared.searching.TheConstants.{BUDGET}
+use Rattle.race_groups.specs.Groups.{group_of, IsCountOf}
+use Rattle.race_groups.specs.Kinds.{IsRow, IsRowAt}
+use Rattle.race_groups.specs.declared.kinds.Counts.{Counts}
+use Rattle.race_groups.specs.declared.kinds.Row.{Row}
+use Rattle.race_groups.proofs.BuildLemmas.{length-cons}
+use Rattle.least_notes.specs.Order.{IsAhead, IsUpTo}
+use Rattle.least_notes.specs.declared.tries.Between.{Between}
+use Rattle.least_notes.specs.declared.tries.Try.{Try}
+use Rattle.least_pairs.specs.Pairs.{AreFirstTries, HasPair, IsFit, IsLeastPair, IsOf, IsOpenOf, is_access_at}
+use Rattle.least_pairs.specs.declared.wanted.Wanted.{Wanted}
+use Rattle.least_pairs.specs.declared.wanted.Wanted.TheVariants.{Candidate as CandidatePair, Open as OpenPair, Any as AnyPair}
+use Rattle.race_triage.specs.Verdicts.{AreNotFound, AreTriedInVain, HasOpen, IsFirstFound, IsFirstOfTried, IsNotFound, IsOutcome, IsOutcomeFor, IsPairApart, IsPairFor, IsShownBy, IsVerdict}
+use Rattle.race_triage.specs.declared.verdicts.Outcome.{Outcome}
+use Rattle.race_triage.specs.declared.verdicts.Outcome.TheVariants.{Race, Undecided, Apart}
+use Rattle.race_triage.specs.declared.verdicts.Verdict.{Verdict}
+use Rattle.race_triage.proofs.ListLemmas.{one_rising, some_or_all, stands_behind, first_or_behind}
+use Rattle.race_triage.proofs.OnceLemmas.{distinct-le, stands_here}
+
+-- two counts of one property are one
+same_tests : {X : Type 0} (P : X → Type 0) (f g : X → Bool) (xs : List X) → All (λ (x : X). IsTrue (f x) ↔ P x) xs → All (λ (x : X). IsTrue (g x) ↔ P x) xs → count_by f xs ≡ count_by g xs
+same_tests P f g [] one other = refl
+same_tests P f g (x ∷ xs) one other =
+    let rest = same_tests P f g xs (All-tail (λ y. IsTrue (f y) ↔ P y) x xs one) (All-tail (λ y. IsTrue (g y) ↔ P y) x xs other) in
+    let a = All-head (λ y. IsTrue (f y) ↔ P y) x xs one in
+    let b = All-head (λ y. IsTrue (g y) ↔ P y) x xs other in
+    let here : f x ≡ g x =
+    elim (cases_Bool (f x)) [
+      | inl is ↦ is ∙ sym (b.1 (a.0 is))
+      | inr not_so ↦ elim (cases_Bool (g x)) [
+        | inl is ↦ absurd (true≢false (sym (a.1 (b.0 is)) ∙ not_so))
+        | inr also ↦ not_so ∙ sym also
+      ]
+    ]
+    in
+    let c1 = sum_by-cons (λ y. cond (f y) 1 0) x xs in
+    let c2 = sum_by-cons (λ y. cond (g y) 1 0) x xs in
+    let same : ◌≡◌ {A = ℕ} (cond (f x) 1 0) (cond (g x) 1 0) = ap (λ (t : Bool). cond t 1 0) here in
+    omega (arith, rest, c1, c2, same)
+
+pub IsCountOf-unique : {X : Type 0} (P : X → Type 0) (xs : List X) (n m : ℕ) → IsCountOf P xs n → IsCountOf P xs m → n ≡ m
+IsCountOf-unique P xs n m one other = one.count ∙ same_tests P one.test other.test xs one.tells other.tells ∙ sym other.count
+
+pair_same : (p q : ℕ × ℕ) → p.0 ≡ q.0 → p.1 ≡ q.1 → p ≡ q
+pair_same p q one other = ap (λ x. (x, p.1)) one ∙ ap (λ y. (q.0, y)) other
+
+pub IsUpTo-antisym : (p q : ℕ × ℕ) → IsUpTo p q → IsUpTo q p → p ≡ q
+IsUpTo-antisym p q (inl lt) (inl gt) = absurd (omega (arith, lt, gt))
+IsUpTo-antisym p q (inl lt) (inr same) = absurd (omega (arith, lt, same.0))
+IsUpTo-antisym p q (inr same) (inl gt) = absurd (omega (arith, same.0, gt))
+IsUpTo-antisym p q (inr one) (inr other) = pair_same p q one.0 (omega (arith, one.1, other.1))
+
+up_or_same : (p q : ℕ × ℕ) → IsUpTo p q → (p ≡ q) ⊎ IsAhead p q
+up_or_same p q (inl lt) = inr (inl lt)
+up_or_same p q (inr (same, le)) = elim (cases_order p.1 q.1) [
+  | inl is ↦ inl (pair_same p q same is)
+  | inr (inl lt) ↦ inr (inr (same, lt))
+  | inr (inr gt) ↦ absurd (omega (arith, le, gt))
+]
+
+ahead_apart : (p q : ℕ × ℕ) → IsAhead p q → IsAhead q p → ⊥
+ahead_apart p q (inl lt) (inl gt) = omega (arith, lt, gt)
+ahead_apart p q (inl lt) (inr same) = omega (arith, lt, same.0)
+ahead_apart p q (inr same) (inl gt) = omega (arith, same.0, gt)
+ahead_apart p q (inr one) (inr other) = omega (arith, one.1, other.1)
+
+not_both_ways : (p q : ℕ × ℕ) → IsAhead p q → IsUpTo q p → ⊥
+not_both_ways p q ahead up = elim (up_or_same q p up) [
+  | inl same ↦ ahead_apart p p (subst (IsAhead p) same ahead) (subst (IsAhead p) same ahead)
+  | inr back ↦ ahead_apart p q ahead back
+]
+
+-- a list that is found is one
+module _ (T : List Event) where
+  pub AreNeeded-unique : (start : ℕ → Type 0) (P Q : List ℕ) → AreNeeded T start P → AreNeeded T start Q → P ≡ Q
+  AreNeeded-unique start P Q one other =
+      rising-unique P Q one.rising other.rising (λ e has. (other.members e).1 ((one.members e).0 has)) (λ e has. (one.members e).1 ((other.members e).0 has))
+
+  pub HasSize-unique : (P : List ℕ) (n k m l : ℕ) → HasSize T P n k → HasSize T P m l → (n ≡ m) × (k ≡ l)
+  HasSize-unique P n k m l one other =
+      let same : one.threads ≡ other.threads =
+      rising-unique one.threads other.threads one.are.rising other.are.rising (λ t has. (other.are.members t).1 ((one.are.members t).0 has))
+      (λ t has. (one.are.members t).1 ((other.are.members t).0 has))
+      in
+      (sym one.events ∙ other.events, sym one.count ∙ ap (λ (ts : List ℕ). length ts) same ∙ other.count)
+
+  module _ (a b : ℕ) where
+    pub IsTurned-unique : (budget : ℕ) (f g : Option (List ℕ)) → IsTurned T a b budget f → IsTurned T a b budget g → f ≡ g
+    IsTurned-unique budget f g (inl one) (inl other) =
+        let from : one.1 ≡ other.1 = AreNeeded-unique _ one.1 other.1 one.2.start other.2.start in
+        IsGreedyAnswer-unique T other.1 a b budget f g (subst (λ (S : List ℕ). IsGreedyAnswer T S a b budget f) from one.2.answer) other.2.answer
+    IsTurned-unique budget f g (inl one) (inr other) = absurd (other.0 one.0)
+    IsTurned-unique budget f g (inr one) (inl other) = absurd (one.0 other.0)
+    IsTurned-unique budget f g (inr one) (inr other) = one.1 ∙ sym other.1
+
+    pub IsFoundAs-unique : (how : How) (P Q : List ℕ) → IsFoundAs T a b how P → IsFoundAs T a b how Q → P ≡ Q
+    IsFoundAs-unique Candidate P Q one other = AreNeeded-unique _ P Q one other
+    IsFoundAs-unique Beyond P Q one other = AreNeeded-unique _ P Q one other
+    IsFoundAs-unique Turned P Q one other = same_Some P Q (IsTurned-unique BUDGET (Some P) (Some Q) one other)
+
+    pub sizes_same : (how : How) (n k m l : ℕ) → IsShownBy T a b how n k → IsShownBy T a b how m l → (n ≡ m) × (k ≡ l)
+    sizes_same how n k m l one other =
+        let same = IsFoundAs-unique how one.schedule other.schedule one.found other.found in
+        HasSize-unique other.schedule n k m l (subst (λ (P : List ℕ). HasSize T P n k) same one.size) other.size
+
+    -- what was found was not missed
+    found_beyond : IsShownInOrder T a b → ¬ IsNotFound T a b
+    found_beyond shown missed = missed.0 shown.0 shown.1.0 shown.1.1 shown.1.2
+
+    found_turned : (n k : ℕ) → IsShownBy T a b Turned n k → ¬ IsNotFound T a b
+    found_turned n k shown missed = cc (IsTurned-unique BUDGET (Some shown.schedule) None shown.found missed.1)
+
+-- the variable of an access
+variable_same : (x y : ℕ) (op : Op) → is_access x op ≡ true → is_access y op ≡ true → x ≡ y
+variable_same x y (Read z) one other = elim (or_cases (z == x) false one) [
+  | inl is ↦ elim (or_cases (z == y) false other) [ inl also ↦ sym (eqb-true z x is) ∙ eqb-true z y also | inr no_such ↦ absurd (true≢false (sym no_such)) ]
+  | inr no_such ↦ absurd (true≢false (sym no_such))
+]
+variable_same x y (Write z) one other = elim (or_cases false (z == x) one) [
+  | inl no_such ↦ absurd (true≢false (sym no_such))
+  | inr is ↦ elim (or_cases false (z == y) other) [ inl no_such ↦ absurd (true≢false (sym no_such)) | inr also ↦ sym (eqb-true z x is) ∙ eqb-true z y also ]
+]
+variable_same x y (Acquire l) one other = absurd (true≢false (sym one))
+variable_same x y (Release l) one other = absurd (true≢false (sym one))
+variable_same x y (Fork t) one other = absurd (true≢false (sym one))
+variable_same x y (Join t) one other = absurd (true≢false (sym one))
+
+accessed_by : (x y : ℕ) (o : Option Event) → passes_by (λ v. is_access x v.op) o ≡ true → passes_by (λ v. is_access y v.op) o ≡ true → x ≡ y
+accessed_by x y None one other = absurd (true≢false (sym one))
+accessed_by x y (Some v) one other = variable_same x y v.op one other
+
+abbrev these_of : ℕ → ℕ → ℕ → Between
+these_of x t s = record { variable = x; earlier = t; later = s }
+
+between_same : (x y t u s w : ℕ) → x ≡ y → t ≡ u → s ≡ w → these_of x t s ≡ these_of y u w
+between_same x y t u s w a b c = ap (λ (z : ℕ). these_of z t s) a ∙ ap (λ (z : ℕ). these_of y z s) b ∙ ap (λ (z : ℕ). these_of y u z) c
+
+-- a pair is of one variable and two threads
+IsOf-unique : (T : List Event) (of these : Between) (a b : ℕ) → IsOf T of a b → IsOf T these a b → of ≡ these
+IsOf-unique T of these a b one other =
+    between_same of.variable these.variable of.earlier these.earlier of.later these.later
+    (accessed_by of.variable these.variable (slice_get T a) one.variable other.variable)
+    (same_Some of.earlier these.earlier (sym one.earlier ∙ other.earlier))
+    (same_Some of.later these.later (sym one.later ∙ other.later))
+
+abbrev try_of : Between → ℕ × ℕ → Try
+try_of of p = record { between = of; pair = p }
+
+try_same : (t u : Try) → t.between ≡ u.between → t.pair ≡ u.pair → t ≡ u
+try_same t u one other = ap (λ (of : Between). try_of of t.pair) one ∙ ap (λ (p : ℕ × ℕ). try_of u.between p) other
+
+-- the first tries are one list
+module _ (r : Recording) (place : ℕ → ℕ) (places : ℕ × ℕ) (most : ℕ) where
+  abbrev IsTryOf : Try → Type 0
+  IsTryOf t = IsOpenOf r place places t.between t.pair.1 t.pair.0
+
+  abbrev IsLeastOf : Try → Type 0
+  IsLeastOf t = (a b : ℕ) → IsOpenOf r place places t.between a b → IsUpTo t.pair (b, a)
+
+  same_between : (t u : Try) → IsTryOf t → IsLeastOf t → IsTryOf u → IsLeastOf u → t.between ≡ u.between → t ≡ u
+  same_between t u fits least also too same =
+      try_same t u same
+      (IsUpTo-antisym t.pair u.pair
+      (least u.pair.1 u.pair.0 (subst (λ (of : Between). IsOpenOf r place places of u.pair.1 u.pair.0) (sym same) also))
+      (too t.pair.1 t.pair.0 (subst (λ (of : Between). IsOpenOf r place places of t.pair.1 t.pair.0) same fits)))
+
+  same_pair : (t u : Try) → IsTryOf t → IsTryOf u → t.pair ≡ u.pair → t ≡ u
+  same_pair t u fits also same =
+      try_same t u
+      (IsOf-unique r.events t.between u.between t.pair.1 t.pair.0 fits.of_these (subst (λ (p : ℕ × ℕ). IsOf r.events u.between p.1 p.0) (sym same) also.of_these)) same
+
+  module _ (ts us : List Try) (are : AreFirstTries r place places most ts) (these : AreFirstTries r place places most us) where
+    its_fit : (t : Try) → Contains ts t → IsTryOf t
+    its_fit t there = All-contains IsTryOf ts t are.each there
+
+    its_least : (t : Try) → Contains ts t → IsLeastOf t
+    its_least t there = All-contains IsLeastOf ts t are.least there
+
+    also_fit : (u : Try) → Contains us u → IsTryOf u
+    also_fit u there = All-contains IsTryOf us u these.each there
+
+    also_least : (u : Try) → Contains us u → IsLeastOf u
+    also_least u there = All-contains IsLeastOf us u these.least there
+
+    -- what has the same variable and threads as one of the other list stands in it
+    found_there : (t : Try) → Contains ts t → Any (λ (u : Try). u.between ≡ t.between) us → Contains us t
+    found_there t there any =
+        let u : Try = any.1 in
+        let in_us : Contains us u = (any.0, any.2, any.3) in
+        subst (Contains us) (sym (same_between t u (its_fit t there) (its_least t there) (also_fit u in_us) (also_least u in_us) (sym any.4))) in_us
+
+    -- of the other list an element is t, or stands before it, where all of it stand up to t
+    same_or_ahead : (t u : Try) → Contains ts t → Contains us u → IsUpTo u.pair t.pair → (u ≡ t) ⊎ IsAhead u.pair t.pair
+    same_or_ahead t u there in_us up = elim (up_or_same u.pair t.pair up) [
+      | inl same ↦ inl (same_pair u t (also_fit u in_us) (its_fit t there) same)
+      | inr ahead ↦ inr ahead
+    ]
+
+ahead_itself : (p : ℕ × ℕ) → IsAhead p p → ⊥
+ahead_itself p ahead = ahead_apart p p ahead ahead
+
+module _ (r : Recording) (place : ℕ → ℕ) (places : ℕ × ℕ) (most : ℕ) where
+  -- each of the one list stands in the other
+  tries_inside : (ts us : List Try) → AreFirstTries r place places most ts → AreFirstTries r place places most us → (t : Try) → Contains ts t → Contains us t
+  tries_inside ts us are these t there =
+      let fits = its_fit r place places most ts us are these t there in
+      elim (these.first t.between t.pair.1 t.pair.0 fits) [
+        | inl any ↦ found_there r place places most ts us are these t there any
+        | inr (full, all) ↦
+            let either : All (λ (u : Try). (u ≡ t) ⊎ IsAhead u.pair t.pair) us =
+            All-weaker (λ (u : Try). Contains us u × IsUpTo u.pair t.pair) (λ (u : Try). (u ≡ t) ⊎ IsAhead u.pair t.pair)
+            (λ u both. same_or_ahead r place places most ts us are these t u there both.0 both.1) us
+            (λ i d lt. ((i, lt, get_or_default us i (get_or us i d) d lt), all i d lt))
+            in
+            elim (some_or_all (λ (u : Try). u ≡ t) (λ (u : Try). IsAhead u.pair t.pair) us either) [
+              | inl some ↦ subst (Contains us) some.2 some.1
+              | inr ahead ↦
+                  -- then all of the other stand in this one, before t, and are too many for it
+                  let back : All (λ (u : Try). Contains ts u) (t ∷ us) =
+                  All-cons (λ (u : Try). Contains ts u) t us there
+                  (λ i d lt.
+                  let u : Try = get_or us i d in
+                  let in_us : Contains us u = (i, lt, get_or_default us i u d lt) in
+                  elim (are.first u.between u.pair.1 u.pair.0 (also_fit r place places most ts us are these u in_us)) [
+                    | inl any ↦ found_there r place places most us ts these are u in_us any
+                    | inr (filled, up) ↦
+                        let late : IsUpTo t.pair u.pair = All-contains (λ (w : Try). IsUpTo w.pair u.pair) ts t up there in
+                        absurd (not_both_ways u.pair t.pair (ahead i d lt) late)
+                  ])
+                  in
+                  let apart : AllPairs (λ (v w : Try). v ≢ w) (t ∷ us) =
+                  AllPairs-cons (λ (v w : Try). v ≢ w) t us
+                  (λ i d lt same. ahead_itself t.pair (subst (λ (w : Try). IsAhead w.pair t.pair) (sym same) (ahead i d lt)))
+                  (λ i j d lt le same. ahead_itself (get_or us i d).pair (subst (λ (w : Try). IsAhead (get_or us i d).pair w.pair) (sym same) (these.rising i j d lt le)))
+                  in
+                  let few = distinct-le (λ (u : Try). u) (t ∷ us) ts apart back in
+                  absurd (omega (arith, few, length-cons t us, full, are.few))
+            ]
+      ]
+
+  pub AreFirstTries-unique : (ts us : List Try) → AreFirstTries r place places most ts → AreFirstTries r place places most us → ts ≡ us
+  AreFirstTries-unique ts us are these =
+      one_rising (λ (t u : Try). IsAhead t.pair u.pair) (λ t u one other. ahead_apart t.pair u.pair one other) ts us are.rising these.rising
+      (tries_inside ts us are these) (tries_inside us ts these are)
+
+-- the verdicts on two places with these counts
+module _ (r : Recording) (place : ℕ → ℕ) (tries : ℕ) (apart : Bool) (places : ℕ × ℕ) (c : Counts) where
+  abbrev T : List Event
+  T = r.events
+
+  least_same : (wanted : Wanted) (p q : ℕ × ℕ) → IsLeastPair r place places wanted (Some p) → IsLeastPair r place places wanted (Some q) → p ≡ q
+  least_same wanted p q one other = IsUpTo-antisym p q (one.1 q.1 q.0 other.0) (other.1 p.1 p.0 one.0)
+
+  apart_same : (told : Bool) (p q : ℕ × ℕ) → IsPairApart r place told places p → IsPairApart r place told places q → p ≡ q
+  apart_same true p q one other = least_same AnyPair p q one other
+  apart_same false p q one other = one ∙ sym other
+
+  abbrev IsMissed : ℕ × ℕ → Type 0
+  IsMissed p = IsNotFound T p.1 p.0
+
+  missed_at : (tried : List Try) (k at : ℕ) (t : Try) → AreNotFound T (take k tried) → at < k → slice_get tried at ≡ Some t → IsMissed t.pair
+  missed_at tried k at t missed lt is =
+      let within = slice_get_within tried at t is in
+      let size = length-take k tried in
+      let here : get_or (take k tried) at t ≡ t = get_or-take k tried at t lt ∙ get_or_from_slice_get tried at t t is in
+      subst (λ (u : Try). IsMissed u.pair) here (All-get_or (λ (u : Try). IsMissed u.pair) (take k tried) at t (omega (arith, within, size, lt)) missed)
+
+  first_same : (p q : ℕ × ℕ) → ¬ IsMissed p → ¬ IsMissed q → IsFirstOfTried r place tries places p → IsFirstOfTried r place tries places q → p ≡ q
+  first_same p q found also one other =
+      let tried : one.tried ≡ other.tried = AreFirstTries-unique r place places tries one.tried other.tried one.first other.first in
+      let mine : IsFirstFound T other.tried p = subst (λ (ts : List Try). IsFirstFound T ts p) tried one.found in
+      let its : IsFirstFound T other.tried q = other.found in
+      elim (cases_order mine.at its.at) [
+        | inl same ↦
+            let one_try : mine.one ≡ its.one = same_Some mine.one its.one (sym mine.one_is ∙ ap (slice_get other.tried) same ∙ its.one_is) in
+            sym mine.told ∙ ap (λ (t : Try). t.pair) one_try ∙ its.told
+        | inr (inl lt) ↦ absurd (found (subst IsMissed mine.told (missed_at other.tried its.at mine.at mine.one its.earlier lt mine.one_is)))
+        | inr (inr gt) ↦ absurd (also (subst IsMissed its.told (missed_at other.tried mine.at its.at its.one mine.earlier gt its.one_is)))
+      ]
+
+  not_vain : (p : ℕ × ℕ) (count : ℕ) → ¬ IsMissed p → IsFirstOfTried r place tries places p → AreTriedInVain r place tries places count → ⊥
+  not_vain p count found one other =
+      let tried : one.tried ≡ other.tried = AreFirstTries-unique r place places tries one.tried other.tried one.first other.first in
+      let mine : IsFirstFound T other.tried p = subst (λ (ts : List Try). IsFirstFound T ts p) tried one.found in
+      let missed : AreNotFound T other.tried = other.none in
+      let here = All-contains (λ (t : Try). IsMissed t.pair) other.tried mine.one missed
+      (mine.at, slice_get_within other.tried mine.at mine.one mine.one_is, get_or_from_slice_get other.tried mine.at mine.one mine.one mine.one_is) in
+      found (subst IsMissed mine.told here)
+
+  vain_same : (n m : ℕ) → AreTriedInVain r place tries places n → AreTriedInVain r place tries places m → n ≡ m
+  vain_same n m one other =
+      sym one.len ∙ ap (λ (ts : List Try). length ts) (AreFirstTries-unique r place places tries one.tried other.tried one.first other.first) ∙ other.len
+
+  race_same : (how : How) (n k m l : ℕ) (p q : ℕ × ℕ) → p ≡ q → IsShownBy T p.1 p.0 how n k → IsShownBy T q.1 q.0 how m l → ◌≡◌ {A = Outcome} (Race how n k) (Race how m l)
+  race_same how n k m l p q same one other =
+      let sizes = sizes_same T p.1 p.0 how n k m l one (subst (λ (x : ℕ × ℕ). IsShownBy T x.1 x.0 how m l) (sym same) other) in
+      ap (λ x. Race how x k) sizes.0 ∙ ap (λ y. Race how m y) sizes.1
+
+  beyond_found : (p : ℕ × ℕ) → IsShownAs r p.1 p.0 Beyond → ¬ IsMissed p
+  beyond_found p shown = found_beyond T p.1 p.0 shown.1
+
+  turned_found : (p : ℕ × ℕ) (n k : ℕ) → IsShownBy T p.1 p.0 Turned n k → ¬ IsMissed p
+  turned_found p n k shown = found_turned T p.1 p.0 n k shown
+
+  -- what no list in order shows is not shown by one
+  beyond_or_turned : (p q : ℕ × ℕ) → p ≡ q → IsShownAs r p.1 p.0 Beyond → IsShownAs r q.1 q.0 Turned → ⊥
+  beyond_or_turned p q same one other =
+      let never = subst (λ (x : ℕ × ℕ). IsNeverShownInOrder T x.1 x.0) (sym same) other.1 in
+      never one.1.0 one.1.1.0 one.1.1.1 one.1.1.2
+
+  some_or_none : 0 < c.candidates → HasOpen c → ⊥
+  some_or_none some has = omega (arith, some, has.0)
+
+  open_or_none : HasOpen c → (c.candidates ≡ 0) × (c.open_pairs ≡ 0) → ⊥
+  open_or_none has none = omega (arith, has.1, none.1)
+
+  abbrev Same : ℕ × ℕ → ℕ × ℕ → Outcome → Outcome → Type 0
+  Same p q o u = (p ≡ q) × (o ≡ u)
+
+  abbrev Right : ℕ × ℕ → Outcome → Type 0
+  Right p o = IsOutcome r p.1 p.0 o × IsOutcomeFor c o × IsPairFor r place tries apart places p o
+
+  outcome_same : (p q : ℕ × ℕ) (o u : Outcome) → Right p o → Right q u → Same p q o u
+  outcome_same p q (Race Candidate n k) (Race Candidate m l) one other =
+      let same = least_same CandidatePair p q one.2 other.2 in
+      (same, race_same Candidate n k m l p q same one.0.0 other.0.0)
+  outcome_same p q (Race Candidate n k) (Race Beyond m l) one other = absurd (some_or_none one.1 other.1)
+  outcome_same p q (Race Candidate n k) (Race Turned m l) one other = absurd (some_or_none one.1 other.1)
+  outcome_same p q (Race Candidate n k) (Undecided m) one other = absurd (some_or_none one.1 other.1)
+  outcome_same p q (Race Candidate n k) Apart one other = absurd (omega (arith, one.1, other.1.0))
+  outcome_same p q (Race Beyond n k) (Race Candidate m l) one other = absurd (some_or_none other.1 one.1)
+  outcome_same p q (Race Beyond n k) (Race Beyond m l) one other =
+      let same = first_same p q (beyond_found p one.0.1) (beyond_found q other.0.1) one.2 other.2 in
+      (same, race_same Beyond n k m l p q same one.0.0 other.0.0)
+  outcome_same p q (Race Beyond n k) (Race Turned m l) one other =
+      let same = first_same p q (beyond_found p one.0.1) (turned_found q m l other.0.0) one.2 other.2 in
+      absurd (beyond_or_turned p q same one.0.1 other.0.1)
+  outcome_same p q (Race Beyond n k) (Undecided m) one other = absurd (not_vain p m (beyond_found p one.0.1) one.2 other.2.1)
+  outcome_same p q (Race Beyond n k) Apart one other = absurd (open_or_none one.1 other.1)
+  outcome_same p q (Race Turned n k) (Race Candidate m l) one other = absurd (some_or_none other.1 one.1)
+  outcome_same p q (Race Turned n k) (Race Beyond m l) one other =
+      let same = first_same p q (turned_found p n k one.0.0) (beyond_found q other.0.1) one.2 other.2 in
+      absurd (beyond_or_turned q p (sym same) other.0.1 one.0.1)
+  outcome_same p q (Race Turned n k) (Race Turned m l) one other =
+      let same = first_same p q (turned_found p n k one.0.0) (turned_found q m l other.0.0) one.2 other.2 in
+      (same, race_same Turned n k m l p q same one.0.0 other.0.0)
+  outcome_same p q (Race Turned n k) (Undecided m) one other = absurd (not_vain p m (turned_found p n k one.0.0) one.2 other.2.1)
+  outcome_same p q (Race Turned n k) Apart one other = absurd (open_or_none one.1 other.1)
+  outcome_same p q (Undecided n) (Race Candidate m l) one other = absurd (some_or_none other.1 one.1)
+  outcome_same p q (Undecided n) (Race Beyond m l) one other = absurd (not_vain q n (beyond_found q other.0.1) other.2 one.2.1)
+  outcome_same p q (Undecided n) (Race Turned m l) one other = absurd (not_vain q n (turned_found q m l other.0.0) other.2 one.2.1)
+  outcome_same p q (Undecided n) (Undecided m) one other = (least_same OpenPair p q one.2.0 other.2.0, ap (λ x. Undecided x) (vain_same n m one.2.1 other.2.1))
+  outcome_same p q (Undecided n) Apart one other = absurd (open_or_none one.1 other.1)
+  outcome_same p q Apart (Race Candidate m l) one other = absurd (omega (arith, other.1, one.1.0))
+  outcome_same p q Apart (Race Beyond m l) one other = absurd (open_or_none other.1 one.1)
+  outcome_same p q Apart (Race Turned m l) one other = absurd (open_or_none other.1 one.1)
+  outcome_same p q Apart (Undecided m) one other = absurd (open_or_none other.1 one.1)
+  outcome_same p q Apart Apart one other = (apart_same apart p q one.2 other.2, refl)
+
+abbrev counts_of : ℕ → ℕ → ℕ → ℕ → Counts
+counts_of c o g f = record { candidates = c; open_pairs = o; guarded = g; forced = f }
+
+counts_same : (r : Recording) (place : ℕ → ℕ) (places : ℕ × ℕ) (c d : Counts) → IsRowAt r place places c → IsRowAt r place places d → c ≡ d
+counts_same r place places c d one other =
+    let group = group_of r.events place places.0 places.1 in
+    let each : (k : Kind) (n m : ℕ) → IsCountOf (λ e. IsKind r e.0 e.1 k) group n → IsCountOf (λ e. IsKind r e.0 e.1 k) group m → n ≡ m =
+    λ k n m a b. IsCountOf-unique (λ e. IsKind r e.0 e.1 k) group n m a b
+    in
+    ap (λ n. counts_of n c.open_pairs c.guarded c.forced) (each CandidateKind c.candidates d.candidates one.candidates other.candidates)
+    ∙ ap (λ n. counts_of d.candidates n c.guarded c.forced) (each OpenKind c.open_pairs d.open_pairs one.open_pairs other.open_pairs)
+    ∙ ap (λ n. counts_of d.candidates d.open_pairs n c.forced) (each GuardedKind c.guarded d.guarded one.guarded other.guarded)
+    ∙ ap (λ n. counts_of d.candidates d.open_pairs d.guarded n) (each ForcedKind c.forced d.forced one.forced other.forced)
+
+abbrev row_of : ℕ × ℕ → Counts → Row
+row_of p c = record { places = p; counts = c }
+
+-- a verdict of these parts
+abbrev made : ℕ → ℕ → Row → ℕ → Outcome → Verdict
+made a b row n o = record { first = a; second = b; row = row; variables = n; outcome = o }
+
+module _ (r : Recording) (place : ℕ → ℕ) (tries : ℕ) (apart : Bool) (v w : Verdict) (is : IsVerdict r place tries apart v) (also : IsVerdict r place tries apart w) where
+  -- right verdicts on the same places are one
+  pub IsVerdict-unique : v.row.places ≡ w.row.places → v ≡ w
+  IsVerdict-unique same =
+      let counts : v.row.counts ≡ w.row.counts =
+      counts_same r place w.row.places v.row.counts w.row.counts (subst (λ (p : ℕ × ℕ). IsRowAt r place p v.row.counts) same is.row) also.row
+      in
+      let row : v.row ≡ w.row =
+      ap (λ (p : ℕ × ℕ). row_of p v.row.counts) same ∙ ap (λ (c : Counts). row_of w.row.places c) counts
+      in
+      let variables : v.variables ≡ w.variables =
+      IsCountOf-unique (HasPair r place w.row.places) (before (length r.variables)) v.variables w.variables
+      (subst (λ (p : ℕ × ℕ). IsCountOf (HasPair r place p) (before (length r.variables)) v.variables) same is.variables) also.variables
+      in
+      let both =
+      outcome_same r place tries apart w.row.places w.row.counts (v.second, v.first) (w.second, w.first) v.outcome w.outcome (
+        is.outcome,
+        subst (λ (c : Counts). IsOutcomeFor c v.outcome) counts is.counts,
+        subst (λ (p : ℕ × ℕ). IsPairFor r place tries apart p (v.second, v.first) v.outcome) same is.least,
+      )
+      (also.outcome, also.counts, also.least)
+      in
+      ap (λ a. made a v.second v.row v.variables v.outcome) (ap (λ (p : ℕ × ℕ). p.1) both.0)
+      ∙ ap (λ b. made w.first b v.row v.variables v.outcome) (ap (λ (p : ℕ × ℕ). p.0) both.0)
+      ∙ ap (λ (x : Row). made w.first w.second x v.variables v.outcome) row
+      ∙ ap (λ n. made w.first w.second w.row n v.outcome) variables
+      ∙ ap (λ (o : Outcome). made w.first w.second w.row w.variables o) both.1
