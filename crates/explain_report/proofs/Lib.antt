@@ -1,2 +1,9 @@
+pub mod AccessLemmas
+pub mod HeldLemmas
+pub mod IndentLemmas
 pub mod LineLemmas
 pub mod PieceLemmas
+pub mod RacedLemmas
+pub mod SectionLemmas
+pub mod StepLemmas
+pub mod ToldLemmas

@@ -7,6 +7,11 @@ module _ (old first second : List ℕ) (x y z : List ℕ) (e1 : first ≡ old ++
       let whole : new ≡ (old ++ x ++ y ++ z) = cc in
       whole ∙ simp append_assoc
 
+  pub four_pieces : (third new v : List ℕ) → third ≡ second ++ z → new ≡ third ++ v → new ≡ old ++ (x ++ y ++ z ++ v)
+  four_pieces third new v e3 e4 =
+      let whole : new ≡ (old ++ x ++ y ++ z ++ v) = cc in
+      whole ∙ simp append_assoc
+
   pub five_pieces : (third fourth new v w : List ℕ) → third ≡ second ++ z → fourth ≡ third ++ v → new ≡ fourth ++ w → new ≡ old ++ (x ++ y ++ z ++ v ++ w)
   five_pieces third fourth new v w e3 e4 e5 =
       let whole : new ≡ (old ++ x ++ y ++ z ++ v ++ w) = cc in

@@ -38,7 +38,7 @@ undecided_head = codes "undecided: no schedule was found, and neither order nor 
 
 -- the words of a verdict on the pair
 abbrev pub verdict_head : Recording → Verdict → ℕ → ℕ → List ℕ
-verdict_head r (Race how events) a b = race_head how (length events.now)
+verdict_head r (Race how events all) a b = race_head how (length events.now)
 verdict_head r (Forced chains) a b = forced_head a b
 verdict_head r (Guarded lock) a b = guarded_head r lock
 verdict_head r (Undecided events) a b = undecided_head

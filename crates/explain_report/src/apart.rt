@@ -1,16 +1,19 @@
 //! Prints why a pair is no race, or why it is not known whether it is one.
-ghost use Rattle.std.specs.Prelude.{◌≡◌, ◌++◌, OnOk};
+ghost use Rattle.std.specs.Prelude.{◌≡◌, ◌<◌, ◌++◌, List, ℕ, OnOk, length, codes};
+ghost use Rattle.explain_report.specs.Chains.{line_at};
+ghost use Rattle.explain_report.specs.Sections.{IsSectionTold, section_text, until_text};
+ghost use Rattle.explain_report.specs.Told.{IsForcedTold, IsGuardedTold, IsUndecidedTold};
 ghost use Rattle.explain_report.specs.Verdicts.{forced_head, guarded_head, undecided_head};
 
+use crate::accesses::append_pair;
 use crate::chains::append_chains;
-use crate::event_lines::{append_line, append_lock, append_thread, thread_of};
-use crate::holds::Holds;
+use crate::event_lines::{append_line, append_lock, append_thread_of};
 use crate::pieces::{append_number, append_words};
 use crate::shb_order::append_shb_chain;
-use crate::verdict::append_access;
 use event_index::Indexed;
-use must_order::Chain;
+use must_order::{Chain, Must};
 use rapid_text::OutOfMemory;
+use shb_clocks::Clocks;
 
 /// Appends the line that the first event comes before the second.
 pub(crate) fn append_forced_head(
@@ -28,18 +31,24 @@ pub(crate) fn append_forced_head(
     Ok(())
 }
 
-/// Appends the two events, and by which chains the first comes before the second.
+/// Appends that the first event comes before the second, the two events, and by which chains.
 pub(crate) fn append_forced(
     out: &mut Vec<u8>,
     indexed: &Indexed,
+    clocks: &Clocks,
+    must: &Must,
     chains: &[Chain],
-    first: u32,
-    second: u32,
-) -> Result<(), OutOfMemory> {
-    append_access(out, indexed, first)?;
-    append_access(out, indexed, second)?;
+    pair: (u32, u32),
+) -> Result<(), OutOfMemory>
+    requires clocks { clocks.now ≡ indexed.now }
+    requires must { must.now ≡ indexed.now }
+    ensures { OnOk result ((text : List ℕ) × IsForcedTold indexed.now chains.now pair.0 pair.1 text × (out.new.items ≡ out.old.items ++ text)) }
+{
+    append_forced_head(out, pair.0, pair.1)?;
+    append_pair(out, indexed, must, pair.0, pair.1)?;
     append_words(out, b"since\n")?;
-    append_chains(out, indexed, chains)
+    append_chains(out, indexed, clocks, chains)?;
+    Ok(())
 }
 
 /// Appends the line that both threads hold the lock.
@@ -56,52 +65,84 @@ pub(crate) fn append_guarded_head(
     Ok(())
 }
 
-/// Appends the two events, and since when and until when their threads hold the lock.
+/// Appends that both threads hold the lock, the two events, and since when and until when they do.
 pub(crate) fn append_guarded(
     out: &mut Vec<u8>,
     indexed: &Indexed,
+    must: &Must,
     lock: u32,
-    first: u32,
-    second: u32,
-) -> Result<(), OutOfMemory> {
-    append_access(out, indexed, first)?;
-    append_access(out, indexed, second)?;
-    append_section(out, indexed, lock, first)?;
-    append_section(out, indexed, lock, second)
+    pair: (u32, u32),
+) -> Result<(), OutOfMemory>
+    requires { must.now ≡ indexed.now }
+    ensures { OnOk result ((text : List ℕ) × IsGuardedTold indexed.now lock pair.0 pair.1 text × (out.new.items ≡ out.old.items ++ text)) }
+{
+    append_guarded_head(out, indexed, lock)?;
+    append_pair(out, indexed, must, pair.0, pair.1)?;
+    append_section(out, indexed, must, lock, pair.0)?;
+    append_section(out, indexed, must, lock, pair.1)?;
+    Ok(())
 }
 
-/// Appends the section of the lock in which the event lies.
+/// Appends the section of the lock in which the event lies, where it lies in one.
 fn append_section(
     out: &mut Vec<u8>,
     indexed: &Indexed,
+    must: &Must,
     lock: u32,
     event: u32,
-) -> Result<(), OutOfMemory> {
-    let holds = Holds::before(*out.allocator(), indexed, event)?;
-    let Some(acquire) = holds.since(lock) else {
+) -> Result<(), OutOfMemory>
+    requires { must.now ≡ indexed.now }
+    ensures { OnOk result ((text : List ℕ) × IsSectionTold indexed.now event lock text × (out.new.items ≡ out.old.items ++ text)) }
+{
+    if lock >= indexed.locks() {
         return Ok(());
-    };
-    if let Some(thread) = thread_of(indexed, event) {
-        append_thread(out, indexed, thread)?;
     }
+    if event >= indexed.len() {
+        return Ok(());
+    }
+    match must.held_since(indexed, event, lock) {
+        Some(acquire) => append_held(out, indexed, event, acquire),
+        None => Ok(()),
+    }
+}
+
+/// Appends that the event's thread holds a lock since this acquire, and until when.
+fn append_held(
+    out: &mut Vec<u8>,
+    indexed: &Indexed,
+    event: u32,
+    acquire: u32,
+) -> Result<(), OutOfMemory>
+    requires { acquire < length indexed.now.events }
+    ensures { OnOk result (out.new.items ≡ out.old.items ++ section_text indexed.now event acquire) }
+{
+    append_thread_of(out, indexed, event)?;
     append_words(out, b" holds it from ")?;
     append_line(out, indexed, acquire)?;
-    match end_of(indexed, acquire) {
-        Some(release) => {
-            append_words(out, b"  to ")?;
-            append_line(out, indexed, release)
-        }
+    append_until(out, indexed, indexed.section(acquire))?;
+    Ok(())
+}
+
+/// Appends until when a section lasts.
+fn append_until(
+    out: &mut Vec<u8>,
+    indexed: &Indexed,
+    release: Option<u32>,
+) -> Result<(), OutOfMemory>
+    ensures { OnOk result (out.new.items ≡ out.old.items ++ until_text indexed.now release) }
+{
+    match release {
+        Some(event) => append_release(out, indexed, event),
         None => append_words(out, b"  to the end\n"),
     }
 }
 
-/// The release that ends the section of the acquire.
-fn end_of(indexed: &Indexed, acquire: u32) -> Option<u32> {
-    if acquire < indexed.len() {
-        indexed.section(acquire)
-    } else {
-        None
-    }
+fn append_release(out: &mut Vec<u8>, indexed: &Indexed, event: u32) -> Result<(), OutOfMemory>
+    ensures { OnOk result (out.new.items ≡ out.old.items ++ (codes "  to " ++ line_at indexed.now event)) }
+{
+    append_words(out, b"  to ")?;
+    append_line(out, indexed, event)?;
+    Ok(())
 }
 
 /// Appends the line that no schedule was found, and nothing forbids one.
@@ -114,16 +155,22 @@ pub(crate) fn append_undecided_head(out: &mut Vec<u8>) -> Result<(), OutOfMemory
     )
 }
 
-/// Appends the two events, and by which events SHB orders the pair.
+/// Appends that neither was found, the two events, and by which events SHB orders the pair.
 pub(crate) fn append_undecided(
     out: &mut Vec<u8>,
     indexed: &Indexed,
+    clocks: &Clocks,
+    must: &Must,
     events: &[u32],
-    first: u32,
-    second: u32,
-) -> Result<(), OutOfMemory> {
-    append_access(out, indexed, first)?;
-    append_access(out, indexed, second)?;
+    pair: (u32, u32),
+) -> Result<(), OutOfMemory>
+    requires clocks { clocks.now ≡ indexed.now }
+    requires must { must.now ≡ indexed.now }
+    ensures { OnOk result ((text : List ℕ) × IsUndecidedTold indexed.now pair.0 pair.1 text × (out.new.items ≡ out.old.items ++ text)) }
+{
+    append_undecided_head(out)?;
+    append_pair(out, indexed, must, pair.0, pair.1)?;
     append_words(out, b"in SHB\n")?;
-    append_shb_chain(out, indexed, events)
+    append_shb_chain(out, indexed, clocks, events)?;
+    Ok(())
 }

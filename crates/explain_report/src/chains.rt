@@ -1,37 +1,92 @@
 //! Prints chains of steps from event to event.
-use crate::event_lines::{append_line, append_lock, append_thread, op_of, thread_of};
+ghost use Rattle.std.specs.Prelude.{◌≡◌, ◌++◌, ◌∷◌, List, ℕ, Bool, Some, None, OnOk, IfOk, codes};
+ghost use Rattle.explain_report.specs.Chains.{AreTold, GoesOn, cause_text, chain_text, holding, is_later, later_text, lock_name, reason_text, step_text, steps_text};
+ghost use Rattle.must_order.specs.declared.chains.Reason.TheVariants.{Written};
+ghost use Rattle.must_order.specs.declared.chains.Step.{Step as StepValue};
+
+use crate::event_lines::{append_line, append_lock_of, append_thread_of, op_of};
 use crate::pieces::{append_indent, append_number, append_words};
+use crate::raced::append_race_note;
 use event_index::Indexed;
 use must_order::{Chain, Reason, Step};
-use rapid_text::{Op, OutOfMemory};
+use rapid_text::OutOfMemory;
+use shb_clocks::Clocks;
 
 /// Appends the first chain, and below it, each a step deeper and each once, the chains that tell why a section began
 /// before another.
 pub(crate) fn append_chains(
     out: &mut Vec<u8>,
     indexed: &Indexed,
+    clocks: &Clocks,
     chains: &[Chain],
-) -> Result<(), OutOfMemory> {
+) -> Result<(), OutOfMemory>
+    requires { clocks.now ≡ indexed.now }
+    ensures { OnOk result ((told : List ℕ) × AreTold indexed.now chains.now told × (out.new.items ≡ out.old.items ++ told)) }
+{
+    let Some(chain) = chains.first() else {
+        return Ok(());
+    };
+    append_chain(out, indexed, clocks, chain, 0)?;
+    append_causes(out, indexed, clocks, chains, chain)?;
+    Ok(())
+}
+
+/// Appends, below the first chain, which was told, the others.
+fn append_causes(
+    out: &mut Vec<u8>,
+    indexed: &Indexed,
+    clocks: &Clocks,
+    chains: &[Chain],
+    first: &Chain,
+) -> Result<(), OutOfMemory>
+    requires { clocks.now ≡ indexed.now }
+    ensures { OnOk result ((told : List ℕ) × GoesOn indexed.now chains.now told × (out.new.items ≡ out.old.items ++ told)) }
+{
     let alloc = *out.allocator();
     let mut told = vec![in alloc; false; chains.len()]?;
     let mut open: Vec<(usize, u32)> = Vec::new(alloc);
-    open.push((0, 0))?;
+    open_causes(&mut open, &mut told, chains, first, 1)?;
     for _chain in 0..chains.len() {
         let Some((at, depth)) = open.pop() else {
             break;
         };
-        let Some(chain) = chains.get(at) else {
+        if at >= chains.len() {
             break;
-        };
-        if depth > 0 {
-            append_cause(out, indexed, chain, depth.saturating_sub(1))?;
         }
-        append_indent(out, depth)?;
-        append_line(out, indexed, chain.first)?;
-        append_steps(out, indexed, &chain.steps, depth)?;
-        for step in chain.steps.as_slice().iter().rev() {
-            open_cause(&mut open, &mut told, chains, *step, depth.saturating_add(1))?;
-        }
+        append_below(out, indexed, clocks, &chains[at], depth)?;
+        let deeper = depth.saturating_add(1);
+        open_causes(&mut open, &mut told, chains, &chains[at], deeper)?;
+    }
+    Ok(())
+}
+
+/// Appends for what a chain stands, a step less deep, and the chain.
+fn append_below(
+    out: &mut Vec<u8>,
+    indexed: &Indexed,
+    clocks: &Clocks,
+    chain: &Chain,
+    depth: u32,
+) -> Result<(), OutOfMemory>
+    requires { clocks.now ≡ indexed.now }
+    ensures { OnOk result ((d : ℕ) × (takes : Bool)
+        × (out.new.items ≡ out.old.items ++ (cause_text indexed.now d chain.now (holding takes) ++ chain_text indexed.now depth chain.now))) }
+{
+    append_cause(out, indexed, chain, depth.saturating_sub(1))?;
+    append_chain(out, indexed, clocks, chain, depth)?;
+    Ok(())
+}
+
+/// Opens the chains that tell why the sections that this chain ends began first, the first of them last.
+fn open_causes(
+    open: &mut Vec<(usize, u32)>,
+    told: &mut Vec<bool>,
+    chains: &[Chain],
+    chain: &Chain,
+    depth: u32,
+) -> Result<(), OutOfMemory> {
+    for step in chain.steps.as_slice().iter().rev() {
+        open_cause(open, told, chains, *step, depth)?;
     }
     Ok(())
 }
@@ -68,17 +123,28 @@ fn append_cause(
     indexed: &Indexed,
     chain: &Chain,
     depth: u32,
-) -> Result<(), OutOfMemory> {
+) -> Result<(), OutOfMemory>
+    ensures { OnOk result ((takes : Bool) × (out.new.items ≡ out.old.items ++ cause_text indexed.now depth chain.now (holding takes))) }
+{
+    let takes = op_of(indexed, chain.last) == op_of(indexed, chain.first);
+    append_holding(out, indexed, chain, depth, takes)?;
+    Ok(())
+}
+
+/// Appends the same, where it is known whether the chain's last event takes the lock.
+fn append_holding(
+    out: &mut Vec<u8>,
+    indexed: &Indexed,
+    chain: &Chain,
+    depth: u32,
+    takes: bool,
+) -> Result<(), OutOfMemory>
+    ensures { OnOk result (out.new.items ≡ out.old.items ++ cause_text indexed.now depth chain.now (holding takes)) }
+{
     append_indent(out, depth)?;
     append_words(out, b"for ")?;
-    if let Some(thread) = thread_of(indexed, chain.last) {
-        append_thread(out, indexed, thread)?;
-    }
-    if op_of(indexed, chain.last) == op_of(indexed, chain.first) {
-        append_words(out, b" takes ")?;
-    } else {
-        append_words(out, b" holds ")?;
-    }
+    append_thread_of(out, indexed, chain.last)?;
+    append_words(out, holding_of(takes))?;
     append_lock_of(out, indexed, chain.first)?;
     append_words(out, b" at ")?;
     append_number(out, u64::from(chain.last))?;
@@ -86,11 +152,26 @@ fn append_cause(
     Ok(())
 }
 
-/// Appends the name of the lock that the event takes.
-fn append_lock_of(out: &mut Vec<u8>, indexed: &Indexed, event: u32) -> Result<(), OutOfMemory> {
-    if let Some(Op::Acquire(lock)) = op_of(indexed, event) {
-        append_lock(out, indexed, lock)?;
-    }
+fn holding_of(takes: bool) -> &'static [u8]
+    ensures { result.now ≡ holding takes }
+{
+    if takes { b" takes " } else { b" holds " }
+}
+
+/// Appends a chain so deep: where it begins, and its steps.
+fn append_chain(
+    out: &mut Vec<u8>,
+    indexed: &Indexed,
+    clocks: &Clocks,
+    chain: &Chain,
+    depth: u32,
+) -> Result<(), OutOfMemory>
+    requires { clocks.now ≡ indexed.now }
+    ensures { OnOk result (out.new.items ≡ out.old.items ++ chain_text indexed.now depth chain.now) }
+{
+    append_indent(out, depth)?;
+    append_line(out, indexed, chain.first)?;
+    append_steps(out, indexed, clocks, chain.steps.as_slice(), depth)?;
     Ok(())
 }
 
@@ -98,20 +179,54 @@ fn append_lock_of(out: &mut Vec<u8>, indexed: &Indexed, event: u32) -> Result<()
 fn append_steps(
     out: &mut Vec<u8>,
     indexed: &Indexed,
+    clocks: &Clocks,
     steps: &[Step],
     depth: u32,
-) -> Result<(), OutOfMemory> {
+) -> Result<(), OutOfMemory>
+    requires { clocks.now ≡ indexed.now }
+    ensures { OnOk result (out.new.items ≡ out.old.items ++ steps_text indexed.now depth None steps.now) }
+{
     let mut later = None;
     for step in steps {
-        if step.reason == Reason::Later {
-            later = Some(step.to);
-        } else {
-            append_later(out, indexed, later, depth)?;
-            later = None;
-            append_step(out, indexed, *step, depth)?;
-        }
+        later = append_next(out, indexed, clocks, later, *step, depth)?;
     }
-    append_later(out, indexed, later, depth)
+    append_later(out, indexed, later, depth)?;
+    Ok(())
+}
+
+/// Appends a step, behind those along one thread that were not told yet; or lets it wait as one of them. Answers where those lead
+/// that wait now.
+fn append_next(
+    out: &mut Vec<u8>,
+    indexed: &Indexed,
+    clocks: &Clocks,
+    later: Option<u32>,
+    step: Step,
+    depth: u32,
+) -> Result<Option<u32>, OutOfMemory>
+    requires { clocks.now ≡ indexed.now }
+    ensures { IfOk result (λ next. (rest : List StepValue)
+        → out.new.items ++ steps_text indexed.now depth next rest ≡ out.old.items ++ steps_text indexed.now depth later (step ∷ rest)) }
+{
+    if is_later(step.reason) {
+        return Ok(Some(step.to));
+    }
+    append_later(out, indexed, later, depth)?;
+    append_step(out, indexed, clocks, step, depth)?;
+    Ok(None)
+}
+
+fn is_later(reason: Reason) -> bool
+    ensures { result ≡ is_later reason }
+{
+    match reason {
+        Reason::Later => true,
+        Reason::Forked => false,
+        Reason::Written => false,
+        Reason::Joined => false,
+        Reason::ForkJoined => false,
+        Reason::Ended(_) => false,
+    }
 }
 
 /// Appends the event to which the thread goes on.
@@ -120,36 +235,91 @@ fn append_later(
     indexed: &Indexed,
     later: Option<u32>,
     depth: u32,
-) -> Result<(), OutOfMemory> {
-    let Some(event) = later else {
-        return Ok(());
-    };
+) -> Result<(), OutOfMemory>
+    ensures { OnOk result (out.new.items ≡ out.old.items ++ later_text indexed.now depth later) }
+{
+    match later {
+        Some(event) => append_later_line(out, indexed, event, depth),
+        None => Ok(()),
+    }
+}
+
+fn append_later_line(
+    out: &mut Vec<u8>,
+    indexed: &Indexed,
+    event: u32,
+    depth: u32,
+) -> Result<(), OutOfMemory>
+    ensures { OnOk result (out.new.items ≡ out.old.items ++ later_text indexed.now depth (Some event)) }
+{
     append_indent(out, depth)?;
     append_words(out, b"  and later in its thread\n")?;
     append_indent(out, depth)?;
-    append_line(out, indexed, event)
+    append_line(out, indexed, event)?;
+    Ok(())
 }
 
 /// Appends why the step leads on, and the event to which it leads.
 fn append_step(
     out: &mut Vec<u8>,
     indexed: &Indexed,
+    clocks: &Clocks,
     step: Step,
     depth: u32,
-) -> Result<(), OutOfMemory> {
+) -> Result<(), OutOfMemory>
+    requires { clocks.now ≡ indexed.now }
+    ensures { OnOk result (out.new.items ≡ out.old.items ++ step_text indexed.now depth step) }
+{
     append_indent(out, depth)?;
+    append_reason(out, indexed, clocks, step)?;
+    append_indent(out, depth)?;
+    append_line(out, indexed, step.to)?;
+    Ok(())
+}
+
+/// Appends why the step leads on; of a read that races with the write that it reads, that this is so.
+fn append_reason(
+    out: &mut Vec<u8>,
+    indexed: &Indexed,
+    clocks: &Clocks,
+    step: Step,
+) -> Result<(), OutOfMemory>
+    requires { clocks.now ≡ indexed.now }
+    ensures { OnOk result (out.new.items ≡ out.old.items ++ reason_text indexed.now step.from step.to step.reason) }
+{
     match step.reason {
-        Reason::Later => append_words(out, b"  and later in its thread\n")?,
-        Reason::Forked => append_words(out, b"  begins the thread of\n")?,
-        Reason::Written => append_words(out, b"  is read by\n")?,
-        Reason::Joined => append_words(out, b"  ends the thread that is joined by\n")?,
-        Reason::ForkJoined => append_words(out, b"  forks the thread that is joined by\n")?,
-        Reason::Ended(acquire) => {
-            append_words(out, b"  ends a section of ")?;
-            append_lock_of(out, indexed, acquire)?;
-            append_words(out, b" that comes before the one of\n")?;
-        }
+        Reason::Later => append_words(out, b"  and later in its thread\n"),
+        Reason::Forked => append_words(out, b"  begins the thread of\n"),
+        Reason::Written => append_written(out, indexed, clocks, step.from, step.to),
+        Reason::Joined => append_words(out, b"  ends the thread that is joined by\n"),
+        Reason::ForkJoined => append_words(out, b"  forks the thread that is joined by\n"),
+        Reason::Ended(acquire) => append_ended(out, indexed, acquire),
     }
-    append_indent(out, depth)?;
-    append_line(out, indexed, step.to)
+}
+
+/// Appends that the second event reads what the first wrote, and whether the two race.
+pub(crate) fn append_written(
+    out: &mut Vec<u8>,
+    indexed: &Indexed,
+    clocks: &Clocks,
+    first: u32,
+    second: u32,
+) -> Result<(), OutOfMemory>
+    requires { clocks.now ≡ indexed.now }
+    ensures { OnOk result (out.new.items ≡ out.old.items ++ reason_text indexed.now first second Written) }
+{
+    append_words(out, b"  is read by")?;
+    append_race_note(out, indexed, clocks, first, second)?;
+    append_words(out, b"\n")?;
+    Ok(())
+}
+
+/// Appends that a section of the lock which the acquire takes ends.
+fn append_ended(out: &mut Vec<u8>, indexed: &Indexed, acquire: u32) -> Result<(), OutOfMemory>
+    ensures { OnOk result (out.new.items ≡ out.old.items ++ (codes "  ends a section of " ++ lock_name indexed.now acquire ++ codes " that comes before the one of\n")) }
+{
+    append_words(out, b"  ends a section of ")?;
+    append_lock_of(out, indexed, acquire)?;
+    append_words(out, b" that comes before the one of\n")?;
+    Ok(())
 }

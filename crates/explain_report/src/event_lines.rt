@@ -1,7 +1,9 @@
 //! The lines of events.
 ghost use Rattle.std.specs.Prelude.{◌≡◌, ◌<◌, ◌++◌, [], length, slice_index_or, All, OnOk, IfSome, codes};
-ghost use Rattle.rapid_text.specs.Canonical.{event_text, op_text};
+ghost use Rattle.rapid_text.specs.Canonical.{event_text, name_at, op_text};
 ghost use Rattle.rapid_text.specs.Recording.{IsNamed, IsNamedOp};
+ghost use Rattle.event_index.specs.Events.{op_at, thread_at};
+ghost use Rattle.explain_report.specs.Chains.{line_at, lock_name, thread_name};
 ghost use Rattle.explain_report.specs.EventLines.{event_line, event_lines, numbered_line, numbered_lines};
 
 use crate::pieces::{append_number, append_words};
@@ -117,7 +119,9 @@ pub(crate) fn append_line(
     out: &mut Vec<u8>,
     indexed: &Indexed,
     event: u32,
-) -> Result<(), OutOfMemory> {
+) -> Result<(), OutOfMemory>
+    ensures { OnOk result (out.new.items ≡ out.old.items ++ line_at indexed.now event) }
+{
     if event < indexed.len() {
         append_numbered(out, indexed, event)?;
     }
@@ -129,12 +133,28 @@ pub(crate) fn append_thread(
     out: &mut Vec<u8>,
     indexed: &Indexed,
     thread: u32,
-) -> Result<(), OutOfMemory> {
+) -> Result<(), OutOfMemory>
+    ensures { OnOk result (out.new.items ≡ out.old.items ++ name_at indexed.now.threads thread) }
+{
     let raw = indexed.trace().raw();
     if thread < raw.threads() {
         append_words(out, raw.thread_name(thread))?;
     }
     Ok(())
+}
+
+/// Appends the name of the event's thread, where the trace has the event.
+pub(crate) fn append_thread_of(
+    out: &mut Vec<u8>,
+    indexed: &Indexed,
+    event: u32,
+) -> Result<(), OutOfMemory>
+    ensures { OnOk result (out.new.items ≡ out.old.items ++ thread_name indexed.now event) }
+{
+    match thread_of(indexed, event) {
+        Some(thread) => append_thread(out, indexed, thread),
+        None => Ok(()),
+    }
 }
 
 /// Appends the name of the lock, where the trace has it.
@@ -143,7 +163,7 @@ pub(crate) fn append_lock(
     indexed: &Indexed,
     lock: u32,
 ) -> Result<(), OutOfMemory>
-    ensures { OnOk result (out.new.items ≡ out.old.items ++ slice_index_or indexed.now.locks lock []) }
+    ensures { OnOk result (out.new.items ≡ out.old.items ++ name_at indexed.now.locks lock) }
 {
     let raw = indexed.trace().raw();
     if lock < raw.locks() {
@@ -152,9 +172,24 @@ pub(crate) fn append_lock(
     Ok(())
 }
 
+/// Appends the name of the lock that the event takes.
+pub(crate) fn append_lock_of(
+    out: &mut Vec<u8>,
+    indexed: &Indexed,
+    event: u32,
+) -> Result<(), OutOfMemory>
+    ensures { OnOk result (out.new.items ≡ out.old.items ++ lock_name indexed.now event) }
+{
+    match op_of(indexed, event) {
+        Some(Op::Acquire(lock)) => append_lock(out, indexed, lock),
+        _ => Ok(()),
+    }
+}
+
 /// The thread of the event, where the trace has it.
 pub(crate) fn thread_of(indexed: &Indexed, event: u32) -> Option<u32>
-    ensures { IfSome result (λ t. t < length indexed.now.threads) }
+    ensures thread { result ≡ thread_at indexed.now.events event }
+    ensures within { IfSome result (λ t. t < length indexed.now.threads) }
 {
     if event < indexed.len() {
         Some(indexed.trace().raw().event(event).thread)
@@ -164,7 +199,9 @@ pub(crate) fn thread_of(indexed: &Indexed, event: u32) -> Option<u32>
 }
 
 /// What the event does, where the trace has it.
-pub(crate) fn op_of(indexed: &Indexed, event: u32) -> Option<Op> {
+pub(crate) fn op_of(indexed: &Indexed, event: u32) -> Option<Op>
+    ensures { result ≡ op_at indexed.now.events event }
+{
     if event < indexed.len() {
         Some(indexed.trace().raw().event(event).op)
     } else {

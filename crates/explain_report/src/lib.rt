@@ -1,17 +1,19 @@
 //! What is printed of a pair of conflicting events: why it is a race or is apart, and the schedule that shows it.
 #![tactic(auto)]
 
+mod accesses;
 mod apart;
 mod chains;
 mod event_lines;
-mod holds;
 mod pieces;
+mod raced;
 mod runs;
 mod shb_order;
 mod verdict;
 mod waiting;
 mod witness;
 
+pub use raced::{candidates_are_told, first_raced};
 pub use runs::{Run, runs_of};
 pub use shb_order::shb_chain;
 pub use verdict::{How, Verdict, append_head, explain_text};

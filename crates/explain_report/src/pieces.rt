@@ -1,5 +1,6 @@
 //! Words, numbers and blanks.
 ghost use Rattle.std.specs.Prelude.{◌≡◌, ◌++◌, OnOk, decimal};
+ghost use Rattle.explain_report.specs.Chains.{indent_text};
 ghost use Rattle.explain_report.specs.Verdicts.{count_text, plural};
 
 use itoa::Buffer;
@@ -41,7 +42,9 @@ fn plural_of(number: u64) -> &'static [u8]
 }
 
 /// Appends two blanks for each step of depth.
-pub(crate) fn append_indent(out: &mut Vec<u8>, depth: u32) -> Result<(), OutOfMemory> {
+pub(crate) fn append_indent(out: &mut Vec<u8>, depth: u32) -> Result<(), OutOfMemory>
+    ensures { OnOk result (out.new.items ≡ out.old.items ++ indent_text depth) }
+{
     for _step in 0..depth {
         append_words(out, b"  ")?;
     }

@@ -1,4 +1,6 @@
 //! Prints a schedule by its runs, the longest parts that are of one thread.
+ghost use Rattle.std.specs.Prelude.{◌≡◌, ◌++◌, ℕ, List, OnOk};
+
 use crate::event_lines::{append_line, append_thread, thread_of};
 use crate::pieces::{append_count, append_number, append_words};
 use crate::waiting::{waiters_of, words_between};
@@ -51,9 +53,49 @@ pub fn runs_of(alloc: Global, indexed: &Indexed, list: &[u32]) -> Result<Vec<Run
     Ok(runs)
 }
 
+/// How many runs the list has.
+pub(crate) fn run_count(
+    alloc: Global,
+    indexed: &Indexed,
+    list: &[u32],
+) -> Result<u64, OutOfMemory> {
+    match runs_of(alloc, indexed, list) {
+        Ok(runs) => Ok(runs.len() as u64),
+        Err(refused) => Err(refused),
+    }
+}
+
 /// Appends the runs of the list. Where there are more than eleven, and not all are asked for, all but the last ten
 /// become one block.
 pub(crate) fn append_runs(
+    out: &mut Vec<u8>,
+    indexed: &Indexed,
+    list: &[u32],
+    all: bool,
+) -> Result<(), OutOfMemory>
+    ensures { OnOk result ((text : List ℕ) × (out.new.items ≡ out.old.items ++ text)) }
+{
+    let mut text = Vec::new(*out.allocator());
+    append_found(&mut text, indexed, list, all)?;
+    out.extend_from_slice(text.as_slice())?;
+    Ok(())
+}
+
+/// Finds the runs, and appends them.
+fn append_found(
+    out: &mut Vec<u8>,
+    indexed: &Indexed,
+    list: &[u32],
+    all: bool,
+) -> Result<(), OutOfMemory> {
+    match runs_of(*out.allocator(), indexed, list) {
+        Ok(runs) => append_each_run(out, indexed, list, runs.as_slice(), all),
+        Err(refused) => Err(refused),
+    }
+}
+
+/// Appends each of the runs.
+fn append_each_run(
     out: &mut Vec<u8>,
     indexed: &Indexed,
     list: &[u32],

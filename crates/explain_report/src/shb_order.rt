@@ -1,6 +1,7 @@
 //! Why SHB keeps one event before another: a chain of events, walked back from its end, and its text.
-ghost use Rattle.std.specs.Prelude.{◌≡◌, ◌<◌, length, IfSome};
+ghost use Rattle.std.specs.Prelude.{◌≡◌, ◌++◌, ℕ, List, OnOk};
 
+use crate::chains::append_written;
 use crate::event_lines::{append_line, op_of, thread_of};
 use crate::pieces::append_words;
 use crate::waiting::words_between;
@@ -126,8 +127,27 @@ fn is_after(indexed: &Indexed, clocks: &Clocks, first: u32, event: Option<u32>) 
 pub(crate) fn append_shb_chain(
     out: &mut Vec<u8>,
     indexed: &Indexed,
+    clocks: &Clocks,
     events: &[u32],
-) -> Result<(), OutOfMemory> {
+) -> Result<(), OutOfMemory>
+    requires { clocks.now ≡ indexed.now }
+    ensures { OnOk result ((text : List ℕ) × (out.new.items ≡ out.old.items ++ text)) }
+{
+    let mut text = Vec::new(*out.allocator());
+    append_links(&mut text, indexed, clocks, events)?;
+    out.extend_from_slice(text.as_slice())?;
+    Ok(())
+}
+
+/// Appends the events of the chain, and between those of two threads why the one comes before the other.
+fn append_links(
+    out: &mut Vec<u8>,
+    indexed: &Indexed,
+    clocks: &Clocks,
+    events: &[u32],
+) -> Result<(), OutOfMemory>
+    requires { clocks.now ≡ indexed.now }
+{
     let mut before: Option<u32> = None;
     let mut later: Option<u32> = None;
     for event in events {
@@ -141,15 +161,34 @@ pub(crate) fn append_shb_chain(
             append_later(out, indexed, later)?;
             later = None;
             if let Some(other) = before {
-                append_words(out, b"  ")?;
-                append_words(out, words_between(indexed, other, *event))?;
-                append_words(out, b"\n")?;
+                append_link(out, indexed, clocks, other, *event)?;
             }
             append_line(out, indexed, *event)?;
         }
         before = Some(*event);
     }
     append_later(out, indexed, later)
+}
+
+/// Appends why the first event comes before the second, which is of another thread.
+fn append_link(
+    out: &mut Vec<u8>,
+    indexed: &Indexed,
+    clocks: &Clocks,
+    first: u32,
+    second: u32,
+) -> Result<(), OutOfMemory>
+    requires { clocks.now ≡ indexed.now }
+{
+    if let (Some(Op::Write(_)), Some(Op::Read(_))) = (
+        op_of(indexed, first),
+        op_of(indexed, second),
+    ) {
+        return append_written(out, indexed, clocks, first, second);
+    }
+    append_words(out, b"  ")?;
+    append_words(out, words_between(indexed, first, second))?;
+    append_words(out, b"\n")
 }
 
 /// Appends the event to which the thread goes on.

@@ -1,18 +1,19 @@
 //! Prints what is known of a pair of conflicting events, and why.
-ghost use Rattle.std.specs.Prelude.{◌≡◌, ◌++◌, List, ℕ, OnOk, OnErr};
+ghost use Rattle.std.specs.Prelude.{◌≡◌, ◌++◌, List, ℕ, OnOk, OnErr, length};
+ghost use Rattle.explain_report.specs.Told.{IsRaceTold, IsTold, race_words};
 ghost use Rattle.explain_report.specs.Verdicts.{how_text, race_head, verdict_head};
 
+use crate::accesses::append_pair;
 use crate::apart::{
     append_forced, append_forced_head, append_guarded, append_guarded_head, append_undecided,
     append_undecided_head,
 };
-use crate::event_lines::append_line;
-use crate::holds::append_holds;
 use crate::pieces::{append_count, append_words};
-use crate::runs::{append_runs, runs_of};
+use crate::runs::{append_runs, run_count};
 use event_index::Indexed;
-use must_order::Chain;
+use must_order::{Chain, Must};
 use rapid_text::OutOfMemory;
+use shb_clocks::Clocks;
 
 /// How a race is shown.
 #[derive(Clone, Copy, PartialEq, Eq, Debug)]
@@ -34,6 +35,8 @@ pub enum Verdict<'a> {
         how: How,
         /// The schedule.
         events: &'a [u32],
+        /// Whether all its runs are printed; else, of more than eleven, the first are one block.
+        all: bool,
     },
     /// The first event comes before the second in every correct reordering: the first of these chains leads from one to
     /// the other, and each section that it ends began first by a later chain.
@@ -54,27 +57,49 @@ pub enum Verdict<'a> {
     },
 }
 
-/// Appends what is known of the pair, the two events, and the reason. Of a schedule of more than eleven runs the first
-/// are one block, unless `all` is true. Where memory is refused `out` stays as it was.
+/// Appends what is known of the pair, whose earlier event stands first, the two events, and the reason. Where memory is refused
+/// `out` stays as it was.
 pub fn explain_text(
     indexed: &Indexed,
+    clocks: &Clocks,
+    must: &Must,
     verdict: &Verdict<'_>,
-    first: u32,
-    second: u32,
-    all: bool,
+    pair: (u32, u32),
     out: &mut Vec<u8>,
 ) -> Result<(), OutOfMemory>
-    // The text begins with the verdict.
-    ensures ok { OnOk result ((rest : List ℕ) × (out.new.items ≡ out.old.items ++ (verdict_head indexed.now verdict.now first second ++ rest))) }
+    requires clocks { clocks.now ≡ indexed.now }
+    requires must { must.now ≡ indexed.now }
+    // The text tells the verdict, both accesses with the locks that are held, and the reason.
+    ensures ok { OnOk result ((text : List ℕ) × IsTold indexed.now verdict.now pair.0 pair.1 text × (out.new.items ≡ out.old.items ++ text)) }
     ensures err { OnErr result (out.new.items ≡ out.old.items) }
 {
     let mut text = Vec::new(*out.allocator());
-    append_head(&mut text, indexed, verdict, first, second)?;
-    let mut rest = Vec::new(*out.allocator());
-    append_rest(&mut rest, indexed, verdict, first, second, all)?;
-    text.extend_from_slice(rest.as_slice())?;
+    append_told(&mut text, indexed, clocks, must, verdict, pair)?;
     out.extend_from_slice(text.as_slice())?;
     Ok(())
+}
+
+/// Appends the same. Where memory is refused a beginning of it may stand.
+fn append_told(
+    out: &mut Vec<u8>,
+    indexed: &Indexed,
+    clocks: &Clocks,
+    must: &Must,
+    verdict: &Verdict<'_>,
+    pair: (u32, u32),
+) -> Result<(), OutOfMemory>
+    requires clocks { clocks.now ≡ indexed.now }
+    requires must { must.now ≡ indexed.now }
+    ensures { OnOk result ((text : List ℕ) × IsTold indexed.now verdict.now pair.0 pair.1 text × (out.new.items ≡ out.old.items ++ text)) }
+{
+    match *verdict {
+        Verdict::Race { how, events, all } => {
+            append_race(out, indexed, must, events, (how, all), pair)
+        }
+        Verdict::Forced { chains } => append_forced(out, indexed, clocks, must, chains, pair),
+        Verdict::Guarded { lock } => append_guarded(out, indexed, must, lock, pair),
+        Verdict::Undecided { events } => append_undecided(out, indexed, clocks, must, events, pair),
+    }
 }
 
 /// Appends the words of the verdict, with which `explain_text` begins. Where memory is refused a beginning of them may stand.
@@ -88,27 +113,14 @@ pub fn append_head(
     ensures { OnOk result (out.new.items ≡ out.old.items ++ verdict_head indexed.now verdict.now first second) }
 {
     match *verdict {
-        Verdict::Race { how, events } => append_race_head(out, how, events.len() as u64),
+        Verdict::Race {
+            how,
+            events,
+            all: _,
+        } => append_race_head(out, how, events.len() as u64),
         Verdict::Forced { chains: _ } => append_forced_head(out, first, second),
         Verdict::Guarded { lock } => append_guarded_head(out, indexed, lock),
         Verdict::Undecided { events: _ } => append_undecided_head(out),
-    }
-}
-
-/// Appends what stands behind the words of the verdict.
-fn append_rest(
-    out: &mut Vec<u8>,
-    indexed: &Indexed,
-    verdict: &Verdict<'_>,
-    first: u32,
-    second: u32,
-    all: bool,
-) -> Result<(), OutOfMemory> {
-    match *verdict {
-        Verdict::Race { how: _, events } => append_race(out, indexed, events, first, second, all),
-        Verdict::Forced { chains } => append_forced(out, indexed, chains, first, second),
-        Verdict::Guarded { lock } => append_guarded(out, indexed, lock, first, second),
-        Verdict::Undecided { events } => append_undecided(out, indexed, events, first, second),
     }
 }
 
@@ -123,21 +135,43 @@ fn append_race_head(out: &mut Vec<u8>, how: How, events: u64) -> Result<(), OutO
     Ok(())
 }
 
-/// Appends in how many runs a schedule stands, the two events, and the runs.
+/// Appends that the pair is a race, the two events, and the runs of its schedule: all of them, or of many the last alone.
 fn append_race(
     out: &mut Vec<u8>,
     indexed: &Indexed,
+    must: &Must,
     events: &[u32],
-    first: u32,
-    second: u32,
-    all: bool,
-) -> Result<(), OutOfMemory> {
-    let runs = runs_of(*out.allocator(), indexed, events)?;
-    append_count(out, runs.len() as u64, b"run")?;
-    append_words(out, b" both can come next\n")?;
-    append_access(out, indexed, first)?;
-    append_access(out, indexed, second)?;
-    append_runs(out, indexed, events, runs.as_slice(), all)
+    shown: (How, bool),
+    pair: (u32, u32),
+) -> Result<(), OutOfMemory>
+    requires { must.now ≡ indexed.now }
+    ensures { OnOk result ((text : List ℕ) × IsRaceTold indexed.now shown.0 (length events.now) pair.0 pair.1 text
+        × (out.new.items ≡ out.old.items ++ text)) }
+{
+    append_race_words(out, indexed, must, shown.0, events, pair)?;
+    append_runs(out, indexed, events, shown.1)?;
+    Ok(())
+}
+
+/// Appends that the pair is a race, in how many runs its schedule stands, and the two events.
+fn append_race_words(
+    out: &mut Vec<u8>,
+    indexed: &Indexed,
+    must: &Must,
+    how: How,
+    events: &[u32],
+    pair: (u32, u32),
+) -> Result<(), OutOfMemory>
+    requires { must.now ≡ indexed.now }
+    ensures { OnOk result ((runs : ℕ)
+        × (out.new.items ≡ out.old.items ++ race_words indexed.now how (length events.now) runs pair.0 pair.1)) }
+{
+    let runs = run_count(*out.allocator(), indexed, events)?;
+    append_race_head(out, how, events.len() as u64)?;
+    append_count(out, runs, b"run")?;
+    append_words(out, b" both are next\n")?;
+    append_pair(out, indexed, must, pair.0, pair.1)?;
+    Ok(())
 }
 
 fn how_words(how: How) -> &'static [u8]
@@ -148,14 +182,4 @@ fn how_words(how: How) -> &'static [u8]
         How::Beyond => b"race beyond",
         How::Turned => b"race turned",
     }
-}
-
-/// Appends an event with the locks that its thread holds.
-pub(crate) fn append_access(
-    out: &mut Vec<u8>,
-    indexed: &Indexed,
-    event: u32,
-) -> Result<(), OutOfMemory> {
-    append_line(out, indexed, event)?;
-    append_holds(out, indexed, event)
 }

@@ -9,7 +9,7 @@ use Rattle.must_order.specs.declared.kind.Kind.{Kind}
 use Rattle.must_order.specs.declared.kind.Kind.TheVariants.{Candidate as CandidateKind, Forced as ForcedKind, Guarded as GuardedKind, Open as OpenKind}
 use Rattle.in_order.specs.Orders.{IsTurned}
 use Rattle.in_order.specs.Refusals.{IsNeverShownInOrder}
-use Rattle.explain_report.specs.Verdicts.{race_head, forced_head, guarded_head, undecided_head}
+use Rattle.explain_report.specs.Told.{IsForcedTold, IsGuardedTold, IsRaceTold, IsUndecidedTold}
 use Rattle.explain_report.specs.declared.verdict.How.{How}
 use Rattle.pair_findings.specs.Findings.{IsFinding, IsNeverShown, IsShownByNone}
 use Rattle.pair_findings.specs.declared.finding.Finding.{Finding}
@@ -27,23 +27,27 @@ use Rattle.pair_calls.specs.declared.fault.PairFault.TheVariants.{Replay, NoSuch
 abbrev pub IsPairOf : ℕ → ℕ → ℕ → ℕ → Type 0
 IsPairOf one other a b = (a ≡ min one other) × (b ≡ max one other)
 
--- the words with which a finding is told
-abbrev pub finding_head : Recording → Finding → ℕ → ℕ → List ℕ
-finding_head r (Race how events) a b = race_head how (length events)
-finding_head r (Forced chains) a b = forced_head a b
-finding_head r (Guarded lock) a b = guarded_head r lock
-finding_head r (Undecided events) a b = undecided_head
+-- the text tells a finding on the pair: its words, both accesses with the locks that are held, and the reason
+abbrev pub IsFindingTold : Recording → Finding → ℕ → ℕ → List ℕ → Type 0
+IsFindingTold r (Race how events) a b text = IsRaceTold r how (length events) a b text
+IsFindingTold r (Forced chains) a b text = IsForcedTold r chains.items a b text
+IsFindingTold r (Guarded lock) a b text = IsGuardedTold r lock a b text
+IsFindingTold r (Undecided events) a b text = IsUndecidedTold r a b text
 
--- The text tells a right finding on the pair, in its first words; what stands behind them is presentation.
+-- the text tells a right finding on a and b
+pub record IsPairTold (r : Recording) (a b : ℕ) (text : List ℕ) : Type 0 where
+  pub finding : Finding
+  pub found : IsFinding r a b finding
+  pub never : IsNeverShown r.events a b finding
+  pub printed : IsFindingTold r finding a b text
+
+-- the two conflict, and the text tells a right finding on the pair
 pub record IsExplanation (r : Recording) (one other : ℕ) (text : List ℕ) : Type 0 where
   pub a : ℕ
   pub b : ℕ
   pub pair : IsPairOf one other a b
-  pub finding : Finding
-  pub found : IsFinding r a b finding
-  pub never : IsNeverShown r.events a b finding
-  pub rest : List ℕ
-  pub printed : text ≡ finding_head r finding a b ++ rest
+  pub conflict : IsConflicting r.events a b
+  pub told : IsPairTold r a b text
 
 -- the text prints, in this form, a correct reordering that shows the pair
 pub record IsWitness (r : Recording) (one other : ℕ) (form : Form) (text : List ℕ) : Type 0 where
@@ -55,12 +59,13 @@ pub record IsWitness (r : Recording) (one other : ℕ) (form : Form) (text : Lis
   pub found : IsFinding r a b (Race how events)
   pub printed : IsPrinted r events a b form text
 
--- no schedule is printed of a pair of this kind: there is none, or none in the order of the trace, and none was found
+-- no schedule is printed of a conflicting pair of this kind: there is none, or none in the order of the trace, and none was found
 abbrev pub IsNotShown : Recording → ℕ → ℕ → Kind → Type 0
 IsNotShown r a b CandidateKind = ⊥
-IsNotShown r a b ForcedKind = IsKind r a b ForcedKind × IsShownByNone r.events a b
-IsNotShown r a b GuardedKind = IsKind r a b GuardedKind × IsShownByNone r.events a b
-IsNotShown r a b OpenKind = IsKind r a b OpenKind × IsNeverShownInOrder r.events a b × IsTurned r.events a b BUDGET None
+IsNotShown r a b ForcedKind = IsConflicting r.events a b × IsKind r a b ForcedKind × IsShownByNone r.events a b
+IsNotShown r a b GuardedKind = IsConflicting r.events a b × IsKind r a b GuardedKind × IsShownByNone r.events a b
+IsNotShown r a b OpenKind =
+    IsConflicting r.events a b × IsKind r a b OpenKind × IsNeverShownInOrder r.events a b × IsTurned r.events a b BUDGET None
 
 -- these events are a correct reordering that shows the pair
 abbrev pub IsListed : Recording → ℕ → ℕ → List ℕ → Type 0

@@ -3,9 +3,8 @@ ghost use Rattle.std.specs.Prelude.{◌≡◌, ◌≢◌, ◌<◌, ◌++◌, ℕ
 ghost use Rattle.client_scripts.specs.declared.fault.ReadCause.{ReadCause};
 ghost use Rattle.client_scripts.specs.declared.fault.ReadCause.TheVariants.{Device};
 ghost use Rattle.client_scripts.specs.declared.fault.ReplayFault.TheVariants.{Write, Read};
-ghost use Rattle.event_index.specs.Relations.{IsConflicting};
 ghost use Rattle.pair_findings.specs.Findings.{IsFinding, IsNeverShown};
-ghost use Rattle.pair_calls.specs.Answers.{IsExplained, IsExplanation, IsUnexplained, IsWritten, finding_head};
+ghost use Rattle.pair_calls.specs.Answers.{IsExplained, IsExplanation, IsFindingTold, IsPairTold, IsUnexplained, IsWritten};
 ghost use Rattle.pair_calls.specs.declared.fault.PairFault.TheVariants.{Replay};
 
 use crate::fault::PairFault;
@@ -28,7 +27,6 @@ pub(crate) fn finding_of(
 ) -> Result<Finding, OutOfMemory>
     requires first { first < length indexed.now.events }
     requires second { second < length indexed.now.events }
-    requires conflict { IsConflicting indexed.now.events first second }
     ensures finding { IfOk result (IsFinding indexed.now first second) }
     ensures never { IfOk result (IsNeverShown indexed.now.events first second) }
 {
@@ -53,7 +51,6 @@ fn finding_by(
     requires clocks { clocks.now ≡ indexed.now }
     requires first { first < length indexed.now.events }
     requires second { second < length indexed.now.events }
-    requires conflict { IsConflicting indexed.now.events first second }
     ensures finding { IfOk result (IsFinding indexed.now first second) }
     ensures never { IfOk result (IsNeverShown indexed.now.events first second) }
 {
@@ -67,39 +64,120 @@ fn finding_by(
     }
 }
 
-/// Appends what was found of the pair.
+/// Appends what was found of the pair, whose earlier event stands first.
 fn append_finding(
     text: &mut Vec<u8>,
     indexed: &Indexed,
+    clocks: &Clocks,
+    must: &Must,
     finding: &Finding,
-    first: u32,
-    second: u32,
+    pair: (u32, u32),
     all: bool,
 ) -> Result<(), OutOfMemory>
-    ensures { OnOk result ((rest : List ℕ) × (text.new.items ≡ text.old.items ++ (finding_head indexed.now finding.now first second ++ rest))) }
+    requires clocks { clocks.now ≡ indexed.now }
+    requires must { must.now ≡ indexed.now }
+    ensures { OnOk result ((told : List ℕ) × IsFindingTold indexed.now finding.now pair.0 pair.1 told × (text.new.items ≡ text.old.items ++ told)) }
 {
     match finding {
         Finding::Race { how, events } => {
             let verdict = Verdict::Race {
                 how: *how,
                 events: events.items(),
+                all,
             };
-            explain_text(indexed, &verdict, first, second, all, text)?;
+            explain_text(indexed, clocks, must, &verdict, pair, text)?;
         }
         Finding::Forced { chains } => {
             let verdict = Verdict::Forced { chains };
-            explain_text(indexed, &verdict, first, second, all, text)?;
+            explain_text(indexed, clocks, must, &verdict, pair, text)?;
         }
         Finding::Guarded { lock } => {
             let verdict = Verdict::Guarded { lock: *lock };
-            explain_text(indexed, &verdict, first, second, all, text)?;
+            explain_text(indexed, clocks, must, &verdict, pair, text)?;
         }
         Finding::Undecided { events } => {
             let verdict = Verdict::Undecided { events };
-            explain_text(indexed, &verdict, first, second, all, text)?;
+            explain_text(indexed, clocks, must, &verdict, pair, text)?;
         }
     }
     Ok(())
+}
+
+/// Appends a right finding on the pair.
+fn append_found(
+    text: &mut Vec<u8>,
+    indexed: &Indexed,
+    clocks: &Clocks,
+    must: &Must,
+    finding: &Finding,
+    pair: (u32, u32),
+    all: bool,
+) -> Result<(), OutOfMemory>
+    requires clocks { clocks.now ≡ indexed.now }
+    requires must { must.now ≡ indexed.now }
+    requires finding { IsFinding indexed.now pair.0 pair.1 finding.now }
+    requires never { IsNeverShown indexed.now.events pair.0 pair.1 finding.now }
+    ensures { OnOk result ((told : List ℕ) × IsPairTold indexed.now pair.0 pair.1 told × (text.new.items ≡ text.old.items ++ told)) }
+{
+    append_finding(text, indexed, clocks, must, finding, pair, all)?;
+    Ok(())
+}
+
+/// Appends what is found of the pair, by the trace's orders.
+fn append_explained(
+    text: &mut Vec<u8>,
+    indexed: &Indexed,
+    clocks: &Clocks,
+    must: &Must,
+    pair: (u32, u32),
+    all: bool,
+) -> Result<(), OutOfMemory>
+    requires clocks { clocks.now ≡ indexed.now }
+    requires must { must.now ≡ indexed.now }
+    requires first { pair.0 < length indexed.now.events }
+    requires second { pair.1 < length indexed.now.events }
+    ensures { OnOk result ((told : List ℕ) × IsPairTold indexed.now pair.0 pair.1 told × (text.new.items ≡ text.old.items ++ told)) }
+{
+    match find(*text.allocator(), indexed, clocks, must, pair.0, pair.1) {
+        Ok(finding) => append_found(text, indexed, clocks, must, &finding, pair, all),
+        Err(refused) => Err(refused),
+    }
+}
+
+/// Appends the same by the trace's clocks.
+fn append_by_clocks(
+    text: &mut Vec<u8>,
+    indexed: &Indexed,
+    clocks: &Clocks,
+    pair: (u32, u32),
+    all: bool,
+) -> Result<(), OutOfMemory>
+    requires clocks { clocks.now ≡ indexed.now }
+    requires first { pair.0 < length indexed.now.events }
+    requires second { pair.1 < length indexed.now.events }
+    ensures { OnOk result ((told : List ℕ) × IsPairTold indexed.now pair.0 pair.1 told × (text.new.items ≡ text.old.items ++ told)) }
+{
+    match Must::new(*text.allocator(), indexed) {
+        Ok(must) => append_explained(text, indexed, clocks, &must, pair, all),
+        Err(refused) => Err(refused),
+    }
+}
+
+/// Appends the same.
+fn append_explanation(
+    text: &mut Vec<u8>,
+    indexed: &Indexed,
+    pair: (u32, u32),
+    all: bool,
+) -> Result<(), OutOfMemory>
+    requires first { pair.0 < length indexed.now.events }
+    requires second { pair.1 < length indexed.now.events }
+    ensures { OnOk result ((told : List ℕ) × IsPairTold indexed.now pair.0 pair.1 told × (text.new.items ≡ text.old.items ++ told)) }
+{
+    match Clocks::new(*text.allocator(), indexed) {
+        Ok(clocks) => append_by_clocks(text, indexed, &clocks, pair, all),
+        Err(refused) => Err(refused),
+    }
 }
 
 /// The text that explains the pair.
@@ -116,9 +194,8 @@ fn explanation_of(
     let Some((first, second)) = pair_of(indexed, one, other) else {
         return Err(PairFault::NoSuchPair);
     };
-    let finding = finding_of(alloc, indexed, first, second)?;
     let mut text = Vec::new(alloc);
-    append_finding(&mut text, indexed, &finding, first, second, all)?;
+    append_explanation(&mut text, indexed, (first, second), all)?;
     Ok(text)
 }
 

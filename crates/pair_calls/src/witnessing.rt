@@ -85,7 +85,7 @@ fn write_witness<K: Sink>(
 }
 
 /// Reads a trace text, whole, and writes a schedule that shows the pair of these two events, given in either order, in this form:
-/// a correct reordering of the trace after which both can come next.
+/// a correct reordering of the trace after which both are next in their threads.
 ///
 /// Before the faults 91, 92, 94, 98 and 99 nothing is written, nor where memory is refused. At 95 what was written is a beginning
 /// of the text.

@@ -1,0 +1,6 @@
+use Rattle.explain_report.proofs.PieceLemmas.{three_pieces}
+use Rattle.explain_report.proofs.chains.append_written.Goals as goal
+
+pub returns : goal.returns
+returns c =
+    three_pieces c.args.out.now.items _ _ _ _ _ c.in_ok-append_words.ensures c.in_ok-append_race_note.ensures _ c.in_ok-append_words-2.ensures

@@ -1,0 +1,98 @@
+//! An access: its line of the trace, and the locks that its thread holds before it.
+ghost use Rattle.std.specs.Prelude.{◌≡◌, ◌<◌, ◌++◌, length, slice_index_or, [], OnOk, codes};
+ghost use Rattle.rapid_text.specs.Canonical.{name_at};
+ghost use Rattle.explain_report.specs.Accesses.{access_text, held_locks, lock_line, lock_lines, numbered_access, pair_text};
+
+use crate::event_lines::{append_event, append_lock};
+use crate::pieces::{append_number, append_words};
+use event_index::Indexed;
+use must_order::Must;
+use rapid_text::OutOfMemory;
+
+/// Appends both accesses of a pair, each behind its number.
+pub(crate) fn append_pair(
+    out: &mut Vec<u8>,
+    indexed: &Indexed,
+    must: &Must,
+    first: u32,
+    second: u32,
+) -> Result<(), OutOfMemory>
+    requires { must.now ≡ indexed.now }
+    ensures { OnOk result (out.new.items ≡ out.old.items ++ pair_text indexed.now first second) }
+{
+    append_numbered_access(out, indexed, must, first)?;
+    append_numbered_access(out, indexed, must, second)?;
+    Ok(())
+}
+
+/// Appends the event's number, its canonical line and the locks that its thread holds before it; nothing where the trace has
+/// no such event.
+fn append_numbered_access(
+    out: &mut Vec<u8>,
+    indexed: &Indexed,
+    must: &Must,
+    event: u32,
+) -> Result<(), OutOfMemory>
+    requires { must.now ≡ indexed.now }
+    ensures { OnOk result (out.new.items ≡ out.old.items ++ numbered_access indexed.now event) }
+{
+    if event >= indexed.len() {
+        return Ok(());
+    }
+    append_number(out, u64::from(event))?;
+    append_access(out, indexed, must, event)?;
+    Ok(())
+}
+
+/// Appends the canonical line of the event behind two blanks, and a line for each lock that its thread holds before it.
+fn append_access(
+    out: &mut Vec<u8>,
+    indexed: &Indexed,
+    must: &Must,
+    event: u32,
+) -> Result<(), OutOfMemory>
+    requires must { must.now ≡ indexed.now }
+    requires event { event < length indexed.now.events }
+    ensures { OnOk result (out.new.items ≡ out.old.items ++ access_text indexed.now event) }
+{
+    append_words(out, b"  ")?;
+    append_event(out, indexed, event)?;
+    append_held(out, indexed, must, event)?;
+    Ok(())
+}
+
+/// Appends a line for each lock that the event's thread holds before it.
+fn append_held(
+    out: &mut Vec<u8>,
+    indexed: &Indexed,
+    must: &Must,
+    event: u32,
+) -> Result<(), OutOfMemory>
+    requires must { must.now ≡ indexed.now }
+    requires event { event < length indexed.now.events }
+    ensures { OnOk result (out.new.items ≡ out.old.items ++ lock_lines indexed.now (held_locks indexed.now event)) }
+{
+    let locks = must.locks_held(*out.allocator(), indexed, event)?;
+    append_locks(out, indexed, locks.as_slice())?;
+    Ok(())
+}
+
+/// Appends a line for each of the locks.
+fn append_locks(out: &mut Vec<u8>, indexed: &Indexed, locks: &[u32]) -> Result<(), OutOfMemory>
+    ensures { OnOk result (out.new.items ≡ out.old.items ++ lock_lines indexed.now locks.now) }
+{
+    for lock in locks {
+        append_lock_line(out, indexed, *lock)?;
+    }
+    Ok(())
+}
+
+/// Appends the line of a lock.
+fn append_lock_line(out: &mut Vec<u8>, indexed: &Indexed, lock: u32) -> Result<(), OutOfMemory>
+    ensures { OnOk result (out.new.items ≡ out.old.items ++ lock_line indexed.now lock) }
+{
+    append_words(out, b"    holds ")?;
+    append_lock(out, indexed, lock)?;
+    append_words(out, b"\n")?;
+    Ok(())
+}
