@@ -44,12 +44,12 @@ pub record IsPicture (P : List ℕ) (a b : ℕ) (text : List ℕ) : Type 0 where
   pub printed : text ≡ root_text width height shown_width shown_height ++ described P a b ++ STYLE.now ++ drawn_text shapes
   pub drawn : AreShapes shapes
 
--- The text is a picture that shows the pair, for a page that tells the schedule in words and has the style of pictures itself: it has this title, and shapes.
-pub record IsFigure (a b : ℕ) (text : List ℕ) : Type 0 where
+-- The text is the same picture without its style, for a page that has the style of pictures itself: it has this title, this description, and shapes.
+pub record IsFigure (P : List ℕ) (a b : ℕ) (text : List ℕ) : Type 0 where
   pub width : ℕ
   pub height : ℕ
   pub shown_width : ℕ
   pub shown_height : ℕ
   pub shapes : List ℕ
-  pub printed : text ≡ root_text width height shown_width shown_height ++ title a b ++ drawn_text shapes
+  pub printed : text ≡ root_text width height shown_width shown_height ++ described P a b ++ drawn_text shapes
   pub drawn : AreShapes shapes

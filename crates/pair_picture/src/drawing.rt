@@ -7,7 +7,7 @@ use crate::arrows::draw_arrows;
 use crate::canvas::Canvas;
 use crate::class::Class;
 use crate::columns::{Columns, MARGIN};
-use crate::head::{Size, append_description, append_drawn, append_root, append_title};
+use crate::head::{Size, append_description, append_drawn, append_root};
 use crate::labels::{draw_line, thread_name};
 use crate::layout::{GAP, Placed, TOP, end_of, folded_of, place_runs};
 use crate::pieces::{Piece, append_pieces, append_words, plural_of};
@@ -142,8 +142,7 @@ fn append_picture_of(
     Ok(())
 }
 
-/// Appends the same picture without its style and without the list of its events: for a page that has the style of its pictures itself, and tells the
-/// schedule in words. Where memory is refused `out` stays as it was.
+/// Appends the same picture without its style: for a page that has the style of its pictures itself. Where memory is refused `out` stays as it was.
 pub fn figure_text(
     indexed: &Indexed,
     events: &[u32],
@@ -151,8 +150,8 @@ pub fn figure_text(
     second: u32,
     out: &mut Vec<u8>,
 ) -> Result<(), OutOfMemory>
-    // The picture says which pair it is of.
-    ensures ok { OnOk result ((text : List ℕ) × (out.new.items ≡ out.old.items ++ text) × IsFigure first second text) }
+    // The picture says which schedule it shows.
+    ensures ok { OnOk result ((text : List ℕ) × (out.new.items ≡ out.old.items ++ text) × IsFigure events.now first second text) }
     ensures err { OnErr result (out.new.items ≡ out.old.items) }
 {
     let mut text = Vec::new(*out.allocator());
@@ -169,11 +168,11 @@ fn append_figure(
     first: u32,
     second: u32,
 ) -> Result<(), OutOfMemory>
-    ensures { OnOk result ((text : List ℕ) × (out.new.items ≡ out.old.items ++ text) × IsFigure first second text) }
+    ensures { OnOk result ((text : List ℕ) × (out.new.items ≡ out.old.items ++ text) × IsFigure events.now first second text) }
 {
     let mut canvas = Canvas::new(*out.allocator());
     match draw(&mut canvas, indexed, events, first, second) {
-        Ok(size) => append_figure_of(out, size, &canvas, first, second),
+        Ok(size) => append_figure_of(out, size, &canvas, events, first, second),
         Err(refused) => Err(refused),
     }
 }
@@ -183,13 +182,14 @@ fn append_figure_of(
     out: &mut Vec<u8>,
     size: Size,
     canvas: &Canvas,
+    events: &[u32],
     first: u32,
     second: u32,
 ) -> Result<(), OutOfMemory>
-    ensures { OnOk result ((text : List ℕ) × (out.new.items ≡ out.old.items ++ text) × IsFigure first second text) }
+    ensures { OnOk result ((text : List ℕ) × (out.new.items ≡ out.old.items ++ text) × IsFigure events.now first second text) }
 {
     append_root(out, size)?;
-    append_title(out, first, second)?;
+    append_description(out, events, first, second)?;
     append_drawn(out, canvas.bytes())?;
     Ok(())
 }
@@ -250,7 +250,7 @@ fn draw_top_line(
             Piece::Number(runs),
             Piece::Words(b" run"),
             Piece::Words(plural_of(runs)),
-            Piece::Words(b" both can come next"),
+            Piece::Words(b" both are next"),
         ],
     )?;
     canvas.line(Class::Name, MARGIN, 20, &text)
@@ -309,7 +309,7 @@ fn draw_pair(
         Class::Name,
         MARGIN,
         drawing.end.saturating_add(10),
-        b"then both can come next:",
+        b"then both are next:",
     )?;
     let locks = drawing.first_locks.as_slice();
     draw_access(canvas, indexed, &drawing.columns, first, locks, top, high)?;

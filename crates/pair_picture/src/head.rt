@@ -78,7 +78,7 @@ pub(crate) fn append_description(
 }
 
 /// Appends which pair the picture is of.
-pub(crate) fn append_title(out: &mut Vec<u8>, first: u32, second: u32) -> Result<(), OutOfMemory>
+fn append_title(out: &mut Vec<u8>, first: u32, second: u32) -> Result<(), OutOfMemory>
     ensures { OnOk result (out.new.items ≡ out.old.items ++ title first second) }
 {
     append_pieces(

@@ -1,18 +1,22 @@
 -- Each thing that is written keeps what a piece is, and what a page is.
 use Rattle.std.proofs.Common.{◌≡◌, ℕ, List, [], ◌∷◌, ◌++◌, decimal, ap, ◌∙◌}
 use Rattle.markup.specs.Escaped.{escaped}
+use Rattle.rapid_text.specs.Recording.{Recording}
+use Rattle.schedule.specs.Reordering.{IsCorrectReordering}
+use Rattle.schedule.specs.Shows.{Shows}
 use Rattle.pair_picture.specs.Pictures.{IsFigure}
 use Rattle.race_page.specs.Own.{begin_text, end_text, part_text, row_text}
-use Rattle.race_page.specs.Pages.{IsPage, IsPiece}
+use Rattle.race_page.specs.Pages.{IsDrawn, IsPage, IsPiece}
 use Rattle.race_page.specs.declared.own.Part.{Part}
 use Rattle.race_page.specs.declared.own.Tag.{Tag}
 use Rattle.race_page.specs.declared.shown.Shown.{Shown}
+use Rattle.race_page.specs.declared.style.TheConstants.{TOP}
 
 pub no_piece : (text : List ℕ) → text ≡ [] → IsPiece text
 no_piece text e = rw e IsPiece.empty
 
-pub no_page : (text : List ℕ) (rows : List Shown) → text ≡ [] → rows ≡ [] → IsPage text rows
-no_page text rows e f = rw e (rw f IsPage.empty)
+pub top_page : (r : Recording) (none text : List ℕ) (rows : List Shown) → none ≡ [] → text ≡ none ++ TOP.now → rows ≡ [] → IsPage r text rows
+top_page r none text rows e f g = rw f (rw e (rw g IsPage.top))
 
 -- what is appended to nothing stands alone
 pub alone : (empty text words bytes : List ℕ) → empty ≡ [] → text ≡ empty ++ words → bytes ≡ text → bytes ≡ words
@@ -34,14 +38,28 @@ module _ (old new piece : List ℕ) (is : IsPiece old) (e : new ≡ old ++ piece
   pub with_text : (bytes : List ℕ) → piece ≡ escaped bytes → IsPiece new
   with_text bytes f = rw e (rw f (IsPiece.text bytes old is))
 
-  pub with_picture : (a b : ℕ) → IsFigure a b piece → IsPiece new
-  with_picture a b figure = rw e (IsPiece.picture a b piece old figure is)
-
-module _ (old new added : List ℕ) (rows : List Shown) (is : IsPage old rows) (e : new ≡ old ++ added) where
-  pub with_piece : (piece : List ℕ) → IsPiece piece → added ≡ piece → IsPage new rows
+module _ (r : Recording) (old new added : List ℕ) (rows : List Shown) (is : IsPage r old rows) (e : new ≡ old ++ added) where
+  pub with_piece : (piece : List ℕ) → IsPiece piece → added ≡ piece → IsPage r new rows
   with_piece piece whole f = rw e (rw f (IsPage.piece piece old rows whole is))
 
   pub with_row :
       (shown : Shown) (piece : List ℕ) (after last : List Shown) → IsPiece piece → added ≡ row_text shown.sort shown.first shown.second piece → after ≡ rows
-      → last ≡ after ++ shown ∷ [] → IsPage new last
+      → last ≡ after ++ shown ∷ [] → IsPage r new last
   with_row shown piece after last whole f g h = rw e (rw f (rw h (rw g (IsPage.row shown piece old rows whole is))))
+
+  pub with_drawn :
+      (shown : Shown) (before figure behind : List ℕ) (after last : List Shown) → IsPiece before → IsDrawn r shown.first shown.second figure → IsPiece behind
+      → added ≡ row_text shown.sort shown.first shown.second (before ++ figure ++ behind) → after ≡ rows → last ≡ after ++ shown ∷ [] → IsPage r new last
+  with_drawn shown before figure behind after last whole drawn end f g h =
+      rw e (rw f (rw h (rw g (IsPage.drawn shown before figure behind old rows whole drawn end is))))
+
+-- a picture of a schedule that shows the pair
+pub drawn_of :
+    (r s : Recording) (events : List ℕ) (a b : ℕ) (none made text shown : List ℕ) → none ≡ [] → made ≡ none ++ text → shown ≡ made → IsFigure events a b text
+    → r ≡ s → IsCorrectReordering s.events events → Shows s.events events a b → IsDrawn r a b shown
+drawn_of r s events a b none made text shown e f g figure same reordering shows = record {
+  events = events;
+  reordering = rw same reordering;
+  shows = rw same shows;
+  figure = rw (g ∙ (f ∙ ap (λ (xs : List ℕ). xs ++ text) e)) figure;
+}

@@ -1,3 +1,4 @@
 pub mod Own
 pub mod Pages
+pub mod Raced
 pub mod Rows

@@ -1,12 +1,12 @@
 -- The page's own markup: a closed list. Nothing else stands on a page unescaped but digits and pictures.
 use Rattle.std.specs.Prelude.{ℕ, List, ◌++◌, codes, decimal}
 use Rattle.race_page.specs.declared.own.Part.{Part}
-use Rattle.race_page.specs.declared.own.Part.TheVariants.{Top, Body, Foot, LineEnd}
+use Rattle.race_page.specs.declared.own.Part.TheVariants.{Body, Foot, LineEnd}
 use Rattle.race_page.specs.declared.own.Tag.{Tag}
 use Rattle.race_page.specs.declared.own.Tag.TheVariants.{Title, Header, Main, Section, PageHeading, SectionHeading, RowHeading, PartHeading, Paragraph, Isolated, Table, TableHead, TableBody, Line, ColumnHead, LineHead, Cell, NumberCell, Summary, Facts, Lines, Code, Figure, Caption, Wide}
 use Rattle.race_page.specs.declared.shown.Sort.{Sort}
 use Rattle.race_page.specs.declared.shown.Sort.TheVariants.{Race, Undecided, Apart}
-use Rattle.race_page.specs.declared.style.TheConstants.{TOP, BODY, FOOT}
+use Rattle.race_page.specs.declared.style.TheConstants.{BODY, FOOT}
 
 -- how an element begins
 abbrev pub begin_text : Tag → List ℕ
@@ -66,7 +66,6 @@ end_text Wide = codes "</div>\n"
 
 -- a part that is always the same
 abbrev pub part_text : Part → List ℕ
-part_text Top = TOP.now
 part_text Body = BODY.now
 part_text Foot = FOOT.now
 part_text LineEnd = codes "\n"

@@ -1,13 +1,17 @@
--- What a page is made of.
+-- What a page is made of. `r` is the recording of its trace.
 use Rattle.std.specs.Prelude.{ℕ, List, [], ◌∷◌, ◌++◌, decimal}
 use Rattle.markup.specs.Escaped.{escaped}
+use Rattle.rapid_text.specs.Recording.{Recording}
+use Rattle.schedule.specs.Reordering.{IsCorrectReordering}
+use Rattle.schedule.specs.Shows.{Shows}
 use Rattle.pair_picture.specs.Pictures.{IsFigure}
 use Rattle.race_page.specs.Own.{begin_text, end_text, part_text, row_text}
 use Rattle.race_page.specs.declared.own.Part.{Part}
 use Rattle.race_page.specs.declared.own.Tag.{Tag}
 use Rattle.race_page.specs.declared.shown.Shown.{Shown}
+use Rattle.race_page.specs.declared.style.TheConstants.{TOP}
 
--- The text is a piece of a page: own markup of the closed list, numbers, texts that are escaped, and pictures of pairs.
+-- The text is a piece of a page: own markup of the closed list, numbers, and texts that are escaped.
 pub data IsPiece : List ℕ → Type 0 where
   empty : IsPiece []
   begin : (tag : Tag) (m : List ℕ) → IsPiece m → IsPiece (m ++ begin_text tag)
@@ -15,15 +19,28 @@ pub data IsPiece : List ℕ → Type 0 where
   part : (part : Part) (m : List ℕ) → IsPiece m → IsPiece (m ++ part_text part)
   number : (n : ℕ) (m : List ℕ) → IsPiece m → IsPiece (m ++ decimal n)
   text : (bytes m : List ℕ) → IsPiece m → IsPiece (m ++ escaped bytes)
-  picture : (a b : ℕ) (p m : List ℕ) → IsFigure a b p → IsPiece m → IsPiece (m ++ p)
 
--- The text is a page with these rows, or a beginning of one: pieces, and rows in which a piece stands.
-pub data IsPage : List ℕ → List Shown → Type 0 where
-  empty : IsPage [] []
-  piece : (p m : List ℕ) (rows : List Shown) → IsPiece p → IsPage m rows → IsPage (m ++ p) rows
-  row : (shown : Shown) (p m : List ℕ) (rows : List Shown) → IsPiece p → IsPage m rows → IsPage (m ++ row_text shown.sort shown.first shown.second p) (rows ++ shown ∷ [])
+-- The text draws a schedule of the trace, a correct reordering that shows the pair.
+pub record IsDrawn (r : Recording) (a b : ℕ) (text : List ℕ) : Type 0 where
+  pub events : List ℕ
+  pub reordering : IsCorrectReordering r.events events
+  pub shows : Shows r.events events a b
+  pub figure : IsFigure events a b text
+
+-- The text is a page with these rows, or a beginning of one. It begins with the head, which has the policy. Then there are pieces, rows in which a
+-- piece stands, and rows in which a schedule that shows the row's pair is drawn between two pieces.
+pub data IsPage (r : Recording) : List ℕ → List Shown → Type 0 where
+  top : IsPage r TOP.now []
+  piece : (p m : List ℕ) (rows : List Shown) → IsPiece p → IsPage r m rows → IsPage r (m ++ p) rows
+  row :
+      (shown : Shown) (p m : List ℕ) (rows : List Shown) → IsPiece p → IsPage r m rows
+      → IsPage r (m ++ row_text shown.sort shown.first shown.second p) (rows ++ shown ∷ [])
+  drawn :
+      (shown : Shown) (before figure after m : List ℕ) (rows : List Shown) → IsPiece before → IsDrawn r shown.first shown.second figure → IsPiece after
+      → IsPage r m rows → IsPage r (m ++ row_text shown.sort shown.first shown.second (before ++ figure ++ after)) (rows ++ shown ∷ [])
 
 -- what contracts see of a page that is being written
 pub record Made : Type 0 where
+  pub trace : Recording
   pub text : List ℕ
   pub rows : List Shown

@@ -4,21 +4,20 @@ use crate::piece::{Item, Piece};
 use rapid_text::OutOfMemory;
 
 const PLACES: &[u8] =
-    b"A place is the location of an access. A pair of places is a race where a schedule was found, the events of this trace in another \
-order that its program could have taken too, after which two accesses there can both come next; apart where every such order keeps all accesses there apart; \
-undecided where neither was found.";
+    b"A place is the location of an access in the source. A pair of places is a race if a schedule was found: the \
+events of this trace in another order that its program could have taken too, after which an access at each of the two places is next in its \
+thread. It is apart if no such order shows two accesses there so, and undecided if neither was found.";
 
-const PROVED: &[u8] =
-    b"Proved of the program that wrote this page: each schedule on it is a correct reordering of the trace after which both accesses can come \
-next, and of two events that it tells to be apart no correct reordering shows both so.";
+const NEXT: &[u8] =
+    b"An access is next in its thread if all that comes before it there has happened, and it has not. Two accesses of one \
+variable that are both next, one of them a write, are a data race: nothing keeps the two threads from making them at once.";
 
 const LIMIT: &[u8] =
     b"Apart is said of this trace alone: a read keeps the write that it saw, so places that are apart here may race in another run.";
 
-/// Writes the head of the page, its heading, what the verdicts mean, and what is proved of them.
+/// Writes the title, the heading of the page, and what the verdicts mean.
 pub(crate) fn write_heading(piece: &mut Piece, name: &[u8]) -> Result<(), OutOfMemory> {
     piece.write(&[
-        Item::Part(Part::Top),
         Item::Begin(Tag::Title),
         Item::Text(b"Races of "),
         Item::Text(name),
@@ -30,7 +29,7 @@ pub(crate) fn write_heading(piece: &mut Piece, name: &[u8]) -> Result<(), OutOfM
         Item::Element(Tag::Isolated, name),
         Item::End(Tag::PageHeading),
         Item::Element(Tag::Paragraph, PLACES),
-        Item::Element(Tag::Paragraph, PROVED),
+        Item::Element(Tag::Paragraph, NEXT),
         Item::Element(Tag::Paragraph, LIMIT),
         Item::End(Tag::Header),
     ])

@@ -2,7 +2,7 @@
 ghost use Rattle.std.specs.Prelude.{◌≡◌};
 ghost use Rattle.race_page.specs.Own.{begin_text, end_text, part_text};
 
-use crate::style::{BODY, FOOT, TOP};
+use crate::style::{BODY, FOOT};
 
 /// An element of the page.
 #[derive(Clone, Copy, PartialEq, Eq, Debug)]
@@ -62,8 +62,6 @@ pub enum Tag {
 /// A part of the page that is always the same.
 #[derive(Clone, Copy, PartialEq, Eq, Debug)]
 pub enum Part {
-    /// What stands before the title.
-    Top,
     /// What stands between the title and the first heading: how the page looks, and how its pictures look.
     Body,
     /// What stands at the end.
@@ -143,7 +141,6 @@ pub(crate) fn bytes_of(part: Part) -> &'static [u8]
     ensures { result.now ≡ part_text part }
 {
     match part {
-        Part::Top => TOP,
         Part::Body => BODY,
         Part::Foot => FOOT,
         Part::LineEnd => b"\n",

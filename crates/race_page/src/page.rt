@@ -1,18 +1,25 @@
-//! A page: pieces, and rows.
-ghost use Rattle.std.specs.Prelude.{◌≡◌, ◌++◌, ◌∷◌, [], OnOk, decimal};
+//! A page: its head, pieces, and rows.
+ghost use Rattle.std.specs.Prelude.{◌≡◌, ◌++◌, ◌∷◌, [], IfOk, OnOk, List, ℕ, decimal};
+ghost use Rattle.schedule.specs.Reordering.{IsCorrectReordering};
+ghost use Rattle.schedule.specs.Shows.{Shows};
 ghost use Rattle.race_page.specs.Own.{row_text};
-ghost use Rattle.race_page.specs.Pages.{IsPage};
+ghost use Rattle.race_page.specs.Pages.{IsDrawn, IsPage, IsPiece};
 
 use crate::piece::Piece;
 use crate::shown::{Shown, row_begin_of};
+use crate::style::TOP;
+use event_index::Indexed;
 use itoa::Buffer;
+use pair_picture::figure_text;
 use rapid_text::OutOfMemory;
 use std::alloc::Global;
 use std::marker::Model;
+use std::snapshot::Snapshot;
 
-/// A page that is being written. Contracts see its text so far and its rows.
+/// A page that is being written. Contracts see its trace, its text so far and its rows.
 #[derive(Drop)]
 pub(crate) struct Page {
+    of: Snapshot<Indexed>,
     text: Vec<u8>,
     rows: Vec<Shown>,
 }
@@ -22,20 +29,24 @@ impl Model for Page {
 
     ghost Value = { Made };
 
-    ghost view = { λ p. record { text = p.text.items; rows = p.rows.items } };
+    ghost view = { λ p. record { trace = p.of.value; text = p.text.items; rows = p.rows.items } };
 
-    ghost invariant = { λ p. IsPage p.text.items p.rows.items };
+    ghost invariant = { λ p. IsPage p.of.value p.text.items p.rows.items };
 }
 
 impl Page {
-    /// An empty page.
-    pub(crate) fn new(alloc: Global) -> Page
-        ensures { result.rows ≡ [] }
+    /// A page of this trace with its head alone, which has the policy.
+    pub(crate) fn new(alloc: Global, indexed: &Indexed) -> Result<Page, OutOfMemory>
+        ensures trace { IfOk result (λ page. page.trace ≡ indexed.now) }
+        ensures rows { IfOk result (λ page. page.rows ≡ []) }
     {
-        Page {
-            text: Vec::new(alloc),
+        let mut text = Vec::new(alloc);
+        text.extend_from_slice(TOP)?;
+        Ok(Page {
+            of: Snapshot::of(indexed),
+            text,
             rows: Vec::new(alloc),
-        }
+        })
     }
 
     /// The allocator.
@@ -46,14 +57,15 @@ impl Page {
     /// What was written.
     pub(crate) fn bytes(&self) -> &[u8]
         ensures text { result.now ≡ self.now.text }
-        ensures page { IsPage self.now.text self.now.rows }
+        ensures page { IsPage self.now.trace self.now.text self.now.rows }
     {
         self.text.as_slice()
     }
 
     /// Writes a piece.
     pub(crate) fn write(&mut self, piece: &Piece) -> Result<(), OutOfMemory>
-        ensures { self.new.rows ≡ self.old.rows }
+        ensures trace { self.new.trace ≡ self.old.trace }
+        ensures rows { self.new.rows ≡ self.old.rows }
     {
         self.text.extend_from_slice(piece.bytes())?;
         Ok(())
@@ -61,7 +73,8 @@ impl Page {
 
     /// Writes a row in which this piece stands.
     pub(crate) fn row(&mut self, shown: Shown, piece: &Piece) -> Result<(), OutOfMemory>
-        ensures { OnOk result (self.new.rows ≡ self.old.rows ++ shown ∷ []) }
+        ensures trace { self.new.trace ≡ self.old.trace }
+        ensures rows { OnOk result (self.new.rows ≡ self.old.rows ++ shown ∷ []) }
     {
         let mut row = Vec::new(*self.text.allocator());
         self.add_row(&mut row, shown, piece)
@@ -70,7 +83,8 @@ impl Page {
     /// Writes the row. It is put into a text that is empty first, so that where memory is refused the page has no half of it.
     fn add_row(&mut self, row: &mut Vec<u8>, shown: Shown, piece: &Piece) -> Result<(), OutOfMemory>
         requires { row.now.items ≡ [] }
-        ensures { OnOk result (self.new.rows ≡ self.old.rows ++ shown ∷ []) }
+        ensures trace { self.new.trace ≡ self.old.trace }
+        ensures rows { OnOk result (self.new.rows ≡ self.old.rows ++ shown ∷ []) }
     {
         append_row(row, shown, piece.bytes())?;
         self.rows.reserve(1)?;
@@ -78,6 +92,65 @@ impl Page {
         self.rows.push(shown)?;
         Ok(())
     }
+
+    /// Writes a row in which the schedule of these events is drawn between two pieces: a correct reordering that shows the row's pair.
+    pub(crate) fn drawn_row(
+        &mut self,
+        indexed: &Indexed,
+        events: &[u32],
+        shown: Shown,
+        before: &Piece,
+        after: &Piece,
+    ) -> Result<(), OutOfMemory>
+        requires trace { self.old.trace ≡ indexed.now }
+        requires reordering { IsCorrectReordering indexed.now.events events.now }
+        requires shows { Shows indexed.now.events events.now shown.first shown.second }
+        ensures trace { self.new.trace ≡ self.old.trace }
+        ensures rows { OnOk result (self.new.rows ≡ self.old.rows ++ shown ∷ []) }
+    {
+        let mut figure = Vec::new(*self.text.allocator());
+        figure_text(indexed, events, shown.first, shown.second, &mut figure)?;
+        self.add_drawn(figure.as_slice(), shown, before, after)
+    }
+
+    /// Writes the row in which this figure stands.
+    fn add_drawn(
+        &mut self,
+        figure: &[u8],
+        shown: Shown,
+        before: &Piece,
+        after: &Piece,
+    ) -> Result<(), OutOfMemory>
+        requires { IsDrawn self.old.trace shown.first shown.second figure.now }
+        ensures trace { self.new.trace ≡ self.old.trace }
+        ensures rows { OnOk result (self.new.rows ≡ self.old.rows ++ shown ∷ []) }
+    {
+        let mut row = Vec::new(*self.text.allocator());
+        append_drawn(&mut row, shown, before.bytes(), figure, after.bytes())?;
+        self.rows.reserve(1)?;
+        self.text.extend_from_slice(row.as_slice())?;
+        self.rows.push(shown)?;
+        Ok(())
+    }
+}
+
+/// Appends a row in which these bytes stand, one behind the other.
+fn append_drawn(
+    out: &mut Vec<u8>,
+    shown: Shown,
+    before: &[u8],
+    figure: &[u8],
+    after: &[u8],
+) -> Result<(), OutOfMemory>
+    requires { out.now.items ≡ [] }
+    ensures { OnOk result (out.new.items ≡ row_text shown.sort shown.first shown.second (before.now ++ figure.now ++ after.now)) }
+{
+    let mut body = Vec::new(*out.allocator());
+    body.extend_from_slice(before)?;
+    body.extend_from_slice(figure)?;
+    body.extend_from_slice(after)?;
+    append_row(out, shown, body.as_slice())?;
+    Ok(())
 }
 
 /// Appends a row in which these bytes stand.

@@ -1,13 +1,11 @@
-//! The one writer of a page's pieces. What it writes is own markup of a closed list, a number, a text that is escaped, or a picture.
+//! The one writer of a page's pieces. What it writes is own markup of a closed list, a number, or a text that is escaped.
 ghost use Rattle.std.specs.Prelude.{◌≡◌, ◌++◌, OnOk, OnErr};
 ghost use Rattle.markup.specs.Escaped.{escaped};
 ghost use Rattle.race_page.specs.Pages.{IsPiece};
 
 use crate::own::{Part, Tag, begin_of, bytes_of, end_of};
-use event_index::Indexed;
 use itoa::Buffer;
 use markup::escape;
-use pair_picture::figure_text;
 use rapid_text::OutOfMemory;
 use std::alloc::Global;
 use std::marker::Model;
@@ -140,18 +138,6 @@ impl Piece {
         self.text(b" ")?;
         self.text(word)?;
         self.text(if number == 1 { b"" } else { b"s" })
-    }
-
-    /// Writes a picture of the schedule of these events, which shows the pair.
-    pub(crate) fn picture(
-        &mut self,
-        indexed: &Indexed,
-        events: &[u32],
-        first: u32,
-        second: u32,
-    ) -> Result<(), OutOfMemory> {
-        figure_text(indexed, events, first, second, &mut self.text)?;
-        Ok(())
     }
 }
 

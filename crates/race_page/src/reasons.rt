@@ -1,5 +1,6 @@
 //! Why a pair of places is no race, in a line.
-ghost use Rattle.std.specs.Prelude.{◌≡◌, ◌<◌, length};
+ghost use Rattle.std.specs.Prelude.{◌≡◌, ◌<◌, IfOk, length};
+ghost use Rattle.race_page.specs.Raced.{IsRacedIn};
 
 use crate::own::Tag;
 use crate::piece::{Item, Piece};
@@ -7,30 +8,40 @@ use crate::selecting::shown_of;
 use crate::shown::Shown;
 use crate::words::cut_line;
 use event_index::Indexed;
-use explain_report::{Verdict as Reason, append_head};
-use must_order::Must;
+use explain_report::{Verdict as Reason, append_head, first_raced};
+use must_order::{Must, Step};
 use race_triage::{Outcome, Verdict};
 use rapid_text::OutOfMemory;
+use shb_clocks::Clocks;
+use std::alloc::Global;
 
 /// What is said where no open pair was tried, so that none could be shown.
 const UNTRIED: &[u8] =
     b"undecided: no pair was tried, and neither order nor lock forbids a schedule";
 
-/// Writes the first line of what `explain` prints of a row that is no race; of one where no pair was tried, that this is so.
+/// Writes the first line of what `explain` prints of a row that is no race; of one where no pair was tried, that this is so. Where the two are apart by a
+/// read that itself races with the write that it reads, it says that too.
 pub(crate) fn write_reason(
     piece: &mut Piece,
     indexed: &Indexed,
+    clocks: &Clocks,
     must: &Must,
     verdict: Verdict,
 ) -> Result<(), OutOfMemory>
-    requires { must.now ≡ indexed.now }
+    requires clocks { clocks.now ≡ indexed.now }
+    requires must { must.now ≡ indexed.now }
 {
     let shown = shown_of(verdict);
     if shown.first >= indexed.len() || shown.second >= indexed.len() {
         return Ok(());
     }
     let mut text = Vec::new(piece.allocator());
-    write_line(piece, &mut text, indexed, must, verdict, shown)
+    write_line(piece, &mut text, indexed, must, verdict, shown)?;
+    if verdict.outcome == Outcome::Apart {
+        let raced = raced_in(piece.allocator(), indexed, clocks, must, shown)?;
+        write_raced(piece, raced)?;
+    }
+    piece.write(&[Item::End(Tag::Facts)])
 }
 
 /// Writes the line, whose words are made in a text of their own.
@@ -48,10 +59,45 @@ fn write_line(
 {
     append_reason(text, indexed, must, verdict, shown)?;
     let (line, _) = cut_line(text.as_slice());
+    piece.write(&[Item::Begin(Tag::Facts), Item::Element(Tag::Isolated, line)])
+}
+
+/// Of the chains by which the first event comes before the second, the first step from a write to a read of what it wrote that race
+/// themselves.
+fn raced_in(
+    alloc: Global,
+    indexed: &Indexed,
+    clocks: &Clocks,
+    must: &Must,
+    shown: Shown,
+) -> Result<Option<Step>, OutOfMemory>
+    requires clocks { clocks.now ≡ indexed.now }
+    requires must { must.now ≡ indexed.now }
+    requires first { shown.first < length indexed.now.events }
+    requires second { shown.second < length indexed.now.events }
+    ensures { IfOk result (IsRacedIn indexed.now shown.first shown.second) }
+{
+    match must.reasons(alloc, indexed, shown.first, shown.second)? {
+        Some(chains) => Ok(first_raced(indexed, clocks, chains.as_slice())),
+        None => Ok(None),
+    }
+}
+
+/// Writes that a step races, where there is one.
+fn write_raced(piece: &mut Piece, raced: Option<Step>) -> Result<(), OutOfMemory> {
+    let Some(step) = raced else {
+        return Ok(());
+    };
     piece.write(&[
-        Item::Begin(Tag::Facts),
-        Item::Element(Tag::Isolated, line),
-        Item::End(Tag::Facts),
+        Item::Text(b", since "),
+        Item::Number(u64::from(step.to)),
+        Item::Text(b" reads "),
+        Item::Number(u64::from(step.from)),
+        Item::Text(b" (these two race: explain "),
+        Item::Number(u64::from(step.from)),
+        Item::Text(b" "),
+        Item::Number(u64::from(step.to)),
+        Item::Text(b")"),
     ])
 }
 

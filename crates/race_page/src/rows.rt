@@ -1,14 +1,13 @@
 //! The rows of a page, section by section.
-ghost use Rattle.std.specs.Prelude.{◌≡◌, ◌++◌, OnOk};
-ghost use Rattle.race_page.specs.Rows.{rows_of};
+ghost use Rattle.std.specs.Prelude.{◌≡◌, ◌++◌, ◌∷◌, [], OnOk};
+ghost use Rattle.race_page.specs.Rows.{row_of, rows_of};
 
 use crate::accesses::{write_accesses, write_place};
-use crate::commands::write_commands;
 use crate::own::Tag;
 use crate::page::Page;
 use crate::piece::{Item, Piece};
 use crate::reasons::write_reason;
-use crate::schedules::write_schedule;
+use crate::schedules::{write_plain, write_with_schedule};
 use crate::selecting::shown_of;
 use crate::shown::{Shown, Sort};
 use event_index::Indexed;
@@ -34,21 +33,22 @@ pub(crate) fn write_rows(
     word: &[u8],
     kept: &[Verdict],
 ) -> Result<(), OutOfMemory>
+    requires trace { page.old.trace ≡ indexed.now }
     requires clocks { clocks.now ≡ indexed.now }
     requires must { must.now ≡ indexed.now }
-    ensures { OnOk result (page.new.rows ≡ page.old.rows ++ rows_of kept.now) }
+    ensures trace { page.new.trace ≡ page.old.trace }
+    ensures rows { OnOk result (page.new.rows ≡ page.old.rows ++ rows_of kept.now) }
 {
     for at in 0..MOST_ROWS.min(kept.len()) {
-        let verdict = kept[at];
         let is_drawn = at < MOST_PICTURES;
-        fill_row(piece, indexed, clocks, must, word, verdict, is_drawn)?;
-        page.row(shown_of(verdict), piece)?;
+        write_row(page, piece, indexed, clocks, must, word, kept[at], is_drawn)?;
     }
     Ok(())
 }
 
-/// Writes what stands in the row of a verdict.
-fn fill_row(
+/// Writes the row of a verdict.
+fn write_row(
+    page: &mut Page,
     piece: &mut Piece,
     indexed: &Indexed,
     clocks: &Clocks,
@@ -57,28 +57,34 @@ fn fill_row(
     verdict: Verdict,
     is_drawn: bool,
 ) -> Result<(), OutOfMemory>
+    requires trace { page.old.trace ≡ indexed.now }
     requires clocks { clocks.now ≡ indexed.now }
     requires must { must.now ≡ indexed.now }
+    ensures trace { page.new.trace ≡ page.old.trace }
+    ensures rows { OnOk result (page.new.rows ≡ page.old.rows ++ row_of verdict ∷ []) }
 {
     let shown = shown_of(verdict);
     piece.clear();
-    write_summary(piece, indexed, must, verdict, shown)?;
+    write_summary(piece, indexed, clocks, must, verdict, shown)?;
     write_accesses(piece, indexed, must, shown.first, shown.second)?;
     if is_drawn && shown.sort == Sort::Race {
-        write_schedule(piece, indexed, clocks, must, shown)?;
+        write_with_schedule(page, piece, indexed, clocks, must, word, shown)
+    } else {
+        write_plain(page, piece, word, shown)
     }
-    write_commands(piece, word, shown)
 }
 
 /// Writes what is seen of a row that is closed.
 fn write_summary(
     piece: &mut Piece,
     indexed: &Indexed,
+    clocks: &Clocks,
     must: &Must,
     verdict: Verdict,
     shown: Shown,
 ) -> Result<(), OutOfMemory>
-    requires { must.now ≡ indexed.now }
+    requires clocks { clocks.now ≡ indexed.now }
+    requires must { must.now ≡ indexed.now }
 {
     piece.write(&[Item::Begin(Tag::Summary), Item::Begin(Tag::RowHeading)])?;
     write_place(piece, indexed, shown.first)?;
@@ -86,7 +92,7 @@ fn write_summary(
     write_place(piece, indexed, shown.second)?;
     write_facts(piece, verdict)?;
     if shown.sort != Sort::Race {
-        write_reason(piece, indexed, must, verdict)?;
+        write_reason(piece, indexed, clocks, must, verdict)?;
     }
     piece.write(&[Item::End(Tag::Summary)])
 }

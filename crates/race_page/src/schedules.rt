@@ -1,7 +1,12 @@
-//! The schedule of a race: its picture, and its runs in words.
-ghost use Rattle.std.specs.Prelude.{◌≡◌};
+//! The row of a race with its schedule: its picture, and its runs in words.
+ghost use Rattle.std.specs.Prelude.{◌≡◌, ◌++◌, ◌∷◌, [], OnOk};
+ghost use Rattle.pair_findings.specs.Findings.{IsFinding};
+ghost use Rattle.schedule.specs.Reordering.{IsCorrectReordering};
+ghost use Rattle.schedule.specs.Shows.{Shows};
 
+use crate::commands::write_commands;
 use crate::own::Tag;
+use crate::page::Page;
 use crate::piece::{Item, Piece};
 use crate::shown::Shown;
 use crate::words::lines;
@@ -12,65 +17,128 @@ use pair_findings::{Finding, find};
 use rapid_text::OutOfMemory;
 use shb_clocks::Clocks;
 
-/// Writes the schedule that shows the row's pair, where there is one.
-pub(crate) fn write_schedule(
+/// Writes the row, the beginning of which stands in the piece: with the schedule that shows its pair, where there is one.
+pub(crate) fn write_with_schedule(
+    page: &mut Page,
     piece: &mut Piece,
     indexed: &Indexed,
     clocks: &Clocks,
     must: &Must,
+    word: &[u8],
     shown: Shown,
 ) -> Result<(), OutOfMemory>
+    requires trace { page.old.trace ≡ indexed.now }
     requires clocks { clocks.now ≡ indexed.now }
     requires must { must.now ≡ indexed.now }
+    ensures trace { page.new.trace ≡ page.old.trace }
+    ensures rows { OnOk result (page.new.rows ≡ page.old.rows ++ shown ∷ []) }
 {
     if shown.first >= indexed.len() || shown.second >= indexed.len() {
-        return Ok(());
+        return write_plain(page, piece, word, shown);
     }
     match find(
-        piece.allocator(),
+        page.allocator(),
         indexed,
         clocks,
         must,
         shown.first,
         shown.second,
     ) {
-        Ok(finding) => write_finding(piece, indexed, &finding, shown),
+        Ok(finding) => { write_finding(page, piece, indexed, clocks, must, word, &finding, shown) }
         Err(refused) => Err(refused),
     }
 }
 
-/// Writes the schedule that was found, where one was.
+/// Writes the row without a schedule.
+pub(crate) fn write_plain(
+    page: &mut Page,
+    piece: &mut Piece,
+    word: &[u8],
+    shown: Shown,
+) -> Result<(), OutOfMemory>
+    ensures trace { page.new.trace ≡ page.old.trace }
+    ensures rows { OnOk result (page.new.rows ≡ page.old.rows ++ shown ∷ []) }
+{
+    write_commands(piece, word, shown)?;
+    page.row(shown, piece)
+}
+
+/// Writes the row with the schedule that was found, where one was.
 fn write_finding(
+    page: &mut Page,
     piece: &mut Piece,
     indexed: &Indexed,
+    clocks: &Clocks,
+    must: &Must,
+    word: &[u8],
     finding: &Finding,
     shown: Shown,
-) -> Result<(), OutOfMemory> {
+) -> Result<(), OutOfMemory>
+    requires trace { page.old.trace ≡ indexed.now }
+    requires clocks { clocks.now ≡ indexed.now }
+    requires must { must.now ≡ indexed.now }
+    requires finding { IsFinding indexed.now shown.first shown.second finding.now }
+    ensures trace { page.new.trace ≡ page.old.trace }
+    ensures rows { OnOk result (page.new.rows ≡ page.old.rows ++ shown ∷ []) }
+{
     match finding {
-        Finding::Race { how, events } => {
-            write_picture(piece, indexed, events.items(), shown)?;
-            write_runs(piece, indexed, *how, events.items(), shown)
-        }
-        Finding::Forced { chains: _ } => Ok(()),
-        Finding::Guarded { lock: _ } => Ok(()),
-        Finding::Undecided { events: _ } => Ok(()),
+        Finding::Race { how, events } => write_race(
+            page,
+            piece,
+            indexed,
+            clocks,
+            must,
+            word,
+            *how,
+            events.items(),
+            shown,
+        ),
+        Finding::Forced { chains: _ } => write_plain(page, piece, word, shown),
+        Finding::Guarded { lock: _ } => write_plain(page, piece, word, shown),
+        Finding::Undecided { events: _ } => write_plain(page, piece, word, shown),
     }
 }
 
-/// Writes the picture, with a text that says what it shows.
-fn write_picture(
+/// Writes the row with the schedule of these events.
+fn write_race(
+    page: &mut Page,
     piece: &mut Piece,
     indexed: &Indexed,
+    clocks: &Clocks,
+    must: &Must,
+    word: &[u8],
+    how: How,
     events: &[u32],
     shown: Shown,
-) -> Result<(), OutOfMemory> {
+) -> Result<(), OutOfMemory>
+    requires trace { page.old.trace ≡ indexed.now }
+    requires clocks { clocks.now ≡ indexed.now }
+    requires must { must.now ≡ indexed.now }
+    requires reordering { IsCorrectReordering indexed.now.events events.now }
+    requires shows { Shows indexed.now.events events.now shown.first shown.second }
+    ensures trace { page.new.trace ≡ page.old.trace }
+    ensures rows { OnOk result (page.new.rows ≡ page.old.rows ++ shown ∷ []) }
+{
+    write_caption(piece, events.len() as u64, shown)?;
+    let mut after = Piece::new(page.allocator());
+    let verdict = Verdict::Race {
+        how,
+        events,
+        all: false,
+    };
+    write_after(&mut after, indexed, clocks, must, word, &verdict, shown)?;
+    page.drawn_row(indexed, events, shown, piece, &after)
+}
+
+/// Writes what stands over the picture, with a text that says what it shows.
+fn write_caption(piece: &mut Piece, events: u64, shown: Shown) -> Result<(), OutOfMemory> {
     piece.write(&[
         Item::Element(Tag::PartHeading, b"A schedule that shows them"),
         Item::Begin(Tag::Figure),
         Item::Begin(Tag::Caption),
         Item::Text(b"After "),
-        Item::Count(events.len() as u64, b"event"),
-        Item::Text(b" both can come next: "),
+        Item::Count(events, b"event"),
+        Item::Text(b" both are next: "),
         Item::Number(u64::from(shown.first)),
         Item::Text(b" and "),
         Item::Number(u64::from(shown.second)),
@@ -79,22 +147,26 @@ fn write_picture(
         ),
         Item::End(Tag::Caption),
         Item::Begin(Tag::Wide),
-    ])?;
-    piece.picture(indexed, events, shown.first, shown.second)?;
-    piece.write(&[Item::End(Tag::Wide), Item::End(Tag::Figure)])
+    ])
 }
 
-/// Writes the runs in words.
-fn write_runs(
+/// Writes what stands under the picture: the runs in words, and the commands.
+fn write_after(
     piece: &mut Piece,
     indexed: &Indexed,
-    how: How,
-    events: &[u32],
+    clocks: &Clocks,
+    must: &Must,
+    word: &[u8],
+    verdict: &Verdict<'_>,
     shown: Shown,
-) -> Result<(), OutOfMemory> {
+) -> Result<(), OutOfMemory>
+    requires clocks { clocks.now ≡ indexed.now }
+    requires must { must.now ≡ indexed.now }
+{
+    piece.write(&[Item::End(Tag::Wide), Item::End(Tag::Figure)])?;
     let mut text = Vec::new(piece.allocator());
-    let verdict = Verdict::Race { how, events };
-    write_explained(piece, &mut text, indexed, &verdict, shown)
+    write_explained(piece, &mut text, indexed, clocks, must, verdict, shown)?;
+    write_commands(piece, word, shown)
 }
 
 /// Writes what is told of the verdict, whose words are made in a text of their own.
@@ -102,10 +174,22 @@ fn write_explained(
     piece: &mut Piece,
     text: &mut Vec<u8>,
     indexed: &Indexed,
+    clocks: &Clocks,
+    must: &Must,
     verdict: &Verdict<'_>,
     shown: Shown,
-) -> Result<(), OutOfMemory> {
-    explain_text(indexed, verdict, shown.first, shown.second, false, text)?;
+) -> Result<(), OutOfMemory>
+    requires clocks { clocks.now ≡ indexed.now }
+    requires must { must.now ≡ indexed.now }
+{
+    explain_text(
+        indexed,
+        clocks,
+        must,
+        verdict,
+        (shown.first, shown.second),
+        text,
+    )?;
     piece.write(&[Item::Element(Tag::PartHeading, b"Its runs in words")])?;
     lines(piece, text.as_slice())
 }

@@ -43,7 +43,7 @@ pub fn page_text(
     ensures ok { IfOk result (λ races. (chosen : Choice)
         × AreChosen indexed.now (known_places known.now) (map (λ t. t.now) filters.entry.only.now) (map (λ t. t.now) filters.entry.hide.now) apart
         verdicts.now.verdicts.items chosen
-        × (text : List ℕ) × (out.new.items ≡ out.old.items ++ text) × IsPage text (all_rows apart chosen.verdicts.items) × (races ≡ chosen.races)) }
+        × (text : List ℕ) × (out.new.items ≡ out.old.items ++ text) × IsPage indexed.now text (all_rows apart chosen.verdicts.items) × (races ≡ chosen.races)) }
     ensures err { OnErr result (out.new.items ≡ out.old.items) }
 {
     match chosen_of(*out.allocator(), indexed, verdicts, known, filters, apart) {
@@ -68,13 +68,15 @@ fn append_page(
 ) -> Result<(), OutOfMemory>
     requires clocks { clocks.now ≡ indexed.now }
     requires must { must.now ≡ indexed.now }
-    ensures ok { OnOk result ((text : List ℕ) × (out.new.items ≡ out.old.items ++ text) × IsPage text (all_rows apart chosen.now.verdicts.items)) }
+    ensures ok { OnOk result ((text : List ℕ) × (out.new.items ≡ out.old.items ++ text) × IsPage indexed.now text (all_rows apart chosen.now.verdicts.items)) }
     ensures err { OnErr result (out.new.items ≡ out.old.items) }
 {
-    let mut page = Page::new(*out.allocator());
-    append_written(
-        &mut page, indexed, clocks, must, verdicts, chosen, apart, name, out,
-    )
+    match Page::new(*out.allocator(), indexed) {
+        Ok(mut page) => append_written(
+            &mut page, indexed, clocks, must, verdicts, chosen, apart, name, out,
+        ),
+        Err(refused) => Err(refused),
+    }
 }
 
 /// Writes the page, which is empty, and appends it.
@@ -90,9 +92,10 @@ fn append_written(
     out: &mut Vec<u8>,
 ) -> Result<(), OutOfMemory>
     requires empty { page.now.rows ≡ [] }
+    requires trace { page.old.trace ≡ indexed.now }
     requires clocks { clocks.now ≡ indexed.now }
     requires must { must.now ≡ indexed.now }
-    ensures ok { OnOk result ((text : List ℕ) × (out.new.items ≡ out.old.items ++ text) × IsPage text (all_rows apart chosen.now.verdicts.items)) }
+    ensures ok { OnOk result ((text : List ℕ) × (out.new.items ≡ out.old.items ++ text) × IsPage indexed.now text (all_rows apart chosen.now.verdicts.items)) }
     ensures err { OnErr result (out.new.items ≡ out.old.items) }
 {
     write_page(page, indexed, clocks, must, verdicts, chosen, apart, name)?;
@@ -111,9 +114,11 @@ fn write_page(
     apart: bool,
     name: &[u8],
 ) -> Result<(), OutOfMemory>
+    requires trace { page.old.trace ≡ indexed.now }
     requires clocks { clocks.now ≡ indexed.now }
     requires must { must.now ≡ indexed.now }
-    ensures { OnOk result (page.new.rows ≡ page.old.rows ++ all_rows apart chosen.now.verdicts.items) }
+    ensures trace { page.new.trace ≡ page.old.trace }
+    ensures rows { OnOk result (page.new.rows ≡ page.old.rows ++ all_rows apart chosen.now.verdicts.items) }
 {
     let mut piece = Piece::new(page.allocator());
     write_parts(
@@ -133,9 +138,11 @@ fn write_parts(
     apart: bool,
     name: &[u8],
 ) -> Result<(), OutOfMemory>
+    requires trace { page.old.trace ≡ indexed.now }
     requires clocks { clocks.now ≡ indexed.now }
     requires must { must.now ≡ indexed.now }
-    ensures { OnOk result (page.new.rows ≡ page.old.rows ++ all_rows apart chosen.now.verdicts.items) }
+    ensures trace { page.new.trace ≡ page.old.trace }
+    ensures rows { OnOk result (page.new.rows ≡ page.old.rows ++ all_rows apart chosen.now.verdicts.items) }
 {
     begin_page(page, piece, indexed, verdicts, name)?;
     write_told(
@@ -159,7 +166,8 @@ fn begin_page(
     verdicts: &Verdicts,
     name: &[u8],
 ) -> Result<(), OutOfMemory>
-    ensures { page.new.rows ≡ page.old.rows }
+    ensures trace { page.new.trace ≡ page.old.trace }
+    ensures rows { page.new.rows ≡ page.old.rows }
 {
     piece.clear();
     write_heading(piece, name)?;
@@ -175,7 +183,8 @@ fn end_page(
     chosen: &Chosen,
     apart: bool,
 ) -> Result<(), OutOfMemory>
-    ensures { page.new.rows ≡ page.old.rows }
+    ensures trace { page.new.trace ≡ page.old.trace }
+    ensures rows { page.new.rows ≡ page.old.rows }
 {
     piece.clear();
     write_unlisted(piece, chosen, apart)?;
@@ -194,9 +203,11 @@ fn write_told(
     apart: bool,
     name: &[u8],
 ) -> Result<(), OutOfMemory>
+    requires trace { page.old.trace ≡ indexed.now }
     requires clocks { clocks.now ≡ indexed.now }
     requires must { must.now ≡ indexed.now }
-    ensures { OnOk result (page.new.rows ≡ page.old.rows ++ all_rows apart told.now) }
+    ensures trace { page.new.trace ≡ page.old.trace }
+    ensures rows { OnOk result (page.new.rows ≡ page.old.rows ++ all_rows apart told.now) }
 {
     match shell_word(page.allocator(), name) {
         Ok(word) => write_sections(
@@ -224,9 +235,11 @@ fn write_sections(
     apart: bool,
     word: &[u8],
 ) -> Result<(), OutOfMemory>
+    requires trace { page.old.trace ≡ indexed.now }
     requires clocks { clocks.now ≡ indexed.now }
     requires must { must.now ≡ indexed.now }
-    ensures { OnOk result (page.new.rows ≡ page.old.rows ++ all_rows apart told.now) }
+    ensures trace { page.new.trace ≡ page.old.trace }
+    ensures rows { OnOk result (page.new.rows ≡ page.old.rows ++ all_rows apart told.now) }
 {
     write_sort(page, piece, indexed, clocks, must, word, Sort::Race, told)?;
     write_sort(
@@ -256,9 +269,11 @@ fn write_sort(
     sort: Sort,
     told: &[Verdict],
 ) -> Result<(), OutOfMemory>
+    requires trace { page.old.trace ≡ indexed.now }
     requires clocks { clocks.now ≡ indexed.now }
     requires must { must.now ≡ indexed.now }
-    ensures { OnOk result (page.new.rows ≡ page.old.rows ++ sort_rows sort told.now) }
+    ensures trace { page.new.trace ≡ page.old.trace }
+    ensures rows { OnOk result (page.new.rows ≡ page.old.rows ++ sort_rows sort told.now) }
 {
     match of_sort(page.allocator(), told, sort) {
         Ok(kept) => write_section(
@@ -286,9 +301,11 @@ fn write_section(
     sort: Sort,
     kept: &[Verdict],
 ) -> Result<(), OutOfMemory>
+    requires trace { page.old.trace ≡ indexed.now }
     requires clocks { clocks.now ≡ indexed.now }
     requires must { must.now ≡ indexed.now }
-    ensures { OnOk result (page.new.rows ≡ page.old.rows ++ rows_of kept.now) }
+    ensures trace { page.new.trace ≡ page.old.trace }
+    ensures rows { OnOk result (page.new.rows ≡ page.old.rows ++ rows_of kept.now) }
 {
     begin_section(page, piece, sort, kept.is_empty())?;
     write_rows(page, piece, indexed, clocks, must, word, kept)?;
@@ -302,7 +319,8 @@ fn begin_section(
     sort: Sort,
     is_empty: bool,
 ) -> Result<(), OutOfMemory>
-    ensures { page.new.rows ≡ page.old.rows }
+    ensures trace { page.new.trace ≡ page.old.trace }
+    ensures rows { page.new.rows ≡ page.old.rows }
 {
     piece.clear();
     piece.write(&[
@@ -323,7 +341,8 @@ fn end_section(
     sort: Sort,
     kept: usize,
 ) -> Result<(), OutOfMemory>
-    ensures { page.new.rows ≡ page.old.rows }
+    ensures trace { page.new.trace ≡ page.old.trace }
+    ensures rows { page.new.rows ≡ page.old.rows }
 {
     piece.clear();
     write_left_out(piece, word, sort, kept)?;

@@ -4,7 +4,7 @@ use Rattle.pair_picture.proofs.drawing.append_figure_of.Goals as goal
 
 pub returns : goal.returns
 returns c =
-    let whole = three_pieces _ _ _ _ _ _ c.in_ok-append_root.ensures c.in_ok-append_title.ensures _ c.in_ok-append_drawn.ensures in (
+    let whole = three_pieces _ _ _ _ _ _ c.in_ok-append_root.ensures c.in_ok-append_description.ensures _ c.in_ok-append_drawn.ensures in (
       _,
       whole,
       record {
