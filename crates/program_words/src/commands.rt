@@ -83,69 +83,76 @@ pub(crate) enum Most {
 const TRACE: Word = Word {
     name: "TRACE",
     kind: Kind::Needed,
-    help: Some("A file that holds a trace"),
+    help: Some("File that holds a trace; `-` is standard input"),
+};
+
+const TRACE_FILE: Word = Word {
+    name: "TRACE",
+    kind: Kind::Needed,
+    help: Some("File that holds a trace"),
 };
 
 const FIRST: Word = Word {
     name: "A",
     kind: Kind::Needed,
-    help: Some("The number of an event, from 0"),
+    help: Some("Number of an event, counted from 0"),
 };
 
 const SECOND: Word = Word {
     name: "B",
     kind: Kind::Needed,
-    help: Some("The number of an event, from 0"),
+    help: Some("Number of an event, counted from 0"),
 };
 
 const INFO: Words = Words {
     name: "info",
-    about: "Prints what a trace holds, and its first 1,000 candidates for races",
-    example: "The file holds a trace alone, without a line `---` and a script. For example
+    about: "Print what a trace holds, and its first 1,000 race candidates",
+    example: "For example
 
   racebench info trace.std
 
-A candidate is a conflicting pair that the order of the trace leaves open. Where none is
-printed there may still be a race: a schedule can show a pair that is no candidate.",
+The file holds a trace alone, without a line `---` and a script. A candidate is a conflicting pair
+that the order of the trace leaves open. No candidate does not mean no race: a schedule can show
+a pair that is no candidate. `racebench triage` finds those too.",
     words: &[TRACE],
 };
 
 const REPLAY: Words = Words {
     name: "replay",
-    about: "Makes the calls of a script on a trace, and prints the answer to each",
+    about: "Run a script on a trace, and print the answer to each line",
     example: "For example
 
   racebench replay trace.std script.txt
 
-Each line of the script is the number of a client, from 1 to 32, a command word and its
-arguments, such as `1 new A` or `2 add A 3`. Events of the trace are counted from 0.",
+Each line of the script has the number of a client, from 1 to 32, a command and its arguments,
+such as `1 new A` or `2 add A 3`. Events are counted from 0.",
     words: &[
         TRACE,
         Word {
             name: "SCRIPT",
             kind: Kind::Needed,
-            help: Some("A file that holds a script"),
+            help: Some("File that holds a script; `-` is standard input"),
         },
     ],
 };
 
 const SESSION: Words = Words {
     name: "session",
-    about: "Answers each line as it comes, on a log that is kept in a file",
+    about: "Interactive session: run commands from standard input, and save them to LOG",
     example: "For example
 
   racebench session trace.std work.log --client 1
 
-Standard input has the lines of a script, and each is answered as soon as it is read. What is
-answered stands in the log: the next session goes on from there, after a kill too. Several
-sessions may have one log open, and each sees what the others were answered. The log is made
-where it is missing; a log of another trace is refused.",
+The session answers each line as soon as it reads it, and saves each accepted command to the log.
+The next session continues from there, even if this one is killed. Several sessions can share one
+log, and each sees what the others did. If the log is missing, the session creates it. It refuses
+the log of another trace.",
     words: &[
-        TRACE,
+        TRACE_FILE,
         Word {
             name: "LOG",
             kind: Kind::Needed,
-            help: Some("The file of the log"),
+            help: Some("File that holds the log; created if it is missing"),
         },
         Word {
             name: "client",
@@ -155,7 +162,7 @@ where it is missing; a log of another trace is refused.",
                 default: None,
             },
             help: Some(
-                "Whose calls the lines are, from 1 to 32; without it each line begins with its client",
+                "Client that the lines belong to, 1 to 32; without it each line starts with its client",
             ),
         },
     ],
@@ -163,39 +170,39 @@ where it is missing; a log of another trace is refused.",
 
 const LOG: Words = Words {
     name: "log",
-    about: "Prints the log that a session keeps, as a script",
+    about: "Print the log of a session, as a script",
     example: "For example
 
   racebench log work.log > script.txt
   racebench replay trace.std script.txt
 
-Each entry of the log is a line, and `replay` answers them as the session did.",
+Each entry of the log is one line. `replay` answers the lines as the session did.",
     words: &[Word {
         name: "LOG",
         kind: Kind::Needed,
-        help: Some("The file of a log"),
+        help: Some("File that holds a log; `-` is standard input"),
     }],
 };
 
 const THREADS: Words = Words {
     name: "threads",
-    about: "Runs scripts on a trace at once, each in a thread of its own",
+    about: "Run several scripts on one trace at once, each in its own thread",
     example: "For example
 
   racebench threads trace.std first.txt second.txt
 
-Script i is client i's: each of its lines begins with the number i. There may be 31 scripts. Once
-all have ended, a line `client i` and the answers to its calls are printed for each, and then the
-log, in whose order the calls were made. That order may be another at each run.
+Script i belongs to client i: each of its lines starts with the number i. There can be 31 scripts.
+When all have ended, `threads` prints a line `client i` and the answers for each script, and then
+the log. The log has the order in which the calls were made, which can differ from run to run.
 
-With workers a client behind those of the scripts proposes, while they run, the slice of each of
-the first 64 candidates: the least that has to come before the pair.",
+With `--workers 4`, four threads compute the slices of the first 64 candidates in the background,
+and post them as one extra client. A slice is the least that has to come before the pair.",
     words: &[
         TRACE,
         Word {
             name: "SCRIPT",
             kind: Kind::SeveralNeeded,
-            help: Some("Files that hold a script each"),
+            help: Some("Files that hold one script each; `-` is standard input"),
         },
         Word {
             name: "workers",
@@ -204,7 +211,7 @@ the first 64 candidates: the least that has to come before the pair.",
                 most: Most::Workers,
                 default: Some("0"),
             },
-            help: Some("How many workers slice candidates meanwhile, from 0 to 16"),
+            help: Some("Threads that slice candidates in the background, 0 to 16"),
         },
         // It is for the tests, which judge how calls are mixed.
         Word {
@@ -221,37 +228,37 @@ the first 64 candidates: the least that has to come before the pair.",
 
 const TRIAGE: Words = Words {
     name: "triage",
-    about: "Lists the races of a trace by pairs of places, each with a schedule that shows it",
+    about: "List the data races of a trace, each with a schedule that shows it",
     example: "For example
 
   racebench triage trace.std
   racebench triage trace.std --known before.txt --fail
 
-A place is the location of an access. A pair of places is a race where a schedule shows two accesses
-there side by side, apart where every reordering of this trace keeps all their accesses apart, and
-undecided where neither was found. Apart is said of this trace alone: places that are apart here may
-race in another run.",
+Races are listed by pairs of source locations. A pair is a race if a schedule brings two accesses
+there side by side. It is apart if every correct reordering of this trace keeps its accesses apart,
+and undecided if neither was found. Apart is about this trace only: in another run, the same
+locations may race.",
     words: &[
         TRACE,
         Word {
             name: "known",
             kind: Kind::Text("FILE"),
-            help: Some("What `triage` printed before: its races are left out"),
+            help: Some("Leave out the races in FILE, which `triage` printed before"),
         },
         Word {
             name: "only",
             kind: Kind::Texts("TEXT"),
-            help: Some("Leaves out blocks without this text, or another one given so"),
+            help: Some("Show only blocks that mention TEXT (repeatable)"),
         },
         Word {
             name: "hide",
             kind: Kind::Texts("TEXT"),
-            help: Some("Leaves out blocks with this text"),
+            help: Some("Hide blocks that mention TEXT (repeatable)"),
         },
         Word {
             name: "apart",
             kind: Kind::Flag(&[]),
-            help: Some("Prints also what is apart"),
+            help: Some("Also print the pairs of locations that are apart"),
         },
         Word {
             name: "tries",
@@ -261,7 +268,7 @@ race in another run.",
                 default: Some("16"),
             },
             help: Some(
-                "How many pairs without a candidate are tried for each pair of places, from 0 to 4096",
+                "Pairs of events to try for each pair of locations without a candidate, 0 to 4096",
             ),
         },
         Word {
@@ -271,37 +278,42 @@ race in another run.",
                 most: Most::Workers,
                 default: Some("0"),
             },
-            help: Some("How many threads look for schedules at once, from 0 to 16"),
+            help: Some("Threads that look for schedules, 0 to 16"),
         },
         Word {
             name: "json",
             kind: Kind::Flag(&[]),
-            help: Some("Prints JSON, an object a line"),
+            help: Some("Print JSON, one object a line"),
         },
         Word {
             name: "page",
             kind: Kind::Flag(&["json"]),
-            help: Some("Writes a page (HTML), with a picture of each race"),
+            help: Some("Write a self-contained HTML report, with a picture of each race"),
         },
         Word {
             name: "fail",
             kind: Kind::Flag(&[]),
-            help: Some("Ends with status 3 where a race is printed"),
+            help: Some("End with status 3 if a race is printed, or 4 if the trace has no events"),
+        },
+        Word {
+            name: "progress",
+            kind: Kind::Flag(&[]),
+            help: Some("Show progress on standard error, even if it is not a terminal"),
         },
     ],
 };
 
 const EXPLAIN: Words = Words {
     name: "explain",
-    about: "Explains a pair of events: a schedule that shows it, or what keeps it apart",
+    about: "Explain a pair of events: how it races, or what keeps it apart",
     example: "For example
 
   racebench explain trace.std 7 12
 
 Events are counted from 0, in the order of the trace. The first line is the verdict: `race`, with a
-schedule after which both can come next; `apart`, with what keeps the two apart in every correct
-reordering of this trace; or `undecided`. Apart is said of this trace alone: a read keeps its writer
-here, and in another run of the program it may have another one.",
+schedule after which both are next in their threads; `apart`, with what keeps the two apart in every
+correct reordering of this trace; or `undecided`. Apart is about this trace only: each read keeps
+the write that it saw, and in another run it may see another one.",
     words: &[
         TRACE,
         FIRST,
@@ -309,20 +321,20 @@ here, and in another run of the program it may have another one.",
         Word {
             name: "all",
             kind: Kind::Flag(&[]),
-            help: Some("Prints all runs of a schedule, and not the last ten alone"),
+            help: Some("Print all runs of the schedule, not only the last ten"),
         },
     ],
 };
 
 const WITNESS: Words = Words {
     name: "witness",
-    about: "Prints a schedule that shows a pair of events",
+    about: "Print the schedule that shows a pair of events",
     example: "For example
 
   racebench witness trace.std 7 12
 
 Each line has the number of an event and its line of the trace. After these events, in this order,
-both events of the pair can come next.",
+both events of the pair are next in their threads.",
     words: &[
         TRACE,
         FIRST,
@@ -330,17 +342,17 @@ both events of the pair can come next.",
         Word {
             name: "script",
             kind: Kind::Flag(&[]),
-            help: Some("Prints a script that makes the schedule"),
+            help: Some("Print a script that builds the schedule"),
         },
         Word {
             name: "std",
             kind: Kind::Flag(&["script"]),
-            help: Some("Prints the schedule and the pair behind it as a trace"),
+            help: Some("Print the schedule, and then the pair, as a trace"),
         },
         Word {
             name: "svg",
             kind: Kind::Flag(&["script", "std"]),
-            help: Some("Prints a picture of the schedule, as SVG"),
+            help: Some("Print a picture of the schedule, as SVG"),
         },
     ],
 };

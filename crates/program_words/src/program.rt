@@ -9,16 +9,16 @@ pub(crate) const NAME: &str = "racebench";
 pub(crate) const VERSION: &str = "0.1.0";
 
 /// What the program does.
-const ABOUT: &str =
-    "Checks a recorded execution, lists candidates for races, builds correct reorderings";
+const ABOUT: &str = "Find the data races of a recorded execution, and show each by a schedule";
 
-/// The line of the help behind which the commands of a script stand, each with its arguments and what it does.
-pub const LISTED_BEHIND: &[u8] = b"Behind the client a line of a script has one of";
+/// The line of the help after which the commands of a script come, each with its arguments and what it does.
+pub const LISTED_BEHIND: &[u8] = b"After the client number comes one of these commands:";
 
-const OVERVIEW: &str =
-    "Without a command, standard input holds a trace, a line `---` and a script. The first word of a
-script line is the number of a client, and events are counted from 0. The answer to each call of
-the script is printed. For example, of
+const OVERVIEW: &str = "Start with `racebench triage trace.std`. A path `-` is standard input.
+
+Without a command, standard input holds a trace, a line `---` and a script, and racebench prints
+the answer to each line of the script. A script line starts with the number of a client, and events
+are counted from 0. For example, of
 
   T1|w(x)|1
   T2|w(x)|2
@@ -27,24 +27,24 @@ the script is printed. For example, of
   1 races A
   1 add A 1
 
-the answers are `0: done`, `pairs 0-1` and `1: done`. The formats of traces and scripts stand in
-docs/FORMATS.md.
+the answers are `0: done`, `pairs 0-1` and `1: done`. docs/FORMATS.md has the formats of traces and
+scripts.
 
-Behind the client a line of a script has one of
+After the client number comes one of these commands:
 
-  new NAME                    makes an empty schedule of this name
+  new NAME                    makes an empty schedule
   add NAME EVENT              appends an event to a schedule
-  back NAME                   takes the last event off
-  swap NAME POSITION          exchanges the event at this position, from 0, and the next
-  branch NAME LENGTH NAME     makes a schedule of the first LENGTH events of another
-  drop NAME                   takes a schedule away
-  adopt NAME PROPOSAL         puts a proposal's events in place of the schedule's own
-  batch COMMAND ; COMMAND     makes up to 64 of the commands above as one, all or none
-  undo [ENTRY]                takes back the client's latest command that stands, or this one
-  propose EVENT EVENT EVENT*  puts a list on the board that shows the pair of the first two
-  show NAME                   shows a schedule's events
-  list                        shows the names of all schedules
-  races NAME                  shows the pairs that a schedule shows";
+  back NAME                   removes the last event
+  swap NAME POSITION          swaps the event at this position, from 0, with the next
+  branch NAME LENGTH NAME     copies the first LENGTH events to a new schedule
+  drop NAME                   removes a schedule
+  adopt NAME PROPOSAL         replaces the schedule's events by a proposal's
+  batch COMMAND ; COMMAND     runs up to 64 of the commands above, all or none
+  undo [ENTRY]                undoes the client's latest command, or this one
+  propose EVENT EVENT EVENT*  posts a list that shows the pair of the first two
+  show NAME                   prints a schedule's events
+  list                        prints the names of all schedules
+  races NAME                  prints the pairs that a schedule shows";
 
 /// What help says of the joint text and of the lines of a script.
 pub fn overview() -> &'static str {

@@ -58,6 +58,41 @@ fn event(word: &str) -> Result<u32, Unread> {
     Ok(word.parse::<u32>().unwrap_or(u32::MAX))
 }
 
+/// The path that stands for standard input.
+const STANDARD: &str = "-";
+
+/// Whether more than one of the paths is that of standard input.
+fn share_input(paths: &[&str]) -> bool {
+    let mut has_one = false;
+    for path in paths {
+        if *path == STANDARD {
+            if has_one {
+                return true;
+            }
+            has_one = true;
+        }
+    }
+    false
+}
+
+/// A refusal if more than one of the paths is that of standard input.
+fn check_inputs(paths: &[&str]) -> Result<(), Unread> {
+    if share_input(paths) {
+        return Err(Unread::Refused("`-` is standard input, and may be given once"));
+    }
+    Ok(())
+}
+
+/// The two files that `replay` is asked for.
+fn replay<'a>(given: &ArgMatches<'a>, limits: Limits) -> Result<Task<'a>, Unread>
+    ensures { IfOk result (IsWithin limits) }
+{
+    let trace = word(given, "TRACE");
+    let script = word(given, "SCRIPT");
+    check_inputs(&[trace, script])?;
+    Ok(Task::Replay(trace, script))
+}
+
 /// What `session` is asked for.
 fn session<'a>(given: &ArgMatches<'a>, limits: Limits) -> Result<SessionTask<'a>, Unread>
     ensures { IfOk result (IsSessionWithin limits) }
@@ -71,11 +106,12 @@ fn session<'a>(given: &ArgMatches<'a>, limits: Limits) -> Result<SessionTask<'a>
         )?),
         None => None,
     };
-    Ok(SessionTask {
-        trace: word(given, "TRACE"),
-        log: word(given, "LOG"),
-        client,
-    })
+    let trace = word(given, "TRACE");
+    let log = word(given, "LOG");
+    if share_input(&[STANDARD, trace, log]) {
+        return Err(Unread::Refused("`-` is standard input, which holds the lines of the session"));
+    }
+    Ok(SessionTask { trace, log, client })
 }
 
 /// The paths that `threads` is given, that of the trace first.
@@ -108,6 +144,7 @@ fn threads<'a>(
     if paths.len() < 2 {
         return Err(Unread::Refused("there is no script"));
     }
+    check_inputs(&paths)?;
     Ok(ThreadsTask {
         paths,
         workers,
@@ -146,11 +183,14 @@ fn triage<'a>(
     let reason = "`--tries` and `--workers` take numbers in decimal digits";
     let tries = number(word(given, "tries"), 0, limits.tries, reason)?;
     let workers = number(word(given, "workers"), 0, limits.workers, reason)?;
+    let trace = word(given, "TRACE");
+    let known = given.get_str("known");
+    check_inputs(&[trace, known.unwrap_or("")])?;
     let only = texts(alloc, given, "only")?;
     let hide = texts(alloc, given, "hide")?;
     Ok(TriageTask {
-        trace: word(given, "TRACE"),
-        known: given.get_str("known"),
+        trace,
+        known,
         only,
         hide,
         apart: given.get_flag("apart"),
@@ -158,6 +198,7 @@ fn triage<'a>(
         workers,
         form: races_form(given),
         fail: given.get_flag("fail"),
+        progress: given.get_flag("progress"),
     })
 }
 
@@ -194,7 +235,7 @@ fn command_task<'a>(
 {
     match command {
         CommandName::Info => Ok(Task::Info(word(given, "TRACE"))),
-        CommandName::Replay => Ok(Task::Replay(word(given, "TRACE"), word(given, "SCRIPT"))),
+        CommandName::Replay => replay(given, limits),
         CommandName::Session => Ok(Task::Session(session(given, limits)?)),
         CommandName::Log => Ok(Task::Log(word(given, "LOG"))),
         CommandName::Threads => Ok(Task::Threads(threads(alloc, given, limits)?)),

@@ -100,8 +100,10 @@ pub struct TriageTask<'a> {
     pub workers: u32,
     /// In which form they are printed.
     pub form: RacesForm,
-    /// Whether a race that is printed makes the status 3.
+    /// Whether a race that is printed makes the status 3, and a trace without events 4.
     pub fail: bool,
+    /// Whether standard error shows how far the work is, even if it is no terminal.
+    pub progress: bool,
 }
 
 /// What the words ask for.

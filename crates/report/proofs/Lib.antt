@@ -1,3 +1,4 @@
+pub mod CallerLemmas
 pub mod CandidateLaws
 pub mod LineLemmas
 pub mod PieceLemmas

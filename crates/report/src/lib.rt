@@ -13,7 +13,7 @@ mod seats;
 
 pub use candidate_lines::candidates;
 pub use info_lines::info;
-pub use log_lines::log;
+pub use log_lines::{entry, log};
 pub use pieces::{Piece, append_pieces};
 pub use refusals::refusal;
 pub use replies::reply;

@@ -32,7 +32,7 @@ fn append_entries(out: &mut Vec<u8>, bench: &Bench) -> Result<(), OutOfMemory>
 {
     let start = out.len();
     for number in 0..bench.log_len() {
-        if let Err(refused) = append_line_at(out, bench, number) {
+        if let Err(refused) = entry(bench, number, out) {
             out.truncate(start);
             return Err(refused);
         }
@@ -40,8 +40,8 @@ fn append_entries(out: &mut Vec<u8>, bench: &Bench) -> Result<(), OutOfMemory>
     Ok(())
 }
 
-/// Appends the line of the entry of this number.
-fn append_line_at(out: &mut Vec<u8>, bench: &Bench, number: u64) -> Result<(), OutOfMemory>
+/// Appends the line of the entry of this number. Where memory is refused `out` stays as it was.
+pub fn entry(bench: &Bench, number: u64, out: &mut Vec<u8>) -> Result<(), OutOfMemory>
     requires { number < length bench.now.log }
     ensures ok { OnOk result (out.new.items ≡ out.old.items ++ line_at bench.now.log number) }
     ensures err { OnErr result (out.new.items ≡ out.old.items) }

@@ -2,6 +2,7 @@ pub mod Kept
 pub mod Limits
 pub mod LineWords
 pub mod LinesLeft
+pub mod Questions
 pub mod Reading
 pub mod ScriptCalls
 pub mod Scripts

@@ -23,7 +23,7 @@ const MAX_SCRIPT_LINE: usize = 65_536;
 const MAX_CLIENT: u32 = 32;
 
 /// The word as a name.
-fn read_name(word: &[u8]) -> Result<Name, ScriptCause>
+pub(crate) fn read_name(word: &[u8]) -> Result<Name, ScriptCause>
     ensures { result ≡ name_reading word.now }
 {
     match Name::new(word) {
@@ -33,7 +33,7 @@ fn read_name(word: &[u8]) -> Result<Name, ScriptCause>
 }
 
 /// The word as a number.
-fn read_number(word: &[u8]) -> Result<u32, ScriptCause>
+pub(crate) fn read_number(word: &[u8]) -> Result<u32, ScriptCause>
     ensures { result ≡ number_reading word.now }
 {
     number(word).ok_or(ScriptCause::BadNumber)
@@ -54,7 +54,7 @@ fn read_numbers(alloc: Global, words: &mut Words<'_>) -> Result<EventList, Scrip
 }
 
 /// No word is to be left.
-fn read_nothing(words: &mut Words<'_>) -> Result<(), ScriptCause>
+pub(crate) fn read_nothing(words: &mut Words<'_>) -> Result<(), ScriptCause>
     ensures { result ≡ nothing_reading words.old }
 {
     match words.next() {
@@ -64,7 +64,7 @@ fn read_nothing(words: &mut Words<'_>) -> Result<(), ScriptCause>
 }
 
 /// A name alone.
-fn read_one_name(words: &mut Words<'_>) -> Result<Name, ScriptCause>
+pub(crate) fn read_one_name(words: &mut Words<'_>) -> Result<Name, ScriptCause>
     ensures { result ≡ one_name_reading words.old }
 {
     let Some(name) = words.next() else {
@@ -75,7 +75,7 @@ fn read_one_name(words: &mut Words<'_>) -> Result<Name, ScriptCause>
 }
 
 /// A name and a number.
-fn read_name_and_number(words: &mut Words<'_>) -> Result<(Name, u32), ScriptCause>
+pub(crate) fn read_name_and_number(words: &mut Words<'_>) -> Result<(Name, u32), ScriptCause>
     ensures { result ≡ name_and_number_reading words.old }
 {
     let Some(name) = words.next() else {

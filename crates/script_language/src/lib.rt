@@ -5,6 +5,7 @@ mod calls;
 mod kept;
 mod lines;
 mod number;
+mod question;
 mod reading;
 mod refusal;
 mod script;
@@ -12,6 +13,7 @@ mod verb;
 
 pub use calls::read_line;
 pub use lines::Lines;
+pub use question::{Question, QuestionWord, read_question};
 pub use reading::read_script;
 pub use refusal::{ScriptCause, ScriptRefusal};
 pub use script::{Script, ScriptCall};

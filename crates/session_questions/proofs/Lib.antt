@@ -1,0 +1,4 @@
+mod FindLemmas
+mod OkLemmas
+mod RowLemmas
+mod RunLemmas
