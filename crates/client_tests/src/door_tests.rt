@@ -10,7 +10,7 @@ use std::sync::atomic::{AtomicU64, Ordering};
 use std::thread;
 use std::thread::Threads;
 use std::time::Duration;
-use workspace_lock::{Gate, Seat, Seats};
+use workspace_lock::{Gate, Seat, Seats, Told};
 
 // Takes the 32 seats that are in. One that had no place would be missed when the calls are counted.
 fn take_all(seats: &mut Seats, own: &mut Vec<Seat>) {
@@ -28,7 +28,7 @@ struct StaysShut<'a> {
 }
 
 impl<'a> Gate for StaysShut<'a> {
-    fn pass<R: Wait>(&mut self, rt: &R, step: u32) {
+    fn pass<R: Wait, N: Told>(&mut self, rt: &R, step: u32) {
         if step == 1 {
             self.is_held.store(1, Ordering::SeqCst);
             self.is_held.wake_all();

@@ -3,6 +3,8 @@
 #![tactic(auto)]
 
 #[cfg(test)]
+mod ample_tests;
+#[cfg(test)]
 mod door_tests;
 #[cfg(test)]
 mod fakes;

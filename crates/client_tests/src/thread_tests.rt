@@ -9,7 +9,7 @@ use std::sync::atomic::{AtomicU64, Ordering};
 use std::thread;
 use std::thread::Threads;
 use std::time::Duration;
-use workspace_lock::{Gate, Seat};
+use workspace_lock::{Gate, Seat, Told};
 
 fn new_schedule() -> Option<Call> {
     match Name::new(b"A") {
@@ -62,7 +62,7 @@ struct HoldsTurn<'a> {
 }
 
 impl<'a> Gate for HoldsTurn<'a> {
-    fn pass<R: Wait>(&mut self, rt: &R, step: u32) {
+    fn pass<R: Wait, N: Told>(&mut self, rt: &R, step: u32) {
         if step == 1 {
             set(&self.signals.is_held);
             self.was_front_told = is_set_soon(rt, &self.signals.was_front_told, 500);

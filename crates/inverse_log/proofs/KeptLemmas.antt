@@ -279,6 +279,7 @@ module _ (T : Recording) (L : List Entry) (W : Rows) (B : List Proposal) (steps 
     pub at : slice_get steps g.number ≡ Some held
     pub can : CanTurnAll (inverses_of held g.commands) W
     pub of : AreOfTrace T (inverses_of held g.commands)
+    pub long : length (inverses_of held g.commands) ≡ length g.commands
     pub after : (V : Rows) → IsTurnedAll (inverses_of held g.commands) W V → IsKept T (L ++ Undid c g.number ∷ []) V B (set steps g.number Nothing ++ Nothing ∷ [])
 
   -- what is kept for the entry, by its commands
@@ -350,6 +351,7 @@ module _ (T : Recording) (L : List Entry) (W : Rows) (B : List Proposal) (steps 
         at = w.at;
         can = (u.rows, t.0);
         of = t.1;
+        long = w.long;
         after = λ V turned.
             let same : V ≡ u.rows = turns_once (reverse (inverses_of w.held g.commands)) W V u.rows turned t.0 in
             rw same (record {
@@ -372,6 +374,9 @@ module _ (T : Recording) (L : List Entry) (W : Rows) (B : List Proposal) (steps 
 
     pub undo_of : AreOfTrace T (inverses_of h g.commands)
     undo_of = subst (λ (j : Held). AreOfTrace T (inverses_of j g.commands)) same_held (undoable T L W B steps c g kept short free).of
+
+    pub undo_whole : length (inverses_of h g.commands) ≡ length g.commands
+    undo_whole = subst (λ (j : Held). length (inverses_of j g.commands) ≡ length g.commands) same_held (undoable T L W B steps c g kept short free).long
 
     pub undo_kept : (V : Rows) → IsTurnedAll (inverses_of h g.commands) W V → IsKept T (L ++ Undid c g.number ∷ []) V B (set steps g.number Nothing ++ Nothing ∷ [])
     undo_kept V turned = (undoable T L W B steps c g kept short free).after V (subst (λ (j : Held). IsTurnedAll (inverses_of j g.commands) W V) (sym same_held) turned)

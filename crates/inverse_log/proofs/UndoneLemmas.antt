@@ -32,7 +32,7 @@ use Rattle.inverse_log.specs.Touching.{entry_number, touches_name}
 use Rattle.inverse_log.proofs.CountLemmas.{edits_push, few_at}
 use Rattle.inverse_log.proofs.DoLemmas.{after_ok, ok_may, bench_same, small, short, eqb_turn}
 use Rattle.inverse_log.proofs.Inner.{Keeps, benched}
-use Rattle.inverse_log.proofs.KeptLemmas.{undo_within, undo_can, undo_of, undo_kept, set_back}
+use Rattle.inverse_log.proofs.KeptLemmas.{undo_within, undo_can, undo_of, undo_whole, undo_kept, set_back}
 use Rattle.inverse_log.proofs.LiveLemmas.{last_split, last_mine, live_there as lives_there}
 use Rattle.inverse_log.proofs.NearestLemmas.{told, nearest_blocker}
 use Rattle.inverse_log.proofs.NumberedLemmas.{at_asks, at_live}
@@ -202,6 +202,9 @@ module _ (own : Inside) (b : Keeps own) where
 
         pub take_few : length D ≤ 64
         take_few = rw same (few_at L k (small own b))
+
+        pub take_whole : length (inverses_of h D) ≡ length D
+        take_whole = rw same (undo_whole T L W B steps c g b.kept (short own b) free h taken)
 
         pub took_bench : (M : List Entry) (V : Rows) (later : List Held) (N' : Lists) (C' : List (List ℕ)) (j : ℕ) → IsTurnedAll (inverses_of h D) W V → later ≡ set steps k Nothing ++ Nothing ∷ [] → M ≡ L ++ Undid c k ∷ []
             → RemovedAll k D N N' → Left c k C C' → j ≡ own.rows.edits + length D → IsLegal T (L ++ Undid c k ∷ []) → IsBench T M V B later N' C' j

@@ -1,5 +1,4 @@
 pub mod Answer
-pub mod Counted
 pub mod Headline
 pub mod Kept
 pub mod Limits

@@ -39,7 +39,7 @@ const MAX_ENTRIES: u64 = 1_000_000;
 pub struct Bench {
     alloc: Global,
     indexed: Arc<Indexed, Global>,
-    rows: Counted,
+    rows: Counted<Workspace>,
     board: Board,
     log: Vec<Entry>,
     // for each entry what takes it back, where it did commands and was not undone

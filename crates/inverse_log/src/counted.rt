@@ -8,44 +8,33 @@ ghost use Rattle.moves.specs.Inverses.{IsStepOf};
 ghost use Rattle.moves.specs.Rows.{Below, IsOfTrace};
 ghost use Rattle.inverse_log.specs.Steps.{inverses_of};
 
+use crate::changing::Changing;
 use crate::kept::Held;
 use event_index::Indexed;
-use moves::{BatchRefusal, Birth, Board, Command, Inverse, Inverses, MoveRefusal, Workspace};
-use std::marker::Model;
+use moves::{BatchRefusal, Birth, Board, Command, Inverse, Inverses, MoveRefusal};
 
-/// A workspace with the count of its changes. The two stand in a type of their own, so that nothing changes a row that does
-/// not count it.
+/// A workspace with the count of its changes. The two are a type of their own, and the workspace may be any `Changing`: so
+/// each change of a row is counted once, even one that is changed back.
 #[derive(Drop)]
-pub(crate) struct Counted {
-    workspace: Workspace,
+pub(crate) struct Counted<W: Changing> {
+    rows: W,
     edits: u64,
 }
 
-impl Model for Counted {
-    ghost use Rattle.inverse_log.specs.Counted.{CountedRows};
-
-    ghost Value = { CountedRows };
-
-    ghost view = { λ c. record { rows = c.workspace; edits = c.edits } };
-}
-
-impl Counted {
+impl<W: Changing> Counted<W> {
     /// The workspace with no change counted.
-    pub(crate) fn new(workspace: Workspace) -> Counted
-        ensures rows { result.rows ≡ workspace }
+    pub(crate) fn new(rows: W) -> Counted<W>
+        ensures rows { result.rows ≡ rows }
         ensures edits { result.edits ≡ 0 }
     {
-        Counted {
-            workspace,
-            edits: 0,
-        }
+        Counted { rows, edits: 0 }
     }
 
     /// The workspace.
-    pub(crate) fn workspace(&self) -> &Workspace
+    pub(crate) fn workspace(&self) -> &W
         ensures { result.now ≡ self.now.rows }
     {
-        &self.workspace
+        &self.rows
     }
 
     /// How often it was changed.
@@ -63,17 +52,21 @@ impl Counted {
         entry: u64,
         command: &Command,
     ) -> Result<Inverse, MoveRefusal>
-        requires of_trace { IsOfTrace indexed.now self.old.rows }
+        requires of_trace { IsOfTrace indexed.now (W.rows self.old.rows) }
         requires board { IsBoardOf indexed.now board.now }
-        requires late { Below (age entry 0) self.old.rows }
+        requires late { Below (age entry 0) (W.rows self.old.rows) }
         requires few { self.old.edits < 64000000 }
-        ensures applied { IsApplied indexed.now board.now (age entry 0) command.now self.old.rows self.new.rows result }
+        ensures applied { IsApplied indexed.now board.now (age entry 0) command.now (W.rows self.old.rows)
+            (W.rows self.new.rows) result }
         ensures step { IfOk result (λ inverse. IsStepOf indexed.now inverse.step) }
         ensures counted { OnOk result (self.new.edits ≡ self.old.edits + 1) }
         ensures same { OnErr result (self.new.edits ≡ self.old.edits) }
+        // As many changes as were counted.
+        ensures changed { OnOk result (W.changed 1 self.old.rows self.new.rows) }
+        ensures unchanged { OnErr result (W.changed 0 self.old.rows self.new.rows) }
     {
         let birth = Birth::new(entry, 0);
-        let inverse = self.workspace.apply(indexed, board, birth, command)?;
+        let inverse = self.rows.enact(indexed, board, birth, command)?;
         self.edits += 1;
         Ok(inverse)
     }
@@ -86,17 +79,20 @@ impl Counted {
         entry: u64,
         commands: &[Command],
     ) -> Result<Inverses, BatchRefusal>
-        requires of_trace { IsOfTrace indexed.now self.old.rows }
+        requires of_trace { IsOfTrace indexed.now (W.rows self.old.rows) }
         requires board { IsBoardOf indexed.now board.now }
-        requires late { Below (age entry 0) self.old.rows }
+        requires late { Below (age entry 0) (W.rows self.old.rows) }
         requires few { self.old.edits < 64000000 }
         requires short { length commands.now ≤ 64 }
-        ensures applied { IsAppliedAll indexed.now board.now (age entry 0) commands.now self.old.rows self.new.rows result }
+        ensures applied { IsAppliedAll indexed.now board.now (age entry 0) commands.now (W.rows self.old.rows)
+            (W.rows self.new.rows) result }
         ensures steps { IfOk result (λ inverses. AreOfTrace indexed.now inverses) }
         ensures counted { OnOk result (self.new.edits ≡ self.old.edits + length commands.now) }
         ensures same { OnErr result (self.new.edits ≡ self.old.edits) }
+        ensures changed { OnOk result (W.changed (length commands.now) self.old.rows self.new.rows) }
+        ensures unchanged { OnErr result (W.changed 0 self.old.rows self.new.rows) }
     {
-        let inverses = self.workspace.apply_all(indexed, board, entry, commands)?;
+        let inverses = self.rows.enact_all(indexed, board, entry, commands)?;
         self.edits += commands.len() as u64;
         Ok(inverses)
     }
@@ -109,36 +105,42 @@ impl Counted {
         commands: &[Command],
         held: Held,
     ) -> Result<(), Held>
-        requires of_trace { IsOfTrace indexed.now self.old.rows }
+        requires of_trace { IsOfTrace indexed.now (W.rows self.old.rows) }
         requires steps { AreOfTrace indexed.now (inverses_of held commands.now) }
-        requires fits { CanTurnAll (inverses_of held commands.now) self.old.rows }
+        requires fits { CanTurnAll (inverses_of held commands.now) (W.rows self.old.rows) }
         requires few { self.old.edits < 64000000 }
         requires short { length commands.now ≤ 64 }
-        ensures ok { OnOk result (IsTurnedAll (inverses_of held commands.now) self.old.rows self.new.rows) }
-        ensures err { OnErr result (self.new.rows ≡ self.old.rows) }
+        requires whole { length (inverses_of held commands.now) ≡ length commands.now }
+        ensures ok { OnOk result
+            (IsTurnedAll (inverses_of held commands.now) (W.rows self.old.rows) (W.rows self.new.rows)) }
+        ensures err { OnErr result (W.rows self.new.rows ≡ W.rows self.old.rows) }
         ensures back { IfErr result (λ back. back ≡ held) }
         ensures counted { OnOk result (self.new.edits ≡ self.old.edits + length commands.now) }
         ensures same { OnErr result (self.new.edits ≡ self.old.edits) }
+        ensures changed { OnOk result (W.changed (length commands.now) self.old.rows self.new.rows) }
+        ensures unchanged { OnErr result (W.changed 0 self.old.rows self.new.rows) }
     {
-        turn_back(&mut self.workspace, indexed, commands, held)?;
+        turn_back(&mut self.rows, indexed, commands, held)?;
         self.edits += commands.len() as u64;
         Ok(())
     }
 }
 
 /// Takes commands back: a single one in place.
-fn turn_back(
-    workspace: &mut Workspace,
+fn turn_back<W: Changing>(
+    rows: &mut W,
     indexed: &Indexed,
     commands: &[Command],
     held: Held,
 ) -> Result<(), Held>
-    requires of_trace { IsOfTrace indexed.now workspace.old }
+    requires of_trace { IsOfTrace indexed.now (W.rows rows.old) }
     requires steps { AreOfTrace indexed.now (inverses_of held commands.now) }
-    requires fits { CanTurnAll (inverses_of held commands.now) workspace.old }
-    ensures ok { OnOk result (IsTurnedAll (inverses_of held commands.now) workspace.old workspace.new) }
-    ensures err { OnErr result (workspace.new ≡ workspace.old) }
+    requires fits { CanTurnAll (inverses_of held commands.now) (W.rows rows.old) }
+    ensures ok { OnOk result (IsTurnedAll (inverses_of held commands.now) (W.rows rows.old) (W.rows rows.new)) }
+    ensures err { OnErr result (W.rows rows.new ≡ W.rows rows.old) }
     ensures back { IfErr result (λ back. back ≡ held) }
+    ensures changed { OnOk result (W.changed (length (inverses_of held commands.now)) rows.old rows.new) }
+    ensures unchanged { OnErr result (W.changed 0 rows.old rows.new) }
 {
     match held {
         Held::Nothing => Ok(()),
@@ -147,12 +149,12 @@ fn turn_back(
                 return Ok(());
             };
             let name = command.writes();
-            match workspace.take_back(indexed, Inverse { name, step }) {
+            match rows.revoke(indexed, Inverse { name, step }) {
                 Ok(()) => Ok(()),
                 Err((inverse, _)) => Err(Held::One(inverse.step)),
             }
         }
-        Held::Many(inverses) => match workspace.take_back_all(indexed, inverses) {
+        Held::Many(inverses) => match rows.revoke_all(indexed, inverses) {
             Ok(()) => Ok(()),
             Err((inverses, _)) => Err(Held::Many(inverses)),
         },

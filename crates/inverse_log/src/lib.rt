@@ -3,6 +3,7 @@
 
 mod bench;
 mod call;
+mod changing;
 mod counted;
 mod entry;
 pub mod headline;

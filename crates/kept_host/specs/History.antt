@@ -1,5 +1,5 @@
 -- The calls on a file, and what they make of it: what is seen, and what a crash may leave.
-use Rattle.std.specs.Prelude.{◌≡◌, ◌⊎◌, ℕ, zero, suc, ◌+◌, ◌≤◌, ◌==◌, Bool, true, false, List, [], ◌∷◌, ◌++◌, length, take, drop, slice_index, ⊤}
+use Rattle.std.specs.Prelude.{◌≡◌, ◌⊎◌, ℕ, zero, suc, ◌+◌, ◌≤◌, ◌==◌, Bool, true, false, List, [], ◌∷◌, ◌++◌, Option, Some, None, length, take, drop, slice_index, ⊤}
 use Rattle.kept_log.specs.Device.{AfterOthers, Torn, Cut}
 
 -- A call with its answer: which call, a place, whether it succeeded, and bytes.
@@ -10,7 +10,7 @@ Event = ℕ × ℕ × Bool × List ℕ
 abbrev pub event_of : List ℕ → List ℕ → Event
 event_of numbers bytes = (slice_index numbers 0, slice_index numbers 1, slice_index numbers 2 == 1, bytes)
 
--- the lock was taken, and these bytes were read from this place on
+-- The lock was taken, and these bytes were read from this place on. Or that failed, with a byte only if the file ended before the place.
 abbrev pub taken : ℕ → Bool → List ℕ → Event
 taken at ok bytes = (0, at, ok, bytes)
 
@@ -57,6 +57,15 @@ abbrev pub left_since : List Event → ℕ → List ℕ → Type 0
 left_since [] t c = ⊤
 left_since (e ∷ earlier) t c = left_of (e ∷ earlier) c ⊎ ((t ≤ length earlier) × left_since earlier t c)
 
+-- how many calls have failed
+abbrev pub faults_after : Bool → ℕ → ℕ
+faults_after true count = count
+faults_after false count = count + 1
+
+abbrev pub faults_of : List Event → ℕ
+faults_of [] = 0
+faults_of (e ∷ earlier) = faults_after e.2 (faults_of earlier)
+
 -- whether the lock is held after a call
 abbrev pub held_after : ℕ → Bool → Bool → Bool
 held_after zero true old = true
@@ -69,11 +78,12 @@ held_of [] = false
 held_of (e ∷ earlier) = held_after e.0 e.2 (held_of earlier)
 
 -- what stood in the file each time that its lock was taken, after a call that shows this
-abbrev pub found_after : ℕ → Bool → List ℕ → List (List ℕ) → List (List ℕ)
-found_after zero true seen old = seen ∷ old
-found_after call ok seen old = old
+abbrev pub found_after : ℕ → Bool → List ℕ → List ℕ → List (Option (List ℕ)) → List (Option (List ℕ))
+found_after zero true bytes seen old = Some seen ∷ old
+found_after zero false (mark ∷ marks) seen old = None ∷ old
+found_after call ok bytes seen old = old
 
 -- the same after these calls, the last time first
-abbrev pub found_of : List Event → List (List ℕ)
+abbrev pub found_of : List Event → List (Option (List ℕ))
 found_of [] = []
-found_of (e ∷ earlier) = found_after e.0 e.2 (seen_of (e ∷ earlier)) (found_of earlier)
+found_of (e ∷ earlier) = found_after e.0 e.2 e.3 (seen_of (e ∷ earlier)) (found_of earlier)

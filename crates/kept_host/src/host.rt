@@ -1,7 +1,8 @@
 //! Each method makes its call of the system, and then notes it with its answer.
-ghost use Rattle.std.specs.Prelude.{◌≡◌, ◌+◌, ◌<◌, ◌^◌, [], ◌∷◌, length, IfOk};
-ghost use Rattle.kept_host.specs.History.{seen_of, left_of, left_since, held_of, found_of};
+ghost use Rattle.std.specs.Prelude.{◌≡◌, ◌≢◌, ◌+◌, ◌<◌, ◌^◌, [], ◌∷◌, length, IfOk, IsErrOf};
+ghost use Rattle.kept_host.specs.History.{seen_of, left_of, left_since, faults_of, held_of, found_of};
 ghost use Rattle.kept_host.specs.HistoryLaws.{now_counts, now_only};
+ghost use Rattle.kept_log.specs.declared.device.DeviceError.TheVariants.{Shorter};
 
 use crate::record::Record;
 use kept_log::{Device, DeviceError};
@@ -66,23 +67,37 @@ fn read_from(file: &File, alloc: Global, at: usize) -> io::Result<Vec<u8>>
     Err(io::ErrorKind::FileTooLarge.into())
 }
 
-/// Waits for the lock, and reads. A file that ends before the place was changed by something else.
-fn locked(file: &File, alloc: Global, at: usize) -> io::Result<Vec<u8>>
-    ensures { IfOk result (λ bytes. at + length bytes.items < 2 ^ 63) }
-{
-    file.lock()?;
-    if file.metadata()?.len() < at as u64 {
-        return Err(io::ErrorKind::InvalidData.into());
-    }
-    read_from(file, alloc, at)
-}
-
 /// Why nothing was read.
-fn cause_of(error: &io::Error) -> DeviceError {
+fn cause_of(error: &io::Error) -> DeviceError
+    ensures { result ≢ Shorter }
+{
     match error.kind() {
         io::ErrorKind::OutOfMemory => DeviceError::Memory,
-        io::ErrorKind::InvalidData => DeviceError::Shorter,
         _ => DeviceError::Failed,
+    }
+}
+
+/// Waits for the lock, and tells how long the file is then.
+fn locked_length(file: &File) -> io::Result<u64> {
+    file.lock()?;
+    Ok(file.metadata()?.len())
+}
+
+/// Waits for the lock, and reads. A file that ends before the place was changed by something else.
+fn locked(file: &File, alloc: Global, at: usize) -> Result<Vec<u8>, DeviceError>
+    ensures fits { IfOk result (λ bytes. at + length bytes.items < 2 ^ 63) }
+    ensures shorter { IsErrOf result Shorter → 0 < at }
+{
+    let len = match locked_length(file) {
+        Ok(len) => len,
+        Err(error) => return Err(cause_of(&error)),
+    };
+    if len < at as u64 {
+        return Err(DeviceError::Shorter);
+    }
+    match read_from(file, alloc, at) {
+        Ok(bytes) => Ok(bytes),
+        Err(error) => Err(cause_of(&error)),
     }
 }
 
@@ -95,7 +110,7 @@ impl Device for Host {
 
     ghost left_since = { λ h. left_since h.log.events };
 
-    ghost faults = { λ h. length h.log.events };
+    ghost faults = { λ h. faults_of h.log.events };
 
     ghost is_held = { λ h. held_of h.log.events };
 
@@ -111,9 +126,13 @@ impl Device for Host {
                 self.log.note(&[TAKEN, gate as u64, 1], &bytes);
                 Ok(bytes)
             }
-            Err(error) => {
+            Err(DeviceError::Shorter) => {
+                self.log.note(&[TAKEN, gate as u64, 0], b"<");
+                Err(DeviceError::Shorter)
+            }
+            Err(why) => {
                 self.log.note(&[TAKEN, gate as u64, 0], &[]);
-                Err(cause_of(&error))
+                Err(why)
             }
         }
     }

@@ -1,6 +1,6 @@
 //! A file as the log sees it: what a read returns, and what a crash may leave.
-ghost use Rattle.std.specs.Prelude.{◌≡◌, ◌≤◌, ◌<◌, ◌^◌, List, ℕ, ◌∷◌, Bool, true, false, length, take, drop, IfOk, OnOk, OnErr};
-ghost use Rattle.kept_log.specs.declared.device.DeviceError.TheVariants.{Memory};
+ghost use Rattle.std.specs.Prelude.{◌≡◌, ◌≢◌, ◌≤◌, ◌<◌, ◌^◌, List, ℕ, ◌∷◌, Bool, true, false, Option, Some, None, length, take, drop, IfOk, IfErr, IsErrOf, OnOk, OnErr};
+ghost use Rattle.kept_log.specs.declared.device.DeviceError.TheVariants.{Memory, Shorter};
 ghost use Rattle.kept_log.specs.Device.{Only, Follows, Torn, Cut, Holds, Elapses, HasCause, OthersMay, AfterOthers};
 
 use std::alloc::{AllocError, AllocFailed, Global};
@@ -50,8 +50,8 @@ pub trait Device {
     /// Whether the file's lock is held.
     ghost is_held: { Self → Bool };
 
-    /// What stood in the file each time that its lock was taken, the last time first.
-    ghost found: { Self → List (List ℕ) };
+    /// What stood in the file each time that its lock was taken, the last time first; `None` if it ended before the place that was known.
+    ghost found: { Self → List (Option (List ℕ)) };
 
     /// Waits for the file's lock, and reads the bytes from a place on. The premise on others: meanwhile they
     /// changed nothing before that place. A read under the lock is what is seen from then on.
@@ -60,8 +60,12 @@ pub trait Device {
         ensures bytes { IfOk result (λ bytes. drop gate (seen self.new) ≡ bytes.items) }
         ensures fits { OnOk result (length (seen self.new) < 2 ^ 63) }
         ensures held { OnOk result (is_held self.new ≡ true) }
-        ensures found { OnOk result (found self.new ≡ seen self.new ∷ found self.old) }
-        ensures none_found { OnErr result (found self.new ≡ found self.old) }
+        ensures found { OnOk result (found self.new ≡ Some (seen self.new) ∷ found self.old) }
+        ensures none_found { IfErr result (λ why. why ≢ Shorter → found self.new ≡ found self.old) }
+
+        // `Shorter` is answered only if the file ended before the place.
+        ensures shorter { IsErrOf result Shorter → (0 < gate) × (found self.new ≡ None ∷ found self.old) }
+
         ensures others { OthersMay gate (seen self.old) (seen self.new) }
         ensures crash { (c : List ℕ) → may_leave self.new c → AfterOthers gate (may_leave self.old) c }
         ensures time { Elapses (moment self.old) (moment self.new) (left_since self.old) (left_since self.new) (AfterOthers gate (may_leave self.old)) }

@@ -1,6 +1,7 @@
 //! The log: opened, and grown by blocks.
-ghost use Rattle.std.specs.Prelude.{◌≡◌, ◌≢◌, ◌⊎◌, ◌≤◌, ◌<◌, ◌+◌, ◌++◌, [], ◌∷◌, All, List, ℕ, length, take, drop, IfOk, OnOk, IfErr, IsErr, OnErr, IsErrOf, ◌^◌, true, false};
+ghost use Rattle.std.specs.Prelude.{◌≡◌, ◌≢◌, ◌⊎◌, ◌≤◌, ◌<◌, ◌+◌, ◌++◌, [], ◌∷◌, All, List, ℕ, length, take, drop, IfOk, OnOk, IfErr, IsErr, OnErr, IsErrOf, ◌^◌, Some, None, true, false};
 ghost use Rattle.kept_log.specs.Device.{Only, LeavesOnly, HasCause, AfterOthers};
+ghost use Rattle.kept_log.specs.declared.device.DeviceError.TheVariants.{Shorter};
 ghost use Rattle.kept_log.specs.Lines.{IsLine, IsEnd, lines_text};
 ghost use Rattle.kept_log.specs.Log.{StandsFor, IsOldOrNew, EndsBehind, at_rest, lines_behind, head_of, lines_of, IsAtRest, IsKnown, IsLeft, BeginsWith};
 
@@ -142,6 +143,7 @@ fn find<D: Device>(device: &mut D, head: &[u8], bytes: &[u8]) -> Result<usize, O
     ensures held { D.is_held device.new ≡ true }
     ensures found { D.found device.new ≡ D.found device.old }
     ensures begins { OnOk result (take (length head.now) (D.seen device.old) ≡ head.now) }
+    ensures sound { OnOk result (D.faults device.new ≡ D.faults device.old) }
     ensures within { IfOk result (λ len. length head.now + len ≤ length (D.seen device.old)) }
     ensures lines { IfOk result (λ len. take len (drop (length head.now) bytes.now) ≡ lines_text (lines_behind (length head.now) (D.seen device.old))) }
     ensures len { IfOk result (λ len. len ≡ length (lines_text (lines_behind (length head.now) (D.seen device.old)))) }
@@ -186,6 +188,7 @@ impl<D: Device> KeptLog<D> {
         ensures lines { IfOk result (λ opened. lines_of D.seen opened.0 ≡ lines_behind (length head.now) (D.seen device)) }
         ensures text { IfOk result (λ opened. take opened.1 (drop (length head.now) bytes.now) ≡ lines_text (lines_of D.seen opened.0)) }
         ensures begins { OnOk result (take (length head.now) (D.seen device) ≡ head.now) }
+        ensures sound { IfOk result (λ opened. D.faults opened.0.device ≡ D.faults device) }
 
         // A file that begins otherwise is refused, and is left as it was.
         ensures refused { IfErr result (λ e. e.0 ≡ OpenError.Stranger → take (length head.now) (D.seen device) ≢ head.now) }
@@ -216,8 +219,9 @@ impl<D: Device> KeptLog<D> {
         requires known { IsKnown D.seen self.old }
 
         ensures held { OnOk result (D.is_held self.new.device ≡ true) }
-        ensures found { OnOk result (D.found self.new.device ≡ D.seen self.new.device ∷ D.found self.old.device) }
-        ensures none_found { OnErr result (D.found self.new.device ≡ D.found self.old.device) }
+        ensures found { OnOk result (D.found self.new.device ≡ Some (D.seen self.new.device) ∷ D.found self.old.device) }
+        ensures none_found { IfErr result (λ why. why ≢ Shorter → D.found self.new.device ≡ D.found self.old.device) }
+        ensures shorter { IsErrOf result Shorter → D.found self.new.device ≡ None ∷ D.found self.old.device }
         ensures known { IsKnown D.seen self.new }
         ensures front { take self.old.end (D.seen self.new.device) ≡ take self.old.end (D.seen self.old.device) }
         ensures places { (self.new.start ≡ self.old.start) × (self.new.end ≡ self.old.end) }
@@ -299,6 +303,7 @@ impl<D: Device> KeptLog<D> {
         // It doesn't give up by itself, and then nothing is changed.
         ensures memory { IsErrOf result AppendError.OutOfMemory → self.new ≡ self.old }
         ensures failed { IsErrOf result (AppendError.Device DeviceError.Failed) → D.faults self.old.device < D.faults self.new.device }
+        ensures sound { OnOk result (D.faults self.new.device ≡ D.faults self.old.device) }
         ensures full { IsErrOf result AppendError.Full → (2 ^ 60 < self.old.end + length (lines_text block)) × (self.new ≡ self.old) }
     {
         let mut text = block.into_text();

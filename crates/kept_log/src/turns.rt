@@ -1,8 +1,10 @@
 //! Turns with a log that several processes share: each takes the lock, sees what others added, adds its own, and lets the lock go.
-ghost use Rattle.std.specs.Prelude.{◌≡◌, ◌<◌, ◌++◌, [], List, ℕ, true, IfOk, OnOk, IsErrOf};
+ghost use Rattle.std.specs.Prelude.{◌≡◌, ◌≢◌, ◌+◌, ◌<◌, ◌^◌, ◌++◌, [], ◌∷◌, List, ℕ, None, true, length, IfOk, OnOk, IsErrOf};
 ghost use Rattle.kept_log.specs.Device.{LeavesOnly};
-ghost use Rattle.kept_log.specs.Lines.{kept_lines};
-ghost use Rattle.kept_log.specs.Log.{IsOldOrNew, IsAtRest, IsLeft, BeginsWith, HasTurn, LosesNone, head_of, lines_of};
+ghost use Rattle.kept_log.specs.Lines.{kept_lines, lines_text};
+ghost use Rattle.kept_log.specs.Log.{IsOldOrNew, IsAtRest, IsLeft, BeginsWith, HasTurn, IsAsFound, head_of, lines_of};
+ghost use Rattle.kept_log.specs.declared.device.DeviceError.TheVariants.{Shorter};
+ghost use Rattle.kept_log.specs.declared.turns.EnterError.TheVariants.{Unread};
 
 use crate::{AppendError, Block, Device, DeviceError, KeptLog};
 use std::alloc::Global;
@@ -27,9 +29,15 @@ impl<D: Device> KeptLog<D> {
         ensures head { OnOk result (head_of D.seen self.new ≡ head_of D.seen self.old) }
         ensures lines { IfOk result (λ text. lines_of D.seen self.new ≡ lines_of D.seen self.old ++ kept_lines text.items) }
 
-        // What others wrote is not lost: the lines are those that stood in the file when the lock was taken.
+        // What others wrote is not lost: the lines are those that stood in the file when the lock was taken, also at an error.
         ensures turn { OnOk result (HasTurn D.seen D.found self.old self.new []) }
-        ensures none_lost { LosesNone D.seen D.found self.old self.new }
+        ensures as_found { IsAsFound D.seen D.found self.old self.new }
+
+        // A turn is begun only if no call of the file failed: a sync that failed is not tried again.
+        ensures sound { OnOk result (D.faults self.new.device ≡ D.faults self.old.device) }
+
+        // `Shorter` is answered only if the file ended before the gate that is known.
+        ensures shorter { IsErrOf result (Unread Shorter) → D.found self.new.device ≡ None ∷ D.found self.old.device }
 
         // A crash at any moment leaves a file whose lines begin with those that were known.
         ensures any_moment { LeavesOnly D.moment D.left_since self.old.device self.new.device (BeginsWith (head_of D.seen self.old) (lines_of D.seen self.old)) }
@@ -60,7 +68,11 @@ impl<D: Device> KeptLog<D> {
         ensures view { IsOldOrNew (head_of D.seen self.old) (lines_of D.seen self.old) block (D.seen self.new.device) }
         ensures any_moment { LeavesOnly D.moment D.left_since self.old.device self.new.device
             (IsOldOrNew (head_of D.seen self.old) (lines_of D.seen self.old) block) }
+        // It doesn't give up by itself, and then nothing is changed.
+        ensures memory { IsErrOf result AppendError.OutOfMemory → self.new ≡ self.old }
         ensures failed { IsErrOf result (AppendError.Device DeviceError.Failed) → D.faults self.old.device < D.faults self.new.device }
+        ensures sound { OnOk result (D.faults self.new.device ≡ D.faults self.old.device) }
+        ensures full { IsErrOf result AppendError.Full → (2 ^ 60 < self.old.end + length (lines_text block)) × (self.new ≡ self.old) }
     {
         if block.is_empty() {
             return Ok(());

@@ -1,13 +1,14 @@
 -- The lines of a file, whose calls are made one after another.
-use Rattle.std.proofs.Common.{◌≡◌, ◌≢◌, ◌⊎◌, inl, inr, ℕ, ◌+◌, ◌≤◌, List, [], ◌∷◌, ◌++◌, length, take, refl, sym, ap, ◌∙◌, subst, append_assoc, append-nil, length-append, arith}
+use Rattle.std.proofs.Common.{◌≡◌, ◌≢◌, ◌⊎◌, inl, inr, ℕ, ◌+◌, ◌≤◌, List, [], ◌∷◌, ◌++◌, Option, None, length, take, refl, sym, ap, ◌∙◌, subst, append_assoc, append-nil, length-append, arith}
 use Rattle.rapid_text.specs.Recording.{Recording}
 use Rattle.inverse_log.specs.declared.entry.Entry.{Entry}
 use Rattle.script_language.specs.Scripts.{script_line_reading}
 use Rattle.kept_session.specs.Sessions.{log_by, log_of, log_behind, IsLogged, AreLogged}
-use Rattle.kept_session.specs.Faults.{IsFirstRefused, IsLineFault, IsLinesFault, IsTurnFault, IsOpenFault}
+use Rattle.kept_session.specs.Faults.{IsFirstRefused, IsLineFault, IsLinesFault, IsFileFault, IsHeadFault, IsTurnFault, IsOpenFault, IsMakeFault}
 use Rattle.kept_session.specs.declared.fault.SessionFault.{SessionFault}
 use Rattle.kept_session.specs.declared.fault.SessionFault.TheVariants.{Replay, LogLine, OtherTrace}
 use Rattle.client_scripts.specs.declared.fault.ReadCause.TheVariants.{Device as DeviceFailed}
+use Rattle.client_scripts.specs.declared.fault.ReplayFault.{ReplayFault}
 use Rattle.client_scripts.specs.declared.fault.ReplayFault.TheVariants.{Read, Write, OutOfMemory as NoMemory}
 use Rattle.kept_log.specs.declared.device.DeviceError.{DeviceError}
 use Rattle.kept_log.specs.declared.device.DeviceError.TheVariants.{Memory, Failed, Shorter}
@@ -71,18 +72,20 @@ refused_behind T known more lines L number is says all h = record {
 }
 
 -- a fault of the lines behind those that were known is one of the turn
-pub turn-lines : (T : Recording) (known more seen : List (List ℕ)) (L : List Entry) (fault : SessionFault) → seen ≡ known ++ more → log_of T known ≡ L → AreLogged T [] known → IsLinesFault T L more fault → IsTurnFault T known seen fault
-turn-lines T known more seen L fault is says all (inl memory) = subst (IsTurnFault T known seen) (sym memory) tt
-turn-lines T known more seen L fault is says all (inr (number, told, refused)) = subst (IsTurnFault T known seen) (sym told) (inl (refused_behind T known more seen L number is says all refused))
+pub turn-lines : (T : Recording) (known more seen : List (List ℕ)) (before now : List (Option (List ℕ))) (L : List Entry) (fault : SessionFault) → seen ≡ known ++ more → log_of T known ≡ L → AreLogged T [] known → IsLinesFault T L more fault
+    → IsTurnFault T known seen before now fault
+turn-lines T known more seen before now L fault is says all (inl memory) = subst (IsTurnFault T known seen before now) (sym memory) tt
+turn-lines T known more seen before now L fault is says all (inr (number, told, refused)) = subst (IsTurnFault T known seen before now) (sym told) (inl (refused_behind T known more seen L number is says all refused))
 
--- so is the number of the last known line
-pub turn-last : (T : Recording) (known seen : List (List ℕ)) (L : List Entry) (number : ℕ) → log_of T known ≡ L → AreLogged T [] known → number ≡ length L + 1 → IsTurnFault T known seen (LogLine number)
-turn-last T known seen L number says all is = inr (omega (arith, is, ap length says, logged_length T [] known all))
+-- so is the number of the last known line, if the file was shorter
+pub turn-last : (T : Recording) (known seen : List (List ℕ)) (before now : List (Option (List ℕ))) (L : List Entry) (number : ℕ) → log_of T known ≡ L → AreLogged T [] known → number ≡ length L + 1 → now ≡ None ∷ before
+    → IsTurnFault T known seen before now (LogLine number)
+turn-last T known seen before now L number says all is shorter = inr (omega (arith, is, ap length says, logged_length T [] known all), shorter)
 
 -- and each that is no fault of a line
-pub turn-memory : (T : Recording) (known seen : List (List ℕ)) (fault : SessionFault) → (fault ≡ Replay NoMemory) ⊎ (fault ≡ Replay Write) → IsTurnFault T known seen fault
-turn-memory T known seen fault (inl memory) = subst (IsTurnFault T known seen) (sym memory) tt
-turn-memory T known seen fault (inr write) = subst (IsTurnFault T known seen) (sym write) tt
+pub turn-memory : (T : Recording) (known seen : List (List ℕ)) (before now : List (Option (List ℕ))) (fault : SessionFault) → (fault ≡ Replay NoMemory) ⊎ (fault ≡ Replay Write) → IsTurnFault T known seen before now fault
+turn-memory T known seen before now fault (inl memory) = subst (IsTurnFault T known seen before now) (sym memory) tt
+turn-memory T known seen before now fault (inr write) = subst (IsTurnFault T known seen before now) (sym write) tt
 
 -- what is told of a device that was not written
 pub unwritten_fault : (why : DeviceError) (fault : SessionFault) → (why ≡ Memory → fault ≡ Replay NoMemory) → (why ≢ Memory → fault ≡ Replay Write) → (fault ≡ Replay NoMemory) ⊎ (fault ≡ Replay Write)
@@ -91,26 +94,48 @@ unwritten_fault Failed fault memory others = inr (others (λ e. absurd cc))
 unwritten_fault Shorter fault memory others = inr (others (λ e. absurd cc))
 
 -- what is told of a device that was not read
-pub unread_turn : (T : Recording) (known seen : List (List ℕ)) (L : List Entry) (last : ℕ) → log_of T known ≡ L → AreLogged T [] known → last ≡ length L + 1 → (why : DeviceError) (fault : SessionFault) → (why ≡ Memory → fault ≡ Replay NoMemory)
-    → (why ≡ Failed → fault ≡ Replay (Read 2 DeviceFailed)) → (why ≡ Shorter → fault ≡ LogLine last) → IsTurnFault T known seen fault
-unread_turn T known seen L last says all is Memory fault memory failed shorter = subst (IsTurnFault T known seen) (sym (memory refl)) tt
-unread_turn T known seen L last says all is Failed fault memory failed shorter = subst (IsTurnFault T known seen) (sym (failed refl)) tt
-unread_turn T known seen L last says all is Shorter fault memory failed shorter = subst (IsTurnFault T known seen) (sym (shorter refl)) (turn-last T known seen L last says all is)
+pub unread_turn : (T : Recording) (known seen : List (List ℕ)) (before now : List (Option (List ℕ))) (L : List Entry) (last : ℕ) → log_of T known ≡ L → AreLogged T [] known → last ≡ length L + 1 → (why : DeviceError) → (why ≡ Shorter → now ≡ None ∷ before) → (fault : SessionFault)
+    → (why ≡ Memory → fault ≡ Replay NoMemory) → (why ≡ Failed → fault ≡ Replay (Read 2 DeviceFailed)) → (why ≡ Shorter → fault ≡ LogLine last) → IsTurnFault T known seen before now fault
+unread_turn T known seen before now L last says all is Memory short fault memory failed shorter = subst (IsTurnFault T known seen before now) (sym (memory refl)) tt
+unread_turn T known seen before now L last says all is Failed short fault memory failed shorter = subst (IsTurnFault T known seen before now) (sym (failed refl)) (refl, refl)
+unread_turn T known seen before now L last says all is Shorter short fault memory failed shorter =
+    subst (IsTurnFault T known seen before now) (sym (shorter refl)) (turn-last T known seen before now L last says all is (short refl))
+
+-- what is told of a file that was not read from its first byte on, and so is not too short
+pub unread_file : (why : DeviceError) → why ≢ Shorter → (fault : SessionFault) → (why ≡ Memory → fault ≡ Replay NoMemory) → (why ≡ Failed → fault ≡ Replay (Read 2 DeviceFailed)) → (f : ReplayFault) × (fault ≡ Replay f) × IsFileFault f
+unread_file Memory whole fault memory failed = (NoMemory, memory refl, tt)
+unread_file Failed whole fault memory failed = (Read 2 DeviceFailed, failed refl, (refl, refl))
+unread_file Shorter whole fault memory failed = absurd (whole refl)
+
+-- a fault of the file is one of its head, of making it and of opening it
+pub head-file : (head seen : List ℕ) (fault : SessionFault) → (f : ReplayFault) × (fault ≡ Replay f) × IsFileFault f → IsHeadFault head seen fault
+head-file head seen fault (f, told, is) = subst (IsHeadFault head seen) (sym told) is
+
+pub make-file : (fault : SessionFault) → (f : ReplayFault) × (fault ≡ Replay f) × IsFileFault f → IsMakeFault fault
+make-file fault (f, told, is) = subst IsMakeFault (sym told) is
+
+pub head-memory : (head seen : List ℕ) (fault : SessionFault) → (fault ≡ Replay NoMemory) ⊎ (fault ≡ Replay Write) → IsHeadFault head seen fault
+head-memory head seen fault (inl memory) = subst (IsHeadFault head seen) (sym memory) tt
+head-memory head seen fault (inr write) = subst (IsHeadFault head seen) (sym write) tt
+
+pub make-memory : (fault : SessionFault) → (fault ≡ Replay NoMemory) ⊎ (fault ≡ Replay Write) → IsMakeFault fault
+make-memory fault (inl memory) = subst IsMakeFault (sym memory) tt
+make-memory fault (inr write) = subst IsMakeFault (sym write) tt
 
 -- a fault of all lines of a file is one of opening it
 pub open-lines : (T : Recording) (head seen : List ℕ) (lines : List (List ℕ)) (L : List Entry) (fault : SessionFault) → L ≡ [] → lines_behind (length head) seen ≡ lines → IsLinesFault T L lines fault → IsOpenFault T head seen fault
 open-lines T head seen lines L fault new is (inl memory) = subst (IsOpenFault T head seen) (sym memory) tt
-open-lines T head seen lines L fault new is (inr (number, told, refused)) = subst (IsOpenFault T head seen) (sym told) (inl (subst (λ ls. IsFirstRefused T [] ls number) (sym is) (subst (λ X. IsFirstRefused T X lines number) new refused)))
+open-lines T head seen lines L fault new is (inr (number, told, refused)) = subst (IsOpenFault T head seen) (sym told) (subst (λ ls. IsFirstRefused T [] ls number) (sym is) (subst (λ X. IsFirstRefused T X lines number) new refused))
 
 pub open-memory : (T : Recording) (head seen : List ℕ) (fault : SessionFault) → (fault ≡ Replay NoMemory) ⊎ (fault ≡ Replay Write) → IsOpenFault T head seen fault
 open-memory T head seen fault (inl memory) = subst (IsOpenFault T head seen) (sym memory) tt
 open-memory T head seen fault (inr write) = subst (IsOpenFault T head seen) (sym write) tt
 
--- what is told of a file that was not opened
-pub open-told : (T : Recording) (head seen : List ℕ) (fault : SessionFault) → (fault ≡ OtherTrace → take (length head) seen ≢ head) → ((number : ℕ) → fault ≡ LogLine number → number ≡ 1) → IsOpenFault T head seen fault
-open-told T head seen (Replay fault) stranger line = tt
-open-told T head seen (LogLine number) stranger line = inr (line number refl)
-open-told T head seen OtherTrace stranger line = stranger refl
+-- so is one of its head
+pub open-told : (T : Recording) (head seen : List ℕ) (fault : SessionFault) → IsHeadFault head seen fault → IsOpenFault T head seen fault
+open-told T head seen (Replay fault) is = is
+open-told T head seen (LogLine number) is = absurd is
+open-told T head seen OtherTrace is = is
 
 -- a log of this head begins its lines behind it
 pub start_behind : (start : ℕ) (head seen : List ℕ) → start ≤ length seen → take start seen ≡ head → lines_behind (length head) seen ≡ lines_behind start seen

@@ -4,5 +4,8 @@ pub mod HeadLemmas
 pub mod LineLemmas
 pub mod LogLemmas
 pub mod PieceLemmas
+mod QuestionLemmas
+pub mod ReplayLemmas
 pub mod RunLemmas
 pub mod SplitLemmas
+pub mod WholeLemmas

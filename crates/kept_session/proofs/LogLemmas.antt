@@ -16,7 +16,7 @@ use Rattle.inverse_log.proofs.SizeLemmas.{limited_ok}
 use Rattle.inverse_log.proofs.HeadLemmas.{at_latest_law}
 use Rattle.script_language.specs.Scripts.{script_line_reading}
 use Rattle.kept_session.specs.Lines.{line_for}
-use Rattle.kept_session.specs.Sessions.{log_by, log_behind, log_of, AreLogged, number_after, number_behind, IsAnswered, AreAnswered}
+use Rattle.kept_session.specs.Sessions.{log_by, log_behind, log_of, AreLogged, number_after, number_behind, IsLineAnswered, AreAnswered}
 use Rattle.kept_session.specs.Steps.{SaysCall}
 
 -- the calls of lines, and then those of further lines
@@ -45,12 +45,12 @@ says_log T L c call reply line h (inr (n, k, is, told, reads)) =
 
 -- one line more
 pub answered_more : (T : Recording) (client : Option ℕ) (n : ℕ) (raws : List (List ℕ)) (raw : List ℕ) (L K M : List Entry) (t u : List ℕ)
-    → AreAnswered T client n raws L t K → IsAnswered T (number_behind n raws) (script_line_reading (line_for client raw)) K u M → AreAnswered T client n (raws ++ raw ∷ []) L (t ++ u) M
+    → AreAnswered T client n raws L t K → IsLineAnswered T client (number_behind n raws) raw K u M → AreAnswered T client n (raws ++ raw ∷ []) L (t ++ u) M
 answered_more T client n [] raw L K M t u so_far one = (
   u,
   [],
   M,
-  subst (λ X. IsAnswered T n (script_line_reading (line_for client raw)) X u M) so_far.1 one,
+  subst (λ X. IsLineAnswered T client n raw X u M) so_far.1 one,
   (refl, refl),
   ap (λ (x : List ℕ). x ++ u) so_far.0 ∙ sym (append-nil u),
 )

@@ -5,7 +5,7 @@ use Rattle.inverse_log.specs.declared.entry.Entry.{Entry}
 use Rattle.script_language.specs.Scripts.{script_line_reading}
 use Rattle.kept_log.specs.Lines.{IsLine}
 use Rattle.kept_session.specs.Lines.{line_for}
-use Rattle.kept_session.specs.Sessions.{log_behind, AreLogged, number_after, number_behind, IsAnswered}
+use Rattle.kept_session.specs.Sessions.{log_behind, AreLogged, number_after, number_behind, IsLineAnswered}
 use Rattle.kept_session.specs.Steps.{LineAnswered, PieceAnswered}
 use Rattle.kept_session.proofs.LineLemmas.{line_within}
 use Rattle.kept_session.proofs.LogLemmas.{log_behind-append, AreLogged-append, answered_more, number_behind-push}
@@ -32,7 +32,7 @@ module _ (T : Recording) (client : Option ℕ) (first : ℕ) (raws : List (List 
 
   pub underway-more : (left more : List (List ℕ)) (raw : List ℕ) (number : ℕ) (M N : List Entry) (out_now out_then : List ℕ) (block_now block_then : List (List ℕ))
       → IsUnderway left number M out_now block_now → left ≡ raw ∷ more
-      → LineAnswered T number (script_line_reading (line_for client raw)) M N out_now out_then block_now block_then
+      → LineAnswered T client number raw M N out_now out_then block_now block_then
       → (n : ℕ) → n ≡ number_after number → IsUnderway more n N out_then block_then
   underway-more left more raw number M N out_now out_then block_now block_then h is one n next = record {
     done = h.done ++ raw ∷ [];
@@ -50,7 +50,7 @@ module _ (T : Recording) (client : Option ℕ) (first : ℕ) (raws : List (List 
   }
     where
       here : ℕ → Type 0
-      here k = IsAnswered T k (script_line_reading (line_for client raw)) M one.text N
+      here k = IsLineAnswered T client k raw M one.text N
 
   pub underway-end : (left : List (List ℕ)) (number : ℕ) (M : List Entry) (out_now : List ℕ) (block_now : List (List ℕ)) → IsUnderway left number M out_now block_now → left ≡ []
       → PieceAnswered T client first raws L M out out_now block block_now × (number ≡ number_behind first raws)

@@ -1,9 +1,9 @@
 -- How the turns of a session go on.
-use Rattle.std.proofs.Common.{◌≡◌, ◌≢◌, ◌⊎◌, inl, inr, ⊎_elim, ℕ, suc, ◌+◌, ◌<◌, ◌≤◌, Bool, true, false, List, [], ◌∷◌, ◌++◌, All, Option, Some, None, length, take, drop, flat_map, refl, sym, ap, ◌∙◌, subst, append_assoc, append-nil, length-append, arith}
+use Rattle.std.proofs.Common.{◌≡◌, ◌≢◌, ◌⊎◌, inl, inr, ⊎_elim, ℕ, ◌+◌, ◌<◌, ◌≤◌, Bool, true, false, List, [], ◌∷◌, ◌++◌, Option, Some, None, length, take, refl, sym, ap, ◌∙◌, subst, append_assoc, append-nil, length-append, arith}
 use Rattle.std.specs.List.{slice_split}
 use Rattle.std.specs.Io.KnownBytes.{Appends, Consumes, Keeps}
 use Rattle.std.proofs.lemmas.List.Elements.{All-nil}
-use Rattle.std.proofs.lemmas.List.Splits.{slice_split_at, slice_split_none, slice_split-cons_yes, slice_split-cons_no, length-slice_split}
+use Rattle.std.proofs.lemmas.List.Splits.{slice_split_none}
 use Rattle.rapid_text.specs.Recording.{Recording}
 use Rattle.rapid_text.specs.Reading.{is_line_feed}
 use Rattle.inverse_log.specs.declared.entry.Entry.{Entry}
@@ -33,9 +33,9 @@ abbrev pub IsInputFault : List ℕ → SessionFault → Type 0
 IsInputFault bytes fault = (fault ≡ Replay NoMemory) ⊎ ((why : ReadCause) × (fault ≡ Replay (Read 3 why)) × IsUnreadable bytes why)
 
 -- tells nothing of the file
-input_told : (T : Recording) (known seen : List (List ℕ)) (bytes : List ℕ) (fault : SessionFault) → IsInputFault bytes fault → IsTurnFault T known seen fault
-input_told T known seen bytes fault (inl memory) = subst (IsTurnFault T known seen) (sym memory) tt
-input_told T known seen bytes fault (inr (why, unread, is)) = subst (IsTurnFault T known seen) (sym unread) tt
+input_told : (T : Recording) (known seen : List (List ℕ)) (before now : List (Option (List ℕ))) (bytes : List ℕ) (fault : SessionFault) → IsInputFault bytes fault → IsTurnFault T known seen before now fault ⊎ ((why : ReadCause) × (fault ≡ Replay (Read 3 why)))
+input_told T known seen before now bytes fault (inl memory) = inl (subst (IsTurnFault T known seen before now) (sym memory) tt)
+input_told T known seen before now bytes fault (inr (why, unread, is)) = inr (why, unread)
 
 -- and tells why these bytes were not read on
 input_unread : (bytes : List ℕ) (fault : SessionFault) → IsInputFault bytes fault → (why : ReadCause) → fault ≡ Replay (Read 3 why) → IsUnreadable bytes why
@@ -72,7 +72,7 @@ Consumes-keeps (Some a) None c xs p q = absurd p
 Consumes-keeps (Some a) (Some b) None xs p q = absurd q
 Consumes-keeps (Some a) (Some b) (Some c) xs p q = p ∙ ap (λ (s : List ℕ). xs ++ s) (sym q)
 
-module _ {D : Type 0} (seen : D → List ℕ) (found : D → List (List ℕ)) (T : Recording) (client : Option ℕ) where
+module _ {D : Type 0} (seen : D → List ℕ) (found : D → List (Option (List ℕ))) (T : Recording) (client : Option ℕ) where
   -- turns, and then further ones
   pub turns-then : (n : ℕ) (old mid : KeptLog D) (xs : List (List ℕ)) (t : List ℕ) (ys : List (List ℕ)) (u : List ℕ) (new : KeptLog D)
       → AreTurns seen found T client n old xs t mid → AreTurns seen found T client (number_behind n xs) mid ys u new → AreTurns seen found T client n old (xs ++ ys) (t ++ u) new
@@ -89,7 +89,7 @@ module _ {D : Type 0} (seen : D → List ℕ) (found : D → List (List ℕ)) (T
   -- a turn of a session whose bench has the log that its file stands for
   pub log_turn : (N : Recording) (n : ℕ) (piece bytes : List ℕ) (old new : KeptLog D) (L : List Entry) (out answers : List ℕ)
       → N ≡ T → piece ≡ bytes → out ≡ [] → log_of N (lines_of seen new) ≡ L → head_of seen new ≡ head_of seen old
-      → (file : List ℕ) × (found new.device ≡ file ∷ found old.device)
+      → (file : List ℕ) × (found new.device ≡ Some file ∷ found old.device)
       × IsTurn T client n (slice_split is_line_feed piece) (lines_of seen old) (lines_behind new.start file) (lines_of seen new) L out answers
       → IsLogTurn seen found T client n (slice_split is_line_feed bytes) old new answers
   log_turn N n piece bytes old new L out answers same is empty says head (file, once, turn) = record {
@@ -129,14 +129,14 @@ module _ {D : Type 0} (seen : D → List ℕ) (found : D → List (List ℕ)) (T
 
   -- a turn that was not answered
   pub unanswered : (n : ℕ) (old new : KeptLog D) (bytes : List ℕ) (failed : Bool) (taken : Option (List ℕ)) (fault : SessionFault)
-      → failed ≡ false → LosesNone seen found old new → IsTurnFault T (lines_of seen old) (lines_of seen new) fault
+      → failed ≡ false → LosesNone seen found old new → IsTurnFault T (lines_of seen old) (lines_of seen new) (found old.device) (found new.device) fault
       → ((why : ReadCause) → fault ≢ Replay (Read 3 why)) → IsHalted seen found T client n old new bytes failed taken taken fault
   unanswered n old new bytes failed taken fault working none_lost told other = record {
     log = old;
     text = [];
     left = slice_split is_line_feed bytes;
     run = no_run n old bytes;
-    behind = inl (record { working = working; written = Appends-nothing taken; none_lost = none_lost; told = told });
+    behind = inl (record { working = working; written = Appends-nothing taken; none_lost = none_lost; told = inl told });
     unread = λ why is. absurd (other why is);
   }
 
@@ -267,7 +267,7 @@ module _ {D : Type 0} (seen : D → List ℕ) (found : D → List (List ℕ)) (T
     text = h.text;
     left = begun ∷ [];
     run = h.run;
-    behind = inl (record { working = working; written = h.written; none_lost = inl refl; told = input_told T (lines_of seen new) (lines_of seen new) bytes fault is });
+    behind = inl (record { working = working; written = h.written; none_lost = inl (inl refl); told = input_told T (lines_of seen new) (lines_of seen new) (found new.device) (found new.device) bytes fault is });
     unread = λ why unread. (begun, refl, input_unread bytes fault is why unread);
   }
 

@@ -1,6 +1,6 @@
 -- What a session makes of its input, turn after turn, until the input ends or a fault comes. All notions here are this project's own. `T` is
 -- the trace.
-use Rattle.std.specs.Prelude.{◌≡◌, ◌⊎◌, ℕ, ◌<◌, Bool, true, false, List, [], ◌∷◌, ◌++◌, Option, length, take}
+use Rattle.std.specs.Prelude.{◌≡◌, ◌⊎◌, ℕ, ◌<◌, Bool, true, false, List, [], ◌∷◌, ◌++◌, Option, Some, length, take}
 use Rattle.std.specs.List.{slice_split}
 use Rattle.std.specs.Io.KnownBytes.{Appends}
 use Rattle.rapid_text.specs.Recording.{Recording}
@@ -15,12 +15,12 @@ use Rattle.kept_session.specs.Sessions.{IsTurn, log_of, number_behind}
 use Rattle.kept_session.specs.declared.fault.SessionFault.{SessionFault}
 use Rattle.kept_session.specs.declared.fault.SessionFault.TheVariants.{Replay}
 
-module _ {D : Type 0} (seen : D → List ℕ) (found : D → List (List ℕ)) (T : Recording) (client : Option ℕ) where
+module _ {D : Type 0} (seen : D → List ℕ) (found : D → List (Option (List ℕ))) (T : Recording) (client : Option ℕ) where
   -- A turn of a log: these lines, of which the first has this number, were answered by these texts together. The file's lock was taken once,
   -- when the file held this; the head stands.
   pub record IsLogTurn (number : ℕ) (raws : List (List ℕ)) (old new : KeptLog D) (text : List ℕ) : Type 0 where
     pub file : List ℕ
-    pub once : found new.device ≡ file ∷ found old.device
+    pub once : found new.device ≡ Some file ∷ found old.device
     pub head : head_of seen new ≡ head_of seen old
     pub turn : IsTurn T client number raws (lines_of seen old) (lines_behind new.start file) (lines_of seen new) (log_of T (lines_of seen new)) [] text
 
@@ -50,7 +50,8 @@ module _ {D : Type 0} (seen : D → List ℕ) (found : D → List (List ℕ)) (T
     pub working : failed ≡ false
     pub written : Appends taken_old taken_new text
     pub none_lost : LosesNone seen found log new
-    pub told : IsTurnFault T (lines_of seen log) (lines_of seen new) fault
+    pub told : IsTurnFault T (lines_of seen log) (lines_of seen new) (found log.device) (found new.device) fault
+        ⊎ ((why : ReadCause) × (fault ≡ Replay (Read 3 why)))
 
   -- A failed write behind turns that left `log`, whose answers are these texts: the first of the lines that are left were answered in one more
   -- turn, and the writer took all answers but the last bytes of that turn.

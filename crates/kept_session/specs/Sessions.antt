@@ -7,12 +7,16 @@ use Rattle.inverse_log.specs.declared.entry.Entry.{Entry}
 use Rattle.inverse_log.specs.declared.reply.Reply.{Reply}
 use Rattle.inverse_log.specs.declared.refusal.Refusal.{Refusal}
 use Rattle.inverse_log.specs.Answer.{log_after, Called}
+use Rattle.script_language.specs.Questions.{question_reading}
 use Rattle.script_language.specs.Scripts.{script_line_reading}
+use Rattle.script_language.specs.declared.question.Question.{Question}
 use Rattle.script_language.specs.declared.refusal.ScriptCause.{ScriptCause}
 use Rattle.client_scripts.specs.FaultTexts.{script_cause_words}
 use Rattle.client_scripts.specs.Replay.{answer_text}
-use Rattle.kept_log.specs.Log.{StandsFor, IsAtRest, IsLeft, lines_of, lines_behind}
+use Rattle.kept_log.specs.Device.{LeavesOnly, AfterOthers}
+use Rattle.kept_log.specs.Log.{StandsFor, IsOldOrNew, BeginsWith, HasTurn, IsAtRest, IsLeft, head_of, lines_of, lines_behind}
 use Rattle.kept_log.specs.declared.log.KeptLog.{KeptLog}
+use Rattle.session_questions.specs.Answers.{IsAnswer}
 use Rattle.kept_session.specs.Lines.{line_for}
 
 -- the log L after the call that a line reads as
@@ -59,13 +63,30 @@ IsAnswered T number (Err why) L text M = (text ≡ line_fault number why) × (M 
 IsAnswered T number (Ok (Some (client, call))) L text M =
     (answer : Result Reply Refusal) × Called T L client call answer M × (text ≡ answer_text T answer)
 
+-- what is said of a question of this number that is faulty
+abbrev pub question_fault : ℕ → List ℕ
+question_fault number = codes "line " ++ decimal number ++ codes ": 87 bad question\n"
+
+-- A question is answered by this text after the log L, or is faulty. It changes nothing.
+abbrev pub IsAsked : Recording → List Entry → ℕ → Result Question ScriptCause → List ℕ → Type 0
+IsAsked T L number (Ok question) text = IsAnswer T L question text
+IsAsked T L number (Err why) text = text ≡ question_fault number
+
+abbrev pub IsAnsweredAs : Recording → ℕ → Option (Result Question ScriptCause) → Result (Option (ℕ × Call)) ScriptCause → List Entry → List ℕ → List Entry → Type 0
+IsAnsweredAs T number None reading L text M = IsAnswered T number reading L text M
+IsAnsweredAs T number (Some asked) reading L text M = IsAsked T L number asked text × (M ≡ L)
+
+-- The line of this number is answered by this text, and leaves the log M: as a question, or else as a line of a script.
+abbrev pub IsLineAnswered : Recording → Option ℕ → ℕ → List ℕ → List Entry → List ℕ → List Entry → Type 0
+IsLineAnswered T client number raw L text M = IsAnsweredAs T number (question_reading raw) (script_line_reading (line_for client raw)) L text M
+
 -- These lines, of which the first has this number, are answered one after another, from the log L on, by these texts together, and
 -- leave the log M.
 abbrev pub AreAnswered : Recording → Option ℕ → ℕ → List (List ℕ) → List Entry → List ℕ → List Entry → Type 0
 AreAnswered T client number [] L text M = (text ≡ []) × (M ≡ L)
 AreAnswered T client number (raw ∷ more) L text M =
     (first : List ℕ) × (rest : List ℕ) × (K : List Entry)
-    × IsAnswered T number (script_line_reading (line_for client raw)) L first K
+    × IsLineAnswered T client number raw L first K
     × AreAnswered T client (number_after number) more K rest M
     × (text ≡ first ++ rest)
 
@@ -92,10 +113,58 @@ pub record IsTurn (T : Recording) (client : Option ℕ) (first : ℕ) (raws befo
   pub answered : AreAnswered T client first raws (log_of T stood) text M
   pub told : out_new ≡ out_old ++ text
 
+-- These lines are what the log L gains by the calls of a piece, all of them: its lines are answered one after another from there.
+abbrev pub AreGained : Recording → Option ℕ → ℕ → List (List ℕ) → List Entry → List (List ℕ) → Type 0
+AreGained T client first raws L gained =
+    (text : List ℕ) × (M : List Entry) × AreAnswered T client first raws L text M × (log_behind T L gained ≡ M) × AreLogged T L gained
+
+-- A piece counts whole or not at all. `mid` is the log once the lock was taken and what stood in the file is on the disk: its lines are those that
+-- stood there. From then on a crash at any moment leaves these lines alone, or those with `gained` behind them, which are the lines of all calls of
+-- the piece, and then perhaps what others added; so does the file that is seen in the end.
+pub record IsAllOrNone {D : Type 0} (seen : D → List ℕ) (may_leave : D → List ℕ → Type 0) (moment : D → ℕ) (left_since : D → ℕ → List ℕ → Type 0) (found : D → List (Option (List ℕ)))
+    (T : Recording) (client : Option ℕ) (first : ℕ) (raws : List (List ℕ)) (old new : KeptLog D) : Type 0 where
+  pub mid : KeptLog D
+  pub gained : List (List ℕ)
+  pub calls : (gained ≡ []) ⊎ AreGained T client first raws (log_of T (lines_of seen mid)) gained
+  pub at_rest : IsAtRest seen may_leave mid
+  pub turn : HasTurn seen found old mid []
+  pub until : LeavesOnly moment left_since old.device mid.device (BeginsWith (head_of seen old) (lines_of seen old))
+  pub since : LeavesOnly moment left_since mid.device new.device
+      (λ c. StandsFor (head_of seen mid) (lines_of seen mid) c ⊎ BeginsWith (head_of seen mid) (lines_of seen mid ++ gained) c)
+  pub shown : IsOldOrNew (head_of seen mid) (lines_of seen mid) gained (seen new.device)
+
+-- what a crash may leave of a file whose lock is waited for
+abbrev pub BeforeLock : {D : Type 0} → (D → List ℕ → Type 0) → D → List ℕ → Type 0
+BeforeLock may_leave old c = may_leave old c ⊎ AfterOthers 0 (may_leave old) c
+
+-- The lock was not taken: a crash at any moment leaves what it may leave while the lock is waited for.
+pub record IsUntaken {D : Type 0} (may_leave : D → List ℕ → Type 0) (moment : D → ℕ) (left_since : D → ℕ → List ℕ → Type 0) (found : D → List (Option (List ℕ)))
+    (old new : D) : Type 0 where
+  pub none : found new ≡ found old
+  pub moments : LeavesOnly moment left_since old new (BeforeLock may_leave old)
+
+-- The lock was taken once; `mid` is the device then. From then on a crash at any moment leaves what it might have left then, or a file
+-- that has P of what stood in the file then.
+pub record IsTaken {D : Type 0} (seen : D → List ℕ) (may_leave : D → List ℕ → Type 0) (moment : D → ℕ) (left_since : D → ℕ → List ℕ → Type 0) (found : D → List (Option (List ℕ)))
+    (P : List ℕ → List ℕ → Type 0) (old new : D) : Type 0 where
+  pub mid : D
+  pub once : found mid ≡ Some (seen mid) ∷ found old
+  pub last : found new ≡ found mid
+  pub until : LeavesOnly moment left_since old mid (BeforeLock may_leave old)
+  pub since : LeavesOnly moment left_since mid new (λ c. may_leave mid c ⊎ P (seen mid) c)
+
+-- the file begins with the lines that stood behind the head
+abbrev pub KeepsLines : List ℕ → List ℕ → List ℕ → Type 0
+KeepsLines head file c = BeginsWith head (lines_behind (length head) file) c
+
+-- no line stands behind the head, whatever that is
+abbrev pub HasNoLines : List ℕ → List ℕ → List ℕ → Type 0
+HasNoLines head file c = lines_behind (length head) c ≡ []
+
 -- The lock was taken once, when the file held this. That begins with the head, and its lines are those of the log.
-pub record IsOpened {D : Type 0} (seen : D → List ℕ) (found : D → List (List ℕ)) (head : List ℕ) (device : D) (log : KeptLog D) : Type 0 where
+pub record IsOpened {D : Type 0} (seen : D → List ℕ) (found : D → List (Option (List ℕ))) (head : List ℕ) (device : D) (log : KeptLog D) : Type 0 where
   pub file : List ℕ
-  pub once : found log.device ≡ file ∷ found device
+  pub once : found log.device ≡ Some file ∷ found device
   pub begins : take (length head) file ≡ head
   pub lines : lines_of seen log ≡ lines_behind (length head) file
 
@@ -105,5 +174,5 @@ pub record IsSpared (head file seen : List ℕ) : Type 0 where
   pub lines : take (length head) file ≡ head → StandsFor head (lines_behind (length head) file) seen
 
 -- A device that is handed back: its lock was not taken, or once, and the file that was found is spared.
-abbrev pub IsHandedBack : {D : Type 0} → (D → List ℕ) → (D → List (List ℕ)) → List ℕ → D → D → Type 0
-IsHandedBack seen found head old new = (found new ≡ found old) ⊎ ((file : List ℕ) × (found new ≡ file ∷ found old) × IsSpared head file (seen new))
+abbrev pub IsHandedBack : {D : Type 0} → (D → List ℕ) → (D → List (Option (List ℕ))) → List ℕ → D → D → Type 0
+IsHandedBack seen found head old new = (found new ≡ found old) ⊎ ((file : List ℕ) × (found new ≡ Some file ∷ found old) × IsSpared head file (seen new))

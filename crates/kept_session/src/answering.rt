@@ -9,8 +9,8 @@ ghost use Rattle.rapid_text.specs.Reading.{is_line_feed};
 ghost use Rattle.std.specs.List.{slice_split};
 ghost use Rattle.kept_log.specs.Lines.{IsLine};
 ghost use Rattle.kept_session.specs.Lines.{line_for};
-ghost use Rattle.kept_session.specs.Sessions.{line_fault, number_behind};
-ghost use Rattle.kept_session.specs.Steps.{SaysCall, CallMade, LineAnswered, PieceAnswered};
+ghost use Rattle.kept_session.specs.Sessions.{line_fault, question_fault, number_behind, IsAsked};
+ghost use Rattle.kept_session.specs.Steps.{SaysCall, CallMade, ReadingAnswered, LineAnswered, PieceAnswered};
 
 use crate::asking::line_for;
 use client_scripts::script_words;
@@ -18,7 +18,8 @@ use inverse_log::{Bench, Call, Reply};
 use kept_log::Block;
 use rapid_text::OutOfMemory;
 use report::{Piece, append_pieces};
-use script_language::{Lines, ScriptCause, read_line};
+use script_language::{Lines, Question, ScriptCause, read_line, read_question};
+use session_questions::answer;
 use std::alloc::Global;
 
 /// The line of an undo that names its entry.
@@ -152,8 +153,8 @@ fn append_fault(out: &mut Vec<u8>, number: u64, why: ScriptCause) -> Result<(), 
     }
 }
 
-/// Answers the line of this number.
-fn answer_line(
+/// Answers the line of this number, which is no question.
+fn answer_reading(
     alloc: Global,
     bench: &mut Bench,
     client: Option<u32>,
@@ -164,7 +165,7 @@ fn answer_line(
 ) -> Result<(), OutOfMemory>
     requires line { IsLine raw.now }
     ensures trace { bench.new.trace ≡ bench.old.trace }
-    ensures answered { OnOk result (LineAnswered bench.old.trace number (script_line_reading (line_for client raw.now)) bench.old.log bench.new.log
+    ensures answered { OnOk result (ReadingAnswered bench.old.trace number (script_line_reading (line_for client raw.now)) bench.old.log bench.new.log
         out.old.items out.new.items block.old block.new) }
 {
     let line = line_for(alloc, client, raw)?;
@@ -179,6 +180,56 @@ fn answer_line(
             append_fault(out, number, why)?;
             Ok(())
         }
+    }
+}
+
+/// Appends that the question of this number is faulty.
+fn append_faulty(out: &mut Vec<u8>, number: u64) -> Result<(), OutOfMemory>
+    ensures { OnOk result (out.new.items ≡ out.old.items ++ question_fault number) }
+{
+    append_pieces(
+        out,
+        &[
+            Piece::Words(b"line "),
+            Piece::Number(number),
+            Piece::Words(b": 87 bad question\n"),
+        ],
+    )
+}
+
+/// Answers the question of this number, or says that it is faulty.
+fn answer_asked(
+    bench: &Bench,
+    number: u64,
+    asked: &Result<Question, ScriptCause>,
+    out: &mut Vec<u8>,
+) -> Result<(), OutOfMemory>
+    ensures { OnOk result ((text : List ℕ) × (out.new.items ≡ out.old.items ++ text) × IsAsked bench.now.trace bench.now.log number asked.now text) }
+{
+    match asked {
+        Ok(question) => answer(bench, question, out),
+        Err(_) => append_faulty(out, number),
+    }
+}
+
+/// Answers the line of this number. A question adds nothing to the log.
+fn answer_line(
+    alloc: Global,
+    bench: &mut Bench,
+    client: Option<u32>,
+    number: u64,
+    raw: &[u8],
+    block: &mut Block,
+    out: &mut Vec<u8>,
+) -> Result<(), OutOfMemory>
+    requires line { IsLine raw.now }
+    ensures trace { bench.new.trace ≡ bench.old.trace }
+    ensures answered { OnOk result (LineAnswered bench.old.trace client number raw.now bench.old.log bench.new.log
+        out.old.items out.new.items block.old block.new) }
+{
+    match read_question(raw) {
+        Some(asked) => answer_asked(bench, number, &asked, out),
+        None => answer_reading(alloc, bench, client, number, raw, block, out),
     }
 }
 

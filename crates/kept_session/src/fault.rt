@@ -105,7 +105,7 @@ impl From<AppendError> for SessionFault {
         match why {
             AppendError::OutOfMemory => SessionFault::Replay(ReplayFault::OutOfMemory),
             AppendError::Full => SessionFault::Replay(ReplayFault::Write),
-            AppendError::Device(why) => SessionFault::unwritten(why),
+            AppendError::Device(_) => SessionFault::Replay(ReplayFault::Write),
         }
     }
 }

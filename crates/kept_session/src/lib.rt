@@ -6,12 +6,14 @@ mod asking;
 mod catching;
 mod fault;
 mod head;
+mod laws;
 mod printing;
 mod running;
 mod session;
 
 pub use fault::{SessionFault, session_fault_text};
 pub use head::head_of;
+pub use laws::{lines_are_script, replay_leaves_log};
 pub use printing::print_log;
 pub use running::run_session;
 pub use session::{Session, make_log};

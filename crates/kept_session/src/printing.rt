@@ -1,10 +1,14 @@
 //! Prints the lines that count in the file of a log.
 ghost use Rattle.std.specs.Io.KnownBytes.{Appends};
-ghost use Rattle.std.specs.Prelude.{◌≡◌, ◌++◌, false, flat_map, ℕ, List, Err, IfSome, OnOk};
+ghost use Rattle.std.specs.Prelude.{◌≡◌, ◌≢◌, ◌++◌, true, false, flat_map, ℕ, List, Err, IfErr, IfSome, OnOk};
 ghost use Rattle.client_scripts.specs.Joint.{ended};
+ghost use Rattle.client_scripts.specs.Replay.{AppendsPart};
+ghost use Rattle.client_scripts.specs.declared.fault.ReadCause.TheVariants.{Device as DeviceFailed};
+ghost use Rattle.client_scripts.specs.declared.fault.ReplayFault.TheVariants.{Read, Write};
 ghost use Rattle.kept_log.specs.Lines.{kept_lines};
+ghost use Rattle.kept_session.specs.Faults.{IsPrintFault};
 ghost use Rattle.kept_session.specs.Heads.{IsHeaded};
-ghost use Rattle.kept_session.specs.declared.fault.SessionFault.TheVariants.{LogLine};
+ghost use Rattle.kept_session.specs.declared.fault.SessionFault.TheVariants.{Replay, LogLine};
 
 use crate::fault::{LOG_INPUT, SessionFault};
 use crate::head::behind_head;
@@ -40,6 +44,18 @@ pub fn print_log<S: Source, K: Sink>(
     ensures printed { OnOk result (IfSome (S.rest reader.old) (λ bytes. (text : List ℕ) × IsHeaded bytes text
         × Appends (K.taken writer.old) (K.taken writer.new) (flat_map ended (kept_lines text)))) }
     ensures refused { result ≡ Err (LogLine 1) → IfSome (S.rest reader.old) (λ bytes. (text : List ℕ) → ¬ IsHeaded bytes text) }
+
+    // Nothing is written before that text is there. If a write fails, a beginning of it was written.
+    ensures unwritten { IfErr result (λ fault. fault ≢ Replay Write → K.taken writer.new ≡ K.taken writer.old) }
+    ensures begun { result ≡ Err (Replay Write) → IfSome (S.rest reader.old) (λ bytes. (text : List ℕ) × IsHeaded bytes text
+        × AppendsPart (K.taken writer.old) (K.taken writer.new) (flat_map ended (kept_lines text))) }
+
+    // The device is at fault exactly if a read failed, and the writer exactly if a write failed; no other fault is told.
+    ensures device { result ≡ Err (Replay (Read 2 DeviceFailed)) → S.has_failed reader.new ≡ true }
+    ensures read_failed { S.has_failed reader.new ≡ true → result ≡ Err (Replay (Read 2 DeviceFailed)) }
+    ensures write { result ≡ Err (Replay Write) → K.has_failed writer.new ≡ true }
+    ensures write_failed { K.has_failed writer.new ≡ true → result ≡ Err (Replay Write) }
+    ensures fault { IfErr result IsPrintFault }
 {
     let bytes = read_input(alloc, reader, LOG_INPUT)?;
     let Some(text) = behind_head(&bytes) else {

@@ -30,8 +30,6 @@ use Rattle.inverse_log.specs.contracts.kept.Held as Held
 use Rattle.inverse_log.specs.contracts.kept.Form as Form
 use Rattle.inverse_log.specs.contracts.kept.Kept as Kept
 use Rattle.inverse_log.specs.contracts.kept.Kept.TheInside as KeptInside
-use Rattle.inverse_log.specs.contracts.counted.Counted as Counted
-use Rattle.inverse_log.specs.contracts.counted.Counted.TheInside as CountedInside
 use Rattle.inverse_log.specs.contracts.bench.Bench as Bench
 use Rattle.inverse_log.specs.contracts.bench.Bench.TheInside as BenchInside
 use Rattle.atomic_table.proofs.owned.Table.TheSendSync as TableSend
@@ -131,15 +129,6 @@ workspace_inside =
 workspace_send : IsSend Workspace.the_row
 workspace_send = view_send WorkspaceInside.the_row _ _ _ _ workspace_inside
 
-counted_inside : IsSend CountedInside.the_row
-counted_inside =
-    recorded_send (CountedInside.the_field).row _ _ (CountedInside.the_type).to_one
-    (struct_send (shape CountedInside.the_type)
-    (search (workspace_send, sendable, crosses) depth 20, (search (sendable, crosses) depth 20, tt)))
-
-counted_send : IsSend Counted.the_row
-counted_send = view_send CountedInside.the_row _ _ _ _ counted_inside
-
 bench_inside : IsSend BenchInside.the_row
 bench_inside =
     recorded_send (BenchInside.the_field).row _ _ (BenchInside.the_type).to_one
@@ -148,7 +137,7 @@ bench_inside =
       (
         search (IndexedSend.the_send, IndexedSend.the_sync, sendable, crosses) depth 20,
         (
-          search (counted_send, sendable, crosses) depth 20,
+          search (workspace_send, sendable, crosses) depth 20,
           (
             search (board_send, sendable, crosses) depth 20,
             (

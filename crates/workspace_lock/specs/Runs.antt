@@ -1,5 +1,5 @@
 -- What one call through a seat is, and what several are. This project's own.
-use Rattle.std.specs.Prelude.{◌≡◌, ℕ, ◌+◌, ◌<◌, length, List, [], ◌∷◌, Option, Result, Ok, Err}
+use Rattle.std.specs.Prelude.{◌≡◌, ℕ, ◌+◌, ◌<◌, length, List, [], ◌∷◌, Option, None, Some, Result, Ok, Err}
 use Rattle.std.specs.Io.KnownBytes.{Appends}
 use Rattle.inverse_log.specs.declared.entry.Entry.{Entry}
 use Rattle.inverse_log.specs.declared.call.Call.{Call}
@@ -31,6 +31,17 @@ abbrev pub Passes : Result Reply SeatRefusal → Option (List ℕ) → Option (L
 Passes (Ok reply) old new = Appends old new (1 ∷ 2 ∷ [])
 Passes (Err (ByBench refusal)) old new = Appends old new (1 ∷ 2 ∷ [])
 Passes (Err SeatSpent) old new = new ≡ old
+
+-- What the gate of a call heard: no answer at step 1, and at step 2 the bench's answer, which is the call's. `heard` says
+-- it of one pass.
+module _ {A : Type 0} (heard : A → A → ℕ → Option (Result Reply Refusal) → Type 0) where
+  abbrev pub HearsOf : Result Reply Refusal → A → A → Type 0
+  HearsOf answer old new = (held : A) × heard old held 1 None × heard held new 2 (Some answer)
+
+  abbrev pub Hears : Result Reply SeatRefusal → A → A → Type 0
+  Hears (Ok reply) old new = HearsOf (Ok reply) old new
+  Hears (Err (ByBench refusal)) old new = HearsOf (Err refusal) old new
+  Hears (Err SeatSpent) old new = new ≡ old
 
 -- one look at the front: the length of a legal log that begins with all that the seat had seen
 abbrev pub Fronted : SeatView → ℕ → SeatView → Type 0

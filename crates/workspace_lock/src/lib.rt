@@ -9,5 +9,5 @@ mod seats;
 
 pub use door::BEST_ROOM;
 pub use inverse_log::SeatRefusal;
-pub use seat::{Gate, Seat};
+pub use seat::{Gate, Seat, Told};
 pub use seats::{CloseRefusal, OpenRefusal, Seats, open, open_with_room};

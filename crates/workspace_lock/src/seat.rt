@@ -1,33 +1,63 @@
 //! A client's seat, and a call through it.
-ghost use Rattle.std.specs.Prelude.{◌≡◌, ℕ, ◌+◌, ◌*◌, ◌<◌, ◌≤◌, [], ◌∷◌, None, Err, length};
+ghost use Rattle.std.specs.Prelude.{◌≡◌, ℕ, ◌+◌, ◌*◌, ◌<◌, ◌≤◌, [], ◌∷◌, None, Some, Err, length};
 ghost use Rattle.std.specs.Io.KnownBytes.{Appends};
 ghost use Rattle.std.specs.Arc.{arc_value};
 ghost use Rattle.inverse_log.specs.Answer.{IsLegal, Grown};
 ghost use Rattle.dependence.specs.Limits.{client_limit};
 ghost use Rattle.workspace_lock.specs.Limits.{turn_limit};
 ghost use Rattle.workspace_lock.specs.Seating.{mark_in};
-ghost use Rattle.workspace_lock.specs.Runs.{Ran, Fronted, Passes};
+ghost use Rattle.workspace_lock.specs.Runs.{Ran, Fronted, Passes, Hears};
 ghost use Rattle.workspace_lock.specs.Places.{idle, holds, mark_of, saw, solo, ticket_in, seat_view};
 ghost use Rattle.workspace_lock.specs.Places.{IsSized, IsResting, IsWaiting, IsBusy, GotTurn, TookBench, Looked};
 ghost use Rattle.inverse_log.specs.declared.refusal.SeatRefusal.TheVariants.{SeatSpent};
 
 use crate::lock::{Draw, Hall, Lock, Look, Named, PassOn, Place, Publish, Watch};
-use inverse_log::{Bench, Call, Reply, SeatRefusal};
+use inverse_log::{Bench, Call, Refusal, Reply, SeatRefusal};
 use std::alloc::Global;
 use std::marker::{Brand, Model};
 use std::sync::{Arc, Wait};
 
+/// The bench's answer, where it has answered. It has no bytes: each pass names it for clauses alone.
+pub trait Told {
+    ghost use Rattle.inverse_log.specs.declared.refusal.Refusal.{Refusal};
+    ghost use Rattle.inverse_log.specs.declared.reply.Reply.{Reply};
+    ghost use Rattle.std.specs.Prelude.{Option, Result};
+
+    ghost answer: { Option (Result Reply Refusal) };
+}
+
+impl Told for Brand {
+    ghost use Rattle.std.specs.Prelude.{None};
+
+    ghost answer = { None };
+}
+
+// The bench has not answered.
+struct Unanswered;
+
+impl Told for Unanswered {
+    ghost use Rattle.std.specs.Prelude.{None};
+
+    ghost answer = { None };
+}
+
 /// What a call passes while it has its turn. A gate that does not let it pass holds up every later call, of other
 /// seats too.
 pub trait Gate {
-    ghost use Rattle.std.specs.Prelude.{List, None, ℕ, Option};
+    ghost use Rattle.inverse_log.specs.declared.refusal.Refusal.{Refusal};
+    ghost use Rattle.inverse_log.specs.declared.reply.Reply.{Reply};
+    ghost use Rattle.std.specs.Prelude.{List, None, ℕ, Option, Result, ⊤};
 
     // The steps that it has passed, in their order, where its type tells them.
     ghost passed: { Self → Option (List ℕ) } = { λ _. None };
 
+    // The pass of a step led from the one to the other, and this was the bench's answer then, where it had answered.
+    ghost heard: { Self → Self → ℕ → Option (Result Reply Refusal) → Type 0 } = { λ old new step answer. ⊤ };
+
     /// Step 1 is passed when the turn is held, and step 2 after the call was answered, before the turn goes on.
-    fn pass<R: Wait>(&mut self, rt: &R, step: u32)
-        ensures passed { Appends (passed self.old) (passed self.new) (step ∷ []) };
+    fn pass<R: Wait, N: Told>(&mut self, rt: &R, step: u32)
+        ensures passed { Appends (passed self.old) (passed self.new) (step ∷ []) }
+        ensures heard { heard self.old self.new step N.answer };
 }
 
 // A gate that stands open.
@@ -35,7 +65,17 @@ pub trait Gate {
 struct Open;
 
 impl Gate for Open {
-    fn pass<R: Wait>(&mut self, _rt: &R, _step: u32) {}
+    fn pass<R: Wait, N: Told>(&mut self, _rt: &R, _step: u32) {}
+}
+
+// Passes step 2, with the answer that the caller has.
+fn pass_answered<R: Wait, G: Gate, N: Told>(rt: &R, gate: &mut G, answered: &Result<Reply, Refusal>)
+    requires { N.answer ≡ Some answered.now }
+    ensures passed { Appends (G.passed gate.old) (G.passed gate.new) (2 ∷ []) }
+    ensures heard { G.heard gate.old gate.new 2 (Some answered.now) }
+{
+    let _ = answered;
+    gate.pass::<R, N>(rt, 2);
 }
 
 // Sleeps until the ticket is served. The load that finds it so takes the bench along.
@@ -199,6 +239,8 @@ impl Seat {
         // The gate has passed 1 and then 2, once each; and nothing where the seat is spent.
         ensures gate { Passes result (G.passed gate.old) (G.passed gate.new) }
         ensures spent { result ≡ Err SeatSpent → gate.new ≡ gate.old }
+        // Step 2 comes after the bench has answered: it is passed with the answer.
+        ensures heard { Hears G.heard result gate.old gate.new }
     {
         if self.turns == u32::MAX {
             return Err(SeatRefusal::SeatSpent);
@@ -206,9 +248,9 @@ impl Seat {
         let mut bench = take_bench(rt, &self.hall, &mut self.place);
         self.turns += 1;
         let before = bench.log_len();
-        gate.pass(rt, 1);
+        gate.pass::<R, Unanswered>(rt, 1);
         let answered = bench.call(self.number, call);
-        gate.pass(rt, 2);
+        pass_answered::<R, G, Brand>(rt, gate, &answered);
         give_back(&self.hall, &mut self.place, bench, before);
         match answered {
             Ok(reply) => Ok(reply),

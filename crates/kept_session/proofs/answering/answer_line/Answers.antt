@@ -1,18 +1,20 @@
-use Rattle.std.proofs.Common.{◌≡◌, [], Ok, None, rules, refl, sym, subst, append-nil}
+-- A question leaves the log and the block as they were; any other line is one of a script.
+use Rattle.std.proofs.Common.{◌≡◌, List, ℕ, [], Option, Some, None, Result, refl, sym, subst, ap, ◌∙◌, append-nil}
+use Rattle.script_language.specs.Questions.{question_reading}
 use Rattle.script_language.specs.Scripts.{script_line_reading}
+use Rattle.script_language.specs.declared.question.Question.{Question}
+use Rattle.script_language.specs.declared.refusal.ScriptCause.{ScriptCause}
 use Rattle.kept_session.specs.Lines.{line_for}
-use Rattle.kept_session.specs.Sessions.{IsAnswered}
+use Rattle.kept_session.specs.Sessions.{IsAnsweredAs}
+use Rattle.kept_session.proofs.QuestionLemmas.{question-answered, reading-answered}
 use Rattle.kept_session.proofs.answering.answer_line.Goals as goal
 
-pub returns-in-Ok-None-clause-answered : goal.returns-in-Ok-None-clause-answered
-returns-in-Ok-None-clause-answered c =
-    let reads : script_line_reading (line_for c.args.client c.args.raw.now) ≡ Ok None = search rules in
-    record {
-      text = [];
-      lines = [];
-      answered = subst (λ r. IsAnswered c.args.bench.now.trace c.args.number r c.args.bench.now.log [] c.args.bench.now.log) (sym reads) (refl, refl);
-      told = sym (append-nil c.args.out.now.items);
-      kept = sym (append-nil c.args.block.now);
-      gained = refl;
-      logged = tt;
-    }
+pub returns-in-Some-clause-answered : goal.returns-in-Some-clause-answered
+returns-in-Some-clause-answered c =
+    question-answered c.args.bench.now.trace c.args.client c.args.number c.args.raw.now c.args.bench.now.log c.args.out.now.items c.answer_asked.new.out.items c.args.block.now
+    c.in-Some.asked c.answer_asked.result (sym c.read_question.ensures ∙ c.in-Some.is) c.answer_asked.ensures
+
+pub returns-in-None-clause-answered : goal.returns-in-None-clause-answered
+returns-in-None-clause-answered c =
+    reading-answered c.args.bench.now.trace c.args.client c.args.number c.args.raw.now c.args.bench.now.log c.answer_reading.new.bench.log c.args.out.now.items c.answer_reading.new.out.items
+    c.args.block.now c.answer_reading.new.block c.answer_reading.result (sym c.read_question.ensures ∙ c.in-None.is) c.answer_reading.ensures.answered

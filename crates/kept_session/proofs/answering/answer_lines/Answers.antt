@@ -14,7 +14,7 @@ pub loop-raw-preserved : goal.loop-raw-preserved
 loop-raw-preserved c =
     let inv = c.loop-raw.invariant in
     let one = subst
-    (λ (t : Recording). LineAnswered t c.loop-raw.number (script_line_reading (line_for c.args.client c.in-Some.raw.now)) c.loop-raw.bench.log c.answer_line.new.bench.log c.loop-raw.out.items c.answer_line.new.out.items c.loop-raw.block c.answer_line.new.block)
+    (λ (t : Recording). LineAnswered t c.args.client c.loop-raw.number c.in-Some.raw.now c.loop-raw.bench.log c.answer_line.new.bench.log c.loop-raw.out.items c.answer_line.new.out.items c.loop-raw.block c.answer_line.new.block)
     inv.trace c.in_ok-answer_line.ensures.answered in
     record {
       trace = c.in_ok-answer_line.ensures.trace ∙ inv.trace;

@@ -1,11 +1,6 @@
-use Rattle.std.proofs.Common.{◌≡◌, ◌≢◌, ◌∙◌, Err, rules, ap, sym, subst, ℕ, List}
-use Rattle.std.specs.List.{slice_split}
+use Rattle.std.proofs.Common.{◌≡◌, Err, rules, sym, subst}
 use Rattle.std.specs.Result.{IfErr}
-use Rattle.rapid_text.specs.Reading.{is_line_feed}
-use Rattle.client_scripts.specs.declared.fault.ReadCause.{ReadCause}
-use Rattle.client_scripts.specs.declared.fault.ReplayFault.TheVariants.{Read}
 use Rattle.kept_session.specs.Runs.{IsHalted}
-use Rattle.kept_session.specs.declared.fault.SessionFault.TheVariants.{Replay}
 use Rattle.kept_session.proofs.RunLemmas.{log_turn, unanswered, unwritten}
 use Rattle.kept_session.proofs.running.answer_begun.Goals as goal
 

@@ -1,4 +1,4 @@
-use Rattle.std.proofs.Common.{◌≡◌, ◌∙◌, ◌++◌, [], inl, inr, refl, Err, rules, ap, sym, subst, ℕ, List, take, false, arith}
+use Rattle.std.proofs.Common.{◌≡◌, ◌∙◌, [], refl, Err, rules, sym, subst, ℕ, List, take, false, arith}
 use Rattle.std.proofs.lemmas.Bool.Decides.{nat_tests}
 use Rattle.std.proofs.lemmas.List.{nil_from_length, length-take-le}
 use Rattle.std.proofs.lemmas.List.Elements.{All-nil}

@@ -5,7 +5,6 @@ use Rattle.std.specs.Result.{IfErr}
 use Rattle.client_scripts.specs.declared.fault.ReplayFault.TheVariants.{OutOfMemory as NoMemory}
 use Rattle.kept_log.specs.Lines.{IsLine, is_line_feed}
 use Rattle.kept_session.specs.Runs.{IsHalted}
-use Rattle.kept_session.specs.declared.fault.SessionFault.{SessionFault}
 use Rattle.kept_session.specs.declared.fault.SessionFault.TheVariants.{Replay}
 use Rattle.kept_session.proofs.RunLemmas.{keep_fault, keep_other, unanswered, taken_line, taken_turn, halted_taken, halted-feed}
 use Rattle.kept_session.proofs.SplitLemmas.{behind_feed}
@@ -30,7 +29,7 @@ returns-in_err-extend_from_slice-clause-halted g c =
     (IsHalted g.D.Device.seen g.D.Device.found c.args.session.now.bench.trace c.args.client c.args.pending.now.number c.args.session.now.log c.args.session.now.log (c.args.pending.now.begun.items ++ c.args.bytes.now) (g.K.Sink.has_failed c.args.writer.now)
     (g.K.Sink.taken c.args.writer.now) (g.K.Sink.taken c.args.writer.now)))
     (sym same)
-    (unanswered _ _ _ _ c.args.pending.now.number c.args.session.now.log c.args.session.now.log _ _ (g.K.Sink.taken c.args.writer.now) (Replay NoMemory) c.requires.writer (inl refl) tt (λ why is. absurd cc))
+    (unanswered _ _ _ _ c.args.pending.now.number c.args.session.now.log c.args.session.now.log _ _ (g.K.Sink.taken c.args.writer.now) (Replay NoMemory) c.requires.writer (inl (inl refl)) tt (λ why is. absurd cc))
 
 pub returns-in_err-answer_begun-clause-halted : goal.returns-in_err-answer_begun-clause-halted
 returns-in_err-answer_begun-clause-halted g c =

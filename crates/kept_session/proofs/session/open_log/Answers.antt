@@ -7,4 +7,4 @@ returns-in-Ok-open-clause-begins g c = subst (λ (t : List ℕ). take (length c.
 pub returns-clause-back : goal.returns-clause-back
 returns-clause-back g c =
     let opened = c.in-Err-Device-default.ensures in
-    inr (g.D.Device.seen c.take_over.new.self, opened.found_err ∙ c.in-Ok.ensures.found, record { stranger = λ other. ap g.D.Device.seen (opened.stranger other).0; lines = opened.view })
+    inr (g.D.Device.seen c.take_first.new.device, opened.found_err ∙ c.in-Ok.ensures.found, record { stranger = λ other. ap g.D.Device.seen (opened.stranger other).0; lines = opened.view })

@@ -10,7 +10,7 @@ use Rattle.inverse_log.specs.Kept.{IsUnblocked, live_there}
 use Rattle.inverse_log.specs.Log.{Benched, commands_at}
 use Rattle.inverse_log.proofs.DoLemmas.{of_trace, edits_low}
 use Rattle.inverse_log.proofs.Inner.{benched}
-use Rattle.inverse_log.proofs.UndoneLemmas.{take_within, take_can, take_of, take_few, took_bench, back_bench}
+use Rattle.inverse_log.proofs.UndoneLemmas.{take_within, take_can, take_of, take_few, take_whole, took_bench, back_bench}
 use Rattle.inverse_log.proofs.bench.Bench.take_back.Goals as goal
 
 -- nothing blocks the entry of the log that the bench keeps
@@ -56,6 +56,14 @@ take_back-requires-clause-short c =
     let free = free_in s _ _ _ c.self.view_is c.requires.free in
     let is = had s k _ _ _ _ _ c.in-Ok.ensures.log c.deref.ensures.value c.in-Ok.ensures.steps c.commands_at-commands.ensures c.take_out-held.ensures.taken in
     take_few s c.self.invariant c.args.client k free _ is.0 _ is.1
+
+pub take_back-requires-clause-whole : goal.take_back-requires-clause-whole
+take_back-requires-clause-whole c =
+    let s = c.self.inside in
+    let k = c.args.entry in
+    let free = free_in s _ _ _ c.self.view_is c.requires.free in
+    let is = had s k _ _ _ _ _ c.in-Ok.ensures.log c.deref.ensures.value c.in-Ok.ensures.steps c.commands_at-commands.ensures c.take_out-held.ensures.taken in
+    take_whole s c.self.invariant c.args.client k free _ is.0 _ is.1
 
 pub invariant_of-self-in_default-take_back : goal.invariant_of-self-in_default-take_back
 invariant_of-self-in_default-take_back c =

@@ -4,6 +4,7 @@ use Rattle.kept_session.proofs.CatchingLemmas.{turn-lines, unread_turn}
 use Rattle.std.proofs.Common.{Err, rules, arith, ◌-◌, ◌≡◌, ◌∙◌, sym, ap, subst, List, ℕ}
 use Rattle.kept_log.specs.Lines.{kept_lines}
 use Rattle.kept_log.specs.Log.{lines_of}
+use Rattle.kept_log.specs.declared.turns.EnterError.TheVariants.{Unread}
 use Rattle.kept_session.specs.Sessions.{log_behind, AreLogged}
 use Rattle.kept_session.proofs.LogLemmas.{grown_log, grown_logged}
 use Rattle.kept_session.proofs.session.Session.catch_up.Goals as goal
@@ -28,11 +29,14 @@ returns-in_err-make_all-in-Ok-clause-fault g c =
     let same : c.from_residual.result ≡ Err fault = search rules in
     let refused : IsLinesFault c.args.self.now.bench.trace c.args.self.now.bench.log (kept_lines c.in-Ok.text.items) fault =
     subst (λ (t : List ℕ). IsLinesFault c.args.self.now.bench.trace c.args.self.now.bench.log (kept_lines t) fault) c.deref.ensures.value c.in_err-make_all-in-Ok.ensures.refused in
-    let told : IsTurnFault c.args.self.now.bench.trace known seen fault =
-    turn-lines c.args.self.now.bench.trace known (kept_lines c.in-Ok.text.items) seen c.args.self.now.bench.log fault c.in-Ok.ensures.lines c.requires.in_step.says c.requires.in_step.logged refused in
-    subst (λ r. IfErr r (IsTurnFault c.args.self.now.bench.trace known seen)) (sym same) told
+    let before = g.D.Device.found c.args.self.now.log.device in
+    let now = g.D.Device.found c.enter.new.self.device in
+    let told : IsTurnFault c.args.self.now.bench.trace known seen before now fault =
+    turn-lines c.args.self.now.bench.trace known (kept_lines c.in-Ok.text.items) seen before now c.args.self.now.bench.log fault c.in-Ok.ensures.lines c.requires.in_step.says c.requires.in_step.logged refused in
+    subst (λ r. IfErr r (IsTurnFault c.args.self.now.bench.trace known seen before now)) (sym same) told
 
 pub returns-in-Err-Unread-clause-fault : goal.returns-in-Err-Unread-clause-fault
 returns-in-Err-Unread-clause-fault g c =
     let unread = c.unread.ensures in
-    unread_turn c.args.self.now.bench.trace _ _ c.args.self.now.bench.log (c.line_behind.result - 1) c.requires.in_step.says c.requires.in_step.logged (omega (arith, c.line_behind.ensures)) _ c.unread.result unread.memory unread.failed unread.shorter
+    unread_turn c.args.self.now.bench.trace _ _ _ _ c.args.self.now.bench.log (c.line_behind.result - 1) c.requires.in_step.says c.requires.in_step.logged (omega (arith, c.line_behind.ensures)) _
+    (λ is. c.in-Err-Unread.ensures.shorter (ap Err (c.in-Err-Unread.field-0-is ∙ ap Unread (sym c.in-Err-Unread.why-is ∙ is)))) c.unread.result unread.memory unread.failed unread.shorter

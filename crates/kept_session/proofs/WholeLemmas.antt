@@ -1,0 +1,149 @@
+-- What a crash leaves of a piece, and of a file that is opened.
+use Rattle.std.proofs.Common.{◌≡◌, ◌⊎◌, inl, inr, ⊎_elim, ℕ, List, [], ◌∷◌, ◌++◌, Option, Some, Result, Ok, Err, length, take, drop, refl, sym, ap, ◌∙◌, subst, append-nil}
+use Rattle.std.proofs.lemmas.List.{length-take-le}
+use Rattle.std.specs.Result.{IfOk, IfErr}
+use Rattle.rapid_text.specs.Recording.{Recording}
+use Rattle.inverse_log.specs.declared.entry.Entry.{Entry}
+use Rattle.kept_log.specs.Device.{Elapses, LeavesOnly, AfterOthers}
+use Rattle.kept_log.specs.Lines.{kept_lines}
+use Rattle.kept_log.specs.Log.{StandsFor, IsOldOrNew, BeginsWith, HasTurn, IsAtRest, head_of, lines_of, lines_behind}
+use Rattle.kept_log.specs.declared.log.KeptLog.{KeptLog}
+use Rattle.kept_log.proofs.MomentLemmas.{started, goes_on, then_on, weaker}
+use Rattle.kept_session.specs.Sessions.{AreGained, IsAllOrNone, IsUntaken, IsTaken, BeforeLock, KeepsLines, log_of}
+use Rattle.kept_session.specs.Steps.{IsPut, PieceAnswered}
+
+module _ {D : Type 0} (seen : D → List ℕ) (may_leave : D → List ℕ → Type 0) (moment : D → ℕ) (left_since : D → ℕ → List ℕ → Type 0) where
+  -- a log at rest stands for its lines
+  pub rest_stands : (log : KeptLog D) → IsAtRest seen may_leave log → StandsFor (head_of seen log) (lines_of seen log) (seen log.device)
+  rest_stands log s =
+      let size = length-take-le log.start (seen log.device) s.start in
+      record { front = ap (λ (n : ℕ). take n (seen log.device)) size; counts = ap (λ (n : ℕ). kept_lines (drop n (seen log.device))) size }
+
+  -- and so does what a crash leaves of it
+  pub rest_leaves : (log : KeptLog D) (P : List ℕ → Type 0) → IsAtRest seen may_leave log → ((c : List ℕ) → left_since log.device (moment log.device) c → may_leave log.device c) → P (seen log.device)
+      → LeavesOnly moment left_since log.device log.device P
+  rest_leaves log P s only holds = started moment left_since log.device P (λ c left. subst P (sym (s.durable c (only c left))) holds)
+
+  pub rest_begins : (log : KeptLog D) → IsAtRest seen may_leave log → ((c : List ℕ) → left_since log.device (moment log.device) c → may_leave log.device c)
+      → LeavesOnly moment left_since log.device log.device (BeginsWith (head_of seen log) (lines_of seen log))
+  rest_begins log s only =
+      rest_leaves log (BeginsWith (head_of seen log) (lines_of seen log)) s only ([], subst (λ ls. StandsFor (head_of seen log) ls (seen log.device)) (sym (append-nil (lines_of seen log))) (rest_stands log s))
+
+  -- nothing of a piece was put into the file
+  pub put-nothing : (T : Recording) (client : Option ℕ) (first : ℕ) (raws : List (List ℕ)) (L : List Entry) (log : KeptLog D) → IsAtRest seen may_leave log
+      → ((c : List ℕ) → left_since log.device (moment log.device) c → may_leave log.device c) → IsPut seen moment left_since T client first raws L log log []
+  unfolding rest_stands rest_leaves
+  put-nothing T client first raws L log s only = record {
+    calls = inl refl;
+    moments = rest_leaves log (IsOldOrNew (head_of seen log) (lines_of seen log) []) s only (inl (rest_stands log s));
+    shown = inl (rest_stands log s);
+  }
+
+-- the calls of a piece were made, and its block was added or was not
+pub put-block : {D : Type 0} (seen : D → List ℕ) (moment : D → ℕ) (left_since : D → ℕ → List ℕ → Type 0) (T : Recording) (client : Option ℕ) (first : ℕ) (raws : List (List ℕ)) (L M : List Entry) (out_old out_new : List ℕ)
+    (block_old block_new : List (List ℕ)) (old new : KeptLog D) → (h : PieceAnswered T client first raws L M out_old out_new block_old block_new) → block_old ≡ []
+    → LeavesOnly moment left_since old.device new.device (IsOldOrNew (head_of seen old) (lines_of seen old) block_new) → IsOldOrNew (head_of seen old) (lines_of seen old) block_new (seen new.device)
+    → IsPut seen moment left_since T client first raws L old new h.lines
+put-block seen moment left_since T client first raws L M out_old out_new block_old block_new old new h none moments shown =
+    let block : block_new ≡ h.lines = h.kept ∙ ap (λ (b : List (List ℕ)). b ++ h.lines) none in
+    record {
+      calls = inr (h.text, M, h.answered, h.gained, h.logged);
+      moments = subst (λ b. LeavesOnly moment left_since old.device new.device (IsOldOrNew (head_of seen old) (lines_of seen old) b)) block moments;
+      shown = subst (λ b. IsOldOrNew (head_of seen old) (lines_of seen old) b (seen new.device)) block shown;
+    }
+
+-- two facts of a success, or of a failure
+pub if_ok_both : {A E : Type 0} (P Q R : A → Type 0) → ((a : A) → P a → Q a → R a) → (r : Result A E) → IfOk r P → IfOk r Q → IfOk r R
+if_ok_both P Q R step (Ok a) p q = step a p q
+if_ok_both P Q R step (Err e) p q = tt
+
+pub if_err_both : {A E : Type 0} (P Q R : E → Type 0) → ((e : E) → P e → Q e → R e) → (r : Result A E) → IfErr r P → IfErr r Q → IfErr r R
+if_err_both P Q R step (Ok a) p q = tt
+if_err_both P Q R step (Err e) p q = step e p q
+
+-- a file with a block or without it has its lines alone, or begins with both
+abbrev pub IsOldOrMore : List ℕ → List (List ℕ) → List (List ℕ) → List ℕ → Type 0
+IsOldOrMore head lines gained c = StandsFor head lines c ⊎ BeginsWith head (lines ++ gained) c
+
+pub old_or_more : (head : List ℕ) (lines gained : List (List ℕ)) (c : List ℕ) → IsOldOrNew head lines gained c → IsOldOrMore head lines gained c
+old_or_more head lines gained c (inl old) = inl old
+old_or_more head lines gained c (inr new) = inr ([], subst (λ ls. StandsFor head ls c) (sym (append-nil (lines ++ gained))) new)
+
+module _ {D : Type 0} (seen : D → List ℕ) (may_leave : D → List ℕ → Type 0) (moment : D → ℕ) (left_since : D → ℕ → List ℕ → Type 0) (found : D → List (Option (List ℕ)))
+    (T N : Recording) (client : Option ℕ) (first : ℕ) (raws : List (List ℕ)) (L : List Entry) (old mid made new : KeptLog D) (gained : List (List ℕ)) where
+  -- a piece behind what others added, which was put or was not
+  pub all_or_none : N ≡ T → log_of N (lines_of seen mid) ≡ L → IsAtRest seen may_leave mid → HasTurn seen found old mid [] → LeavesOnly moment left_since old.device mid.device (BeginsWith (head_of seen old) (lines_of seen old))
+      → IsPut seen moment left_since N client first raws L mid made gained → seen new.device ≡ seen made.device
+      → LeavesOnly moment left_since mid.device new.device (IsOldOrMore (head_of seen mid) (lines_of seen mid) gained)
+      → IsAllOrNone seen may_leave moment left_since found T client first raws old new
+  all_or_none same says rest turn until put shown since = record {
+    mid = mid;
+    gained = gained;
+    calls = subst (λ t. (gained ≡ []) ⊎ AreGained t client first raws (log_of t (lines_of seen mid)) gained) same (subst (λ X. (gained ≡ []) ⊎ AreGained N client first raws X gained) (sym says) put.calls);
+    at_rest = rest;
+    turn = turn;
+    until = until;
+    since = since;
+    shown = subst (IsOldOrNew (head_of seen mid) (lines_of seen mid) gained) (sym shown) put.shown;
+  }
+
+  -- what it leaves until its lock is let go
+  pub put-since : IsPut seen moment left_since N client first raws L mid made gained → LeavesOnly moment left_since mid.device made.device (IsOldOrMore (head_of seen mid) (lines_of seen mid) gained)
+  put-since put = weaker moment left_since mid.device made.device _ _ put.moments (old_or_more (head_of seen mid) (lines_of seen mid) gained)
+
+  -- and from then on
+  pub put-released : IsPut seen moment left_since N client first raws L mid made gained → head_of seen made ≡ head_of seen mid → lines_of seen made ≡ lines_of seen mid ++ gained
+      → LeavesOnly moment left_since made.device new.device (BeginsWith (head_of seen made) (lines_of seen made)) → LeavesOnly moment left_since mid.device new.device (IsOldOrMore (head_of seen mid) (lines_of seen mid) gained)
+  put-released put head lines released =
+      then_on moment left_since mid.device made.device new.device _ _ (IsOldOrMore (head_of seen mid) (lines_of seen mid) gained) put.moments released (old_or_more (head_of seen mid) (lines_of seen mid) gained)
+      (λ c b. inr (subst (λ h. BeginsWith h (lines_of seen mid ++ gained) c) head (subst (λ ls. BeginsWith (head_of seen made) ls c) lines b)))
+
+module _ {D : Type 0} (seen : D → List ℕ) (may_leave : D → List ℕ → Type 0) (moment : D → ℕ) (left_since : D → ℕ → List ℕ → Type 0) (found : D → List (Option (List ℕ))) where
+  -- the lock of a file is waited for
+  pub waited : (old new : D) → ((c : List ℕ) → left_since old (moment old) c → may_leave old c) → Elapses (moment old) (moment new) (left_since old) (left_since new) (AfterOthers 0 (may_leave old))
+      → LeavesOnly moment left_since old new (BeforeLock may_leave old)
+  waited old new only time = goes_on moment left_since old old new (BeforeLock may_leave old) (AfterOthers 0 (may_leave old)) (started moment left_since old (BeforeLock may_leave old) (λ c left. inl (only c left))) time (λ c after. inr after)
+
+  -- nothing is done before it is
+  pub not_waited : (old : D) → ((c : List ℕ) → left_since old (moment old) c → may_leave old c) → IsUntaken may_leave moment left_since found old old
+  not_waited old only = record { none = refl; moments = started moment left_since old (BeforeLock may_leave old) (λ c left. inl (only c left)) }
+
+  -- it was taken, and nothing more was done
+  pub taken-only : (P : List ℕ → List ℕ → Type 0) (old mid : D) → found mid ≡ Some (seen mid) ∷ found old → LeavesOnly moment left_since old mid (BeforeLock may_leave old)
+      → ((c : List ℕ) → left_since mid (moment mid) c → may_leave mid c) → IsTaken seen may_leave moment left_since found P old mid
+  taken-only P old mid once until only = record { mid = mid; once = once; last = refl; until = until; since = started moment left_since mid (λ c. may_leave mid c ⊎ P (seen mid) c) (λ c left. inl (only c left)) }
+
+  -- it was taken, and then more was done
+  pub taken-then : (P : List ℕ → List ℕ → Type 0) (old mid new : D) → found mid ≡ Some (seen mid) ∷ found old → found new ≡ found mid → LeavesOnly moment left_since old mid (BeforeLock may_leave old)
+      → LeavesOnly moment left_since mid new (λ c. may_leave mid c ⊎ P (seen mid) c) → IsTaken seen may_leave moment left_since found P old new
+  taken-then P old mid new once last until since = record { mid = mid; once = once; last = last; until = until; since = since }
+
+  found_same : (xs ys : List (Option (List ℕ))) (a b : List ℕ) → Some a ∷ xs ≡ Some b ∷ ys → a ≡ b
+  found_same xs ys a b e = cc
+
+  -- a file that was opened, and then its lines were made, and perhaps its lock let go
+  pub taken-begun : (head file begins : List ℕ) (lines : List (List ℕ)) (old opened new : D) → IsTaken seen may_leave moment left_since found (λ f c. StandsFor head (lines_behind (length head) f) c) old opened
+      → found opened ≡ Some file ∷ found old → begins ≡ head → lines ≡ lines_behind (length head) file → found new ≡ found opened → LeavesOnly moment left_since opened new (BeginsWith begins lines)
+      → IsTaken seen may_leave moment left_since found (KeepsLines head) old new
+  taken-begun head file begins lines old opened new h once same is last more =
+      let stood : seen h.mid ≡ file = found_same (found old) (found old) (seen h.mid) file (sym h.once ∙ sym h.last ∙ once) in
+      let all : lines ≡ lines_behind (length head) (seen h.mid) = is ∙ ap (lines_behind (length head)) (sym stood) in
+      record {
+        mid = h.mid;
+        once = h.once;
+        last = last ∙ h.last;
+        until = h.until;
+        since = then_on moment left_since h.mid opened new _ _ (λ c. may_leave h.mid c ⊎ KeepsLines head (seen h.mid) c) h.since more
+            (λ c left. ⊎_elim (λ now. inl now) (λ s. inr ([], subst (λ ls. StandsFor head ls c) (sym (append-nil (lines_behind (length head) (seen h.mid)))) s)) left)
+            (λ c b. inr (subst (λ x. BeginsWith x (lines_behind (length head) (seen h.mid)) c) same (subst (λ ls. BeginsWith begins ls c) all b)));
+      }
+
+  -- a file whose head was refused, or which was opened in vain, has its lines
+  pub taken-kept : (head : List ℕ) (old new : D) → IsTaken seen may_leave moment left_since found (λ f c. StandsFor head (lines_behind (length head) f) c) old new → IsTaken seen may_leave moment left_since found (KeepsLines head) old new
+  taken-kept head old new h = record {
+    mid = h.mid;
+    once = h.once;
+    last = h.last;
+    until = h.until;
+    since = weaker moment left_since h.mid new _ _ h.since (λ c left. ⊎_elim (λ now. inl now) (λ s. inr ([], subst (λ ls. StandsFor head ls c) (sym (append-nil (lines_behind (length head) (seen h.mid)))) s)) left);
+  }
