@@ -2,6 +2,7 @@
 ghost use Rattle.std.specs.Prelude.{◌≡◌, ◌<◌, ◌≤◌, All, false, vec_len};
 
 use crate::input::{Input, Watched, input_at, inputs_at};
+use crate::notes::are_wanted;
 use crate::telling::{say, tell_files, tell_joint, tell_pair, tell_replay};
 use client_scripts::{FromWrite, ReplayFault, replay, replay_joint};
 use pair_calls::{Form, explain, witness};
@@ -38,7 +39,7 @@ fn replay_watched<R: io::Read + Drop>(rt: &HostRuntime, input: &mut Watched<R>) 
             if writer.flush().is_err() {
                 return tell_replay(rt, ReplayFault::Write);
             }
-            if !input.has_divider() {
+            if !input.has_divider() && are_wanted(rt) {
                 say(rt, b"note: there is no line `---`, so there is no script\n");
             }
             ExitCode::SUCCESS
@@ -70,7 +71,7 @@ pub(crate) fn explain_in_file(rt: &HostRuntime, pair: &PairTask<'_>, all: bool) 
         &mut writer,
     ) {
         Ok(()) => finish(rt, &mut writer),
-        Err(fault) => tell_pair(rt, fault, pair.trace),
+        Err(fault) => tell_pair(rt, fault, pair),
     }
 }
 
@@ -102,7 +103,7 @@ pub(crate) fn witness_in_file(
         &mut writer,
     ) {
         Ok(()) => finish(rt, &mut writer),
-        Err(fault) => tell_pair(rt, fault, pair.trace),
+        Err(fault) => tell_pair(rt, fault, pair),
     }
 }
 

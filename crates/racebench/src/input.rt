@@ -1,4 +1,4 @@
-//! What the program reads: files that the words name, which may not have been opened, and standard input, whose bytes are looked at
+//! What the program reads: files that the arguments name, which may not have been opened, and standard input, whose bytes are looked at
 //! as they pass.
 ghost use Rattle.std.specs.Prelude.{◌≡◌, All, IfOk, false, length, vec_len};
 
@@ -6,11 +6,24 @@ use client_scripts::{Failed, FromRead, Source};
 use std::alloc::{AllocError, Global};
 use std::fs::File;
 use std::io;
+use std::io::StdinLock;
 
-/// A file; where it could not be opened each read fails.
+/// The path that stands for standard input.
+const STANDARD: &str = "-";
+
+/// Where the bytes of an input come from.
+#[derive(Drop)]
+enum Stream {
+    File(FromRead<File>),
+    Standard(FromRead<StdinLock<'static>>),
+    /// The file could not be opened.
+    Missing,
+}
+
+/// A file, or standard input. If a file could not be opened, each read fails.
 #[derive(Drop)]
 pub(crate) struct Input {
-    file: Option<FromRead<File>>,
+    stream: Stream,
     failed: bool,
 }
 
@@ -22,25 +35,38 @@ impl Source for Input {
     ghost has_failed = { λ s. s.failed };
 
     fn read(&mut self, buf: &mut [u8]) -> Result<usize, Failed> {
-        let read = match &mut self.file {
-            Some(file) => file.read(buf),
-            None => Err(Failed),
+        let read = match &mut self.stream {
+            Stream::File(file) => file.read(buf),
+            Stream::Standard(input) => input.read(buf),
+            Stream::Missing => Err(Failed),
         };
         self.failed = self.failed || read.is_err();
         read
     }
 }
 
-/// The file at a path.
+/// Whether the path stands for standard input.
+pub(crate) fn is_standard(path: &str) -> bool {
+    path == STANDARD
+}
+
+/// What the path names: a file, or standard input.
+fn stream_at(rt: &HostRuntime, path: &str) -> Stream {
+    if is_standard(path) {
+        return Stream::Standard(FromRead::new(rt.reader()));
+    }
+    match File::open(rt, path) {
+        Ok(file) => Stream::File(FromRead::new(file)),
+        Err(_) => Stream::Missing,
+    }
+}
+
+/// The file at a path, or standard input if the path is `-`.
 pub(crate) fn input_at(rt: &HostRuntime, path: &str) -> Input
     ensures { result.failed ≡ false }
 {
-    let file = match File::open(rt, path) {
-        Ok(file) => Some(FromRead::new(file)),
-        Err(_) => None,
-    };
     Input {
-        file,
+        stream: stream_at(rt, path),
         failed: false,
     }
 }

@@ -6,8 +6,13 @@ ghost use Rattle.program_words.specs.Tasks.{IsWithin};
 
 mod doing;
 mod input;
+mod likeness;
+mod lines;
 mod notes;
+mod pair_notes;
 mod progress;
+mod quoted;
+mod seen;
 mod sessions;
 mod telling;
 mod triaging;

@@ -1,88 +1,44 @@
-//! Notes: what stands behind the line of a fault and says more of it, each in a line of its own.
-ghost use Rattle.std.specs.Prelude.{◌≤◌, length};
+//! Notes: what stands after the line of a fault and says more of it, each in a line of its own.
 
+use crate::likeness::{likeness_of, words_of};
+use crate::lines::{
+    before_gap, behind_divider, behind_line, command_of, first_line, first_word, is_divider,
+    line_of,
+};
+use crate::quoted::{append_name, append_quote, append_shown};
 use client_scripts::{FromRead, ReadCause, ReplayFault, ScriptCause, ScriptRefusal, read_all};
-use memchr::memchr;
 use program_calls::BenchFault;
 use program_words::{LISTED_BEHIND, overview};
-use rapid_text::{OutOfMemory, TextCause, trim};
+use rapid_text::{OutOfMemory, trim};
+use std::env;
 use std::fs::{File, metadata};
+use std::io::IsTerminal;
 
 /// The most bytes of a word that a note shows.
 const MAX_SHOWN: usize = 40;
 
-/// Whether the line is `---` with blanks round it.
-fn is_divider(line: &[u8]) -> bool {
-    trim(line) == b"---".as_slice()
-}
+/// The variable of the environment that asks for notes where standard error is no terminal.
+const ASKED_BY: &str = "RACEBENCH_NOTES";
 
-/// What stands behind the first line end, if there is one.
-fn behind_line(text: &[u8]) -> Option<&[u8]> {
-    let end = memchr(b'\n', text)?;
-    Some(&text[end + 1..])
-}
+/// How notes call standard input and output, and the script of a joint text.
+const STANDARD_INPUT: &str = "standard input";
 
-/// The first line of these first bytes of a text, without its end. None where it may go on past them.
-fn first_line(text: &[u8], is_whole: bool) -> Option<&[u8]> {
-    match memchr(b'\n', text) {
-        Some(end) => Some(&text[..end]),
-        None => { if is_whole { Some(text) } else { None } }
+const STANDARD_OUTPUT: &str = "standard output";
+
+const SCRIPT: &str = "the script";
+
+/// Whether notes are written: on a terminal, or if the environment asks for them by the value 1.
+pub(crate) fn are_wanted(rt: &HostRuntime) -> bool {
+    if rt.stderr().is_terminal() {
+        return true;
+    }
+    match env::var(rt, ASKED_BY) {
+        Ok(value) => value.as_str() == "1",
+        Err(_) => false,
     }
 }
 
-/// The line of this number, from 1, of these first bytes of a text.
-fn line_of(text: &[u8], is_whole: bool, number: u64) -> Option<&[u8]> {
-    let mut rest = text;
-    for _ in 1..number {
-        rest = behind_line(rest)?;
-    }
-    first_line(rest, is_whole)
-}
-
-/// What stands behind the first line `---`.
-fn behind_divider(text: &[u8]) -> Option<&[u8]> {
-    let mut rest = text;
-    'lines: for _ in 0..text.len() {
-        let line = first_line(rest, false)?;
-        rest = behind_line(rest)?;
-        if is_divider(line) {
-            return Some(rest);
-        }
-    }
-    None
-}
-
-/// How long the first word is.
-fn word_len(text: &[u8]) -> usize
-    ensures { result ≤ length text.now }
-{
-    text.iter()
-        .position(|byte| *byte == b' ' || *byte == b'\t' || *byte == b'\r')
-        .unwrap_or(text.len())
-}
-
-/// The first word of a text that begins with it.
-fn first_word(text: &[u8]) -> &[u8] {
-    &text[..word_len(text)]
-}
-
-/// The second word of a line of a script: the command word, or nothing.
-fn command_of(line: &[u8]) -> &[u8] {
-    let line = trim(line);
-    first_word(trim(&line[word_len(line)..]))
-}
-
-/// What stands before two blanks side by side.
-fn before_gap(text: &[u8]) -> &[u8] {
-    for end in 1..text.len() {
-        if text[end - 1] == b' ' && text[end] == b' ' {
-            return &text[..end - 1];
-        }
-    }
-    text
-}
-
-/// How a line with this command word is written behind the client, as help has it.
+/// How a line with this command word is written after the client, as help has it.
 fn usage_of(command: &[u8]) -> Option<&'static [u8]> {
     let mut rest = overview().as_bytes();
     let mut is_listed = false;
@@ -97,44 +53,27 @@ fn usage_of(command: &[u8]) -> Option<&'static [u8]> {
     None
 }
 
-/// Appends the bytes, a question mark in place of each that can't be printed.
-fn append_shown(out: &mut Vec<u8>, bytes: &[u8]) -> Result<(), OutOfMemory> {
-    for byte in bytes {
-        let is_printed = *byte >= b' ' && *byte <= b'~';
-        out.push(if is_printed { *byte } else { b'?' })?;
-    }
-    Ok(())
-}
-
-/// Appends the name of an input, a question mark in place of each control character.
-fn append_name(out: &mut Vec<u8>, name: &str) -> Result<(), OutOfMemory> {
-    for byte in name.as_bytes() {
-        let is_control = *byte < b' ' || *byte == 127;
-        out.push(if is_control { b'?' } else { *byte })?;
-    }
-    Ok(())
-}
-
-/// Appends the note that names an input and says what is wrong with it.
-fn append_input_note(
-    out: &mut Vec<u8>,
-    name: &str,
-    is_open: bool,
-    why: ReadCause,
-) -> Result<(), OutOfMemory> {
+/// Appends a note of these words on an input.
+fn append_named(out: &mut Vec<u8>, name: &str, words: &[u8]) -> Result<(), OutOfMemory> {
     out.extend_from_slice(b"note: ")?;
     append_name(out, name)?;
+    out.extend_from_slice(words)?;
+    out.extend_from_slice(b"\n")?;
+    Ok(())
+}
+
+/// What is wrong with an input that was not read.
+fn unread_words(is_open: bool, why: ReadCause) -> &'static [u8] {
     match why {
-        ReadCause::TooLong => out.extend_from_slice(b" has more than 268,435,456 bytes\n")?,
+        ReadCause::TooLong => b" has more than 268,435,456 bytes",
         ReadCause::Device => {
             if is_open {
-                out.extend_from_slice(b" cannot be read\n")?;
+                b" cannot be read"
             } else {
-                out.extend_from_slice(b" cannot be opened\n")?;
+                b" cannot be opened"
             }
         }
     }
-    Ok(())
 }
 
 /// Appends the note that says how a line with this command word is written.
@@ -168,20 +107,44 @@ fn append_word_notes(out: &mut Vec<u8>, line: &[u8]) -> Result<(), OutOfMemory> 
     append_usage_note(out, command)
 }
 
-/// Appends the notes on a script that is refused, of which these are the first bytes.
+/// Appends the notes on a refused line of a script: the line, and what is wrong with its command word.
 fn append_script_notes(
     out: &mut Vec<u8>,
+    name: &str,
     text: &[u8],
     is_whole: bool,
     refusal: &ScriptRefusal,
 ) -> Result<(), OutOfMemory> {
-    if refusal.why != ScriptCause::BadWord {
+    let Some(line) = line_of(text, is_whole, refusal.line) else {
         return Ok(());
+    };
+    append_quote(out, name, refusal.line, line)?;
+    if refusal.why == ScriptCause::BadWord {
+        append_word_notes(out, line)?;
     }
-    match line_of(text, is_whole, refusal.line) {
-        Some(line) => append_word_notes(out, line),
+    Ok(())
+}
+
+/// Appends the note that says what else the text of a refused trace looks like.
+fn append_likeness(out: &mut Vec<u8>, name: &str, text: &[u8]) -> Result<(), OutOfMemory> {
+    match likeness_of(text) {
+        Some(likeness) => append_named(out, name, words_of(likeness)),
         None => Ok(()),
     }
+}
+
+/// Appends the notes on a refused line of a trace: the line, and what the text looks like.
+fn append_text_notes(
+    out: &mut Vec<u8>,
+    name: &str,
+    text: &[u8],
+    is_whole: bool,
+    number: u64,
+) -> Result<(), OutOfMemory> {
+    if let Some(line) = line_of(text, is_whole, number) {
+        append_quote(out, name, number, line)?;
+    }
+    append_likeness(out, name, text)
 }
 
 /// Appends the notes on a fault of a joint text, of which these are the first bytes.
@@ -192,24 +155,36 @@ pub(crate) fn append_joint_notes(
     fault: &ReplayFault,
 ) -> Result<(), OutOfMemory> {
     match fault {
-        ReplayFault::Read { input: _, why } => append_input_note(out, "standard input", true, *why),
+        ReplayFault::Read { input: _, why } => {
+            append_named(out, STANDARD_INPUT, unread_words(true, *why))
+        }
+        ReplayFault::Text(refusal) => {
+            append_text_notes(out, STANDARD_INPUT, text, is_whole, refusal.line)
+        }
+        ReplayFault::Rule(_) => append_likeness(out, STANDARD_INPUT, text),
+        ReplayFault::Write => append_write_note(out, STANDARD_OUTPUT),
         ReplayFault::Script(refusal) => match behind_divider(text) {
-            Some(script) => append_script_notes(out, script, is_whole, refusal),
+            Some(script) => append_script_notes(out, SCRIPT, script, is_whole, refusal),
             None => Ok(()),
         },
         _ => Ok(()),
     }
 }
 
+/// Appends the note on an output that was not written.
+pub(crate) fn append_write_note(out: &mut Vec<u8>, name: &str) -> Result<(), OutOfMemory> {
+    append_named(out, name, b" cannot be written")
+}
+
 /// Whether the file is there and a plain one.
-fn is_plain(rt: &HostRuntime, path: &str) -> bool {
+pub(crate) fn is_plain(rt: &HostRuntime, path: &str) -> bool {
     match metadata(rt, path) {
         Ok(found) => found.is_file(),
         Err(_) => false,
     }
 }
 
-/// What a file holds, read again. Nothing where it is no plain file, since another kind may not give its bytes twice, or wait.
+/// What a file holds, read again. Nothing if it is no plain file, since another kind may not give its bytes twice, or wait.
 fn bytes_again(rt: &HostRuntime, path: &str) -> Vec<u8> {
     if !is_plain(rt, path) {
         return Vec::new(rt.alloc());
@@ -229,8 +204,11 @@ fn bytes_of(rt: &HostRuntime, file: File) -> Vec<u8> {
     }
 }
 
-/// Whether the file is there and may be opened. What is no plain file is not opened again.
+/// Whether the input is there and may be opened. What is no plain file is not opened again.
 fn can_be_opened(rt: &HostRuntime, path: &str) -> bool {
+    if path == "-" {
+        return true;
+    }
     match metadata(rt, path) {
         Ok(found) => !found.is_file() || File::open(rt, path).is_ok(),
         Err(_) => false,
@@ -242,10 +220,11 @@ fn append_trace_notes(
     rt: &HostRuntime,
     out: &mut Vec<u8>,
     path: &str,
-    line: u64,
+    number: u64,
 ) -> Result<(), OutOfMemory> {
     let text = bytes_again(rt, path);
-    let at_divider = match line_of(&text, true, line) {
+    append_text_notes(out, path, &text, true, number)?;
+    let at_divider = match line_of(&text, true, number) {
         Some(line) => is_divider(line),
         None => false,
     };
@@ -257,7 +236,18 @@ fn append_trace_notes(
     Ok(())
 }
 
-/// Appends the notes on a fault of a trace and scripts in files, of which the first is the trace: input 1, and behind it the scripts.
+/// Appends the notes on a refused line of the script in a file.
+fn append_script_file_notes(
+    rt: &HostRuntime,
+    out: &mut Vec<u8>,
+    path: &str,
+    refusal: &ScriptRefusal,
+) -> Result<(), OutOfMemory> {
+    let text = bytes_again(rt, path);
+    append_script_notes(out, path, &text, true, refusal)
+}
+
+/// Appends the notes on a fault of a trace and scripts in files, of which the first is the trace: input 1, and then the scripts.
 pub(crate) fn append_file_notes(
     rt: &HostRuntime,
     out: &mut Vec<u8>,
@@ -266,23 +256,23 @@ pub(crate) fn append_file_notes(
 ) -> Result<(), OutOfMemory> {
     match fault {
         BenchFault::Replay(ReplayFault::Text(refusal)) => {
-            if refusal.why != TextCause::NoBar {
-                return Ok(());
-            }
             append_trace_notes(rt, out, path_of(paths, 1), refusal.line)
         }
+        BenchFault::Replay(ReplayFault::Rule(_)) => {
+            let text = bytes_again(rt, path_of(paths, 1));
+            append_likeness(out, path_of(paths, 1), &text)
+        }
         BenchFault::Replay(ReplayFault::Script(refusal)) => {
-            let text = bytes_again(rt, path_of(paths, 2));
-            append_script_notes(out, &text, true, refusal)
+            append_script_file_notes(rt, out, path_of(paths, 2), refusal)
         }
         BenchFault::Script { place, refusal } => {
-            let text = bytes_again(rt, path_of(paths, place.saturating_add(1)));
-            append_script_notes(out, &text, true, refusal)
+            append_script_file_notes(rt, out, path_of(paths, place.saturating_add(1)), refusal)
         }
         BenchFault::Replay(ReplayFault::Read { input, why }) => {
             let path = path_of(paths, *input);
-            append_input_note(out, path, can_be_opened(rt, path), *why)
+            append_named(out, path, unread_words(can_be_opened(rt, path), *why))
         }
+        BenchFault::Replay(ReplayFault::Write) => append_write_note(out, STANDARD_OUTPUT),
         _ => Ok(()),
     }
 }

@@ -1,5 +1,5 @@
-//! What standard error shows while the races of a trace are looked for, where it is a terminal: a line that is written anew a few times a second, and wiped out
-//! before anything else is written.
+//! What standard error shows while `triage` looks for races. On a terminal: a line that is written anew a few times a second, and wiped out
+//! before anything else is written. Elsewhere: the same, as lines.
 
 use crate::telling::say;
 use rapid_text::OutOfMemory;
@@ -27,13 +27,15 @@ pub(crate) struct Progress<'a, R: Wait> {
     pairs: AtomicU64,
     judged: AtomicU64,
     has_ended: AtomicU64,
-    // Whether a line stands there. Who has this alone writes.
+    // Whether standard error is a terminal.
+    is_terminal: bool,
+    // Whether a line is to be wiped out. Who has this alone writes.
     is_shown: Mutex<bool>,
 }
 
 impl<'a, R: Wait> Progress<'a, R> {
     /// The progress of work that begins. What waits is passed beside the rest.
-    pub(crate) fn new(rt: &'a HostRuntime, waits: &'a R) -> Progress<'a, R> {
+    pub(crate) fn new(rt: &'a HostRuntime, waits: &'a R, is_terminal: bool) -> Progress<'a, R> {
         Progress {
             rt,
             waits,
@@ -41,6 +43,7 @@ impl<'a, R: Wait> Progress<'a, R> {
             pairs: AtomicU64::new(0),
             judged: AtomicU64::new(0),
             has_ended: AtomicU64::new(0),
+            is_terminal,
             is_shown: Mutex::new(false),
         }
     }
@@ -67,30 +70,38 @@ impl<'a, R: Wait> Progress<'a, R> {
         let mut is_shown = self.is_shown.lock(self.waits);
         if is_made && !line.is_empty() && self.has_ended.load(Ordering::SeqCst) == 0 {
             say(self.rt, line.as_slice());
-            *is_shown = true;
+            *is_shown = self.is_terminal;
         }
     }
 
-    // Appends the line, or nothing before the trace was read.
+    // Appends the line, or nothing before the trace was read. On a terminal it takes the place of the one before it.
     fn append_line(&self, out: &mut Vec<u8>) -> Result<(), OutOfMemory> {
         let judged = self.judged.load(Ordering::SeqCst);
         let events = self.events.load(Ordering::SeqCst);
-        if judged > 0 {
-            append_judged(out, judged, self.pairs.load(Ordering::SeqCst))
-        } else if events > 0 {
-            append_pieces(out, &[Piece::Words(b"\revents "), Piece::Number(events)])
-        } else {
-            Ok(())
+        if judged == 0 && events == 0 {
+            return Ok(());
         }
+        if self.is_terminal {
+            out.extend_from_slice(b"\r")?;
+        }
+        if judged > 0 {
+            append_judged(out, judged, self.pairs.load(Ordering::SeqCst))?;
+        } else {
+            append_pieces(out, &[Piece::Words(b"events "), Piece::Number(events)])?;
+        }
+        if !self.is_terminal {
+            out.extend_from_slice(b"\n")?;
+        }
+        Ok(())
     }
 }
 
-// Appends the line that tells how many pairs of places have their verdict.
+// Appends how many pairs of places have their verdict.
 fn append_judged(out: &mut Vec<u8>, judged: u64, pairs: u64) -> Result<(), OutOfMemory> {
     append_pieces(
         out,
         &[
-            Piece::Words(b"\rpairs of places "),
+            Piece::Words(b"pairs of places "),
             Piece::Number(judged),
             Piece::Words(b" of "),
             Piece::Number(pairs),
@@ -102,6 +113,8 @@ impl<R: Wait> Watch for Progress<'_, R> {
     fn read(&self, events: u32) {
         self.events.store(u64::from(events), Ordering::SeqCst);
     }
+
+    fn known(&self, _has_block: bool) {}
 
     fn judged(&self, of: usize) {
         self.pairs.store(of as u64, Ordering::SeqCst);

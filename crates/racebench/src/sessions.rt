@@ -51,7 +51,7 @@ fn put_in_place(rt: &HostRuntime, made: &str, path: &str) -> Result<(), SessionF
     if fs::remove_file(rt, made).is_err() || !is_linked {
         return Err(unwritten());
     }
-    sync_folder(rt, path)
+    Ok(())
 }
 
 /// Fills the file of a new log, which has this name, and gives it its own.
@@ -130,11 +130,13 @@ fn is_missing(rt: &HostRuntime, path: &str) -> bool {
     }
 }
 
-/// Opens the file of a log, which is made where it is missing.
+/// Opens the file of a log, which is made if it is missing. Its name is on the disk before a line is answered: another session may have given
+/// it the name just now, and been killed.
 fn log_at(rt: &HostRuntime, path: &str, head: &[u8]) -> Result<File, SessionFault> {
     if is_missing(rt, path) {
         make_file(rt, path, head)?;
     }
+    sync_folder(rt, path)?;
     match File::options().read(true).write(true).open(rt, path) {
         Ok(file) => Ok(file),
         Err(_) => Err(unread()),

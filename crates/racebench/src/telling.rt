@@ -1,11 +1,13 @@
 //! What the program says where it stops short of what the words ask for, and the status that it ends with then.
 
-use crate::notes::{append_file_notes, append_joint_notes};
+use crate::notes::{append_file_notes, append_joint_notes, are_wanted};
+use crate::pair_notes::append_pair_note;
+use crate::quoted::append_name;
 use client_scripts::{FromWrite, ReplayFault, write_all};
 use kept_session::{SessionFault, session_fault_text};
 use pair_calls::{PairFault, pair_fault_text};
 use program_calls::{BenchFault, bench_fault_text};
-use program_words::Told;
+use program_words::{PairTask, Told};
 use rapid_text::OutOfMemory;
 use std::io;
 use std::process::ExitCode;
@@ -73,20 +75,24 @@ fn tell(rt: &HostRuntime, fault: Fault) -> ExitCode {
     end(rt, &lines, made, ExitCode::FAILURE)
 }
 
-/// Tells a fault of reading, of a text, or of writing, or want of memory.
+/// Tells a fault that has no input to name: standard output was not written, or memory was refused.
 pub(crate) fn tell_replay(rt: &HostRuntime, fault: ReplayFault) -> ExitCode {
-    tell(rt, Fault::Bench(BenchFault::from(fault)))
+    tell_joint(rt, fault, &[], false)
 }
 
 /// Appends the line that tells a fault of a joint text, of which these are the first bytes, and its notes.
 fn append_in_joint(
+    rt: &HostRuntime,
     out: &mut Vec<u8>,
     fault: ReplayFault,
     kept: &[u8],
     is_whole: bool,
 ) -> Result<(), OutOfMemory> {
     append_fault(out, &Fault::Bench(BenchFault::from(fault)))?;
-    append_joint_notes(out, kept, is_whole, &fault)
+    if are_wanted(rt) {
+        append_joint_notes(out, kept, is_whole, &fault)?;
+    }
+    Ok(())
 }
 
 /// Tells a fault of the joint text, of which these are the first bytes.
@@ -97,7 +103,7 @@ pub(crate) fn tell_joint(
     is_whole: bool,
 ) -> ExitCode {
     let mut lines = Vec::new(rt.alloc());
-    let made = append_in_joint(&mut lines, fault, kept, is_whole);
+    let made = append_in_joint(rt, &mut lines, fault, kept, is_whole);
     end(rt, &lines, made, ExitCode::FAILURE)
 }
 
@@ -109,7 +115,10 @@ fn append_in_files(
     paths: &[&str],
 ) -> Result<(), OutOfMemory> {
     append_fault(out, &Fault::Bench(*fault))?;
-    append_file_notes(rt, out, paths, fault)
+    if are_wanted(rt) {
+        append_file_notes(rt, out, paths, fault)?;
+    }
+    Ok(())
 }
 
 /// The status of a fault.
@@ -127,11 +136,29 @@ pub(crate) fn tell_files(rt: &HostRuntime, fault: BenchFault, paths: &[&str]) ->
     end(rt, &lines, made, status_of(&fault))
 }
 
-/// Tells a fault of a call on a pair of events of the trace at this path.
-pub(crate) fn tell_pair(rt: &HostRuntime, fault: PairFault, trace: &str) -> ExitCode {
+/// Appends the line that tells a fault of a call on a pair of events, and the note on two events that are no pair.
+fn append_in_pair(
+    rt: &HostRuntime,
+    out: &mut Vec<u8>,
+    fault: &PairFault,
+    pair: &PairTask<'_>,
+) -> Result<(), OutOfMemory> {
+    append_fault(out, &Fault::Pair(*fault))?;
+    if *fault == PairFault::NoSuchPair && are_wanted(rt) {
+        append_pair_note(rt, out, pair.trace, pair.one, pair.other)?;
+    }
+    Ok(())
+}
+
+/// Tells a fault of a call on this pair of events.
+pub(crate) fn tell_pair(rt: &HostRuntime, fault: PairFault, pair: &PairTask<'_>) -> ExitCode {
     match fault {
-        PairFault::Replay(fault) => tell_files(rt, BenchFault::from(fault), &[trace]),
-        fault => tell(rt, Fault::Pair(fault)),
+        PairFault::Replay(fault) => tell_files(rt, BenchFault::from(fault), &[pair.trace]),
+        fault => {
+            let mut lines = Vec::new(rt.alloc());
+            let made = append_in_pair(rt, &mut lines, &fault, pair);
+            end(rt, &lines, made, ExitCode::FAILURE)
+        }
     }
 }
 
@@ -162,6 +189,16 @@ pub(crate) fn tell_triage(rt: &HostRuntime, fault: TriageFault, paths: &[&str]) 
         TriageFault::Replay(fault) => tell_files(rt, BenchFault::from(fault), paths),
         fault => tell(rt, Fault::Triage(fault)),
     }
+}
+
+/// Says that no block `race` stands in the text of known races at this path.
+pub(crate) fn tell_blockless(rt: &HostRuntime, path: &str) -> Result<(), OutOfMemory> {
+    let mut line = Vec::new(rt.alloc());
+    line.extend_from_slice(b"racebench: ")?;
+    append_name(&mut line, path)?;
+    line.extend_from_slice(b" has no block `race`: no race is known\n")?;
+    say(rt, &line);
+    Ok(())
 }
 
 /// Prints the help that the words ask for.

@@ -3,7 +3,8 @@ ghost use Rattle.std.specs.Prelude.{◌≡◌, IfSome, false};
 
 use crate::input::{Input, input_at};
 use crate::progress::Progress;
-use crate::telling::{tell_replay, tell_triage};
+use crate::seen::Seen;
+use crate::telling::{say, tell_blockless, tell_replay, tell_triage};
 use client_scripts::{FromWrite, ReplayFault, Sink};
 use program_words::{RacesForm, TriageTask};
 use std::io::IsTerminal;
@@ -13,8 +14,11 @@ use std::thread::Threads;
 use std::{io, thread};
 use triage_calls::{Asked, Filters, Form, Silent, TriageFault, Watch, triage};
 
-/// The status where a race is printed, if that is asked for.
+/// The status if a race is printed, for `--fail`.
 const RACES: u8 = 3;
+
+/// The status if the trace has no events, for `--fail`.
+const UNJUDGED: u8 = 4;
 
 /// What is asked for, as the call takes it.
 fn asked_of<'a>(task: &'a TriageTask<'_>) -> Asked<'a> {
@@ -46,13 +50,36 @@ fn known_at(rt: &HostRuntime, path: Option<&str>) -> Option<Input>
     }
 }
 
-/// The status where so many races were printed.
-fn status_at(races: u64, fail: bool) -> ExitCode {
-    if fail && races > 0 {
+/// The status after so many races were printed of a trace with or without events.
+fn status_at(rt: &HostRuntime, races: u64, has_events: bool, fail: bool) -> ExitCode {
+    if !fail {
+        return ExitCode::SUCCESS;
+    }
+    if !has_events {
+        say(
+            rt,
+            b"racebench: the trace has no events: nothing was judged\n",
+        );
+        return ExitCode::from(UNJUDGED);
+    }
+    if races > 0 {
         ExitCode::from(RACES)
     } else {
         ExitCode::SUCCESS
     }
+}
+
+/// The status after all was printed. A text of known races without a block is told.
+fn status_of<W: Watch>(
+    rt: &HostRuntime,
+    task: &TriageTask<'_>,
+    seen: &Seen<'_, W>,
+    races: u64,
+) -> ExitCode {
+    if seen.lacks_blocks() && tell_blockless(rt, task.known.unwrap_or("")).is_err() {
+        return tell_replay(rt, ReplayFault::OutOfMemory);
+    }
+    status_at(rt, races, seen.has_events(), task.fail)
 }
 
 /// Lists the races of the trace in a file. Who watches is told how far that is, and of the end before anything is written.
@@ -86,11 +113,12 @@ fn list_races<R: Threads + Sync, W: Watch + Sync>(
     watch: &W,
 ) -> ExitCode {
     let mut writer = FromWrite::new(io::writer(rt));
-    let listed = list_to(rt, starts, task, &mut writer, watch);
+    let seen = Seen::new(watch);
+    let listed = list_to(rt, starts, task, &mut writer, &seen);
     watch.end();
     match listed {
         Ok(races) => match writer.flush() {
-            Ok(()) => status_at(races, task.fail),
+            Ok(()) => status_of(rt, task, &seen, races),
             Err(_) => tell_replay(rt, ReplayFault::Write),
         },
         Err(fault) => tell_triage(rt, fault, &[task.trace, task.known.unwrap_or("")]),
@@ -103,7 +131,7 @@ fn list_shown<R: Threads + Wait + Sync>(
     starts: &R,
     task: &TriageTask<'_>,
 ) -> ExitCode {
-    let progress = Progress::new(rt, starts);
+    let progress = Progress::new(rt, starts, rt.stderr().is_terminal());
     let (_, status) = thread::join(
         starts,
         || progress.show(),
@@ -112,13 +140,13 @@ fn list_shown<R: Threads + Wait + Sync>(
     status
 }
 
-/// Lists the races of the trace in a file. Where standard error is a terminal, it shows how far that is.
+/// Lists the races of the trace in a file. Standard error shows how far that is if it is a terminal, or if that is asked for.
 pub(crate) fn triage_file<R: Threads + Wait + Sync>(
     rt: &HostRuntime,
     starts: &R,
     task: &TriageTask<'_>,
 ) -> ExitCode {
-    if rt.stderr().is_terminal() {
+    if task.progress || rt.stderr().is_terminal() {
         list_shown(rt, starts, task)
     } else {
         list_races(rt, starts, task, &Silent)

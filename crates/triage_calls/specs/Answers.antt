@@ -47,7 +47,7 @@ IsToldIn Text r known asked vs races text =
 IsToldIn Json r known asked vs races text =
     (c : Chosen) × AreChosen r known (only_of asked) (hide_of asked) asked.apart vs c × IsTriageJson r vs c text × (races ≡ c.races)
 IsToldIn (Page name) r known asked vs races text =
-    (c : Chosen) × AreChosen r known (only_of asked) (hide_of asked) asked.apart vs c × IsPage text (all_rows asked.apart c.verdicts.items) × (races ≡ c.races)
+    (c : Chosen) × AreChosen r known (only_of asked) (hide_of asked) asked.apart vs c × IsPage r text (all_rows asked.apart c.verdicts.items) × (races ≡ c.races)
 
 -- Which pairs of places are known: those whose two locations the text names, where one is given. `keys` are the locations by their numbers.
 abbrev pub IsGiven : List (Vec ℕ Global) → Option (List ℕ) → Option (List (ℕ × ℕ)) → Type 0

@@ -16,7 +16,7 @@ use must_order::Must;
 use race_json::triage_json;
 use race_page::page_text;
 use race_triage::{
-    Chosen, Filters, Known, Places, TriageRefusal, Verdicts, Watch, chosen_of, known_of,
+    Chosen, Filters, Known, Places, TriageRefusal, Verdicts, Watch, chosen_of, has_block, known_of,
     triage as verdicts_of, triage_text,
 };
 use rapid_text::OutOfMemory;
@@ -109,8 +109,18 @@ fn triage_on<R: Threads + Sync, L: Source + Drop, K: Sink, W: Watch + Sync>(
     ensures device { result ≢ Err (Replay (Read 1 Device)) }
 {
     match read_known(alloc, known) {
-        Ok(listed) => write_listing(rt, alloc, indexed, &listed, asked, writer, watch),
+        Ok(listed) => {
+            tell_known(watch, &listed);
+            write_listing(rt, alloc, indexed, &listed, asked, writer, watch)
+        }
         Err(fault) => Err(fault),
+    }
+}
+
+/// Tells who watches whether the text of known races has a block, if there is such a text.
+fn tell_known<W: Watch>(watch: &W, listed: &Option<Vec<u8>>) {
+    if let Some(text) = listed {
+        watch.known(has_block(text.as_slice()));
     }
 }
 

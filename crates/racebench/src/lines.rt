@@ -1,0 +1,79 @@
+//! Lines of a text that is noted on, and the words of a line.
+ghost use Rattle.std.specs.Prelude.{◌≤◌, length};
+
+use memchr::memchr;
+use rapid_text::trim;
+
+/// Whether the line is `---` with blanks round it.
+pub(crate) fn is_divider(line: &[u8]) -> bool {
+    trim(line) == b"---".as_slice()
+}
+
+/// What stands behind the first line end, if there is one.
+pub(crate) fn behind_line(text: &[u8]) -> Option<&[u8]> {
+    let end = memchr(b'\n', text)?;
+    Some(&text[end + 1..])
+}
+
+/// The first line of these first bytes of a text, without its end. None where it may go on past them.
+pub(crate) fn first_line(text: &[u8], is_whole: bool) -> Option<&[u8]> {
+    match memchr(b'\n', text) {
+        Some(end) => Some(&text[..end]),
+        None => { if is_whole { Some(text) } else { None } }
+    }
+}
+
+/// The line of this number, from 1, of these first bytes of a text.
+pub(crate) fn line_of(text: &[u8], is_whole: bool, number: u64) -> Option<&[u8]> {
+    if number == 0 {
+        return None;
+    }
+    let mut rest = text;
+    for _ in 1..number {
+        rest = behind_line(rest)?;
+    }
+    first_line(rest, is_whole)
+}
+
+/// What stands behind the first line `---`.
+pub(crate) fn behind_divider(text: &[u8]) -> Option<&[u8]> {
+    let mut rest = text;
+    'lines: for _ in 0..text.len() {
+        let line = first_line(rest, false)?;
+        rest = behind_line(rest)?;
+        if is_divider(line) {
+            return Some(rest);
+        }
+    }
+    None
+}
+
+/// How long the first word is.
+pub(crate) fn word_len(text: &[u8]) -> usize
+    ensures { result ≤ length text.now }
+{
+    text.iter()
+        .position(|byte| *byte == b' ' || *byte == b'\t' || *byte == b'\r')
+        .unwrap_or(text.len())
+}
+
+/// The first word of a text that begins with it.
+pub(crate) fn first_word(text: &[u8]) -> &[u8] {
+    &text[..word_len(text)]
+}
+
+/// The second word of a line of a script: the command word, or nothing.
+pub(crate) fn command_of(line: &[u8]) -> &[u8] {
+    let line = trim(line);
+    first_word(trim(&line[word_len(line)..]))
+}
+
+/// What stands before two blanks side by side.
+pub(crate) fn before_gap(text: &[u8]) -> &[u8] {
+    for end in 1..text.len() {
+        if text[end - 1] == b' ' && text[end] == b' ' {
+            return &text[..end - 1];
+        }
+    }
+    text
+}

@@ -1,0 +1,83 @@
+//! The note on two events that are no pair: which of the three reasons it is.
+
+ghost use Rattle.std.specs.Prelude.{◌≡◌, false};
+
+use crate::input::{Input, input_at};
+use crate::notes::is_plain;
+use crate::quoted::{append_number, append_shown};
+use client_scripts::read_trace;
+use event_index::Indexed;
+use rapid_text::OutOfMemory;
+
+/// Appends the note that says why two events of the trace in a file are no pair. The file is read once more, so a file that is not plain
+/// gets no note.
+pub(crate) fn append_pair_note(
+    rt: &HostRuntime,
+    out: &mut Vec<u8>,
+    path: &str,
+    one: u32,
+    other: u32,
+) -> Result<(), OutOfMemory> {
+    if !is_plain(rt, path) {
+        return Ok(());
+    }
+    let mut input = input_at(rt, path);
+    append_note_of(rt, out, &mut input, one, other)
+}
+
+/// Appends the note, of the trace that this input holds.
+fn append_note_of(
+    rt: &HostRuntime,
+    out: &mut Vec<u8>,
+    input: &mut Input,
+    one: u32,
+    other: u32,
+) -> Result<(), OutOfMemory>
+    requires { input.old.failed ≡ false }
+{
+    match read_trace(rt.alloc(), input) {
+        Ok(indexed) => append_reason(out, &indexed, one, other),
+        Err(_) => Ok(()),
+    }
+}
+
+/// Appends the note, of this trace.
+fn append_reason(
+    out: &mut Vec<u8>,
+    indexed: &Indexed,
+    one: u32,
+    other: u32,
+) -> Result<(), OutOfMemory> {
+    let len = indexed.len();
+    if one >= len {
+        return append_no_event(out, one, len);
+    }
+    if other >= len {
+        return append_no_event(out, other, len);
+    }
+    let first = indexed.event(one);
+    if first.thread == indexed.event(other).thread {
+        out.extend_from_slice(b"note: both events are of thread ")?;
+        append_shown(out, indexed.thread_name(first.thread))?;
+        out.extend_from_slice(b"\n")?;
+        return Ok(());
+    }
+    out.extend_from_slice(
+        b"note: the two events do not conflict: a pair accesses one variable, and one of them writes\n",
+    )?;
+    Ok(())
+}
+
+/// Appends the note on a number that is no event of a trace of so many events.
+fn append_no_event(out: &mut Vec<u8>, event: u32, len: u32) -> Result<(), OutOfMemory> {
+    out.extend_from_slice(b"note: ")?;
+    append_number(out, u64::from(event))?;
+    if len == 0 {
+        out.extend_from_slice(b" is no event: the trace has none\n")?;
+        return Ok(());
+    }
+    out.extend_from_slice(b" is no event: those of the trace are 0 to ")?;
+    append_number(out, u64::from(len - 1))?;
+    out.extend_from_slice(b"\n")?;
+    Ok(())
+}

@@ -1,0 +1,57 @@
+//! How notes show bytes from outside: names of inputs and refused lines.
+
+use rapid_text::{OutOfMemory, trim};
+use report::{Piece, append_pieces};
+
+/// The most bytes of a line that a note shows.
+const MAX_LINE_SHOWN: usize = 60;
+
+/// Appends the bytes, a question mark instead of each that can't be printed.
+pub(crate) fn append_shown(out: &mut Vec<u8>, bytes: &[u8]) -> Result<(), OutOfMemory> {
+    for byte in bytes {
+        let is_printed = *byte >= b' ' && *byte <= b'~';
+        out.push(if is_printed { *byte } else { b'?' })?;
+    }
+    Ok(())
+}
+
+/// Appends the name of an input, a question mark instead of each control character. `-` is standard input.
+pub(crate) fn append_name(out: &mut Vec<u8>, name: &str) -> Result<(), OutOfMemory> {
+    if name == "-" {
+        out.extend_from_slice(b"standard input")?;
+        return Ok(());
+    }
+    for byte in name.as_bytes() {
+        let is_control = *byte < b' ' || *byte == 127;
+        out.push(if is_control { b'?' } else { *byte })?;
+    }
+    Ok(())
+}
+
+/// Appends the decimal digits of a number.
+pub(crate) fn append_number(out: &mut Vec<u8>, number: u64) -> Result<(), OutOfMemory> {
+    append_pieces(out, &[Piece::Number(number)])
+}
+
+/// Appends the note that quotes a refused line of an input, which has this number there.
+pub(crate) fn append_quote(
+    out: &mut Vec<u8>,
+    name: &str,
+    number: u64,
+    line: &[u8],
+) -> Result<(), OutOfMemory> {
+    let line = trim(line);
+    let shown = line.len().min(MAX_LINE_SHOWN);
+    out.extend_from_slice(b"note: line ")?;
+    append_number(out, number)?;
+    out.extend_from_slice(b" of ")?;
+    append_name(out, name)?;
+    if shown < line.len() {
+        out.extend_from_slice(b" begins with `")?;
+    } else {
+        out.extend_from_slice(b" is `")?;
+    }
+    append_shown(out, &line[..shown])?;
+    out.extend_from_slice(b"`\n")?;
+    Ok(())
+}
