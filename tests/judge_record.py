@@ -12,8 +12,17 @@ import subprocess
 import sys
 import tempfile
 
+import recorded_ci
+import recorded_follow
+import recorded_options
+import recorded_places
+import recorded_reports
+import recorded_runs
+
 TOP = os.path.dirname(os.path.dirname(os.path.abspath(__file__)))
 RECORD = os.path.join(TOP, "record")
+# How long a command may take, on a machine that does much else.
+PATIENCE = recorded_places.PATIENCE
 # Runs of each program; every further compiler makes one.
 SEEDS = (1, 2, 3)
 # Each program, the words for the recorder, and the pairs of lines that race in it.
@@ -23,9 +32,14 @@ PROGRAMS = [
     ("tests/recorded/each_kind.c", ["--yield", "1"], {"RACE"}),
     ("tests/recorded/each_kind.cpp", [], {"RACE"}),
     ("tests/recorded/barrier.c", [], set()),
-    ("tests/recorded/freed.c", [], set()),
-    ("tests/recorded/freed.c", ["--free"], {("freed.c:11", "freed.c:6")}),
+    ("tests/recorded/relaxed.c", [], {"RACE"}),
+    ("tests/recorded/read_lock.c", [], {"RACE"}),
+    ("tests/recorded/freed.c", ["--no-free"], set()),
+    ("tests/recorded/freed.c", [], {("freed.c:11", "freed.c:6")}),
 ]
+
+
+WRONGS = (recorded_places.WrongPlace, recorded_runs.WrongRun, recorded_follow.WrongFollow)
 
 
 class Wrong(Exception):
@@ -34,7 +48,7 @@ class Wrong(Exception):
 
 def done(words, wanted=0, **more):
     """What a command wrote on standard output and on standard error."""
-    ran = subprocess.run(words, capture_output=True, timeout=120, check=False, **more)
+    ran = subprocess.run(words, capture_output=True, timeout=PATIENCE, check=False, **more)
     if ran.returncode != wanted:
         raise Wrong(f"{' '.join(words)}: status {ran.returncode}: {ran.stderr.decode(errors='replace')[:600]}")
     return ran.stdout.decode(), ran.stderr.decode(errors="replace")
@@ -106,6 +120,7 @@ def judge_program(racebench, source, words, races, c, cxx, seeds):
             raise Wrong(f"seed {seed}: the candidates are {sorted(found)}, and not {sorted(wanted)}")
         if source.endswith("barrier.c"):
             judge_barrier(racebench, trace)
+    recorded_options.judge_decoders([*words, "--seed", "1"])
 
 
 def judge_barrier(racebench, trace):
@@ -113,7 +128,7 @@ def judge_barrier(racebench, trace):
     events = [line.split("|")[:2] for line in trace.splitlines()]
     writer = None
     for number, (thread, operation) in enumerate(events):
-        if operation == "r(sync:meeting)" and writer not in (None, thread):
+        if operation.startswith("r(sync:meeting") and writer not in (None, thread):
             own = [k for k, (other, _) in enumerate(events[:number]) if other == thread]
             script = ["new A"] + [f"add A {k}" for k in [0, 1] + own + [number]]
             with open("script.txt", "w", encoding="ascii") as text:
@@ -122,17 +137,17 @@ def judge_barrier(racebench, trace):
             refused = [line for line in answers.splitlines() if line.startswith("refused")]
             if not refused or not refused[0].startswith("refused 46 24 wrong writer"):
                 raise Wrong(f"event {number} may come before what it has to come after: {answers}")
-        if operation == "w(sync:meeting)":
+        if operation.startswith("w(sync:meeting"):
             writer = thread
     if writer is None:
         raise Wrong("nobody came to the barrier")
 
 
 def judge_example(c, cxx):
-    """examples/count.std is what the page says that it is: the trace of count.c with the first seed."""
+    """examples/count.std is what the page says that it is: the trace of count.c with the first seed, without calls."""
     compiled("examples/count.c", c, cxx)
     with open(os.path.join(TOP, "examples/count.std"), encoding="ascii") as text:
-        if recorded([], 1) != text.read():
+        if recorded(["--frames", "0"], 1) != text.read():
             raise Wrong("the trace of examples/count.c is another than examples/count.std")
 
 
@@ -150,10 +165,16 @@ def main():
         print("record/: not tested, since no C compiler with the hooks of -fsanitize=thread is here")
         print("0 passed, 0 failed")
         return 0
+    why = recorded_options.why_no_decoder()
+    if why:
+        print(f"record/: the decoder in C++ is not tested, since it can't be compiled: {why}")
     cases = [("a program without the recorder", judge_stranger, ())]
     for place, (c, cxx) in enumerate(pairs):
         seeds = SEEDS if place == 0 else SEEDS[:1]
         cases.append((f"count.std, {c}", judge_example, (c, cxx)))
+        cases += recorded_places.cases(c, cxx) + recorded_reports.cases(racebench, c)
+        if place == 0:
+            cases += recorded_options.cases(c) + recorded_runs.cases(c) + recorded_follow.cases(racebench) + recorded_ci.cases(racebench)
         for source, words, races in PROGRAMS:
             if source.endswith(".cpp") and cxx is None:
                 print(f"record/: {source} is not tested with {c}, since its C++ compiler is not here")
@@ -166,7 +187,7 @@ def main():
             try:
                 judge(*about)
                 passed += 1
-            except (Wrong, subprocess.TimeoutExpired) as wrong:
+            except (Wrong, *WRONGS, subprocess.TimeoutExpired) as wrong:
                 print(f"{name}: {wrong}")
                 failed += 1
             os.chdir(TOP)

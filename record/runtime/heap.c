@@ -1,6 +1,7 @@
 /* The heap: where blocks begin and end, so that memory that is given out again is another variable. */
 
-extern void *__libc_malloc(size_t), *__libc_calloc(size_t, size_t), *__libc_realloc(void *, size_t), *__libc_memalign(size_t, size_t);
+extern void *__libc_malloc(size_t), *__libc_calloc(size_t, size_t), *__libc_realloc(void *, size_t),
+    *__libc_memalign(size_t, size_t);
 extern void __libc_free(void *);
 
 static void *got(void *block, size_t n, u64 pc) {
@@ -20,25 +21,73 @@ int posix_memalign(void **block, size_t align, size_t n) {
 }
 
 /* Recorded before it is done: from then on another thread may be given the block. */
-void free(void *block) {
-    if (block) put(FREED, (u64)block, 0, PC);
+static inline void give_back(void *block, u64 pc) {
+    if (block) put(FREED, (u64)block, 0, pc);
     __libc_free(block);
 }
+void free(void *block) { give_back(block, PC); }
 
-/* A block that stays where it is keeps its name; one that moves is copied. */
+/* What C++ calls for `new` and `delete`. Here the place is that of the program, and not one in the library of C++.
+ * Where the program has its own, or there is no memory, the library's does what it has to do. */
+void *own_new(size_t n);
+void own_delete(void *block);
+void *_Znwm(size_t n) __attribute__((weak, alias("own_new")));
+void _ZdlPv(void *block) __attribute__((weak, alias("own_delete")));
+static int are_own(void) { return _Znwm == own_new && _ZdlPv == own_delete; }
+
+#define NEW(attributes, name, real_name, given, passed_on, block) \
+    attributes void *name given { \
+        void *p = are_own() ? (block) : NULL; \
+        if (p) return got(p, n, PC); \
+        static void *(*real) given; \
+        if (!real) real = (void *(*) given)next(real_name, NULL); \
+        return real passed_on; \
+    }
+#define WEAK __attribute__((weak))
+#define ROOM (n ? n : 1)
+NEW(, own_new, "_Znwm", (size_t n), (n), __libc_malloc(ROOM))
+NEW(WEAK, _Znam, "_Znam", (size_t n), (n), __libc_malloc(ROOM))
+NEW(WEAK, _ZnwmRKSt9nothrow_t, "_ZnwmRKSt9nothrow_t", (size_t n, const void *t), (n, t), __libc_malloc(ROOM))
+NEW(WEAK, _ZnamRKSt9nothrow_t, "_ZnamRKSt9nothrow_t", (size_t n, const void *t), (n, t), __libc_malloc(ROOM))
+NEW(WEAK, _ZnwmSt11align_val_t, "_ZnwmSt11align_val_t", (size_t n, size_t a), (n, a), __libc_memalign(a, ROOM))
+NEW(WEAK, _ZnamSt11align_val_t, "_ZnamSt11align_val_t", (size_t n, size_t a), (n, a), __libc_memalign(a, ROOM))
+
+#define DELETE(attributes, name, real_name, given, passed_on) \
+    attributes void name given { \
+        static void (*real) given; \
+        if (are_own()) return give_back(block, PC); \
+        if (!real) real = (void (*) given)next(real_name, NULL); \
+        real passed_on; \
+    }
+DELETE(, own_delete, "_ZdlPv", (void *block), (block))
+DELETE(WEAK, _ZdaPv, "_ZdaPv", (void *block), (block))
+DELETE(WEAK, _ZdlPvm, "_ZdlPvm", (void *block, size_t n), (block, n))
+DELETE(WEAK, _ZdaPvm, "_ZdaPvm", (void *block, size_t n), (block, n))
+DELETE(WEAK, _ZdlPvSt11align_val_t, "_ZdlPvSt11align_val_t", (void *block, size_t a), (block, a))
+DELETE(WEAK, _ZdaPvSt11align_val_t, "_ZdaPvSt11align_val_t", (void *block, size_t a), (block, a))
+DELETE(WEAK, _ZdlPvmSt11align_val_t, "_ZdlPvmSt11align_val_t", (void *block, size_t n, size_t a), (block, n, a))
+DELETE(WEAK, _ZdaPvmSt11align_val_t, "_ZdaPvmSt11align_val_t", (void *block, size_t n, size_t a), (block, n, a))
+DELETE(WEAK, _ZdlPvRKSt9nothrow_t, "_ZdlPvRKSt9nothrow_t", (void *block, const void *t), (block, t))
+DELETE(WEAK, _ZdaPvRKSt9nothrow_t, "_ZdaPvRKSt9nothrow_t", (void *block, const void *t), (block, t))
+
+/* A block that stays where it is keeps its name; one that moves is copied. Both ways are as many ticks: whether it
+ * moves is the library's choice. */
 void *realloc(void *block, size_t n) {
     size_t before = block ? malloc_usable_size(block) : 0;
     if (!IDLE && block) keep_turn();
     void *p = __libc_realloc(block, n);
     if (p && p == block) {
         put(RESIZED, (u64)p, n, PC);
+        pass_silently(PC), pass_silently(PC);
         return p;
     }
     if (block && (p || !n)) {
         if (p) put(READ, (u64)block, before < n ? before : n, PC);
+        else pass_silently(PC);
         put(FREED, (u64)block, 0, PC);
     }
     got(p, n, PC);
     if (block && p) put(WRITE, (u64)p, before < n ? before : n, PC);
+    else if (block) pass_silently(PC);
     return p;
 }

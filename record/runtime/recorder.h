@@ -12,59 +12,34 @@
 #include <pthread.h>
 #include <sched.h>
 #include <semaphore.h>
-#include <stdint.h>
+#include <stdarg.h>
+#include <stddef.h>
 #include <stdio.h>
 #include <stdlib.h>
 #include <string.h>
 #include <sys/epoll.h>
+#include <sys/eventfd.h>
 #include <sys/mman.h>
 #include <sys/select.h>
 #include <sys/socket.h>
+#include <sys/stat.h>
 #include <sys/syscall.h>
+#include <sys/time.h>
+#include <sys/uio.h>
 #include <sys/wait.h>
+#include <threads.h>
 #include <time.h>
 #include <unistd.h>
 
-typedef uint8_t u8;
-typedef uint16_t u16;
-typedef uint32_t u32;
-typedef uint64_t u64;
+#include "format.h"
+
 typedef unsigned __int128 u128;
-
-/* Kinds of records; trace.py has the same numbers. */
-enum {
-    VOID, READ, WRITE, ACQUIRE, RELEASE, FORK, JOIN, ALLOCATED, FREED, STACK, ATOMIC_READ, ATOMIC_WRITE, ATOMIC_UPDATE,
-    PASS, WRITER, RESIZED
-};
-
-/* A record. `at` is an address, or a thread's number for FORK and JOIN. `pc` is the place of the access, `body` a place in
- * the function that the hooks saw last, `site` where that one was called. */
-struct record {
-    u64 at, pc, body, site;
-    u32 size;
-    u16 thread;
-    u8 kind, done;
-};
-
-#define MAGIC 0x3143455242524352ull
-#define MOST_MODULES 128
-#define MODULE_PATH 240
-
-struct module {
-    u64 base, end;
-    char path[MODULE_PATH];
-};
-
-/* The head of the raw file. It is written as the program runs, so it is whole however the program ends. */
-struct head {
-    u64 magic, room, used, turns, forced, strangers, modules;
-    struct module module[MOST_MODULES];
-};
 
 /* Threads beyond this number run, but free of the token and unrecorded. */
 #define MOST_THREADS 16384
 #define NOBODY 0xffffffffu
-#define PC ((u64)__builtin_return_address(0))
+#define NO_PLACE ULLONG_MAX
+#define PC in_program((u64)__builtin_return_address(0))
 /* A hook does nothing before the start, in a child process, and inside the recorder itself. */
 #define IDLE (!on || inside)
 
@@ -74,25 +49,89 @@ static volatile int on;
 static u32 one_in = 40;
 static __thread u8 inside;
 static __thread u32 me = NOBODY;
+/* The clock of this thread: the hooks that it passed, and the blocks that it gave back since. */
+static __thread u64 tick;
+static __thread u32 sub;
+
+/* callers.c: where the program called what led here. */
+static u64 caller_in_program(u64 pc);
+static u64 main_start, main_size;
+static inline u64 in_program(u64 pc) { return pc - main_start < main_size || IDLE ? pc : caller_in_program(pc); }
+#if defined __x86_64__
+static inline long by_kernel(long number, long a, long b, long c, long d, long e, long f) {
+    long answer;
+    register long r10 __asm__("r10") = d, r8 __asm__("r8") = e, r9 __asm__("r9") = f;
+    __asm__ volatile("syscall" : "=a"(answer) : "a"(number), "D"(a), "S"(b), "d"(c), "r"(r10), "r"(r8), "r"(r9)
+                     : "rcx", "r11", "memory");
+    return answer;
+}
+#elif defined __aarch64__
+static inline long by_kernel(long number, long a, long b, long c, long d, long e, long f) {
+    register long x8 __asm__("x8") = number, x0 __asm__("x0") = a, x1 __asm__("x1") = b, x2 __asm__("x2") = c;
+    register long x3 __asm__("x3") = d, x4 __asm__("x4") = e, x5 __asm__("x5") = f;
+    __asm__ volatile("svc 0" : "+r"(x0) : "r"(x8), "r"(x1), "r"(x2), "r"(x3), "r"(x4), "r"(x5) : "memory");
+    return x0;
+}
+#else
+#error "the recorder knows the system calls of x86-64 and of aarch64"
+#endif
+
+/* The recorder's own calls of the system do not go by the function of the C library, which it takes. */
+static long raw_syscall(long number, ...) {
+    va_list words;
+    va_start(words, number);
+    long a = va_arg(words, long), b = va_arg(words, long), c = va_arg(words, long);
+    long d = va_arg(words, long), e = va_arg(words, long), f = va_arg(words, long);
+    va_end(words);
+    long answer = by_kernel(number, a, b, c, d, e, f);
+    if ((u64)answer < (u64)-4095) return answer;
+    errno = (int)-answer;
+    return -1;
+}
+#define syscall raw_syscall
 
 /* turns.c: the token. */
 static void take(void);
 static void give(void);
 static void let_others(void);
-static void maybe_give(void);
+static int park(const volatile void *at, const struct timespec *until, clockid_t clock);
+static void unpark(const volatile void *at);
 static void keep_turn(void);
 static void watch(void);
 /* events.c: the records. */
 static u64 put(int kind, u64 at, u64 size, u64 pc);
+static u64 put_of(int of, int kind, u64 at, u64 pc);
 static void take_back(u64 place);
 static void note_modules(void);
 static void *next(const char *name, const char *version);
+/* accesses.c */
+static void maybe_give(void);
 /* threads.c */
 static void stranger(void);
+/* follow.c: where a plan is followed. */
+static volatile int following;
+static void about_to(int kind, u64 at, u64 size, u64 pc);
+static void arrive(u64 pos);
+static void passed_hook(u64 pos, int kind, u64 pc);
+static u32 choose(void);
+static int may_take(void);
+static int waits_in_plan(void);
+static void last_access_done(void);
+static void count_record(void);
 
+#define CLOCK(tick, sub) ((tick) << 16 | (sub))
 #define REAL(name, type, ...) \
     static type (*real)(__VA_ARGS__); \
     if (!real) real = (type (*)(__VA_ARGS__))next(#name, NULL)
 #define REAL_OF(name, version, type, ...) \
     static type (*real)(__VA_ARGS__); \
     if (!real) real = (type (*)(__VA_ARGS__))next(#name, version)
+/* A call that waits in the C library, without the token. */
+#define OUTSIDE(call) \
+    ({ \
+        int idle_ = IDLE; \
+        if (!idle_) give(); \
+        __typeof__(call) answer_ = (call); \
+        if (!idle_) take(); \
+        answer_; \
+    })

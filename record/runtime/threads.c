@@ -1,4 +1,4 @@
-/* Threads, and the start of the recording. */
+/* Threads. */
 
 struct child {
     void *(*body)(void *);
@@ -45,10 +45,12 @@ static void end_of_thread(void *round) {
     if (me < MOST_THREADS) {
         if (on) take();
         gone[me] = 1;
+        unpark(&gone[me]);
         give();
         __atomic_fetch_sub(&living, 1, SC);
     }
     inside = 1;
+    end_calls();
 }
 
 static void *child_body(void *p) {
@@ -66,31 +68,42 @@ static void *child_body(void *p) {
     wait_in_line();
     inside = 0;
     own_stack();
+    if (is_of_openmp(c.body)) {
+        __atomic_store_n(&came[me], 2, SC);
+        give();
+    }
     return c.body(c.argument);
 }
 
-int pthread_create(pthread_t *id, const pthread_attr_t *attributes, void *(*body)(void *), void *argument) {
+static int create(pthread_t *id, const pthread_attr_t *attributes, void *(*body)(void *), void *argument, u64 pc) {
     REAL_OF(pthread_create, "GLIBC_2.34", int, pthread_t *, const pthread_attr_t *, void *(*)(void *), void *);
     if (IDLE) return real(id, attributes, body, argument);
     watch();
     note_modules();
     maybe_give();
-    u32 number = __atomic_fetch_add(&threads, 1, SC);
+    u32 number = planned_child();
+    if (number == NOBODY) number = __atomic_fetch_add(&threads, 1, SC);
     struct child *c = number < MOST_THREADS ? __libc_malloc(sizeof *c) : NULL;
     if (!c) return real(id, attributes, body, argument);
     *c = (struct child){body, argument, number};
-    u64 place = put(FORK, number, 0, PC);
+    u64 place = put(FORK, number, 0, pc);
     __atomic_fetch_add(&living, 1, SC);
     inside = 1;
     int answer = real(id, attributes, child_body, c);
     if (!answer) while (!__atomic_load_n(&came[number], SC)) syscall(SYS_sched_yield);
     inside = 0;
+    /* A thread of libgomp has its first turn at once: its maker may wait for it in the library. */
+    if (!answer && is_of_openmp(body)) while (__atomic_load_n(&came[number], SC) != 2) give_and_take();
     if (answer) {
         __libc_free(c);
         __atomic_fetch_sub(&living, 1, SC);
         take_back(place);
     }
     return answer;
+}
+
+int pthread_create(pthread_t *id, const pthread_attr_t *attributes, void *(*body)(void *), void *argument) {
+    return create(id, attributes, body, argument, PC);
 }
 
 static u32 number_of(pthread_t id) {
@@ -107,15 +120,34 @@ static int joined(int answer, u32 number, u64 pc) {
     return answer;
 }
 
-int pthread_join(pthread_t id, void **value) {
+/* Where a plan is followed, the thread that is waited for goes on by the joiner's leave. */
+static void wait_for_end(u32 number) {
+    if (following && !gone[number]) {
+        lend_to(number);
+        while (following && !gone[number]) give(), take_again();
+        take_back_lent();
+        take();
+    }
+    while (!gone[number]) {
+        pthread_testcancel();
+        park(&gone[number], NULL, 0);
+    }
+}
+
+static int join(pthread_t id, void **value, u64 pc) {
     REAL_OF(pthread_join, "GLIBC_2.34", int, pthread_t, void **);
     if (IDLE) return real(id, value);
     maybe_give();
     u32 number = number_of(id);
     if (number == NOBODY || number == me) return OUTSIDE(real(id, value));
-    while (!gone[number]) let_others();
-    return joined(real(id, value), number, PC);
+    wait_for_end(number);
+    short_wait = 1;
+    int answer = real(id, value);
+    short_wait = 0;
+    return joined(answer, number, pc);
 }
+
+int pthread_join(pthread_t id, void **value) { return join(id, value, PC); }
 
 int pthread_tryjoin_np(pthread_t id, void **value) {
     REAL(pthread_tryjoin_np, int, pthread_t, void **);
@@ -136,50 +168,19 @@ int pthread_detach(pthread_t id) {
     return real(id);
 }
 
-/* ---- the start ---- */
-
-static void stop_in_child(void) { on = 0; }
-
-static u64 option(const char *name, u64 otherwise) {
-    const char *s = getenv(name);
-    return s && *s ? strtoull(s, NULL, 10) : otherwise;
+/* A thread that waits in the recorder looks whether it was cancelled. */
+int pthread_cancel(pthread_t id) {
+    REAL_OF(pthread_cancel, "GLIBC_2.34", int, pthread_t);
+    if (IDLE) return real(id);
+    maybe_give();
+    u32 number = number_of(id);
+    int answer = real(id);
+    lock_turns();
+    for (u32 k = 0; k < parked_count; k++) if (parked[k] == number) {
+        leave_parked(k);
+        waiting[waiting_count++] = number;
+        break;
+    }
+    unlock_turns();
+    return answer;
 }
-
-/* Maps the file that record/run made. The first process that comes to it has it; its children, and other programs that it
- * starts, find it taken and are not recorded. */
-static void start(void) {
-    static u8 started;
-    if (started) return;
-    started = 1;
-    const char *name = getenv("RACEBENCH_RECORD");
-    int file = name && *name ? open(name, O_RDWR | O_CLOEXEC) : -1;
-    if (file < 0) return;
-    u64 room = option("RACEBENCH_RECORD_ROOM", 1 << 20), size = sizeof *head + room * sizeof *records;
-    void *p = ftruncate(file, (off_t)size) ? MAP_FAILED : mmap(NULL, size, PROT_READ | PROT_WRITE, MAP_SHARED, file, 0);
-    close(file);
-    if (p == MAP_FAILED) return;
-    u64 nothing = 0;
-    head = p;
-    records = (struct record *)(head + 1);
-    if (!__atomic_compare_exchange_n(&head->magic, &nothing, MAGIC, 0, SC, SC)) return;
-    head->room = room;
-    one_in = (u32)option("RACEBENCH_RECORD_YIELD", 40);
-    if (!one_in) one_in = 1;
-    chance = (option("RACEBENCH_RECORD_SEED", 1) + 3) * 0x9e3779b97f4a7c15ull | 1;
-    pthread_key_create(&last_turn, end_of_thread);
-    pthread_setspecific(last_turn, (void *)1);
-    pthread_atfork(NULL, NULL, stop_in_child);
-    me = 0;
-    ids[0] = pthread_self();
-    kernel_ids[0] = getpid();
-    joinable[0] = 1;
-    note_modules();
-    on = 1;
-    take();
-    own_stack();
-}
-
-void __tsan_init(void) { start(); }
-__attribute__((constructor(101))) static void at_start(void) { start(); }
-/* Libraries that were opened late have names too. */
-__attribute__((destructor(101))) static void at_end(void) { if (on) note_modules(); }

@@ -1,9 +1,12 @@
-/* The token: a thread of the program runs only while it has it. A hook comes before its access, so with two threads running
- * the order of the records could be another than that of the accesses. */
+/* The token: a thread of the program runs only while it has it. A hook comes before its access, so with two threads
+ * running the order of the records could be another than that of the accesses. */
 
 static volatile u32 holder = NOBODY;
 static volatile u64 progress;
+/* Threads that wait for the token, and threads that wait for something of other threads. */
 static u32 waiting[MOST_THREADS], waiting_count;
+static u32 parked[MOST_THREADS], parked_count;
+static const volatile void *parked_at[MOST_THREADS];
 static volatile u32 woken[MOST_THREADS];
 /* The numbers of the threads in the system. */
 static pid_t kernel_ids[MOST_THREADS];
@@ -11,9 +14,15 @@ static pid_t kernel_ids[MOST_THREADS];
 static volatile u32 living = 1;
 static volatile u8 turns_lock;
 static u64 chance;
+/* How many accesses are left of this turn. */
+static u64 left_of_turn = 1;
+/* The holder sleeps, but not for long: it waits for the end of a thread that has had its last turn. */
+static volatile u8 short_wait;
+/* Parked threads look whether what they wait for came from outside: nothing is drawn meanwhile. */
+static u8 rescuing;
 
 static void lock_turns(void) {
-    while (__atomic_exchange_n(&turns_lock, 1, __ATOMIC_ACQUIRE)) sched_yield();
+    while (__atomic_exchange_n(&turns_lock, 1, __ATOMIC_ACQUIRE)) syscall(SYS_sched_yield);
 }
 
 static void unlock_turns(void) { __atomic_store_n(&turns_lock, 0, __ATOMIC_RELEASE); }
@@ -26,14 +35,9 @@ static u32 draw(u32 below) {
     return (u32)((chance * 2685821657736338717ull) >> 33) % below;
 }
 
-/* Gives the token to a thread that waits for it, drawn by chance, or to nobody. The turns' lock is held. */
-static void hand_on(void) {
-    if (!waiting_count) {
-        __atomic_store_n(&holder, NOBODY, __ATOMIC_SEQ_CST);
-        return;
-    }
-    u32 k = draw(waiting_count), thread = waiting[k];
-    waiting[k] = waiting[--waiting_count];
+/* The turns' lock is held. What is to be seen of this turn stands before the thread is woken. */
+static void hand_to(u32 thread) {
+    left_of_turn = 0;
     __atomic_store_n(&holder, thread, __ATOMIC_SEQ_CST);
     head->turns++;
     progress++;
@@ -41,21 +45,41 @@ static void hand_on(void) {
     syscall(SYS_futex, &woken[thread], FUTEX_WAKE_PRIVATE, 1, NULL, NULL, 0);
 }
 
-/* Takes the token where nobody has it, else gets in line for it. */
-static void get_in_line(void) {
-    lock_turns();
-    __atomic_store_n(&woken[me], holder == NOBODY, __ATOMIC_SEQ_CST);
-    if (holder == NOBODY) {
+/* Gives the token to a thread that waits for it, or to nobody. The turns' lock is held. */
+static void hand_on(void) {
+    if (following) last_access_done();
+    u32 k = choose();
+    if (k == NOBODY) {
+        rescuing = 0;
+        __atomic_store_n(&holder, NOBODY, __ATOMIC_SEQ_CST);
+        return;
+    }
+    u32 thread = waiting[k];
+    waiting[k] = waiting[--waiting_count];
+    hand_to(thread);
+}
+
+/* Takes the token where nobody has it, else gets in line for it. The turns' lock is held. */
+static void get_in_line_locked(void) {
+    int free_for_me = holder == NOBODY && may_take();
+    __atomic_store_n(&woken[me], free_for_me, __ATOMIC_SEQ_CST);
+    if (free_for_me) {
         __atomic_store_n(&holder, me, __ATOMIC_SEQ_CST);
         progress++;
     } else {
         waiting[waiting_count++] = me;
     }
+}
+
+static void get_in_line(void) {
+    lock_turns();
+    get_in_line_locked();
     unlock_turns();
 }
 
 static void wait_in_line(void) {
-    while (!__atomic_load_n(&woken[me], __ATOMIC_SEQ_CST)) syscall(SYS_futex, &woken[me], FUTEX_WAIT_PRIVATE, 0, NULL, NULL, 0);
+    while (!__atomic_load_n(&woken[me], __ATOMIC_SEQ_CST))
+        syscall(SYS_futex, &woken[me], FUTEX_WAIT_PRIVATE, 0, NULL, NULL, 0);
 }
 
 /* Waits for the token; a thread that has it keeps it. */
@@ -83,9 +107,35 @@ static void give(void) {
     errno = error;
 }
 
+/* Gives the token to another thread that waits for it, and gets in line, in one step: else that thread could come to
+ * its own choice before. */
+static void give_and_take(void) {
+    if (me >= MOST_THREADS || holder != me || following) {
+        give();
+        take();
+        return;
+    }
+    int error = errno;
+    u8 was = inside;
+    inside = 1;
+    lock_turns();
+    u32 k = choose();
+    if (k != NOBODY) {
+        u32 thread = waiting[k];
+        __atomic_store_n(&woken[me], 0, __ATOMIC_SEQ_CST);
+        waiting[k] = me;
+        hand_to(thread);
+    }
+    unlock_turns();
+    if (k != NOBODY) wait_in_line();
+    inside = was;
+    errno = error;
+}
+
 /* For a thread that can't go on yet: it looks again after others ran, or after a moment where no other waits. */
 static void let_others(void) {
     int error = errno, alone = waiting_count == 0;
+    if (following && waits_in_plan()) return;
     give();
     if (alone) {
         struct timespec moment = {0, 50000};
@@ -95,68 +145,100 @@ static void let_others(void) {
     errno = error;
 }
 
+/* Takes parked thread number k out of the line of the parked. The turns' lock is held. */
+static void leave_parked(u32 k) {
+    parked_at[parked[k]] = NULL;
+    parked[k] = parked[--parked_count];
+}
+
+/* Waits until the thread is unparked, or until that time; whether the time is over. */
+static int wait_parked(const struct timespec *until, clockid_t clock) {
+    int how = FUTEX_WAIT_BITSET | FUTEX_PRIVATE_FLAG | (clock == CLOCK_REALTIME ? FUTEX_CLOCK_REALTIME : 0), late = 0;
+    while (until && !late && !__atomic_load_n(&woken[me], __ATOMIC_SEQ_CST)) {
+        long answer = syscall(SYS_futex, &woken[me], how, 0, until, NULL, FUTEX_BITSET_MATCH_ANY);
+        if (answer == 0 || (errno != ETIMEDOUT && errno != EINVAL)) continue;
+        lock_turns();
+        for (u32 k = 0; k < parked_count && !late; k++) if (parked[k] == me) {
+            leave_parked(k);
+            get_in_line_locked();
+            late = 1;
+        }
+        unlock_turns();
+        break;
+    }
+    wait_in_line();
+    return late;
+}
+
+/* Waits for what another thread will do at `at`; the caller looks again. Whether the time came first. */
+static int park(const volatile void *at, const struct timespec *until, clockid_t clock) {
+    if (following || me >= MOST_THREADS) {
+        let_others();
+        return 0;
+    }
+    int error = errno;
+    u8 was = inside;
+    inside = 1;
+    lock_turns();
+    __atomic_store_n(&woken[me], 0, __ATOMIC_SEQ_CST);
+    parked_at[me] = at;
+    parked[parked_count++] = me;
+    if (holder == me) hand_on();
+    unlock_turns();
+    int late = wait_parked(until, clock);
+    inside = was;
+    errno = error;
+    return late;
+}
+
+/* Those who wait for this look again when they have their turn. */
+static void unpark_locked(const volatile void *at) {
+    for (u32 k = 0; k < parked_count;) {
+        u32 thread = parked[k];
+        if (parked_at[thread] != at) {
+            k++;
+            continue;
+        }
+        leave_parked(k);
+        waiting[waiting_count++] = thread;
+    }
+    if (holder == NOBODY) hand_on();
+}
+
+static void unpark(const volatile void *at) {
+    if (!parked_count) return;
+    lock_turns();
+    unpark_locked(at);
+    unlock_turns();
+}
+
 static void keep_turn(void) {
     if (me == NOBODY || holder != me) take();
 }
 
-/* One record in `one_in` gives the token away before it is made. */
-static void maybe_give(void) {
-    keep_turn();
-    if (waiting_count && draw(one_in) == 0) {
-        give();
-        take();
-    }
-}
-
-/* Whether a thread waits in the system, as its state there says: neither running, nor ready to run, nor held up by a disk. */
+/* Whether a thread waits in the system, as its state there says: neither running, nor ready to run, nor held up by a
+ * disk. */
 static int is_asleep(u32 thread) {
     char path[64], text[256];
     snprintf(path, sizeof path, "/proc/self/task/%d/stat", (int)kernel_ids[thread]);
-    int file = open(path, O_RDONLY | O_CLOEXEC);
+    int file = (int)syscall(SYS_openat, AT_FDCWD, path, O_RDONLY | O_CLOEXEC);
     if (file < 0) return 1;
     long n = syscall(SYS_read, file, text, sizeof text - 1);
-    close(file);
+    syscall(SYS_close, file);
     text[n > 0 ? n : 0] = 0;
     char *behind_the_name = strrchr(text, ')');
     return !behind_the_name || behind_the_name[1] != ' ' || behind_the_name[2] == 'S';
 }
 
-/* Takes the token from a thread that has neither made a record nor given it away while another waits for it: after two looks where
- * it sleeps in a call that the recorder does not know, and after a second where it runs without hooks. It ends
- * with the program's threads: a program may end with the last of them. */
-static void *watcher(void *none) {
-    u64 seen = 0;
-    u32 who = NOBODY, looks = 0;
-    inside = 1;
-    while (__atomic_load_n(&living, __ATOMIC_SEQ_CST)) {
-        struct timespec pause = {0, 20000000};
-        syscall(SYS_nanosleep, &pause, NULL);
-        int asleep = who != NOBODY && holder == who && is_asleep(who);
-        lock_turns();
-        looks = holder == who && progress == seen ? looks + 1 : 0;
-        if (looks && holder != NOBODY && waiting_count && (asleep || looks >= 50)) {
-            head->forced++;
-            hand_on();
-        }
-        who = holder;
-        seen = progress;
-        unlock_turns();
-    }
-    return none;
-}
+/* Where nothing happened for so many looks of 20 ms, and threads are parked, these look again: what they wait for
+ * may have come from a library or from another process. */
+#define LOOKS_BEFORE_RESCUE 5
 
-/* The first thread that the program makes gets a watcher beside it. */
-static void watch(void) {
-    static u8 there;
-    if (__atomic_exchange_n(&there, 1, __ATOMIC_SEQ_CST)) return;
-    REAL_OF(pthread_create, "GLIBC_2.34", int, pthread_t *, const pthread_attr_t *, void *(*)(void *), void *);
-    pthread_t id;
-    sigset_t all, before;
-    sigfillset(&all);
-    pthread_sigmask(SIG_SETMASK, &all, &before);
-    u8 was = inside;
-    inside = 1;
-    real(&id, NULL, watcher, NULL);
-    inside = was;
-    pthread_sigmask(SIG_SETMASK, &before, NULL);
+static void rescue(void) {
+    rescuing = 1;
+    while (parked_count) {
+        waiting[waiting_count++] = parked[parked_count - 1];
+        leave_parked(parked_count - 1);
+    }
+    hand_on();
 }

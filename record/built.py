@@ -1,0 +1,68 @@
+"""What is compiled once and kept: a folder of files that are named by what they are made of."""
+import hashlib
+import os
+import stat
+import sys
+import tempfile
+
+
+def folders():
+    """Folders that may keep files, the best first."""
+    home = os.environ.get("XDG_CACHE_HOME") or os.path.join(os.path.expanduser("~"), ".cache")
+    yield os.path.join(home, "racebench")
+    yield os.path.join(tempfile.gettempdir(), "racebench-%d" % os.getuid())
+
+
+def is_ours(folder):
+    """Whether nobody else may write there: what is kept there is linked into programs."""
+    about = os.lstat(folder)
+    return stat.S_ISDIR(about.st_mode) and about.st_uid == os.getuid() and not about.st_mode & 0o022
+
+
+def folder():
+    """The folder that keeps files, or None where there is none."""
+    for path in folders():
+        try:
+            os.makedirs(path, mode=0o700, exist_ok=True)
+            if is_ours(path) and os.access(path, os.W_OK | os.X_OK):
+                return path
+        except OSError:
+            pass
+    return None
+
+
+def key_of(sources, words):
+    """A number of the contents and of the words."""
+    digest = hashlib.sha256()
+    for source in sources:
+        with open(source, "rb") as file:
+            content = file.read()
+        digest.update(b"%d\n" % len(content) + content)
+    digest.update("\0".join(words).encode("utf-8", "surrogateescape"))
+    return digest.hexdigest()[:24]
+
+
+def built(name, sources, words, make, otherwise):
+    """The path of a file that `make(path)` makes of the sources by the words; it is made once. It is in the folder
+    `otherwise` if nothing can be kept. None if it can't be made."""
+    kept = folder()
+    if kept is None:
+        path = os.path.join(otherwise, name)
+        return path if make(path) == 0 else None
+    stem, end = os.path.splitext(name)
+    path = os.path.join(kept, "%s-%s%s" % (stem, key_of(sources, words), end))
+    if os.path.exists(path):
+        return path
+    file, part = tempfile.mkstemp(prefix="." + stem, suffix=end, dir=kept)
+    os.close(file)
+    try:
+        if make(part) != 0:
+            return None
+        os.chmod(part, 0o700)
+        os.rename(part, path)
+        return path
+    except OSError as error:
+        sys.exit("record: %s: %s" % (path, error.strerror))
+    finally:
+        if os.path.exists(part):
+            os.unlink(part)

@@ -1,0 +1,123 @@
+"""The clock of a recording, beside its trace: of each event the record that it is of, and the records, so that each has
+the clock of its thread. Following never looks at a name or an address: an event has a record, and that a thread and a
+tick.
+
+The file: `RBCLOCK1`, the size of the words (4 bytes) and the words as JSON; for each event the number of its record
+(8 bytes) and the CRC-32 of its line (4 bytes); then the raw records. All numbers are little-endian.
+"""
+import hashlib
+import json
+import os
+import shutil
+import struct
+import sys
+import zlib
+from array import array
+
+import raw as raw_file
+import running
+
+MAGIC = b"RBCLOCK1"
+SIZE = struct.Struct("<I")
+
+
+class Bad(Exception):
+    """Why a clock is of no use."""
+
+
+class Kept:
+    """A file that the trace is written to, with the checksums of its lines."""
+
+    def __init__(self, out):
+        self.out, self.whole, self.lines = out, hashlib.sha256(), array("I")
+
+    def write(self, line):
+        self.whole.update(line)
+        self.lines.append(zlib.crc32(line[:-1]))
+        self.out.write(line)
+
+
+def digest_of(path):
+    with open(path, "rb") as file:
+        return hashlib.sha256(file.read()).hexdigest()
+
+
+def program_of(word):
+    """The file that a word runs, or None."""
+    path = running.path_of(word)
+    return shutil.which(path) if "/" not in path else path
+
+
+def write(given, recorded, kept):
+    """Writes the clock of a trace that was written to `kept`."""
+    main = next((path for _, _, path, is_main in recorded.head.modules if is_main), "")
+    words = {"argv": [given.program] + given.args, "cwd": os.getcwd(), "free": given.free,
+             "yield": getattr(given, "yield"), "room": given.room, "seed": given.seed,
+             "trace": kept.whole.hexdigest(), "events": len(kept.lines),
+             "program": digest_of(program_of(given.program)), "main": digest_of(main) if os.path.exists(main) else ""}
+    text = json.dumps(words).encode()
+    with open(given.clock, "wb") as file:
+        file.write(MAGIC + SIZE.pack(len(text)) + text)
+        recorded.record_of.tofile(file)
+        kept.lines.tofile(file)
+        file.write(recorded.raw)
+
+
+def read_words(file, path):
+    begin = file.read(len(MAGIC) + SIZE.size)
+    if len(begin) < len(MAGIC) + SIZE.size or not begin.startswith(MAGIC):
+        raise Bad("%s is no clock of record/run --clock" % path)
+    try:
+        return json.loads(file.read(SIZE.unpack(begin[len(MAGIC):])[0]))
+    except ValueError:
+        raise Bad("%s is cut or damaged" % path) from None
+
+
+class Clock:
+    """A recording as it is followed: of each event its thread and clock, and of each thread the ticks that it made."""
+
+    def __init__(self, path):
+        try:
+            with open(path, "rb") as file:
+                self.words = read_words(file, path)
+                self.record_of, self.lines = array("Q"), array("I")
+                self.record_of.frombytes(file.read(8 * self.words["events"]))
+                self.lines.frombytes(file.read(4 * self.words["events"]))
+                self.raw = file.read()
+            self.head = raw_file.Head(self.raw)
+            self.read_records()
+        except OSError as error:
+            raise Bad("%s: %s" % (path, error.strerror)) from None
+        except (struct.error, ValueError, KeyError, TypeError, IndexError):
+            raise Bad("%s is cut or damaged" % path) from None
+
+    def read_records(self):
+        events, self.ticks, self.forks, self.of = set(self.record_of), {}, [], {}
+        if not self.head.there or len(self.raw) < self.head.records_at + self.head.used * raw_file.RECORD.size:
+            raise ValueError
+        for number, record in raw_file.all_records(self.raw, self.head):
+            if number in events:
+                self.of[number] = record
+            if record.kind == raw_file.KINDS["FORK"]:
+                self.forks.append((record.thread, record.pos, record.at))
+            if record.kind not in NO_TICKS:
+                self.put_tick(record, 128 if number in events else 0)
+        if events - self.of.keys():
+            raise ValueError
+
+    def put_tick(self, record, flag):
+        mine, end = self.ticks.setdefault(record.thread, array("Q")), 3 * (record.pos >> 16)
+        if end > len(mine):
+            mine.extend([0] * (end - len(mine)))
+        mine[end - 3:end] = array("Q", (record.pc << 16 | flag | record.kind, record.at, record.answer))
+
+    def record(self, event):
+        return self.of[self.record_of[event]]
+
+    def is_line(self, event, line):
+        """Whether this is the event's line in the trace."""
+        text = line.encode("utf-8", "surrogateescape")
+        return 0 <= event < len(self.lines) and zlib.crc32(text) == self.lines[event]
+
+
+NO_TICKS = tuple(raw_file.KINDS[name] for name in "ALLOCATED FREED RESIZED STACK".split())

@@ -1,0 +1,13 @@
+// The decoder as one file: so it is compiled in half the time.
+#include "text.cpp"
+#include "elf.cpp"
+#include "dwarf.cpp"
+#include "raw.cpp"
+#include "places.cpp"
+#include "objects.cpp"
+#include "parts.cpp"
+#include "relaxed.cpp"
+#include "trace.cpp"
+#include "words.cpp"
+#include "writing.cpp"
+#include "main.cpp"

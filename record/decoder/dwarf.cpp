@@ -1,0 +1,188 @@
+#include "dwarf.hpp"
+#include "text.hpp"
+#include <algorithm>
+#include <dwarf.h>
+#include <fcntl.h>
+#include <limits>
+#include <tuple>
+
+namespace dwarf {
+
+namespace {
+
+// Scopes in each other beyond this number are not looked into.
+constexpr int MOST_DEPTH = 200;
+
+// The linker moves what it drops to 0 or 1.
+Ranges ranges_of(Dwarf_Die &die) {
+    Ranges found;
+    Dwarf_Addr base = 0, start = 0, end = 0;
+    for (ptrdiff_t at = 0; (at = dwarf_ranges(&die, at, &base, &start, &end)) > 0;) {
+        if (start > 1) found.emplace_back(start, end);
+    }
+    return found;
+}
+
+uint64_t number_in(Dwarf_Die &die, unsigned name) {
+    Dwarf_Attribute attribute;
+    Dwarf_Word value = 0;
+    return dwarf_attr(&die, name, &attribute) && dwarf_formudata(&attribute, &value) == 0 ? value : 0;
+}
+
+bool has_name(Dwarf_Die &die) {
+    Dwarf_Attribute attribute;
+    return dwarf_attr(&die, DW_AT_name, &attribute) != nullptr;
+}
+
+std::string name_in(Dwarf_Die &die) {
+    const char *name = dwarf_diename(&die);
+    return name ? text::without_template(name) : "";
+}
+
+bool holds(const Ranges &ranges, Dwarf_Addr place) {
+    return std::any_of(ranges.begin(), ranges.end(),
+                       [place](auto &range) { return range.first <= place && place < range.second; });
+}
+
+std::string inside_scope(const std::string &scope, const std::string &name) {
+    return scope.empty() ? name : scope + "::" + name;
+}
+
+}
+
+std::vector<std::string> Unit::files() const {
+    Dwarf_Files *found = nullptr;
+    size_t count = 0;
+    std::vector<std::string> paths;
+    if (dwarf_getsrcfiles(&die, &found, &count) != 0) return paths;
+    for (size_t k = 0; k < count; k++) {
+        const char *path = dwarf_filesrc(found, k, nullptr, nullptr);
+        paths.push_back(path ? path : "");
+    }
+    return paths;
+}
+
+void Unit::read() {
+    was_read = true;
+    walk(top, "", nullptr, 0);
+    paths = files();
+}
+
+// Finds the bodies below an entry, those in a body around them, and the names of all functions.
+void Unit::walk(Dwarf_Die &entry, const std::string &scope, std::vector<Body> *around, int depth) {
+    if (depth > MOST_DEPTH) return;
+    Dwarf_Die child;
+    for (int answer = dwarf_child(&entry, &child); answer == 0; answer = dwarf_siblingof(&child, &child)) {
+        int tag = dwarf_tag(&child);
+        switch (tag) {
+        case DW_TAG_class_type:
+        case DW_TAG_structure_type:
+        case DW_TAG_union_type:
+        case DW_TAG_namespace:
+            walk(child, dwarf_diename(&child) ? inside_scope(scope, name_in(child)) : scope, nullptr, depth + 1);
+            break;
+        case DW_TAG_lexical_block:
+        case DW_TAG_catch_block:
+        case DW_TAG_try_block: walk(child, scope, around, depth + 1); break;
+        case DW_TAG_subprogram:
+        case DW_TAG_inlined_subroutine: walk_body(child, tag, scope, around, depth); break;
+        default: break;
+        }
+    }
+}
+
+void Unit::walk_body(Dwarf_Die &entry, int tag, std::string scope, std::vector<Body> *around, int depth) {
+    if (tag == DW_TAG_subprogram && has_name(entry)) {
+        scope = inside_scope(scope, name_in(entry));
+        names[dwarf_dieoffset(&entry)] = scope;
+    }
+    Body body{entry, ranges_of(entry), number_in(entry, DW_AT_call_file), number_in(entry, DW_AT_call_line), {}};
+    walk(entry, scope, body.ranges.empty() ? nullptr : &body.inside, depth + 1);
+    if (body.ranges.empty()) return;
+    if (tag == DW_TAG_subprogram) bodies.push_back(std::move(body));
+    else if (around) around->push_back(std::move(body));
+}
+
+// The name of a function, which may be that of the entry that this one is a copy of.
+std::string Unit::name_of(Dwarf_Die entry) const {
+    for (int copies = 0; copies < 8; copies++) {
+        if (has_name(entry)) {
+            auto known = names.find(dwarf_dieoffset(&entry));
+            return known == names.end() || known->second.empty() ? name_in(entry) : known->second;
+        }
+        Dwarf_Attribute attribute;
+        Dwarf_Die other;
+        if (!dwarf_attr(&entry, DW_AT_abstract_origin, &attribute) &&
+            !dwarf_attr(&entry, DW_AT_specification, &attribute))
+            break;
+        if (!dwarf_formref_die(&attribute, &other)) break;
+        entry = other;
+    }
+    return "";
+}
+
+// The bodies that a place lies in, the innermost last.
+std::vector<const Body *> Unit::bodies_at(Dwarf_Addr place) {
+    if (!was_read) read();
+    std::vector<const Body *> chain;
+    for (const std::vector<Body> *level = &bodies; level;) {
+        auto found = std::find_if(level->begin(), level->end(),
+                                  [place](const Body &body) { return holds(body.ranges, place); });
+        if (found == level->end()) break;
+        chain.push_back(&*found);
+        level = &found->inside;
+    }
+    return chain;
+}
+
+std::vector<Frame> Unit::frames(Dwarf_Addr place) {
+    Dwarf_Line *row = dwarf_getsrc_die(&die, place);
+    int line = 0;
+    if (!row || dwarf_lineno(row, &line) != 0) return {};
+    const char *source = dwarf_linesrc(row, nullptr, nullptr);
+    std::string path = source ? source : "";
+    std::vector<Frame> frames;
+    std::vector<const Body *> chain = bodies_at(place);
+    if (chain.empty()) frames.push_back({"", text::normal(path), line});
+    for (auto body = chain.rbegin(); body != chain.rend(); ++body) {
+        frames.push_back({name_of((*body)->die), text::normal(path), line});
+        path = (*body)->file < paths.size() ? paths[(*body)->file] : "";
+        line = static_cast<int>((*body)->line);
+    }
+    frames.erase(std::remove_if(frames.begin(), frames.end(), [](const Frame &frame) { return frame.line <= 0; }),
+                 frames.end());
+    return frames;
+}
+
+Lines::Lines(const std::string &path) {
+    int file = open(path.c_str(), O_RDONLY | O_CLOEXEC);
+    Dwarf *debug = file < 0 ? nullptr : dwarf_begin(file, DWARF_C_READ);
+    Dwarf_CU *unit = nullptr;
+    Dwarf_Die die{}, split{};
+    while (debug && dwarf_get_units(debug, unit, &unit, nullptr, nullptr, &die, &split) == 0) {
+        units.push_back(std::make_unique<Unit>(die, split));
+        die = split = Dwarf_Die{};
+    }
+    for (size_t k = 0; k < units.size(); k++)
+        for (auto &range : ranges_of(units[k]->die)) starts.push_back({range.first, range.second, k});
+    std::sort(starts.begin(), starts.end(), [](const Start &a, const Start &b) {
+        return std::tie(a.start, a.end, a.unit) < std::tie(b.start, b.end, b.unit);
+    });
+}
+
+std::set<std::string> Lines::paths() const {
+    std::set<std::string> found;
+    for (auto &unit : units)
+        for (const std::string &path : unit->files())
+            if (!path.empty()) found.insert(text::normal(path));
+    return found;
+}
+
+std::vector<Frame> Lines::frames(Dwarf_Addr place) {
+    auto after = std::upper_bound(starts.begin(), starts.end(), place,
+                                  [](Dwarf_Addr at, const Start &one) { return at < one.start; });
+    if (after == starts.begin() || place >= std::prev(after)->end) return {};
+    return units[std::prev(after)->unit]->frames(place);
+}
+
+}

@@ -1,0 +1,111 @@
+#include "text.hpp"
+#include <array>
+#include <cstdio>
+#include <unordered_map>
+
+namespace text {
+
+static uint32_t crc32(const std::string &bytes) {
+    static const std::array<uint32_t, 256> table = [] {
+        std::array<uint32_t, 256> made{};
+        for (uint32_t k = 0; k < 256; k++) {
+            uint32_t word = k;
+            for (int bit = 0; bit < 8; bit++) word = word & 1 ? word >> 1 ^ 0xedb88320u : word >> 1;
+            made[k] = word;
+        }
+        return made;
+    }();
+    uint32_t sum = 0xffffffffu;
+    for (unsigned char byte : bytes) sum = table[(sum ^ byte) & 255] ^ sum >> 8;
+    return ~sum;
+}
+
+std::string fitting(const std::string &name, size_t most) {
+    if (name.size() <= most) return name;
+    size_t end = most - 9;
+    while (end && (name[end] & 0xc0) == 0x80) end--;
+    char number[16];
+    snprintf(number, sizeof number, "~%08x", crc32(name));
+    return name.substr(0, end) + number;
+}
+
+std::string plain(std::string name) {
+    for (char &c : name) {
+        unsigned char byte = static_cast<unsigned char>(c);
+        if (byte < 32 || byte == 127) c = '?';
+        else if (c == '|') c = '!';
+    }
+    return name;
+}
+
+static std::vector<std::string> parts_of(const std::string &path) {
+    std::vector<std::string> parts;
+    for (size_t at = 0; at <= path.size();) {
+        size_t end = path.find('/', at);
+        if (end == std::string::npos) end = path.size();
+        parts.push_back(path.substr(at, end - at));
+        at = end + 1;
+    }
+    return parts;
+}
+
+std::string normal(const std::string &path) {
+    bool first = !path.empty() && path[0] == '/';
+    std::vector<std::string> kept;
+    for (const std::string &part : parts_of(path)) {
+        if (part == ".." && !kept.empty() && kept.back() != "..") kept.pop_back();
+        else if (!part.empty() && part != "." && !(part == ".." && first)) kept.push_back(part);
+    }
+    std::string joined = first ? "/" : "";
+    for (size_t k = 0; k < kept.size(); k++) joined += (k ? "/" : "") + kept[k];
+    return joined;
+}
+
+static bool begins(const std::string &text, const char *beginning) { return text.rfind(beginning, 0) == 0; }
+
+std::string without_template(const std::string &name) {
+    if (begins(name, "<lambda")) return "<lambda>";
+    if (begins(name, "operator()")) return "operator()";
+    return begins(name, "operator") || begins(name, "<") ? name : name.substr(0, name.find('<'));
+}
+
+std::string function_name(const std::string &name) {
+    std::string whole = plain(name);
+    for (char &c : whole)
+        if (c == ' ') c = '_';
+    return fitting(whole, MOST_FUNCTION_BYTES);
+}
+
+bool in_cxx_library(const std::string &path) {
+    size_t include = path.find("/include/");
+    return include != std::string::npos && path.find("/c++/", include + 8) != std::string::npos;
+}
+
+// Where the ends of a path begin, the shortest first.
+static std::vector<size_t> ends_of(const std::string &path) {
+    std::vector<size_t> starts;
+    for (size_t k = path.size(); k-- > 0;)
+        if (path[k] == '/') starts.push_back(k + 1);
+    if (path.empty() || path[0] != '/') starts.push_back(0);
+    return starts;
+}
+
+std::map<std::string, std::string> short_paths(const std::set<std::string> &paths) {
+    std::unordered_map<std::string, int> count;
+    for (const std::string &path : paths)
+        for (size_t start : ends_of(path)) count[path.substr(start)]++;
+    std::map<std::string, std::string> found;
+    for (const std::string &path : paths) {
+        found[path] = path;
+        for (size_t start : ends_of(path)) {
+            if (count[path.substr(start)] != 1) continue;
+            found[path] = path.substr(start);
+            break;
+        }
+    }
+    return found;
+}
+
+std::string last_part(const std::string &path) { return path.substr(path.rfind('/') + 1); }
+
+}

@@ -1,0 +1,28 @@
+// Names as they stand in a trace: what is cut, replaced and left out of them. The Python decoder's places.py says the
+// same.
+#pragma once
+#include <cstdint>
+#include <map>
+#include <set>
+#include <string>
+#include <vector>
+
+namespace text {
+
+constexpr size_t MOST_NAME_BYTES = 255, MOST_FUNCTION_BYTES = 80, MOST_PLACE_BYTES = 160;
+
+// A name that is too long is cut, before a byte that begins a character, with a number of the whole name behind it.
+std::string fitting(const std::string &name, size_t most = MOST_NAME_BYTES);
+// A name that can stand in a line of a trace.
+std::string plain(std::string name);
+// A path without `.`, `..` and empty parts.
+std::string normal(const std::string &path);
+// A part of a name without the arguments of its template.
+std::string without_template(const std::string &name);
+std::string function_name(const std::string &name);
+bool in_cxx_library(const std::string &path);
+// For each path its shortest end that no other path ends in.
+std::map<std::string, std::string> short_paths(const std::set<std::string> &paths);
+std::string last_part(const std::string &path);
+
+}

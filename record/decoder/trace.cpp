@@ -1,0 +1,160 @@
+#include "trace.hpp"
+#include <algorithm>
+
+namespace trace {
+
+bool is_atomic(int kind) { return kind == ATOMIC_READ || kind == ATOMIC_WRITE || kind == ATOMIC_UPDATE; }
+
+bool is_access(const record &one) {
+    return one.kind == READ || one.kind == WRITE || one.kind == FREED || is_atomic(one.kind);
+}
+
+bool is_write(const record &one) { return one.kind != READ && one.kind != ATOMIC_READ; }
+
+bool is_synchronization(int kind) {
+    return kind == ACQUIRE || kind == RELEASE || kind == PASS || kind == WRITER || kind == TRIED ||
+           kind == READER_IN || kind == READER_OUT || kind == ARRIVED || kind == WENT_ON;
+}
+
+static u64 key_of(const record &one) { return static_cast<u64>(one.of) << 56 ^ one.at; }
+
+Trace::Trace(const raw::File &file, const Options &options)
+    : file(file), options(options), modules(file), things(modules) {
+    find_users();
+    find_shared();
+    find_cuts();
+    find_kept();
+    if (!options.only.empty()) choose();
+    if (relaxed.wants_parts()) find_relaxed();
+    for (auto &lock : locks) counts.no_sections += lock.second.no_sections;
+}
+
+Resolved Trace::resolve(const record &one) {
+    switch (one.kind) {
+    case ALLOCATED: things.begin_block(one.at, one.size, one.pc, one.stack); return {};
+    case STACK: things.begin_stack(one.at, one.size, one.thread); return {};
+    case RESIZED: things.resize(one.at, one.size); return {};
+    default: break;
+    }
+    if (one.kind == FREED) {
+        objects::Where block = options.frees ? things.living_at(one.at) : objects::Where{objects::NOTHING, 0};
+        return {block.thing, 0, block.place};
+    }
+    if (one.of) {
+        if (!users[key_of(one)].several) return {};
+        return {things.named(one.of, one.at), 0, one.size};
+    }
+    if (!is_access(one) && !is_synchronization(one.kind)) return {};
+    objects::Where where = things.at(one.at);
+    return {where.thing, where.place, one.size};
+}
+
+// Of what is no memory, and one thread alone comes to, nothing is written. Forks, joins and fences are met here too.
+void Trace::find_users() {
+    for (size_t number = 0; number < file.records(); number++) {
+        const record &one = file.at(number);
+        file.pass(number);
+        if (!raw::File::happened(one)) continue;
+        if (one.of) users[key_of(one)].see(one.thread, true);
+        relaxed.see(number, one);
+    }
+}
+
+void Trace::find_shared() {
+    each([this](size_t, const record &one, const Resolved &of) {
+        if (!of.there()) return;
+        if (is_access(one)) seen[of.thing].see(one.thread, is_write(one));
+        else if (is_synchronization(one.kind)) see_lock(one, of);
+    });
+}
+
+// Locks whose sections are none: let go by a thread that does not hold them, or taken while another does.
+void Trace::see_lock(const record &one, const Resolved &of) {
+    LockSeen &lock = locks[{of.thing, of.place}];
+    if (one.kind == TRIED) lock.tried = true;
+    if (one.kind == READER_IN || one.kind == READER_OUT) lock.readers.insert(one.thread);
+    if (one.kind != ACQUIRE && one.kind != WRITER && one.kind != RELEASE) return;
+    if ((lock.times && lock.holder != one.thread) || (one.kind == RELEASE && !lock.times)) {
+        lock.no_sections = true;
+        lock.times = 0;
+        return;
+    }
+    lock.holder = one.thread;
+    lock.times += one.kind == RELEASE ? -1 : 1;
+}
+
+// A thing that is shared is cut at both ends of each access to it.
+void Trace::find_cuts() {
+    cuts.resize(1);
+    each([this](size_t, const record &one, const Resolved &of) {
+        if (!of.there() || !is_access(one) || !seen[of.thing].shared()) return;
+        u32 &number = cuts_of[of.thing];
+        if (!number) {
+            number = static_cast<u32>(cuts.size());
+            cuts.emplace_back();
+        }
+        cuts[number].add(of.place);
+        cuts[number].add(of.place + of.size);
+    });
+    size_t first = 0;
+    for (parts::Cuts &one : cuts) {
+        one.settle();
+        one.first = first;
+        first += one.size();
+    }
+    kept.resize(first);
+}
+
+// Kept are the parts that two threads access, one of them writing.
+void Trace::find_kept() {
+    each([this](size_t, const record &one, const Resolved &of) {
+        if (!of.there() || !is_access(one)) return;
+        const parts::Cuts &ends = cuts[cuts_of[of.thing]];
+        auto [from, to] = ends.between(of.place, of.place + of.size);
+        if (to - from > MOST_PARTS) counts.cut_short = true;
+        for (size_t part = from; part < std::min(to, from + MOST_PARTS); part++)
+            kept[ends.first + part].see(one.thread, is_write(one));
+    });
+}
+
+void Trace::find_relaxed() {
+    each([this](size_t number, const record &one, const Resolved &of) {
+        if (!of.there() || !is_access(one) || !cuts_of[of.thing]) return;
+        const parts::Cuts &ends = cuts[cuts_of[of.thing]];
+        auto [from, to] = ends.between(of.place, of.place + of.size);
+        for (size_t part = from; part < std::min(to, from + MOST_PARTS); part++) {
+            relaxed.see_part(number, one.thread, is_atomic(one.kind), ends.first + part);
+        }
+    });
+}
+
+bool Trace::is_chosen(const record &one) {
+    auto known = chosen_places.find({one.pc, one.stack});
+    if (known != chosen_places.end()) return known->second;
+    return chosen_places[{one.pc, one.stack}] = modules.is_in(one.pc, one.stack, options.only);
+}
+
+// Of the parts that are kept those that the files of `only` access; the others are left out whole, and counted.
+void Trace::choose() {
+    each([this](size_t, const record &one, const Resolved &of) {
+        if (!of.there() || !is_access(one) || !cuts_of[of.thing] || !is_chosen(one)) return;
+        const parts::Cuts &ends = cuts[cuts_of[of.thing]];
+        auto [from, to] = ends.between(of.place, of.place + of.size);
+        for (size_t part = from; part < std::min(to, from + MOST_PARTS); part++) kept[ends.first + part].chosen = true;
+    });
+    for (parts::Seen &part : kept) {
+        if (!part.shared() || part.chosen) continue;
+        counts.not_chosen++;
+        part.written = false;
+    }
+}
+
+const std::string &Trace::location(const record &one) {
+    auto &known = one.kind == FREED ? free_locations : locations;
+    auto found = known.find({one.pc, one.stack});
+    if (found != known.end()) return found->second;
+    std::string whole = modules.location(one.pc, one.stack, options.frames, one.kind == FREED ? "free" : "");
+    return known[{one.pc, one.stack}] = whole;
+}
+
+}

@@ -1,0 +1,193 @@
+"""Reads reports of data races: ThreadSanitizer's text as gcc and clang print it, Helgrind's and DRD's text and
+XML.
+
+Of each report the accesses are kept, and of each access whether it reads or writes and its calls: function, path,
+line.
+"""
+import re
+import xml.etree.ElementTree as trees
+from collections import Counter
+
+# Calls in these are none of the program: the sanitizer's own, and what C++ has in its headers.
+NOT_THE_PROGRAMS = re.compile(r"libsanitizer/|sanitizer_common/|/compiler-rt/|<null>|/include/(.*/)?c\+\+/")
+TSAN_HEAD = re.compile(r"WARNING: ThreadSanitizer: (.+?) \(pid=\d+\)")
+TSAN_ACCESS = re.compile(
+    r"  (?:Previous )?(?:atomic )?(read|write) of size \d+ at 0x[0-9a-f]+ by (.+?)(?: \(.*\))?:$", re.IGNORECASE
+)
+TSAN_FRAME = re.compile(r"    #\d+ (.+)$")
+TSAN_MODULE = re.compile(r"( \([^()]*\+0x[0-9a-f]+\)| \(BuildId: [^()]*\))+$")
+PLACE_LAST = re.compile(r"^(.*) (\S+?):(\d+)(?::\d+)?$")
+VALGRIND_LINE = re.compile(r"^(?:==\d+==|--\d+--) ?(.*)$")
+VALGRIND_ACCESS = re.compile(
+    r"(Possible data race during|This conflicts with a previous|Conflicting) (read|write|load|store)\b"
+    r"(?:.*? by (thread #?\d+))?"
+)
+VALGRIND_FRAME = re.compile(r" +(?:at|by) 0x[0-9A-Fa-f]+: (.*)$")
+VALGRIND_PLACE = re.compile(r"^(.*) \((.+):(\d+)\)$")
+VARIABLE = re.compile(
+    r"(?:Location is global '([^']+)'|inside (?:global|local) var \"([^\"]+)\"|"
+    r"inside ([\w.\[\]>-]+),? a |Location 0x\w+ is \d+ bytes inside ([\w.\[\]]+)[, ])"
+)
+RACES_OF_TSAN = ("data race", "heap-use-after-free", "race on")
+
+
+class Unreadable(Exception):
+    """Why a text is no report, or only a part of one."""
+
+
+class Access:
+    def __init__(self, word, thread):
+        self.word, self.thread, self.calls = (
+            {"load": "read", "store": "write"}.get(word.lower(), word.lower()),
+            thread or "",
+            [],
+        )
+
+    def places(self):
+        """The calls in the program's own code, the innermost first."""
+        return [call for call in self.calls if call[2] and not NOT_THE_PROGRAMS.search(call[1])]
+
+
+class Report:
+    """A data race that a tool told of, and the line where its report begins."""
+
+    def __init__(self, kind, line):
+        self.kind, self.line, self.accesses, self.variable, self.ended = kind, line, [], "", False
+
+    def name_variable(self, text):
+        found = VARIABLE.search(text)
+        if found and not self.variable:
+            self.variable = re.split(r"[.\[+]", next(part for part in found.groups() if part))[0]
+
+
+class Reports:
+    """What was read: the reports, how many there were of what is no data race, and what was cut."""
+
+    def __init__(self):
+        self.all, self.others, self.cut = [], Counter(), ""
+
+
+def tsan_call(text):
+    text = TSAN_MODULE.sub("", text)
+    found = PLACE_LAST.match(text)
+    return (found[1], found[2], int(found[3])) if found else (text.split(" ")[0], "<null>", 0)
+
+
+def read_tsan(lines):
+    """ThreadSanitizer's text: a report begins with its warning and ends with its summary."""
+    found, report, access = Reports(), None, None
+    for number, line in enumerate(lines, start=1):
+        head = TSAN_HEAD.search(line)
+        if head:
+            report, access = Report(head[1], number), None
+            (found.all.append(report) if head[1].startswith(RACES_OF_TSAN) else found.others.update([head[1]]))
+        elif report and line.startswith("SUMMARY: ThreadSanitizer:"):
+            report.ended, report = True, None
+        elif report:
+            began, call = TSAN_ACCESS.match(line), TSAN_FRAME.match(line)
+            if began:
+                access = Access(began[1], began[2])
+                report.accesses.append(access)
+            elif call and access:
+                access.calls.append(tsan_call(call[1]))
+            elif not line.strip():
+                access = None
+            report.name_variable(line)
+    return found
+
+
+def read_valgrind(lines):
+    """Helgrind's and DRD's text. A report ends with an empty line behind its last access; one that has none is cut."""
+    found, report, access = Reports(), None, None
+    for number, whole in enumerate(lines, start=1):
+        part = VALGRIND_LINE.match(whole)
+        if not part:
+            continue
+        began, call = VALGRIND_ACCESS.match(part[1]), VALGRIND_FRAME.match(part[1])
+        if began and began[1] != "This conflicts with a previous":
+            report = Report("data race", number)
+            found.all.append(report)
+        if began and report:
+            access, report.ended = Access(began[2], began[3]), False
+            report.accesses.append(access)
+        elif call and access:
+            place = VALGRIND_PLACE.match(call[1])
+            access.calls.append((place[1], place[2], int(place[3])) if place else (call[1].split(" (")[0], "", 0))
+        elif report:
+            if access and access.calls:
+                access, report.ended = None, True
+            report.name_variable(part[1])
+    return found
+
+
+def xml_calls(stack):
+    for frame in stack.findall("frame"):
+        folder, name, line = frame.findtext("dir", ""), frame.findtext("file", ""), frame.findtext("line", "0")
+        yield frame.findtext("fn", "???"), (folder + "/" if folder else "") + name, int(line) if line.isdigit() else 0
+
+
+def xml_report(error, line):
+    """The report of an `error`: each text that tells of an access, with the stack behind it."""
+    report, access = Report("data race", line), None
+    report.ended = True
+    for part in error:
+        text = part.findtext("text", "") if part.tag in ("xwhat", "xauxwhat") else part.text or ""
+        began = VALGRIND_ACCESS.match(text.strip())
+        if part.tag in ("what", "xwhat", "auxwhat", "xauxwhat"):
+            access = Access(began[2], began[3]) if began else None
+            report.accesses += [access] if access else []
+            report.name_variable(text)
+        elif part.tag == "stack" and access:
+            access.calls += xml_calls(part)
+            access = None
+    return report
+
+
+def read_xml(text):
+    """Valgrind's XML as far as it is whole. Texts that define words of their own are not read."""
+    if re.search(r"<!(DOCTYPE|ENTITY)", text):
+        raise Unreadable("this XML defines entities, and valgrind's does not")
+    found, parser = Reports(), trees.XMLPullParser(["end"])
+    try:
+        parser.feed(text)
+        for _, element in parser.read_events():
+            take_error(found, element)
+        parser.close()
+    except trees.ParseError as error:
+        for _, element in parser_events(parser):
+            take_error(found, element)
+        found.cut = "the XML is cut or damaged: %s" % error
+    return found
+
+
+def parser_events(parser):
+    try:
+        yield from parser.read_events()
+    except trees.ParseError:
+        return
+
+
+def take_error(found, element):
+    if element.tag != "error":
+        return
+    kind = element.findtext("kind", "?")
+    if kind in ("Race", "ConflictingAccess"):
+        found.all.append(xml_report(element, len(found.all) + 1))
+    else:
+        found.others[kind] += 1
+
+
+def read(text):
+    """The reports in a text of one of the tools."""
+    if re.search(r"<valgrindoutput>|<protocoltool>", text):
+        found = read_xml(text)
+    elif "WARNING: ThreadSanitizer:" in text:
+        found = read_tsan(text.splitlines())
+    elif re.search(r"^==\d+==", text, re.MULTILINE):
+        found = read_valgrind(text.splitlines())
+    else:
+        raise Unreadable("this is no report of ThreadSanitizer, Helgrind or DRD")
+    cut = [report for report in found.all if not report.ended or not report.accesses]
+    if cut and not found.cut:
+        found.cut = "the report that begins in line %d is cut" % cut[0].line
+    return found

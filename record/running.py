@@ -1,0 +1,89 @@
+"""Running a program that was compiled for recording: its raw file, its environment, its end."""
+import ctypes
+import os
+import signal
+import subprocess
+import sys
+import tempfile
+
+import raw as raw_file
+
+NO_RANDOM_ADDRESSES = 0x0040000
+SIGNAL_AT_PARENTS_DEATH = 1
+C_LIBRARY = ctypes.CDLL(None)
+
+
+class Unrunnable(Exception):
+    """Why nothing was run or recorded."""
+
+
+def nameless_file():
+    """A file for the records without a name, so nothing is left however the run ends. The program opens it by this
+    process."""
+    try:
+        file = tempfile.TemporaryFile(prefix="record")
+    except OSError as error:
+        where = os.environ.get("TMPDIR", "/tmp")
+        raise Unrunnable("no file for the records in %s: %s" % (where, error.strerror or error)) from None
+    return file, "/proc/%d/fd/%d" % (os.getpid(), file.fileno())
+
+
+def prepare():
+    """In the child: the same addresses at each run, if the system allows it; and the child ends with this process."""
+    C_LIBRARY.personality(NO_RANDOM_ADDRESSES)
+    C_LIBRARY.prctl(SIGNAL_AT_PARENTS_DEATH, signal.SIGKILL)
+
+
+def path_of(program):
+    return program if "/" in program or not os.path.exists(program) else "./" + program
+
+
+def environment(raw, seed, one_in, room, **more):
+    return dict(os.environ, RACEBENCH_RECORD=raw, RACEBENCH_RECORD_SEED=str(seed), RACEBENCH_RECORD_YIELD=str(one_in),
+                RACEBENCH_RECORD_ROOM=str(room), **more)
+
+
+def run(words, surroundings, out, patience=None, source=None):
+    """Runs a program; its status, and whether it was ended since its time was over. A key that ends it (control-C)
+    does not end this script, and a signal that asks this script to end is passed on."""
+    try:
+        started = subprocess.Popen(words, stdin=source, stdout=out, env=surroundings, preexec_fn=prepare)
+    except OSError as error:
+        raise Unrunnable("%s: %s" % (words[0], error.strerror)) from None
+    signal.signal(signal.SIGINT, signal.SIG_IGN)
+    signal.signal(signal.SIGQUIT, signal.SIG_IGN)
+    for number in (signal.SIGTERM, signal.SIGHUP):
+        signal.signal(number, lambda number, _: started.send_signal(number))
+    try:
+        return started.wait(patience), False
+    except subprocess.TimeoutExpired:
+        started.kill()
+        return started.wait(), True
+
+
+def ending(status):
+    """How a program ended, in words."""
+    if status >= 0:
+        return "the program ended with status %d" % status
+    try:
+        name = " (%s)" % signal.Signals(-status).name
+    except ValueError:
+        name = ""
+    return "the program ended by signal %d%s" % (-status, name)
+
+
+def look_at(file, program):
+    """Looks whether the raw file of a run has records of a program with hooks."""
+    if not os.fstat(file.fileno()).st_size:
+        raise Unrunnable("%s was not compiled with record/cc or record/c++, or started nothing that was" % program)
+    file.seek(0)
+    head = raw_file.Words(file.read(raw_file.HEAD_SIZE))
+    if not head.there or not head.used:
+        raise Unrunnable("nothing was recorded: the folder for the records, %s, has no room" % tempfile.gettempdir())
+    if not head.units:
+        raise Unrunnable("nothing was recorded: no part of the program has hooks, so compile its sources with record/cc "
+                         "or record/c++")
+
+
+def say(command, text):
+    print("%s: %s" % (command, text), file=sys.stderr)

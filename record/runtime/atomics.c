@@ -1,0 +1,103 @@
+/* Atomics: done in the thread's turn, and atomic all the same, since a turn may be taken by force. */
+
+/* The record of an atomic access comes before it; its place. */
+static u64 atomic_(int kind, const volatile void *at, u64 size, int order, u64 pc) {
+    if (IDLE) return NO_PLACE;
+    if (following) about_to(kind, (u64)at, size, pc);
+    look_for_waiting((u64)at, pc);
+    maybe_give();
+    see_place(pc);
+    return put_record(
+        (struct record){.kind = (u8)kind, .at = (u64)at, .size = (u32)size, .pc = pc, .order = (u8)order});
+}
+
+#define SC __ATOMIC_SEQ_CST
+#define UPDATE(bits, T, name, call) \
+    T __tsan_atomic##bits##_##name(volatile T *a, T v, int order) { \
+        atomic_(ATOMIC_UPDATE, a, bits / 8, order, PC); \
+        return call(a, v, SC); \
+    }
+/* One that failed is a read. */
+#define EXCHANGE(bits, T) \
+    static int exchange##bits(volatile T *a, T *wanted, T v, int order, int failed, u64 pc) { \
+        u64 place = atomic_(ATOMIC_UPDATE, a, bits / 8, order, pc); \
+        int done = compare##bits(a, wanted, v); \
+        if (place != NO_PLACE) check_swap(done, pc); \
+        if (!done && place != NO_PLACE) records[place].kind = ATOMIC_READ, records[place].order = (u8)failed; \
+        return done; \
+    } \
+    int __tsan_atomic##bits##_compare_exchange_strong(volatile T *a, T *w, T v, int m, int f) { \
+        return exchange##bits(a, w, v, m, f, PC); \
+    } \
+    int __tsan_atomic##bits##_compare_exchange_weak(volatile T *a, T *w, T v, int m, int f) { \
+        return exchange##bits(a, w, v, m, f, PC); \
+    } \
+    T __tsan_atomic##bits##_compare_exchange_val(volatile T *a, T w, T v, int m, int f) { \
+        exchange##bits(a, &w, v, m, f, PC); \
+        return w; \
+    }
+#define ATOMICS(bits, T) \
+    T __tsan_atomic##bits##_load(const volatile T *a, int order) { \
+        atomic_(ATOMIC_READ, a, bits / 8, order, PC); \
+        return __atomic_load_n(a, SC); \
+    } \
+    void __tsan_atomic##bits##_store(volatile T *a, T v, int order) { \
+        atomic_(ATOMIC_WRITE, a, bits / 8, order, PC); \
+        __atomic_store_n(a, v, SC); \
+    } \
+    UPDATE(bits, T, exchange, __atomic_exchange_n) UPDATE(bits, T, fetch_add, __atomic_fetch_add) \
+    UPDATE(bits, T, fetch_sub, __atomic_fetch_sub) UPDATE(bits, T, fetch_and, __atomic_fetch_and) \
+    UPDATE(bits, T, fetch_or, __atomic_fetch_or) UPDATE(bits, T, fetch_xor, __atomic_fetch_xor) \
+    UPDATE(bits, T, fetch_nand, __atomic_fetch_nand) \
+    static int compare##bits(volatile T *a, T *wanted, T v) { return __atomic_compare_exchange_n(a, wanted, v, 0, SC, SC); } \
+    EXCHANGE(bits, T)
+ATOMICS(8, u8)
+ATOMICS(16, u16)
+ATOMICS(32, u32)
+ATOMICS(64, u64)
+
+/* Not every processor has these for 16 bytes: a lock stands for them. */
+static volatile u8 wide_lock;
+static void lock_wide(void) { while (__atomic_exchange_n(&wide_lock, 1, SC)) syscall(SYS_sched_yield); }
+static void unlock_wide(void) { __atomic_store_n(&wide_lock, 0, SC); }
+#define WIDE(name, value) \
+    u128 __tsan_atomic128_##name(volatile u128 *a, u128 v, int order) { \
+        atomic_(ATOMIC_UPDATE, a, 16, order, PC); \
+        lock_wide(); u128 old = *a; *a = (value); unlock_wide(); return old; \
+    }
+u128 __tsan_atomic128_load(const volatile u128 *a, int order) {
+    atomic_(ATOMIC_READ, a, 16, order, PC);
+    lock_wide();
+    u128 v = *a;
+    unlock_wide();
+    return v;
+}
+void __tsan_atomic128_store(volatile u128 *a, u128 v, int order) {
+    atomic_(ATOMIC_WRITE, a, 16, order, PC);
+    lock_wide();
+    *a = v;
+    unlock_wide();
+}
+WIDE(exchange, v)
+WIDE(fetch_add, old + v)
+WIDE(fetch_sub, old - v)
+WIDE(fetch_and, old & v)
+WIDE(fetch_or, old | v)
+WIDE(fetch_xor, old ^ v)
+WIDE(fetch_nand, ~(old & v))
+static int compare128(volatile u128 *a, u128 *wanted, u128 v) {
+    lock_wide();
+    u128 old = *a;
+    int same = old == *wanted;
+    if (same) *a = v;
+    else *wanted = old;
+    unlock_wide();
+    return same;
+}
+EXCHANGE(128, u128)
+
+void __tsan_atomic_thread_fence(int order) {
+    if (!IDLE) put_record((struct record){.kind = FENCE, .pc = PC, .order = (u8)order});
+    __atomic_thread_fence(SC);
+}
+void __tsan_atomic_signal_fence(int order) { (void)order; }

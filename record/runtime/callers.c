@@ -1,0 +1,69 @@
+/* The place in the program of a call that a library made: `std::thread::join` of the C++ library calls `pthread_join`,
+ * and the line is the one of the program that called `join`. */
+#include <unwind.h>
+
+struct range { u64 start, size; };
+#define MOST_RANGES 64
+/* The programs and libraries that have hooks. */
+static struct range hooked[MOST_RANGES];
+static u32 hooked_count;
+
+static int is_hooked(u64 pc) {
+    for (u32 k = 0; k < hooked_count; k++) if (pc - hooked[k].start < hooked[k].size) return 1;
+    return 0;
+}
+
+static int note_range(struct dl_phdr_info *info, size_t size, void *pc) {
+    (void)size;
+    for (int i = 0; i < info->dlpi_phnum; i++) {
+        const ElfW(Phdr) *p = &info->dlpi_phdr[i];
+        u64 start = info->dlpi_addr + p->p_vaddr;
+        if (p->p_type != PT_LOAD || *(u64 *)pc - start >= p->p_memsz) continue;
+        if (hooked_count < MOST_RANGES) hooked[hooked_count++] = (struct range){start, p->p_memsz};
+        return 1;
+    }
+    return 0;
+}
+
+/* A part with hooks has code here. */
+static void note_hooked(u64 pc) {
+    u8 was = inside;
+    inside = 1;
+    if (!is_hooked(pc)) dl_iterate_phdr(note_range, &pc);
+    inside = was;
+}
+
+/* The program's own code is what most places are in. */
+static void note_program(u64 pc) {
+    note_hooked(pc);
+    for (u32 k = 0; k < hooked_count; k++)
+        if (pc - hooked[k].start < hooked[k].size) main_start = hooked[k].start, main_size = hooked[k].size;
+}
+
+struct walk { u64 from, found; int steps; };
+#define MOST_STEPS 64
+
+/* The calls before `from` are the recorder's own. */
+static _Unwind_Reason_Code step(struct _Unwind_Context *context, void *data) {
+    struct walk *w = data;
+    u64 pc = (u64)_Unwind_GetIP(context);
+    if (w->from) {
+        if (pc == w->from) w->from = 0;
+    } else if (is_hooked(pc)) {
+        w->found = pc;
+        return _URC_NORMAL_STOP;
+    }
+    return ++w->steps < MOST_STEPS ? _URC_NO_REASON : _URC_NORMAL_STOP;
+}
+
+/* The first place with hooks around a place in a library; the place itself where there is none. */
+static u64 caller_in_program(u64 pc) {
+    if (is_hooked(pc)) return pc;
+    int error = errno;
+    struct walk w = {pc, pc, 0};
+    inside = 1;
+    _Unwind_Backtrace(step, &w);
+    inside = 0;
+    errno = error;
+    return w.found;
+}

@@ -1,0 +1,145 @@
+/* What goes through a descriptor. A call on a channel that will not wait is made in the thread's turn, so that the
+ * pass beside it is in the order of the calls: who receives comes after who sent. It is a semaphore. */
+
+extern ssize_t __real_read(int, void *, size_t), __real_write(int, const void *, size_t);
+
+static int at_once(int f, short what) {
+    struct pollfd p = {f, what, 0};
+    struct timespec none = {0, 0};
+    int error = errno, answer = syscall(SYS_ppoll, &p, 1, &none, NULL, 0) > 0;
+    errno = error;
+    return answer;
+}
+
+static int is_nonblocking(int f) { return !!(syscall(SYS_fcntl, f, F_GETFL, 0) & O_NONBLOCK); }
+
+/* Waits in the recorder until the call on a channel will not wait; whether it is to be made in the turn. */
+static int comes_at_once(int f, u32 channel, short what, int flags) {
+    if (IDLE || !channel) return 0;
+    maybe_give();
+    if ((flags & MSG_DONTWAIT) || is_nonblocking(f)) return 1;
+    while (!at_once(f, what)) {
+        if (has_forked) return 0;
+        park(key_of(channel), NULL, 0);
+    }
+    return 1;
+}
+
+#define ON_CHANNEL(f, channel, what, flags, call) (comes_at_once(f, channel, what, flags) ? (call) : OUTSIDE(call))
+
+/* After a call that received, or was refused. */
+static ssize_t received(int f, ssize_t n, u64 pc) {
+    u32 channel = in_of(f);
+    int error = errno;
+    if (IDLE) return n;
+    if (n > 0 && channel) {
+        put_record((struct record){.kind = PASS, .at = channel, .of = OF_CHANNEL, .pc = pc, .answer = (u64)n});
+        unpark(key_of(channel));
+    } else {
+        put_answer(ANSWER, n < 0 ? (u64)error : 0, (u64)n, pc);
+    }
+    errno = error;
+    return n;
+}
+
+/* Before a call that sends, which passes although it may be refused. */
+static void sends(int f, u64 pc) {
+    u32 channel = out_of(f);
+    if (channel) pass_of(OF_CHANNEL, channel, pc);
+    else pass_silently(pc);
+}
+
+static ssize_t sent(int f, ssize_t n) {
+    u32 channel = out_of(f);
+    if (channel && !IDLE) unpark(key_of(channel));
+    return n;
+}
+
+/* Where a plan is followed: as many bytes as were recorded, and no more. */
+static ssize_t read_again(int f, char *to, size_t n, struct tick_entry *e) {
+    size_t wanted = (ssize_t)e->answer < 0 ? 0 : e->answer < n ? e->answer : n, there = 0;
+    if ((ssize_t)e->answer < 0) {
+        errno = (int)e->at;
+        return -1;
+    }
+    for (int tries = 0; there < wanted;) {
+        ssize_t more = at_once(f, POLLIN) ? __real_read(f, to + there, wanted - there) : (errno = EAGAIN, -1);
+        if (more > 0) there += (size_t)more, tries = 0;
+        else if (more == 0 || (errno != EAGAIN && errno != EINTR) || given_up(++tries)) world_differs();
+        else moment();
+    }
+    return (ssize_t)there;
+}
+
+/* The entry of a read: of the world, or of a channel. */
+static struct tick_entry *read_expected(int f, u64 pc) {
+    struct tick_entry *e = world_expected(ANSWER, pc);
+    return e || !in_of(f) ? e : world_expected(PASS, pc);
+}
+
+static ssize_t read_at(int f, void *to, size_t n, u64 pc) {
+    struct tick_entry *e = following ? read_expected(f, pc) : NULL;
+    ssize_t got_bytes = e ? read_again(f, to, n, e) : ON_CHANNEL(f, in_of(f), POLLIN, 0, __real_read(f, to, n));
+    int error = errno;
+    received(f, got_bytes, pc);
+    if (got_bytes > 0) access_(WRITE, to, (u64)got_bytes, pc);
+    else pass_silently(pc);
+    errno = error;
+    return got_bytes;
+}
+
+ssize_t __wrap_read(int f, void *to, size_t n) { return read_at(f, to, n, PC); }
+
+/* A pipe takes so many bytes at once if it takes any: more are sent in pieces, so that who reads may come between. */
+static ssize_t write_pieces(int f, const char *from, size_t n) {
+    size_t there = 0;
+    while (there < n) {
+        size_t size = n - there < PIPE_BUF ? n - there : PIPE_BUF;
+        ssize_t more = ON_CHANNEL(f, out_of(f), POLLOUT, 0, __real_write(f, from + there, size));
+        if (more < 0) return there ? (ssize_t)there : more;
+        there += (size_t)more;
+        sent(f, more);
+    }
+    return (ssize_t)there;
+}
+
+static ssize_t write_at(int f, const void *from, size_t n, u64 pc) {
+    access_(READ, from, n, pc);
+    sends(f, pc);
+    if (!IDLE && out_of(f) && ends[f].is_pipe && n > PIPE_BUF && !is_nonblocking(f)) return write_pieces(f, from, n);
+    return sent(f, ON_CHANNEL(f, out_of(f), POLLOUT, 0, __real_write(f, from, n)));
+}
+
+ssize_t __wrap_write(int f, const void *from, size_t n) { return write_at(f, from, n, PC); }
+
+#define RECEIVES(name, given, passed_on, f, flags) \
+    ssize_t name given { \
+        static ssize_t(*real) given; \
+        if (!real) real = (ssize_t(*) given)next(#name, NULL); \
+        return received(f, ON_CHANNEL(f, in_of(f), POLLIN, flags, real passed_on), PC); \
+    }
+#define SENDS(name, given, passed_on, f, flags) \
+    ssize_t name given { \
+        static ssize_t(*real) given; \
+        if (!real) real = (ssize_t(*) given)next(#name, NULL); \
+        sends(f, PC); \
+        return sent(f, ON_CHANNEL(f, out_of(f), POLLOUT, flags, real passed_on)); \
+    }
+RECEIVES(readv, (int f, const struct iovec *v, int n), (f, v, n), f, 0)
+RECEIVES(recvfrom, (int f, void *to, size_t n, int g, struct sockaddr *a, socklen_t *m), (f, to, n, g, a, m), f, g)
+RECEIVES(recvmsg, (int f, struct msghdr *m, int g), (f, m, g), f, g)
+SENDS(writev, (int f, const struct iovec *v, int n), (f, v, n), f, 0)
+SENDS(send, (int f, const void *from, size_t n, int g), (f, from, n, g), f, g)
+SENDS(sendto, (int f, const void *b, size_t n, int g, const struct sockaddr *a, socklen_t m), (f, b, n, g, a, m), f, g)
+SENDS(sendmsg, (int f, const struct msghdr *m, int g), (f, m, g), f, g)
+
+ssize_t recv(int f, void *to, size_t n, int g) {
+    REAL(recv, ssize_t, int, void *, size_t, int);
+    if (IDLE) return real(f, to, n, g);
+    struct tick_entry *e = following && !(g & MSG_PEEK) ? read_expected(f, PC) : NULL;
+    ssize_t bytes = e ? read_again(f, to, n, e) : ON_CHANNEL(f, in_of(f), POLLIN, g, real(f, to, n, g));
+    return received(f, bytes, PC);
+}
+
+int eventfd_read(int f, eventfd_t *to) { return read_at(f, to, sizeof *to, PC) == sizeof *to ? 0 : -1; }
+int eventfd_write(int f, eventfd_t n) { return write_at(f, &n, sizeof n, PC) == sizeof n ? 0 : -1; }

@@ -1,0 +1,32 @@
+/* Waits that a library makes by `syscall`: those of std::atomic, std::latch and std::barrier of C++20, and of Rust. A
+ * waiter is kept by the recorder. Who waits has to look again at what it waits for anyway, so all that wait at a place
+ * are woken. */
+
+static long wait_at(u32 *at, u32 value, u64 pc) {
+    maybe_give();
+    if (__atomic_load_n(at, SC) != value) {
+        put_answer(ANSWER, (u64)at, EAGAIN, pc);
+        errno = EAGAIN;
+        return -1;
+    }
+    park(at, NULL, 0);
+    put_answer(ANSWER, (u64)at, 0, pc);
+    return 0;
+}
+
+long syscall(long number, ...) {
+    va_list words;
+    va_start(words, number);
+    long a = va_arg(words, long), b = va_arg(words, long), c = va_arg(words, long);
+    long d = va_arg(words, long), e = va_arg(words, long), f = va_arg(words, long);
+    va_end(words);
+    int what = (int)b & FUTEX_CMD_MASK, is_private = (int)b & FUTEX_PRIVATE_FLAG;
+    if (IDLE || number != SYS_futex) return raw_syscall(number, a, b, c, d, e, f);
+    if (what == FUTEX_WAIT || what == FUTEX_WAIT_BITSET) {
+        if (is_private && !d && !has_forked) return wait_at((u32 *)a, (u32)c, PC);
+        return OUTSIDE(raw_syscall(number, a, b, c, d, e, f));
+    }
+    keep_turn();
+    if (what == FUTEX_WAKE || what == FUTEX_WAKE_BITSET) unpark((void *)a);
+    return raw_syscall(number, a, b, c, d, e, f);
+}

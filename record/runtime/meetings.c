@@ -1,0 +1,181 @@
+/* Semaphores, barriers, what is done once, statics of C++. Each waits in the recorder, so that the order of those that
+ * go on is drawn. */
+
+/* Comes after all earlier passes of this object, and before all later ones. */
+static void pass(const volatile void *at, u64 pc) {
+    int error = errno;
+    if (!IDLE) put(PASS, (u64)at, 0, pc);
+    errno = error;
+}
+
+/* A thread comes to a meeting, or goes on from it: `round` tells the meetings at one place apart, 0 where there is one
+ * alone. */
+static void meet(int kind, int of, u64 at, u64 round, u64 pc) {
+    if (!IDLE) put_record((struct record){.kind = (u8)kind, .at = at, .answer = round, .pc = pc, .of = (u8)of});
+}
+
+static int passed(int answer, void *at, u64 pc) {
+    if (!answer) pass(at, pc);
+    else if (!IDLE) put_answer(ANSWER, (u64)at, (u64)errno, pc);
+    return answer;
+}
+
+int sem_post(sem_t *s) {
+    REAL(sem_post, int, sem_t *);
+    if (!IDLE) maybe_give();
+    pass(s, PC);
+    int answer = real(s);
+    if (!IDLE) unpark(s);
+    return answer;
+}
+
+static int try_semaphore(sem_t *s) {
+    REAL(sem_trywait, int, sem_t *);
+    return real(s) ? errno : 0;
+}
+
+int sem_trywait(sem_t *s) {
+    REAL(sem_trywait, int, sem_t *);
+    if (!IDLE) maybe_give();
+    return passed(real(s), s, PC);
+}
+
+static int wait_semaphore(sem_t *s, const struct timespec *t, clockid_t c, u64 pc) {
+    maybe_give();
+    int error = TRIES(EAGAIN, (pthread_testcancel(), try_semaphore(s)), s, t, c);
+    if (error) errno = error;
+    return passed(error ? -1 : 0, s, pc);
+}
+
+int sem_wait(sem_t *s) {
+    REAL(sem_wait, int, sem_t *);
+    return IDLE ? real(s) : wait_semaphore(s, NULL, 0, PC);
+}
+
+int sem_timedwait(sem_t *s, const struct timespec *t) {
+    REAL(sem_timedwait, int, sem_t *, const struct timespec *);
+    return IDLE ? real(s, t) : wait_semaphore(s, t, CLOCK_REALTIME, PC);
+}
+
+int sem_clockwait(sem_t *s, clockid_t c, const struct timespec *t) {
+    REAL(sem_clockwait, int, sem_t *, clockid_t, const struct timespec *);
+    return IDLE ? real(s, c, t) : wait_semaphore(s, t, c, PC);
+}
+
+/* What threads of this process meet at: a barrier, or what is made once. */
+struct meeting {
+    const void *at;
+    u32 inside, round, who;
+    struct meeting *next;
+};
+#define MEETING_HEADS 256
+static struct meeting *meetings[MEETING_HEADS];
+
+static struct meeting *meeting_of(const void *at) {
+    struct meeting **m = &meetings[((u64)at >> 3) % MEETING_HEADS];
+    for (struct meeting *o = *m; o; o = o->next) if (o->at == at) return o;
+    struct meeting *made = __libc_calloc(1, sizeof *made);
+    if (!made) abort();
+    *made = (struct meeting){at, 0, 0, NOBODY, *m};
+    return *m = made;
+}
+
+/* The fields of glibc's barrier that do not change while threads wait. */
+struct barrier { u32 in, round, count; int shared; };
+
+static int meet_at_barrier(pthread_barrier_t *b, u32 count, u64 pc) {
+    struct meeting *m = meeting_of(b);
+    u32 round = m->round;
+    meet(ARRIVED, OF_MEMORY, (u64)b, 1 + (u64)round, pc);
+    int is_last = ++m->inside >= count;
+    if (is_last) {
+        m->inside = 0, m->round++;
+        unpark(b);
+    }
+    while (m->round == round) park(b, NULL, 0);
+    meet(WENT_ON, OF_MEMORY, (u64)b, 1 + (u64)round, pc);
+    return is_last ? PTHREAD_BARRIER_SERIAL_THREAD : 0;
+}
+
+int pthread_barrier_wait(pthread_barrier_t *b) {
+    REAL(pthread_barrier_wait, int, pthread_barrier_t *);
+    struct barrier *fields = (struct barrier *)b;
+    if (IDLE) return real(b);
+    maybe_give();
+    if (!fields->shared) return meet_at_barrier(b, fields->count, PC);
+    pass(b, PC);
+    int answer = OUTSIDE(real(b));
+    pass(b, PC);
+    return answer;
+}
+
+/* ---- once: one thread does it, and others wait in the recorder until it is done ---- */
+
+static void begin_once(struct meeting *m) { m->who = me; }
+
+static void end_once(struct meeting **m) {
+    (*m)->who = NOBODY;
+    unpark((*m)->at);
+}
+
+static void wait_for_once(struct meeting *m) {
+    while (m->who != NOBODY && m->who != me) park(m->at, NULL, 0);
+}
+
+static __thread struct { void (*routine)(void); void *at; u64 pc; } once;
+
+/* The routine passes when it is done; it may itself call pthread_once, or throw. */
+static void once_body(void) {
+    __attribute__((cleanup(end_once))) struct meeting *m = meeting_of(once.at);
+    void *at = once.at;
+    u64 pc = once.pc;
+    begin_once(m);
+    once.routine();
+    meet(ARRIVED, OF_MEMORY, (u64)at, 0, pc);
+}
+
+static int do_once(pthread_once_t *o, void (*routine)(void), u64 pc) {
+    REAL(pthread_once, int, pthread_once_t *, void (*)(void));
+    if (IDLE) return real(o, routine);
+    maybe_give();
+    wait_for_once(meeting_of(o));
+    once.routine = routine, once.at = o, once.pc = pc;
+    int answer = real(o, once_body);
+    meet(WENT_ON, OF_MEMORY, (u64)o, 0, pc);
+    return answer;
+}
+
+int pthread_once(pthread_once_t *o, void (*routine)(void)) { return do_once(o, routine, PC); }
+
+int __cxa_guard_acquire(u64 *guard) {
+    REAL(__cxa_guard_acquire, int, u64 *);
+    if (IDLE) return real(guard);
+    maybe_give();
+    struct meeting *m = meeting_of(guard);
+    wait_for_once(m);
+    int mine = real(guard);
+    if (mine) begin_once(m);
+    put_record(
+        (struct record){.kind = mine ? ANSWER : ATOMIC_READ, .at = (u64)guard, .size = 1, .pc = PC, .order = SC});
+    return mine;
+}
+
+void __cxa_guard_release(u64 *guard) {
+    REAL(__cxa_guard_release, void, u64 *);
+    struct meeting *m = meeting_of(guard);
+    if (!IDLE) put_record((struct record){.kind = ATOMIC_WRITE, .at = (u64)guard, .size = 1, .pc = PC, .order = SC});
+    real(guard);
+    end_once(&m);
+}
+
+void __cxa_guard_abort(u64 *guard) {
+    REAL(__cxa_guard_abort, void, u64 *);
+    struct meeting *m = meeting_of(guard);
+    if (!IDLE) keep_turn();
+    real(guard);
+    end_once(&m);
+}
+
+/* What a program says itself to ThreadSanitizer of an order that it keeps. */
+void __tsan_release(void *at) { pass(at, PC); }
+void __tsan_acquire(void *at) { pass(at, PC); }

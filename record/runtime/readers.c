@@ -1,0 +1,101 @@
+/* Reader-writer locks. A writer holds the lock. A reader takes it for a moment where it comes in, and says in a
+ * variable of its own where it comes and goes; a writer that comes in reads these. */
+
+#define MOST_READ_HOLDS 64
+static __thread struct { void *lock; u32 times; } read_holds[MOST_READ_HOLDS];
+static __thread u32 read_hold_count;
+
+static int reads(int answer, void *at, u64 pc) {
+    if (IDLE) return answer;
+    put_answer(answer ? ANSWER : READER_IN, (u64)at, (u64)answer, pc);
+    if (answer) return answer;
+    for (u32 i = 0; i < read_hold_count; i++) if (read_holds[i].lock == at) return read_holds[i].times++, answer;
+    if (read_hold_count < MOST_READ_HOLDS)
+        read_holds[read_hold_count].lock = at, read_holds[read_hold_count++].times = 1;
+    return answer;
+}
+
+/* Whether this thread read-holds the lock; it then holds it once less. */
+static int leaves_read_hold(void *at) {
+    for (u32 i = 0; i < read_hold_count; i++) if (read_holds[i].lock == at) {
+        if (!--read_holds[i].times) read_holds[i] = read_holds[--read_hold_count];
+        return 1;
+    }
+    return 0;
+}
+
+static int writes(int answer, void *at, u64 pc) {
+    if (!IDLE) put_answer(answer ? ANSWER : WRITER, (u64)at, (u64)answer, pc);
+    return answer;
+}
+
+static int try_reading(pthread_rwlock_t *m) {
+    REAL(pthread_rwlock_tryrdlock, int, pthread_rwlock_t *);
+    return real(m);
+}
+
+static int try_writing(pthread_rwlock_t *m) {
+    REAL(pthread_rwlock_trywrlock, int, pthread_rwlock_t *);
+    return real(m);
+}
+
+/* A reader may be let in later than now for many reasons: it tries again. */
+static int read_lock(pthread_rwlock_t *m, const struct timespec *t, clockid_t c, u64 pc) {
+    maybe_give();
+    return reads(TRIES(EBUSY, try_reading(m), m, t, c), m, pc);
+}
+
+static int write_lock(pthread_rwlock_t *m, const struct timespec *t, clockid_t c, u64 pc) {
+    maybe_give();
+    return writes(TRIES(EBUSY, try_writing(m), m, t, c), m, pc);
+}
+
+int pthread_rwlock_tryrdlock(pthread_rwlock_t *m) {
+    if (!IDLE) maybe_give();
+    return reads(try_reading(m), m, PC);
+}
+
+int pthread_rwlock_trywrlock(pthread_rwlock_t *m) {
+    if (!IDLE) maybe_give();
+    return writes(try_writing(m), m, PC);
+}
+
+int pthread_rwlock_rdlock(pthread_rwlock_t *m) {
+    REAL(pthread_rwlock_rdlock, int, pthread_rwlock_t *);
+    return IDLE ? real(m) : read_lock(m, NULL, 0, PC);
+}
+
+int pthread_rwlock_wrlock(pthread_rwlock_t *m) {
+    REAL(pthread_rwlock_wrlock, int, pthread_rwlock_t *);
+    return IDLE ? real(m) : write_lock(m, NULL, 0, PC);
+}
+
+int pthread_rwlock_timedrdlock(pthread_rwlock_t *m, const struct timespec *t) {
+    REAL(pthread_rwlock_timedrdlock, int, pthread_rwlock_t *, const struct timespec *);
+    return IDLE ? real(m, t) : read_lock(m, t, CLOCK_REALTIME, PC);
+}
+
+int pthread_rwlock_timedwrlock(pthread_rwlock_t *m, const struct timespec *t) {
+    REAL(pthread_rwlock_timedwrlock, int, pthread_rwlock_t *, const struct timespec *);
+    return IDLE ? real(m, t) : write_lock(m, t, CLOCK_REALTIME, PC);
+}
+
+int pthread_rwlock_clockrdlock(pthread_rwlock_t *m, clockid_t c, const struct timespec *t) {
+    REAL(pthread_rwlock_clockrdlock, int, pthread_rwlock_t *, clockid_t, const struct timespec *);
+    return IDLE ? real(m, c, t) : read_lock(m, t, c, PC);
+}
+
+int pthread_rwlock_clockwrlock(pthread_rwlock_t *m, clockid_t c, const struct timespec *t) {
+    REAL(pthread_rwlock_clockwrlock, int, pthread_rwlock_t *, clockid_t, const struct timespec *);
+    return IDLE ? real(m, c, t) : write_lock(m, t, c, PC);
+}
+
+int pthread_rwlock_unlock(pthread_rwlock_t *m) {
+    REAL(pthread_rwlock_unlock, int, pthread_rwlock_t *);
+    if (IDLE) return real(m);
+    maybe_give();
+    put(leaves_read_hold(m) ? READER_OUT : RELEASE, (u64)m, 0, PC);
+    int answer = real(m);
+    unpark(m);
+    return answer;
+}

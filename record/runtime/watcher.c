@@ -1,0 +1,56 @@
+/* A thread beside those of the program: it takes the token from one that keeps it. */
+
+/* Takes the token from a thread that has neither made a record nor given it away while another waits for it: after two
+ * looks where it sleeps in a call that the recorder does not know, and after a second where it runs without hooks. The
+ * turns' lock is held. */
+static void look(u64 looks, int asleep) {
+    int idle = holder == NOBODY || asleep;
+    if (idle && looks >= LOOKS_BEFORE_RESCUE && !waiting_count && parked_count && !following) {
+        head->forced += holder != NOBODY;
+        rescue();
+        return;
+    }
+    if (!looks || holder == NOBODY || !waiting_count || !(asleep || looks >= 50) || (following && is_due(holder)))
+        return;
+    u32 was = holder;
+    hand_on();
+    if (holder != was) head->forced++;
+}
+
+/* It ends with the program's threads: a program may end with the last of them. */
+static void *watcher(void *none) {
+    u64 seen = 0, still = 0;
+    u32 who = NOBODY, looks = 0, sleeps = 0;
+    inside = 1;
+    while (__atomic_load_n(&living, __ATOMIC_SEQ_CST)) {
+        struct timespec pause = {0, 20000000};
+        syscall(SYS_nanosleep, &pause, NULL);
+        lock_turns();
+        int same = progress == seen;
+        looks = holder == who && same ? looks + 1 : 0;
+        still = same ? still + 1 : 0;
+        sleeps = looks && who != NOBODY && !short_wait && is_asleep(who) ? sleeps + 1 : 0;
+        look(looks, sleeps >= 2);
+        who = holder;
+        seen = progress;
+        if (following && still * 20 > plan->patience_ms) hangs();
+        unlock_turns();
+    }
+    return none;
+}
+
+/* The first thread that the program makes gets a watcher beside it. */
+static void watch(void) {
+    static u8 there;
+    if (__atomic_exchange_n(&there, 1, __ATOMIC_SEQ_CST)) return;
+    REAL_OF(pthread_create, "GLIBC_2.34", int, pthread_t *, const pthread_attr_t *, void *(*)(void *), void *);
+    pthread_t id;
+    sigset_t all, before;
+    sigfillset(&all);
+    pthread_sigmask(SIG_SETMASK, &all, &before);
+    u8 was = inside;
+    inside = 1;
+    real(&id, NULL, watcher, NULL);
+    inside = was;
+    pthread_sigmask(SIG_SETMASK, &before, NULL);
+}

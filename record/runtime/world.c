@@ -1,0 +1,166 @@
+/* Calls that wait for the world: others run meanwhile. What the world answered is a tick: where a plan is followed, it
+ * is waited for, or given again. */
+
+#define WAITS(type, name, given, passed_on) \
+    type name given { static type(*real) given; if (!real) real = (type(*) given)next(#name, NULL); \
+        return OUTSIDE(real passed_on); }
+WAITS(int, ppoll, (struct pollfd * f, nfds_t n, const struct timespec *t, const sigset_t *s), (f, n, t, s))
+WAITS(int, select, (int n, fd_set *r, fd_set *w, fd_set *e, struct timeval *t), (n, r, w, e, t))
+WAITS(int, pselect, (int n, fd_set *r, fd_set *w, fd_set *e, const struct timespec *t, const sigset_t *s),
+      (n, r, w, e, t, s))
+WAITS(int, epoll_pwait, (int f, struct epoll_event *e, int n, int t, const sigset_t *s), (f, e, n, t, s))
+WAITS(int, connect, (int f, const struct sockaddr *a, socklen_t n), (f, a, n))
+WAITS(int, nanosleep, (const struct timespec *t, struct timespec *rest), (t, rest))
+WAITS(int, clock_nanosleep, (clockid_t c, int g, const struct timespec *t, struct timespec *rest), (c, g, t, rest))
+WAITS(int, usleep, (useconds_t t), (t))
+WAITS(unsigned, sleep, (unsigned t), (t))
+WAITS(pid_t, wait, (int *status), (status))
+WAITS(pid_t, waitpid, (pid_t p, int *status, int g), (p, status, g))
+WAITS(int, thrd_sleep, (const struct timespec *t, struct timespec *rest), (t, rest))
+
+int sched_yield(void) {
+    if (!IDLE) give_and_take();
+    return (int)syscall(SYS_sched_yield);
+}
+
+void thrd_yield(void) { sched_yield(); }
+
+/* The first eight descriptors of a poll, a byte each. */
+static u64 mask_of(const struct pollfd *f, nfds_t n) {
+    u64 mask = 0;
+    for (nfds_t i = 0; i < n && i < 8; i++) mask |= (u64)(u8)f[i].revents << 8 * i;
+    return mask;
+}
+
+static int poll_again(int (*real)(struct pollfd *, nfds_t, int), struct pollfd *f, nfds_t n, struct tick_entry *e) {
+    int want = (int)e->answer;
+    for (int tries = 0, fits_now = want <= 0; !fits_now; tries++) {
+        if (given_up(tries)) world_differs();
+        if (tries) moment();
+        real(f, n, is_due(me) ? 4 : 0);
+        fits_now = (mask_of(f, n) & e->at) == e->at;
+    }
+    for (nfds_t i = 0; i < n; i++) f[i].revents = want > 0 ? (short)(u8)(e->at >> 8 * i) : 0;
+    if (want < 0) errno = (int)e->at;
+    return want;
+}
+
+int poll(struct pollfd *f, nfds_t n, int t) {
+    REAL(poll, int, struct pollfd *, nfds_t, int);
+    if (IDLE) return real(f, n, t);
+    struct tick_entry *e = world_expected(ANSWER, PC);
+    int answer = e && n <= 8 ? poll_again(real, f, n, e) : OUTSIDE(real(f, n, t)), error = errno;
+    put_answer(ANSWER, answer < 0 ? (u64)error : mask_of(f, n), (u64)answer, PC);
+    errno = error;
+    return answer;
+}
+
+static int find_event(const struct epoll_event *now, int there, struct tick_entry *w, struct epoll_event *to) {
+    for (int k = 0; w && k < there; k++) if (now[k].data.u64 == w->at && (now[k].events & w->answer) == w->answer) {
+        *to = (struct epoll_event){(u32)w->answer, {.u64 = w->at}};
+        return 1;
+    }
+    return 0;
+}
+
+typedef int epoll_waits(int, struct epoll_event *, int, int);
+
+static int epoll_again(epoll_waits *real, int f, struct epoll_event *to, int n, struct tick_entry *e) {
+    static __thread struct epoll_event now[64];
+    int want = (int)e->answer;
+    if (want < 0) errno = (int)e->at;
+    for (int tries = 0; want > 0; tries++) {
+        if (given_up(tries)) world_differs();
+        if (tries) moment();
+        int there = real(f, now, 64, is_due(me) ? 4 : 0), found = 0;
+        for (int i = 0; i < want && i < n; i++) found += find_event(now, there, entry_at(tick + 2 + (u64)i), &to[i]);
+        if (found == want) break;
+    }
+    return want;
+}
+
+int epoll_wait(int f, struct epoll_event *to, int n, int t) {
+    REAL(epoll_wait, int, int, struct epoll_event *, int, int);
+    if (IDLE) return real(f, to, n, t);
+    struct tick_entry *e = world_expected(ANSWER, PC);
+    int answer = e ? epoll_again(real, f, to, n, e) : OUTSIDE(real(f, to, n, t)), error = errno;
+    put_answer(ANSWER, answer < 0 ? (u64)error : 0, (u64)answer, PC);
+    for (int i = 0; i < answer; i++) put_answer(ANSWER, to[i].data.u64, to[i].events, PC);
+    errno = error;
+    return answer;
+}
+
+/* A connection is a descriptor that is given out. */
+#define ACCEPTS(name, given, passed_on) \
+    int name given { \
+        static int(*real) given; \
+        if (!real) real = (int(*) given)next(#name, NULL); \
+        if (IDLE) return real passed_on; \
+        struct tick_entry *e = following ? entry_of_accept(PC) : NULL; \
+        if (e && (e->code & 127) == ANSWER) return errno = (int)e->answer, gives(-1, PC); \
+        if (!e) return gives(OUTSIDE(real passed_on), PC); \
+        int got_one; \
+        for (int tries = 0; (got_one = at_once(f, POLLIN) ? real passed_on : (errno = EAGAIN, -1)) < 0; tries++) { \
+            if ((errno != EAGAIN && errno != EINTR) || given_up(tries)) world_differs(); \
+            moment(); \
+        } \
+        return gives(got_one, PC); \
+    }
+static struct tick_entry *entry_of_accept(u64 pc) {
+    struct tick_entry *e = world_expected(ANSWER, pc);
+    return e ? e : world_expected(PASS, pc);
+}
+ACCEPTS(accept, (int f, struct sockaddr *a, socklen_t *n), (f, a, n))
+ACCEPTS(accept4, (int f, struct sockaddr *a, socklen_t *n, int g), (f, a, n, g))
+
+/* ---- the time: it is as recorded where a plan is followed ---- */
+
+int clock_gettime(clockid_t k, struct timespec *t) {
+    if (IDLE) return (int)syscall(SYS_clock_gettime, k, t);
+    struct tick_entry *e = world_expected(ANSWER, PC);
+    int answer = 0;
+    if (e) *t = (struct timespec){(time_t)e->at, (long)e->answer};
+    else answer = (int)syscall(SYS_clock_gettime, k, t);
+    put_answer(ANSWER, (u64)t->tv_sec, (u64)t->tv_nsec, PC);
+    return answer;
+}
+
+int gettimeofday(struct timeval *t, void *z) {
+    if (IDLE || !t) return (int)syscall(SYS_gettimeofday, t, z);
+    struct tick_entry *e = world_expected(ANSWER, PC);
+    if (e) *t = (struct timeval){(time_t)e->at, (suseconds_t)e->answer};
+    else syscall(SYS_gettimeofday, t, z);
+    put_answer(ANSWER, (u64)t->tv_sec, (u64)t->tv_usec, PC);
+    return 0;
+}
+
+time_t time(time_t *to) {
+    struct timespec t;
+    syscall(SYS_clock_gettime, CLOCK_REALTIME, &t);
+    if (!IDLE) {
+        struct tick_entry *e = world_expected(ANSWER, PC);
+        if (e) t.tv_sec = (time_t)e->at;
+        put_answer(ANSWER, (u64)t.tv_sec, 0, PC);
+    }
+    if (to) *to = t.tv_sec;
+    return t.tv_sec;
+}
+
+/* ---- chance: the C library's numbers come from one state, so their order is an order; the state of rand and random
+ * is one ---- */
+
+#define DRAWS(number, type, name, given, passed_on) \
+    type name given { \
+        static type(*real) given; \
+        if (!real) real = (type(*) given)next(#name, NULL); \
+        if (!IDLE) maybe_give(), put_of(OF_CHANCE, PASS, number, PC); \
+        return real passed_on; \
+    }
+DRAWS(1, int, rand, (void), ())
+DRAWS(1, long, random, (void), ())
+DRAWS(1, void, srand, (unsigned n), (n))
+DRAWS(1, void, srandom, (unsigned n), (n))
+DRAWS(2, double, drand48, (void), ())
+DRAWS(2, long, lrand48, (void), ())
+DRAWS(2, long, mrand48, (void), ())
+DRAWS(2, void, srand48, (long n), (n))

@@ -1,0 +1,1 @@
+int p_count; void p_work(void) { p_count++; }

@@ -1,0 +1,1 @@
+int q_count; void q_work(void) { q_count++; }

@@ -1,0 +1,79 @@
+"""Judges examples/ci: the words that the three services run build a program, record it, and fail for a new race alone.
+
+What no other judge sees: a build that is green although a race is new, or although nothing was recorded or judged.
+"""
+
+import os
+import re
+import shutil
+import stat
+
+from recorded_places import RECORD, TOP, WrongPlace, ran
+
+FOLDER = os.path.join(TOP, "examples", "ci")
+MAKEFILE = "tests: tests.c\n\t$(CC) -g tests.c -o tests\n"
+QUIET = "#include <stdio.h>\nint main(void) { puts(\"quiet\"); return 0; }\n"
+
+
+def commands(name):
+    """The lines of a service's file that build, and that record and judge."""
+    with open(os.path.join(FOLDER, name), encoding="ascii") as file:
+        text = file.read()
+    found = re.findall(r"(?:run: |- |sh ')((?:make|sh) [^'\n]*)", text)
+    if len(found) != 2:
+        raise WrongPlace(f"examples/ci/{name} has {len(found)} lines to run: {found}")
+    return found
+
+
+def lay_out(racebench):
+    """A repository that is built so, and commands with the names that the package has."""
+    os.makedirs("bin")
+    os.makedirs("ci")
+    for command, script in (("racebench-cc", "cc"), ("racebench-c++", "c++"), ("racebench-record", "run")):
+        os.symlink(os.path.join(RECORD, script), os.path.join("bin", command))
+    with open("bin/racebench", "w", encoding="ascii") as file:
+        file.write(f'#!/bin/sh\nexec {racebench} "$@"\n')
+    os.chmod("bin/racebench", stat.S_IRWXU)
+    shutil.copy(os.path.join(FOLDER, "triage.sh"), "ci/triage.sh")
+    shutil.copy(os.path.join(TOP, "examples", "count.c"), "tests.c")
+    for name, text in (("Makefile", MAKEFILE), ("ci/known.txt", "")):
+        with open(name, "w", encoding="ascii") as file:
+            file.write(text)
+    return dict(os.environ, PATH=os.path.abspath("bin") + os.pathsep + os.environ["PATH"], SEEDS="2")
+
+
+def judge_service(racebench, name):
+    environment = lay_out(racebench)
+    build, judge = (["sh", "-c", words] for words in commands(name))
+    ran(build, env=environment)
+    said = ran(judge, wanted=3, env=environment)
+    if "seed 2: a new race\nrace " not in said or not os.path.exists("races/2.html"):
+        raise WrongPlace(f"a new race is not shown: {said!r}")
+    with open("races/1.txt", encoding="ascii") as old, open("ci/known.txt", "w", encoding="ascii") as known:
+        known.write(old.read())
+    if ran(judge, env=environment) != "seed 1: no new race\nseed 2: no new race\n":
+        raise WrongPlace("a known race is new")
+
+
+def judge_no_green(racebench):
+    """A program without hooks, a program that is not there, and a racebench that refuses: no build is green."""
+    environment = lay_out(racebench)
+    judge = ["sh", "-c", commands("github.yml")[1]]
+    ran(judge, wanted=1, env=environment)
+    with open("tests.c", "w", encoding="ascii") as file:
+        file.write(QUIET)
+    ran(["gcc", "tests.c", "-o", "tests"])
+    if "seed 1: not recorded" not in ran(judge, wanted=1, env=environment):
+        raise WrongPlace("a program without hooks is not said")
+    shutil.copy(os.path.join(TOP, "examples", "count.c"), "tests.c")
+    ran(["make", "-B", "CC=racebench-cc"], env=environment)
+    with open("bin/racebench", "w", encoding="ascii") as file:
+        file.write("#!/bin/sh\nexit 4\n")
+    if "seed 1: not judged, status 4" not in ran(judge, wanted=1, env=environment):
+        raise WrongPlace("a trace that is not judged is not said")
+
+
+def cases(racebench):
+    names = ("github.yml", "gitlab.yml", "Jenkinsfile")
+    found = [(f"words of examples/ci/{name}", judge_service, (racebench, name)) for name in names]
+    return [*found, ("a build without a judgement is not green", judge_no_green, (racebench,))]

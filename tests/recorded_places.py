@@ -1,0 +1,153 @@
+"""Judges the locations that record/ writes: lines that are in their files, two files of one name, the calls that
+led to an access, blocks that are given back, and programs without lines.
+
+What no other judge sees: a line that its file does not have (addr2line said `shop.cpp:200` of a file of 156 lines),
+and two places of one name.
+"""
+
+import functools
+import os
+import re
+import subprocess
+
+TOP = os.path.dirname(os.path.dirname(os.path.abspath(__file__)))
+RECORD = os.path.join(TOP, "record")
+SOURCES = os.path.join(TOP, "tests", "recorded")
+PLACE = re.compile(r"(.+):(\d+)$")
+# How long a command may take, on a machine that does much else.
+PATIENCE = 900
+# The calls around both accesses of p/util.c, as far as they are the same in both threads.
+COMMON = ["p_work", "both main.c:8", "down main.c:15", "down main.c:13"]
+
+
+class WrongPlace(Exception):
+    pass
+
+
+def ran(words, wanted=0, **more):
+    done = subprocess.run(words, capture_output=True, timeout=PATIENCE, check=False, **more)
+    if done.returncode != wanted:
+        raise WrongPlace(f"{' '.join(words)}: status {done.returncode}: {done.stderr.decode(errors='replace')[:600]}")
+    return done.stdout.decode()
+
+
+def locations(*words):
+    """The locations of a recording of `program`: operation, first place, and what stands behind it."""
+    found = []
+    for line in ran([os.path.join(RECORD, "run"), *words, "./program"]).splitlines():
+        _, operation, location = line.split("|", 2)
+        place, *calls = location.split(" < ")
+        found.append((operation, place, calls))
+    if not found:
+        raise WrongPlace("nothing was recorded")
+    return found
+
+
+def judge_names():
+    """Two files of one name are two places; the calls stand behind them, those in their place too; recursion is
+    written once."""
+    found = locations()
+    places = {place for operation, place, _ in found if operation.startswith(("r(p_", "w(p_", "r(q_", "w(q_"))}
+    if places != {"p/util.c:1", "q/util.c:1"}:
+        raise WrongPlace(f"the places of the two files are {sorted(places)}")
+    calls = [calls for operation, place, calls in found if place == "p/util.c:1"]
+    ends = {tuple(each[len(COMMON) :]) for each in calls}
+    if any(each[: len(COMMON)] != COMMON for each in calls) or ends != {("go main.c:18",), ("give_back main.c:22",)}:
+        raise WrongPlace(f"the calls around the accesses of p/util.c are {calls}")
+
+
+def judge_free():
+    """A block that is given back is written at `free in FUNCTION`, and with --no-free it is not."""
+    frees = [(place, calls) for _, place, calls in locations() if calls and calls[0].startswith("free")]
+    if frees != [("main.c:23", ["free in give_back"])]:
+        raise WrongPlace(f"the block that is given back is written at {frees}")
+    if any(calls and calls[0].startswith("free") for _, _, calls in locations("--no-free")):
+        raise WrongPlace("with --no-free a block is written where it is given back")
+
+
+def judge_frames():
+    """--frames says how many calls a location has."""
+    for most in (0, 1, 3, 8):
+        longest = max(len(calls) for _, _, calls in locations("--frames", str(most)))
+        if longest != min(most, 5):
+            raise WrongPlace(f"with --frames {most} a location has {longest} calls")
+
+
+@functools.cache
+def files_by_name():
+    """The sources of the tests, and the headers of the compilers that are here."""
+    found = {}
+    for folder in (
+        SOURCES,
+        "/usr/include/c++",
+        "/usr/include/x86_64-linux-gnu",
+        "/usr/lib/gcc",
+        "/usr/lib/llvm-14/include/c++",
+    ):
+        for at, _, files in os.walk(folder):
+            for name in files:
+                found.setdefault(name, []).append(os.path.join(at, name))
+    return found
+
+
+def lines_in(path):
+    with open(path, encoding="utf-8", errors="replace") as file:
+        return file.read().splitlines()
+
+
+def lines_of(name):
+    """How many lines the file of a place has; None where it is found nowhere."""
+    for path in files_by_name().get(os.path.basename(name), []):
+        if path.endswith("/" + name):
+            return len(lines_in(path))
+    return None
+
+
+def judge_lines(cxx):
+    """Each line of a location is in its file; what the program does to its own variables is in its own file, and
+    not in the library's."""
+    source = os.path.join(SOURCES, "each_kind.cpp")
+    ran(
+        [os.path.join(RECORD, "c++"), "-std=c++17", "-O2", source, "-o", "program"],
+        env=dict(os.environ, RECORD_CXX=cxx),
+    )
+    found = locations()
+    own = {place for operation, place, _ in found if operation.startswith(("r(by_", "w(by_", "r(racy", "w(racy"))}
+    if not own or not all(place.startswith("each_kind.cpp:") for place in own):
+        raise WrongPlace(f"the places of the program's own variables are {sorted(own)}")
+    for word, text in (("fork", "emplace_back("), ("join", ".join()")):
+        wanted = {f"each_kind.cpp:{number}" for number, line in enumerate(lines_in(source), start=1) if text in line}
+        threads = {place for operation, place, _ in found if operation.startswith(word)}
+        if threads != wanted:
+            raise WrongPlace(
+                f"the library of C++ makes the call of {word}, and its places are {sorted(threads)} "
+                f"in place of {sorted(wanted)}"
+            )
+    places = {place.split(" ")[-1] for _, place, calls in found for place in [place, *calls[1:]]}
+    for place in sorted(places):
+        parted = PLACE.match(place)
+        most = lines_of(parted[1]) if parted else None
+        if most is None or not 1 <= int(parted[2]) <= most:
+            raise WrongPlace(f"{place}: the file has {most} lines")
+
+
+def judge_stripped():
+    """A program without lines has places all the same, and two accesses have two."""
+    ran(["strip", "program"])
+    places = {place for operation, place, _ in locations() if operation.startswith(("r(", "w("))}
+    if len(places) < 4 or not all(re.match(r"program\+0x[0-9a-f]+$", place) for place in places):
+        raise WrongPlace(f"the places of a program without lines are {sorted(places)}")
+
+
+def judge_places(c):
+    sources = [os.path.join(SOURCES, "places", name) for name in ("main.c", "p/util.c", "q/util.c")]
+    ran([os.path.join(RECORD, "cc"), "-O1", *sources, "-o", "program"], env=dict(os.environ, RECORD_CC=c))
+    judge_names()
+    judge_free()
+    judge_frames()
+    judge_stripped()
+
+
+def cases(c, cxx):
+    """The cases for a C compiler, and for its C++ compiler where there is one."""
+    return [(f"places, {c}", judge_places, (c,))] + ([(f"lines of places, {cxx}", judge_lines, (cxx,))] if cxx else [])

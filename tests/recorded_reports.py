@@ -1,0 +1,132 @@
+"""Judges record/reported: real reports of ThreadSanitizer, Helgrind and DRD, made here, lead to the race of
+examples/count.c; reports that are cut, of another form or of another program are told so.
+
+What no other judge sees: a report that is answered by another race, and one that is cut and taken for whole.
+"""
+
+import os
+import re
+import shutil
+import subprocess
+
+from recorded_places import PATIENCE, RECORD, SOURCES, TOP, WrongPlace, ran
+
+SOURCE = os.path.join(TOP, "examples", "count.c")
+# How often a program runs until ThreadSanitizer reports its race.
+RUNS = 20
+
+
+def reported(racebench, report, trace="count.std"):
+    done = subprocess.run(
+        [os.path.join(RECORD, "reported"), "--program", racebench, report, trace],
+        capture_output=True,
+        timeout=PATIENCE,
+        check=False,
+    )
+    out, err = done.stdout.decode(errors="replace"), done.stderr.decode(errors="replace")
+    if "Traceback" in err or done.returncode not in (0, 1) or (done.returncode == 1 and not err):
+        raise WrongPlace(f"record/reported {report}: status {done.returncode}: {err[-600:]}")
+    return done.returncode, out, err
+
+
+def record(*sources):
+    ran([os.path.join(RECORD, "cc"), "-g", *sources, "-o", "program"])
+    with open("count.std", "w", encoding="ascii") as file:
+        file.write(ran([os.path.join(RECORD, "run"), "./program"]))
+
+
+def tsan_report(c):
+    """A report of the program by ThreadSanitizer; addresses are not drawn, which its older versions can't bear."""
+    ran([c, "-g", "-O0", "-fsanitize=thread", "-pthread", SOURCE, "-o", "watched"])
+    for _ in range(RUNS):
+        said = subprocess.run(["setarch", "-R", "./watched"], capture_output=True, timeout=PATIENCE, check=False).stderr
+        if b"WARNING: ThreadSanitizer: data race" in said:
+            return said
+    raise WrongPlace(f"ThreadSanitizer of {c} reports no race in {RUNS} runs")
+
+
+def valgrind_report(tool, words):
+    ran(["gcc", "-g", "-O0", "-pthread", SOURCE, "-o", "plain"])
+    done = subprocess.run(
+        ["valgrind", f"--tool={tool}", *words, "./plain"], capture_output=True, timeout=PATIENCE, check=False
+    )
+    if not words:
+        return done.stderr
+    with open("report.xml", "rb") as file:
+        return file.read()
+
+
+def judge_report(racebench, said):
+    """The report leads to the race: the events that `triage` lists, and nothing else is answered."""
+    with open("report", "wb") as file:
+        file.write(said)
+    status, out, err = reported(racebench, "report")
+    race = re.search(r"^race (\d+) (\d+) ", ran([racebench, "triage", "count.std"]), re.MULTILINE)
+    wanted = f"racebench explain count.std {race[1]} {race[2]}"
+    counts = re.search(r"^(\d+) reports: (\d+) a race here, 0 apart, 0 undecided, 0 not met$", out, re.MULTILINE)
+    if status or wanted not in out or not counts or counts[1] != counts[2] or counts[1] == "0":
+        raise WrongPlace(f"the report is answered by {out}{err}")
+
+
+def judge_cuts(racebench, said):
+    """A report that is cut is told so, whatever part of it is there."""
+    ends = range(0, len(said), max(1, len(said) // 12))
+    for end in ends:
+        with open("cut", "wb") as file:
+            file.write(said[:end])
+        status, out, err = reported(racebench, "cut")
+        if status == 0 and "0 reports" in out or status == 1 and not re.search(r"cut|is no report", err):
+            raise WrongPlace(f"a report that was cut at byte {end}: {out}{err}")
+
+
+def judge_other_forms(racebench):
+    """What is no report is refused; names that would change a terminal are printed with `?`; another program's
+    race is not met."""
+    for text in (b"", b"hello\n", b"\0\xff" * 100, b"<valgrindoutput><!DOCTYPE x []>"):
+        with open("other", "wb") as file:
+            file.write(text)
+        status, _, err = reported(racebench, "other")
+        if status != 1 or "is no report" not in err and "defines entities" not in err:
+            raise WrongPlace(f"{text[:40]!r} is taken: {err}")
+    hostile = tsan_report("gcc").replace(b"reader", b"\x1b[2J\x1b]0;x\x07").replace(b"count.c", b"other\x1b.c")
+    with open("hostile", "wb") as file:
+        file.write(hostile)
+    status, out, err = reported(racebench, "hostile")
+    if "\x1b" in out + err or status or "1 not met" not in out:
+        raise WrongPlace(f"a report with hostile names: {out!r}{err!r}")
+
+
+def judge_reports(racebench, c):
+    record(SOURCE)
+    said = tsan_report(c)
+    judge_report(racebench, said)
+    judge_cuts(racebench, said)
+    if c == "gcc":
+        judge_other_forms(racebench)
+        record(os.path.join(SOURCES, "freed.c"))
+        with open("report", "wb") as file:
+            file.write(said)
+        if "1 not met" not in reported(racebench, "report")[1]:
+            raise WrongPlace("a report is answered by the trace of another program")
+
+
+def judge_valgrind(racebench):
+    record(SOURCE)
+    for tool, words in (
+        ("helgrind", []),
+        ("helgrind", ["--xml=yes", "--xml-file=report.xml"]),
+        ("drd", ["--xml=yes", "--xml-file=report.xml"]),
+    ):
+        said = valgrind_report(tool, words)
+        judge_report(racebench, said)
+    judge_cuts(racebench, valgrind_report("helgrind", ["--xml=yes", "--xml-file=report.xml"]))
+
+
+def cases(racebench, c):
+    """The cases of a compiler; those of valgrind stand beside gcc's."""
+    found = [(f"reports of ThreadSanitizer, {c}", judge_reports, (racebench, c))]
+    if c == "gcc" and shutil.which("valgrind"):
+        found.append(("reports of Helgrind and DRD", judge_valgrind, (racebench,)))
+    elif c == "gcc":
+        print("record/reported: reports of Helgrind and DRD are not tested, since valgrind is not here")
+    return found

@@ -1,0 +1,184 @@
+"""Judges how record/ compiles and runs: a seed is a run, an end is told as it was, and nothing green comes of a
+recording without hooks.
+
+What no other judge sees: recordings of one seed that differ, a program without hooks whose trace has no race, and
+files that are left.
+"""
+
+import functools
+import os
+import re
+import signal
+import struct
+import subprocess
+import tempfile
+import time
+
+TOP = os.path.dirname(os.path.dirname(os.path.abspath(__file__)))
+RECORD = os.path.join(TOP, "record")
+SOURCES = os.path.join(TOP, "tests", "recorded")
+# Recordings of each kind of synchronization.
+RUNS = 10
+# The head of a raw file, the size of its records, and the kinds whose answers are the world's: runtime/format.h.
+HEAD, RECORD_SIZE = struct.Struct("<16Q"), 48
+ANSWER = 16
+
+TWO_THREADS = """#include <pthread.h>
+#include <stdlib.h>
+static int x;
+static void *work(void *p) { x++; return p; }
+int main(int count, char **words) {
+    pthread_t id;
+    if (pthread_create(&id, 0, work, 0)) return 1;
+    x++, pthread_join(id, 0);
+    if (count > 1) abort();
+    return 7;
+}
+"""
+
+
+class WrongRun(Exception):
+    pass
+
+
+def ran(words, wanted=0, **more):
+    done = subprocess.run(words, capture_output=True, timeout=300, check=False, **more)
+    out, said = done.stdout.decode(errors="replace"), done.stderr.decode(errors="replace")
+    if wanted is not None and done.returncode != wanted:
+        raise WrongRun(f"{' '.join(words)}: status {done.returncode}, and not {wanted}: {said[:600]}")
+    return out, said
+
+
+def compiled(text, *words, to="program", by="cc", wanted=0):
+    with open("source.c", "w", encoding="ascii") as source:
+        source.write(text)
+    return ran([os.path.join(RECORD, by), *words, "source.c", "-o", to], wanted)
+
+
+def recorded(*words, wanted=0, **more):
+    return ran([os.path.join(RECORD, "run"), *words], wanted, **more)
+
+
+def raw_records(words, seed):
+    """The records of a run, without its trace: for each its thread, clock, kind and place, and of those that no clock answered the rest."""
+    with tempfile.TemporaryFile() as file:
+        surroundings = dict(os.environ, RACEBENCH_RECORD=f"/proc/{os.getpid()}/fd/{file.fileno()}", RACEBENCH_RECORD_SEED=str(seed),
+                            RACEBENCH_RECORD_YIELD="5", RACEBENCH_RECORD_ROOM="65536")
+        ran(["setarch", "-R", *words], env=surroundings)
+        head = HEAD.unpack(file.read(HEAD.size))
+        file.seek(head[6])
+        whole = file.read(min(head[2], head[1]) * RECORD_SIZE)
+    records = [whole[at:at + RECORD_SIZE] for at in range(0, len(whole), RECORD_SIZE)]
+    return [record if record[42] != ANSWER else record[8:24] + record[40:] for record in records]
+
+
+def judge_same_runs(c):
+    """The same seed gives the same records, for each kind of synchronization; and another seed can give others."""
+    ran([os.path.join(RECORD, "cc"), "-O1", os.path.join(SOURCES, "kinds.c"), "-o", "kinds"], env=dict(os.environ, RECORD_CC=c))
+    kinds, differ = ran(["./kinds"])[0].split(), 0
+    for kind in kinds:
+        first = raw_records(["./kinds", kind], 1)
+        others = [raw_records(["./kinds", kind], 1) for _ in range(RUNS - 1)]
+        if not first or any(other != first for other in others):
+            raise WrongRun(f"{kind}: {sum(other != first for other in others)} of {RUNS - 1} recordings differ from the first, of one seed")
+        differ += raw_records(["./kinds", kind], 2) != first
+    if len(kinds) < 15 or differ < len(kinds) // 2:
+        raise WrongRun(f"of {len(kinds)} kinds {differ} differ by another seed")
+
+
+def judge_ends(c):
+    """How the program ended is said in any case, and its status is passed on if that is wanted."""
+    compiled(TWO_THREADS, by="cc")
+    for words, status, said in (([], 0, "status 7"), (["--status"], 7, "status 7")):
+        out, told = recorded(*words, "./program", wanted=status)
+        if f"the program ended with {said}" not in told or out.count("\n") < 6:
+            raise WrongRun(f"a program that ended with 7: {told}{out}")
+    out, told = recorded("--status", "./program", "crash", wanted=128 + signal.SIGABRT)
+    if "ended by signal 6 (SIGABRT)" not in told or "|w(x)|" not in out:
+        raise WrongRun(f"a program that crashed: {told}{out}")
+    compiled("int main(void) { return 0; }\n", to="alone")
+    if recorded("./alone", wanted=1)[0] or "the program ended with status 0" not in recorded("./alone", wanted=1)[1]:
+        raise WrongRun("a program without a second thread has a trace")
+
+
+def judge_hooks(c):
+    """Link-time optimization takes no hooks out, other sanitizers are refused, and a program without hooks is not recorded."""
+    compiled(TWO_THREADS, "-flto", "-O2", by="cc")
+    out, _ = recorded("--frames", "0", "./program")
+    if "|w(x)|source.c:4" not in out:
+        raise WrongRun(f"with -flto nothing of source.c is in the trace: {out}")
+    for words in (["-fsanitize=address"], ["-fsanitize=thread,memory"], ["-c", "-fsanitize=leak"]):
+        _, told = compiled(TWO_THREADS, *words, by="cc", to="refused", wanted=1)
+        if "can't be recorded with -fsanitize=" not in told or os.path.exists("refused"):
+            raise WrongRun(f"{' '.join(words)}: {told}")
+    ran([c, "-c", "source.c", "-o", "plain.o"])
+    ran([os.path.join(RECORD, "cc"), "plain.o", "-o", "program"], env=dict(os.environ, RECORD_CC=c))
+    out, told = recorded("./program", wanted=1)
+    if out or "no part of the program has hooks" not in told:
+        raise WrongRun(f"a program without hooks: {told}{out}")
+
+
+FULL_DISK = """mount -t tmpfs -o size=%s none small 2>/dev/null || exit 99
+TMPDIR=$PWD/small exec %s ./program"""
+
+
+def judge_full_disk(c):
+    """A folder without room for the records is told, and no empty trace is written."""
+    compiled(TWO_THREADS, by="cc")
+    os.mkdir("small")
+    command = FULL_DISK % ("64k", os.path.join(RECORD, "run"))
+    done = subprocess.run(["unshare", "--map-root-user", "--mount", "sh", "-c", command], capture_output=True, check=False, timeout=60)
+    if done.returncode == 99 or b"unshare" in done.stderr:
+        print("record/: a full disk is not tested, since no small one can be mounted here")
+        return
+    told = done.stderr.decode(errors="replace")
+    if done.returncode != 1 or done.stdout or "has no room" not in told or "Traceback" in told:
+        raise WrongRun(f"a full disk: status {done.returncode}: {told}{done.stdout.decode(errors='replace')}")
+
+
+def judge_killed(c):
+    """A run that is killed leaves neither a file nor its program."""
+    compiled("#include <unistd.h>\nint main(void) { write(1, \"on\\n\", 3); sleep(600); return 0; }\n")
+    os.mkdir("records")
+    words = [os.path.join(RECORD, "run"), "./program"]
+    started = subprocess.Popen(words, stdout=subprocess.DEVNULL, stderr=subprocess.PIPE, env=dict(os.environ, TMPDIR=os.path.abspath("records")))
+    started.stderr.readline()
+    started.kill()
+    started.wait()
+    for _ in range(50):
+        time.sleep(0.1)
+        here = [pid for pid in filter(str.isdigit, os.listdir("/proc")) if is_ours(pid)]
+        if not here:
+            break
+    if here or os.listdir("records"):
+        raise WrongRun(f"a killed run leaves {os.listdir('records')} and the processes {here}")
+    started.stderr.close()
+
+
+def is_ours(pid):
+    try:
+        return os.readlink(f"/proc/{pid}/exe").startswith(os.path.abspath("program"))
+    except OSError:
+        return False
+
+
+def judge_once(c):
+    """The recorder is compiled once: a second program is linked with the same one."""
+    surroundings = dict(os.environ, XDG_CACHE_HOME=os.path.abspath("cache"))
+    with open("source.c", "w", encoding="ascii") as source:
+        source.write(TWO_THREADS)
+    kept = []
+    for name in ("first", "second"):
+        ran([os.path.join(RECORD, "cc"), "source.c", "-o", name], env=surroundings)
+        folder = os.path.join("cache", "racebench")
+        kept.append([(name, os.stat(os.path.join(folder, name)).st_mtime_ns) for name in sorted(os.listdir(folder))])
+    if kept[0] != kept[1] or len(kept[0]) != 1 or not re.match(r"recorder-[0-9a-f]+\.o$", kept[0][0][0]):
+        raise WrongRun(f"the recorder was not kept: {kept}")
+
+
+JUDGES = [("ten recordings of one seed", judge_same_runs), ("how programs end", judge_ends), ("hooks", judge_hooks),
+          ("a full disk", judge_full_disk), ("a killed run", judge_killed), ("the recorder is compiled once", judge_once)]
+
+
+def cases(c):
+    return [(f"{name}, {c}", functools.partial(judge, c), ()) for name, judge in JUDGES]
