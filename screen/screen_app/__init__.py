@@ -1,0 +1,1 @@
+"""The screen of the workbench: a server on this machine, for a browser."""

@@ -1,0 +1,86 @@
+"""One trace and one log, as one client sees them: the session, the log's mirror, and sheets of what is looked at."""
+
+from __future__ import annotations
+
+from array import array
+from typing import Any
+
+from .checked import Mistake, named, paired
+from .layout import Layout
+from .mirror import Mirror, Row
+from .session import Session
+from .sheet import Sheet
+from .trace import Trace
+
+# So many sheets are kept. Each holds four bytes for each event of the trace, and more for each of its own.
+SHEETS = 8
+
+
+class Bench:
+    def __init__(self, program: str, trace: Trace, log: str, client: int) -> None:
+        self.program, self.trace, self.client = program, trace, client
+        self.session = Session(program, trace.path, log, client)
+        self.mirror = Mirror(log, trace)
+        self.sheets: dict[tuple[object, ...], Sheet] = {}
+        self.layouts: dict[Sheet, tuple[int, Layout]] = {}
+        self.witnesses: dict[tuple[int, int], array[int]] = {}
+        self.needs: dict[tuple[int, ...], dict[int, int]] = {}  # of an aim, as its witness has them
+        self.questions = False  # whether the program answers lines that begin with `?`
+
+    async def open(self) -> None:
+        """Starts the session. What its program can answer is asked once."""
+        names, rows = await self.session.ask("list", "? rows")
+        self.questions = rows.startswith("rows ")
+
+    async def say(self, *lines: str) -> list[str]:
+        answers = await self.session.ask(*lines)
+        self.mirror.sync()
+        return answers
+
+    async def say_one(self, line: str) -> str:
+        return (await self.say(line))[0]
+
+    def row(self, name: str) -> Row:
+        row = self.mirror.rows.get(name)
+        if row is None:
+            raise Mistake("no such schedule")
+        return row
+
+    def _sheet(self, key: tuple[object, ...], events: array[int]) -> Sheet:
+        sheet = self.sheets.pop(key, None) or Sheet(self.trace)
+        self.sheets[key] = sheet  # the last one used stands last
+        if len(self.sheets) > SHEETS:
+            self.layouts.pop(self.sheets.pop(next(iter(self.sheets))), None)
+        sheet.become(events)
+        return sheet
+
+    def sheet(self, name: str) -> Sheet:
+        return self._sheet(("schedule", name), self.row(name).events)
+
+    def layout(self, sheet: Sheet) -> Layout:
+        version, layout = self.layouts.get(sheet, (-1, None))
+        if layout is None or version != sheet.version:
+            layout = Layout(sheet)
+            self.layouts[sheet] = (sheet.version, layout)
+        return layout
+
+    def viewed(self, view: Any) -> tuple[Sheet, Row | None]:
+        """The sheet of what a browser looks at: a witness, or a schedule with its row."""
+        if not isinstance(view, dict):
+            raise Mistake("no such view")
+        if "witness" not in view:
+            name = named(view.get("schedule"))
+            return self.sheet(name), self.row(name)
+        pair = paired(view["witness"])
+        if pair not in self.witnesses:
+            raise Mistake("no such witness")
+        return self._sheet(("witness", *pair), self.witnesses[pair]), None
+
+    async def check(self, name: str) -> bool:
+        """Whether the program shows the schedule as it is drawn."""
+        for _ in range(5):
+            version = self.row(name).version
+            answer = await self.say_one(f"show {name}")
+            if name in self.mirror.rows and self.row(name).version == version:
+                return answer == " ".join(["shown", *map(str, self.row(name).events)])
+        return True  # others change it all the time; it is looked at again when they rest

@@ -1,0 +1,82 @@
+"""Refusals of an event: the program's words, and beside them what they are about and what would help."""
+
+import re
+
+from .sheet import Sheet
+from .text import Told, clean
+
+NOT_FORKED, WRONG_WRITER, LOCK_HELD, JOIN_EARLY = "23", "24", "25", "26"
+WRITERS = re.compile(r"24 wrong writer needs (\S+) has (\S+)\Z")
+
+
+class Causes:
+    """Says causes for one sheet as it is now. Threads often wait for the same lock, so its release is sought once."""
+
+    def __init__(self, sheet: Sheet) -> None:
+        self.sheet, self.trace = sheet, sheet.trace
+        self.releases: dict[tuple[int, int], int | None] = {}
+
+    def told(self, event: int, said: str) -> Told:
+        """What the program said of this event, as `25 lock held by T2`, for the browser."""
+        code = said.split(" ", 1)[0]
+        about = {
+            NOT_FORKED: self._not_forked, WRONG_WRITER: self._wrong_writer, LOCK_HELD: self._lock_held,
+            JOIN_EARLY: self._join_early,
+        }.get(code)
+        answer: Told = {"said": clean(said), "code": code, **(about(event, said) if about else {})}
+        if "help" in answer:
+            helper = self.trace.thread[answer["help"]]
+            answer["helper"] = helper
+            answer["steps"] = self.trace.index[answer["help"]] - self.sheet.counts[helper] + 1
+        return answer
+
+    def _not_forked(self, event: int, said: str) -> Told:
+        fork = self.trace.fork_of[self.trace.thread[event]]
+        return {"about": self.trace.told(fork), "help": fork}
+
+    def _wrong_writer(self, event: int, said: str) -> Told:
+        found = WRITERS.match(said)
+        needs, has = (None if word == "none" else int(word) for word in found.groups()) if found else (None, None)
+        answer: Told = {"has": None if has is None else self.trace.told(has)}
+        if needs is not None:
+            answer["about"] = self.trace.told(needs)
+            if self.sheet.position[needs] < 0:
+                answer["help"] = needs
+        return answer
+
+    def _lock_held(self, event: int, said: str) -> Told:
+        lock = self.trace.name[event]
+        section = self.sheet.sections.held.get(lock)
+        if not section:
+            return {}
+        key = (section.thread, lock)
+        if key not in self.releases:
+            position = self.sheet.counts[section.thread]
+            self.releases[key] = self.trace.release_after(section.thread, lock, position, section.depth)
+        answer: Told = {"about": self.trace.told(self.sheet.events[section.begin])}
+        release = self.releases[key]
+        return answer if release is None else {**answer, "help": release}
+
+    def _join_early(self, event: int, said: str) -> Told:
+        joined = self.trace.name[event]
+        events = self.trace.events_of[joined]
+        left = len(events) - self.sheet.counts[joined]
+        answer: Told = {"left": left, "joined": self.trace.threads.text(joined)}
+        if left:
+            answer["help"] = events[-1]
+        elif joined in self.trace.fork_of:
+            answer["help"] = self.trace.fork_of[joined]
+        return answer
+
+
+def dependent(sheet: Sheet, event: int, other: int) -> str:
+    """Why the program says of two neighbours that they are dependent."""
+    trace = sheet.trace
+    one, two = trace.word[event], trace.word[other]
+    if trace.thread[event] == trace.thread[other]:
+        return "both are of one thread"
+    if trace.conflict(event, other):
+        return f"both access {trace.name_text(event)}, and one writes"
+    if one in (2, 3) and two in (2, 3) and trace.name[event] == trace.name[other]:
+        return f"both are of lock {trace.name_text(event)}"
+    return "one forks or joins the thread of the other"

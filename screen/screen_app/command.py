@@ -1,0 +1,89 @@
+"""screen TRACE LOG: the screen of the workbench, for a browser on this machine."""
+
+from __future__ import annotations
+
+import argparse
+import asyncio
+import os
+import shutil
+import signal
+import sys
+from typing import TYPE_CHECKING
+
+from .bench import Bench
+from .session import Gone
+from .source import Source
+from .trace import Trace
+
+if TYPE_CHECKING:
+    from .server import Server
+
+CLIENTS = 32
+
+
+def words() -> argparse.Namespace:
+    parser = argparse.ArgumentParser(
+        prog=os.path.basename(sys.argv[0]),
+        description="Shows a trace, its races and the schedules of a log in a browser.")
+    parser.add_argument("trace", metavar="TRACE")
+    parser.add_argument("log", metavar="LOG")
+    parser.add_argument("--client", type=int, default=1, choices=range(1, CLIENTS + 1), metavar="N",
+                        help="who you are, 1 to 32 (default: 1)")
+    parser.add_argument("--port", type=int, default=0, choices=range(65536), metavar="P",
+                        help="port on 127.0.0.1 (default: any free port)")
+    parser.add_argument("--source", metavar="DIR", help="folder with the program's source files")
+    parser.add_argument("--program", metavar="FILE", default=os.environ.get("RACEBENCH") or shutil.which("racebench"),
+                        help="the program racebench (default: $RACEBENCH, or racebench on the path)")
+    given = parser.parse_args()
+    if not given.program:
+        parser.error("racebench is not on the path; name it with --program")
+    if given.source and not os.path.isdir(given.source):
+        parser.error(f"{given.source} is no folder")
+    return given
+
+
+def server_of(bench: Bench, given: argparse.Namespace) -> Server:
+    try:
+        from .server import Server
+    except ImportError as why:
+        sys.exit(f"screen: {why.name} is not installed; on Debian: apt install python3-aiohttp")
+    return Server(bench, Source(given.source), os.path.basename(given.trace))
+
+
+def listen_to_terminal(server: Server) -> None:
+    """Control-C ends; Enter prints another link."""
+    loop = asyncio.get_running_loop()
+    for number in (signal.SIGINT, signal.SIGTERM, signal.SIGHUP):
+        loop.add_signal_handler(number, server.stopping.set)
+
+    def another() -> None:
+        if sys.stdin.readline():
+            print(server.guard.link(), flush=True)
+        else:
+            loop.remove_reader(sys.stdin)
+
+    if sys.stdin and sys.stdin.isatty():
+        loop.add_reader(sys.stdin, another)
+
+
+async def run(given: argparse.Namespace) -> None:
+    trace = Trace(given.trace)
+    bench = Bench(given.program, trace, given.log, given.client)
+    server = server_of(bench, given)
+    try:
+        await bench.open()
+        await server.start(given.port)
+    except OSError as why:
+        sys.exit(f"screen: {why}")
+    except Gone as why:
+        sys.exit(str(why))
+    listen_to_terminal(server)
+    print(server.guard.link(), flush=True)
+    print("The link opens once. Enter prints another; control-C ends.", file=sys.stderr, flush=True)
+    await server.read()
+    await server.stopping.wait()
+    await server.stop()
+
+
+def main() -> None:
+    asyncio.run(run(words()))

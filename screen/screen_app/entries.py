@@ -1,0 +1,88 @@
+"""Entries of the log, and how they are told to the browser."""
+
+from .text import Told
+from .trace import Trace
+
+# Words of an entry that are longer are cut for the browser.
+LONG = 300
+
+
+class Entry:
+    """A line of the log: a call that the program accepted there."""
+
+    __slots__ = ("number", "client", "kind", "words", "undone", "steps", "proposal")
+
+    def __init__(self, number: int, client: int, words: list[str]) -> None:
+        self.number, self.client, self.kind, self.words = number, client, words[0], words
+        self.undone: int | None = None  # the entry that took it back
+        self.steps: list[tuple[object, ...]] | None = None  # how it is taken back
+        self.proposal: int | None = None
+
+    def parts(self) -> list[list[str]]:
+        """Its commands, each as its words."""
+        if self.kind in ("undo", "propose"):
+            return []
+        if self.kind != "batch":
+            return [self.words]
+        return [part.split() for part in " ".join(self.words[1:]).split(" ; ")]
+
+
+def schedule_of(part: list[str]) -> str:
+    """The schedule that a command makes or changes."""
+    return part[3] if part[0] == "branch" else part[1]
+
+
+def told_batch(entry: Entry, trace: Trace) -> Told:
+    parts = entry.parts()
+    words = {part[0] for part in parts}
+    told: Told = {"n": len(parts), "name": schedule_of(parts[0])}
+    if words == {"add"} and len({part[1] for part in parts}) == 1:
+        told["run"] = [int(parts[0][2]), int(parts[-1][2])]
+        told["t"] = trace.thread[int(parts[0][2])]
+    elif [part[0] for part in parts] == ["new", "adopt"]:
+        told["took"] = int(parts[1][2])
+    elif words == {"swap"}:
+        told["swaps"] = True
+    return told
+
+
+def told_kind(entry: Entry, trace: Trace) -> Told:
+    """What the browser says of the entry, by its kind."""
+    words = entry.words
+    if entry.kind == "batch":
+        return told_batch(entry, trace)
+    if entry.kind == "propose":
+        return {"p": entry.proposal, "n": len(words) - 3, "pair": [int(words[1]), int(words[2])]}
+    if entry.kind == "undo":
+        return {"of": int(words[1])}
+    if entry.kind == "branch":
+        return {"name": words[3], "src": words[1], "at": int(words[2])}
+    if entry.kind == "add":
+        return {"name": words[1], "ev": trace.told(int(words[2]))}
+    return {"name": words[1], "at": int(words[2]) if len(words) > 2 else None}
+
+
+def told(entry: Entry, trace: Trace) -> Told:
+    """An entry for the browser."""
+    text = " ".join(entry.words)
+    answer = {
+        "i": entry.number, "c": entry.client, "k": entry.kind,
+        "w": text if len(text) <= LONG else text[:LONG] + " …", **told_kind(entry, trace),
+    }
+    if entry.undone is not None:
+        answer["u"] = entry.undone
+    return answer
+
+
+def news(entries: list[Entry], client: int) -> list[Told]:
+    """What others did in these entries: for each of them and each schedule what came of it, the latest first."""
+    found: dict[tuple[int, str | None], Told] = {}
+    for entry in entries:
+        if entry.client == client:
+            continue
+        steps: list[tuple[str, str | None]] = [(part[0], schedule_of(part)) for part in entry.parts()]
+        for word, name in steps or [(entry.kind, None)]:
+            one = found.setdefault((entry.client, name), {"c": entry.client, "name": name, "last": 0})
+            one[word] = one.get(word, 0) + 1
+            one["last"] = entry.number
+    return sorted(found.values(), key=lambda one: -int(one["last"]))

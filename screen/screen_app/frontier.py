@@ -1,0 +1,126 @@
+"""What may come next in a schedule: each thread's next event, and what the program says of it."""
+
+from collections import Counter
+from typing import NamedTuple
+
+from .bench import Bench
+from .causes import JOIN_EARLY, LOCK_HELD, NOT_FORKED, WRONG_WRITER, Causes
+from .checked import Mistake
+from .sheet import Sheet
+from .text import Told
+
+# How often a schedule is asked for again that others change meanwhile.
+TRIES = 6
+# The refusal of a batch whose first command could be made: its last makes a schedule that is there.
+COULD = "refused 70 at 1 43"
+AHEAD = 200
+
+
+class Next(NamedTuple):
+    """An event, and why it may not come next, in the program's words; None where it may."""
+
+    event: int
+    cause: str | None
+
+
+async def frontier(bench: Bench, name: str, aim: tuple[int, ...]) -> Told:
+    for _ in range(TRIES):
+        version = bench.row(name).version
+        sheet = bench.sheet(name)
+        asked = await (by_question(bench, name) if bench.questions else by_batches(bench, name, sheet))
+        if name in bench.mirror.rows and bench.row(name).version == version:
+            break
+    events, pairs = asked
+    causes, needs = Causes(sheet), needed(bench, aim)
+    own = {bench.trace.thread[event] for event in aim}
+    told = [{**thread_told(bench, sheet, one.event, needs, own),
+             **({"why": causes.told(one.event, one.cause)} if one.cause else {})} for one in events]
+    return {
+        "name": name, "version": version, "length": len(sheet), "next": told, "pairs": pairs,
+        "ended": len(bench.trace.threads.raw) - len(told),
+    }
+
+
+async def by_batches(bench: Bench, name: str, sheet: Sheet) -> tuple[list[Next], list[list[int]]]:
+    """Asks by batches that are always refused, so none is logged.
+
+    `batch add A E ; new A` is refused at 0 with the cause for which E may not come next, and else at 1, since A is
+    there.
+    """
+    events = [own[count] for own, count in zip(bench.trace.events_of, sheet.counts) if count < len(own)]
+    lines = [f"batch add {name} {event} ; new {name}" for event in events]
+    *answers, pairs = await bench.say(*lines, f"races {name}")
+    found = []
+    for event, answer in zip(events, answers):
+        cause = None if answer.startswith(COULD) else answer.removeprefix("refused 70 at 0 46 ")
+        found.append(Next(event, cause))
+    return found, pairs_of(pairs)
+
+
+async def by_question(bench: Bench, name: str) -> tuple[list[Next], list[list[int]]]:
+    """Asks the program's own question. The answer names causes by numbers."""
+    told, pairs = await bench.say(f"? next {name}", f"races {name}")
+    words = told.split(" ")
+    if words[0] != "next":
+        raise Mistake("no such schedule")
+    return [item_of(bench, word) for word in words[3:]], pairs_of(pairs)
+
+
+def item_of(bench: Bench, word: str) -> Next:
+    event, *cause = word.split(":")
+    if not cause:
+        return Next(int(event), None)
+    return Next(int(event), f"{cause[0]} {cause_words(bench, *cause)}")
+
+
+def cause_words(bench: Bench, code: str, *about: str) -> str:
+    """The words of a cause, as a refusal has them."""
+    if code == WRONG_WRITER:
+        return f"wrong writer needs {about[0]} has {about[1]}"
+    if code == LOCK_HELD:
+        return f"lock held by {bench.trace.threads.text(int(about[0]))}"
+    return {NOT_FORKED: "not forked", JOIN_EARLY: "join early"}[code]
+
+
+def pairs_of(answer: str) -> list[list[int]]:
+    word, *pairs = answer.split(" ")
+    if word != "pairs":
+        raise Mistake("no such schedule")
+    return [list(map(int, pair.split("-"))) for pair in pairs]
+
+
+def thread_told(bench: Bench, sheet: Sheet, event: int, needs: dict[int, int], own: set[int]) -> Told:
+    """A thread's next event, how far it has come, and how far the aim needs it."""
+    thread = bench.trace.thread[event]
+    events, done = bench.trace.events_of[thread], sheet.counts[thread]
+    told = {**bench.trace.told(event), "left": len(events) - done, "done": done}
+    if thread in needs:
+        told["aim"], told["own"] = needs[thread] - done, thread in own
+        if needs[thread] > done:
+            told["to"] = events[needs[thread] - 1]
+    return told
+
+
+def needed(bench: Bench, aim: tuple[int, ...]) -> dict[int, int]:
+    """How many events of each thread the aim needs: as many as its witness has; without one, those before its two."""
+    trace = bench.trace
+    witness = bench.witnesses.get((aim[0], aim[1])) if len(aim) == 2 else None
+    if witness is None:
+        return {trace.thread[event]: trace.index[event] for event in aim}
+    if aim not in bench.needs:
+        counts = Counter(map(trace.thread.__getitem__, witness))
+        bench.needs[aim] = {**{trace.thread[event]: 0 for event in aim}, **counts}
+    return bench.needs[aim]
+
+
+def ahead(bench: Bench, name: str, thread: int, first: int, count: int) -> Told:
+    """Events of a thread that the schedule does not have yet."""
+    sheet, trace = bench.sheet(name), bench.trace
+    if thread >= len(trace.events_of):
+        raise Mistake("no such thread")
+    events = trace.events_of[thread]
+    start = sheet.counts[thread] + first
+    return {
+        "thread": thread, "left": len(events) - sheet.counts[thread], "from": first,
+        "events": [trace.told(event) for event in events[start : start + min(count, AHEAD)]],
+    }

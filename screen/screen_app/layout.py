@@ -1,0 +1,183 @@
+"""The rows that a sheet is drawn as, and windows of them.
+
+A long run is one row, a block; short runs stand event by event. So stand also runs that were opened, the last
+events of all, and the last event of each thread, so that it is seen where each thread stands. These runs are few:
+they are laid out anew at each change, and the sums of rows of all others are kept by the sheet.
+"""
+
+from bisect import bisect_right
+from collections import Counter
+from collections.abc import Iterator
+from typing import NamedTuple
+
+from .sheet import SHORT, Sheet
+from .text import Told
+from .trace import NONE, OPERATIONS, READ, WRITE
+
+# So many events at the end always stand single.
+TAIL = 6
+# More threads than this have no lane each: the last lane is that of all others.
+LANES = 9
+# So many reads of a write are named.
+READERS = 24
+
+
+class Part(NamedTuple):
+    """A part of a run: a block, which is one row, or single events, a row each."""
+
+    row: int
+    start: int
+    length: int
+    is_block: bool
+
+    @property
+    def rows(self) -> int:
+        return 1 if self.is_block else self.length
+
+
+class Layout:
+    """The rows of a sheet as it is now."""
+
+    def __init__(self, sheet: Sheet) -> None:
+        self.sheet = sheet
+        self.runs = self._special()
+        self.parts: list[list[Part]] = []  # of each special run
+        self.shifts: list[int] = []  # behind each special run, how much lower rows stand than the sheet counts
+        shift = 0
+        for run in self.runs:
+            parts = list(self._cut(run, sheet.run_row[run] + shift))
+            self.parts.append(parts)
+            length = sheet.run_length(run)
+            shift += sum(part.rows for part in parts) - (1 if length > SHORT else length)
+            self.shifts.append(shift)
+        self.total = self.parts[-1][-1].row + self.parts[-1][-1].rows if self.parts else 0
+
+    def _special(self) -> list[int]:
+        """Runs that are not drawn as the sheet counts them, and the last."""
+        sheet = self.sheet
+        found = {run for run in sheet.last_run if run != NONE}
+        run = len(sheet.run_start) - 1
+        while run >= 0 and sheet.run_start[run] + sheet.run_length(run) > len(sheet) - TAIL:
+            found.add(run)
+            run -= 1
+        found |= {sheet.run_of(start) for start in sheet.expanded if start < len(sheet)}
+        return sorted(found)
+
+    def _cut(self, run: int, row: int) -> Iterator[Part]:
+        """The parts of a special run from this row on."""
+        sheet = self.sheet
+        start, length = sheet.run_start[run], sheet.run_length(run)
+        tail = max(len(sheet) - TAIL, start)
+        is_open = start in sheet.expanded
+        if start + length > tail:
+            first = tail - start
+        elif sheet.last_run[sheet.run_thread[run]] == run:
+            first = length - 1
+        else:
+            first = length
+        if length <= SHORT or is_open or first < 2:
+            yield Part(row, start, length, False)
+            return
+        yield Part(row, start, first, True)
+        if first < length:
+            yield Part(row + 1, start + first, length - first, False)
+
+    def _parts_of(self, run: int) -> list[Part]:
+        at = bisect_right(self.runs, run) - 1
+        if at >= 0 and self.runs[at] == run:
+            return self.parts[at]
+        length = self.sheet.run_length(run)
+        row = self.sheet.run_row[run] + (self.shifts[at] if at >= 0 else 0)
+        return [Part(row, self.sheet.run_start[run], length, length > SHORT)]
+
+    def row_of(self, position: int) -> int:
+        for part in self._parts_of(self.sheet.run_of(position)):
+            if position < part.start + part.length:
+                return part.row if part.is_block else part.row + position - part.start
+        raise IndexError(position)
+
+    def _run_at(self, row: int) -> int:
+        """The run that has this row."""
+        at = bisect_right(self.parts, row, key=lambda parts: parts[0].row) - 1
+        if at >= 0:
+            last = self.parts[at][-1]
+            if row < last.row + last.rows:
+                return self.runs[at]
+        return bisect_right(self.sheet.run_row, row - (self.shifts[at] if at >= 0 else 0)) - 1
+
+    def parts_from(self, row: int) -> Iterator[Part]:
+        """The parts from the one that has this row on."""
+        if row >= self.total:
+            return
+        for run in range(self._run_at(row), len(self.sheet.run_start)):
+            for part in self._parts_of(run):
+                if part.row + part.rows > row:
+                    yield part
+
+    def overview(self, count: int = 180) -> list[int]:
+        """The threads of so many rows, spread over all."""
+        sheet = self.sheet
+        return [sheet.run_thread[self._run_at(step * self.total // count)] for step in range(count)]
+
+    def lanes(self, wanted: set[int]) -> list[int]:
+        """The threads that have a lane of their own, in rising number."""
+        counts = self.sheet.counts
+        used = [thread for thread, count in enumerate(counts) if count or thread in wanted]
+        if len(used) > LANES:
+            used.sort(key=lambda thread: (thread not in wanted, -counts[thread]))
+            used = sorted(used[: LANES - 1])
+        return used
+
+    def window(self, first: int, count: int) -> Told:
+        """So many rows from the first on, with the locks beside them."""
+        first = max(0, min(first, self.total))
+        last = min(self.total, first + count)
+        told: list[Told] = []
+        for part in self.parts_from(first):
+            if part.row >= last:
+                break
+            if part.is_block:
+                told.append(self._block(part))
+            else:
+                low, high = max(part.row, first), min(part.row + part.rows, last)
+                told += [self._event(part.start + row - part.row) for row in range(low, high)]
+        locks = self._locks(told, first, last) if told else []
+        return {"from": first, "rows": told, "total": self.total, "length": len(self.sheet), "locks": locks}
+
+    def _event(self, position: int) -> Told:
+        sheet = self.sheet
+        event = sheet.events[position]
+        told = sheet.trace.told(event)
+        told["p"] = position
+        kind = sheet.trace.word[event] if sheet.trace.is_connected else NONE
+        if kind == READ:
+            told["rf"] = sheet.seen(position)
+        elif kind == WRITE:
+            told["rd"] = sheet.readers(position, READERS)
+        if sheet.expanded and sheet.run_start[sheet.run_of(position)] in sheet.expanded:
+            told["x"] = 1
+        return told
+
+    def _block(self, part: Part) -> Told:
+        sheet, trace = self.sheet, self.sheet.trace
+        events = sheet.events[part.start : part.start + part.length]
+        words = Counter(map(trace.word.__getitem__, events))
+        return {
+            "b": part.length, "p": part.start, "t": trace.thread[events[0]],
+            "w": [words[kind] for kind in range(len(OPERATIONS))],
+            "first": trace.told(events[0]), "last": trace.told(events[-1]),
+        }
+
+    def _locks(self, told: list[Told], first: int, last: int) -> list[Told]:
+        """The critical sections that meet these rows, from row to row of the window."""
+        sheet = self.sheet
+        low, high = told[0]["p"], told[-1]["p"] + told[-1].get("b", 1) - 1
+        return [
+            {
+                "t": section.thread, "n": sheet.trace.locks.text(section.lock), "lock": section.lock,
+                "from": self.row_of(section.begin) if section.begin >= low else first - 1,
+                "to": self.row_of(section.end) if section.end is not None and section.end <= high else last,
+                "open": section.end is None, "above": section.begin < low, "e": sheet.events[section.begin],
+            }
+            for section in sheet.sections.meeting(low, high)
+        ]

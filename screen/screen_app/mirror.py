@@ -1,0 +1,186 @@
+"""The log's file, followed: who did what, and the schedules that this leads to.
+
+Each line of the file is a call that the program accepted there, so the schedules follow by moving numbers about:
+no rule of reorderings is looked at here. The screen draws from this, and asks the program for each judgement.
+"""
+
+from __future__ import annotations
+
+import os
+from array import array
+
+from . import entries
+from .entries import Entry
+from .text import Told
+from .trace import Trace
+
+# The first line, which names the trace by a digest; behind it a byte is the gate of the next entry.
+HEAD = 81
+
+
+class Row:
+    """A schedule. `since` has for each position the entry that put its event there."""
+
+    __slots__ = ("birth", "owner", "events", "since", "version", "by", "touched")
+
+    def __init__(self, birth: tuple[int, int], owner: int, events: array[int], since: array[int]) -> None:
+        self.birth, self.owner, self.events, self.since = birth, owner, events, since
+        self.version, self.by, self.touched = 0, owner, birth[0]
+
+
+class Mirror:
+    def __init__(self, path: str, trace: Trace) -> None:
+        self.path, self.trace, self.offset = path, trace, HEAD
+        self.entries: list[Entry] = []
+        self.rows: dict[str, Row] = {}
+        self.proposals: list[array[int]] = []
+        self.changed: dict[str, bool] = {}  # names since the last look
+        self.version = 0
+        self.digest = ""  # of the trace, as the log's first line has it
+        self.fault: str | None = None  # why the file is followed no longer
+
+    def grew(self) -> bool:
+        """Whether the file has another length than was read; the gate is one byte."""
+        try:
+            size = os.stat(self.path).st_size
+        except OSError:
+            return True
+        return size != self.offset + 1
+
+    def sync(self) -> int:
+        """Reads what stands behind the known end; the number of new entries."""
+        if self.fault:
+            return 0
+        try:
+            with open(self.path, "rb") as file:
+                self.digest = self.digest or file.read(HEAD).decode("ascii", "replace").strip()[-64:]
+                file.seek(self.offset)
+                text = file.read()
+        except OSError as why:
+            self.fault = f"the log cannot be read: {why.strerror}"
+            return 0
+        if not text:
+            self.fault = "the log is shorter than it was"
+            return 0
+        return self._take_all(text)
+
+    def _take_all(self, text: bytes) -> int:
+        """Takes the lines whose gate is open; the text begins at a gate."""
+        at, new = 0, 0
+        while text[at : at + 1] == b" ":
+            end = text.find(b"\n", at)
+            if end < 0:
+                break
+            try:
+                self._take(text[at + 1 : end].decode("ascii").split())
+            except (ValueError, KeyError, IndexError, TypeError):
+                self.fault = f"entry {len(self.entries)} of the log is no call that the program accepts"
+                break
+            at, new = end + 1, new + 1
+        self.offset += at
+        return new
+
+    def _take(self, words: list[str]) -> None:
+        entry = Entry(len(self.entries), int(words[0]), words[1:])
+        if entry.kind == "undo":
+            undone = self.entries[int(words[2])]
+            undone.undone = entry.number
+            for step in reversed(undone.steps or []):
+                self._turn(step, entry)
+            undone.steps = None
+        elif entry.kind == "propose":
+            entry.proposal = len(self.proposals)
+            self.proposals.append(array("I", map(int, words[4:])))
+        else:
+            entry.steps = [self._do(entry, place, *part) for place, part in enumerate(entry.parts())]
+        self.entries.append(entry)
+
+    def _note(self, name: str, entry: Entry) -> None:
+        self.version += 1
+        row = self.rows.get(name)
+        if row:
+            row.version, row.by, row.touched = self.version, entry.client, entry.number
+        self.changed[name] = True
+
+    def _do(self, entry: Entry, place: int, word: str, name: str, *rest: str) -> tuple[object, ...]:
+        """Does a command, and says how it is taken back."""
+        if word == "branch":
+            source, length, name = self.rows[name], int(rest[0]), rest[1]
+            made = Row((entry.number, place), entry.client, source.events[:length], source.since[:length])
+        elif word == "new":
+            made = Row((entry.number, place), entry.client, array("I"), array("I"))
+        else:
+            step = self._change(entry, word, name, *map(int, rest))
+            self._note(name, entry)
+            return step
+        self.rows[name] = made
+        self._note(name, entry)
+        return ("gone", name)
+
+    def _change(self, entry: Entry, word: str, name: str, number: int = 0) -> tuple[object, ...]:
+        row = self.rows[name]
+        if word == "add":
+            row.events.append(number)
+            row.since.append(entry.number)
+            return ("pop", name)
+        if word == "back":
+            return ("push", name, row.events.pop(), row.since.pop())
+        if word == "swap":
+            exchange(row, number)
+            return ("swap", name, number)
+        if word == "drop":
+            return ("row", name, self.rows.pop(name))
+        if word == "adopt":
+            step = ("list", name, row.events, row.since)
+            row.events = self.proposals[number][:]
+            row.since = array("I", [entry.number]) * len(row.events)
+            return step
+        raise ValueError(word)
+
+    def _turn(self, step: tuple[object, ...], entry: Entry) -> None:
+        """Takes a step back."""
+        match step:
+            case ("gone", str(name)):
+                del self.rows[name]
+            case ("row", str(name), Row() as row):
+                self.rows[name] = row
+            case ("pop", str(name)):
+                self.rows[name].events.pop()
+                self.rows[name].since.pop()
+            case ("push", str(name), int(event), int(since)):
+                self.rows[name].events.append(event)
+                self.rows[name].since.append(since)
+            case ("list", str(name), array() as events, array() as since):
+                self.rows[name].events, self.rows[name].since = events, since
+            case ("swap", str(name), int(at)):
+                exchange(self.rows[name], at)
+        self._note(str(step[1]), entry)
+
+    # For the browser.
+
+    def told_row(self, name: str) -> Told | None:
+        row = self.rows.get(name)
+        if row is None:
+            return None
+        return {
+            "name": name, "owner": row.owner, "length": len(row.events), "birth": row.birth, "by": row.by,
+            "touched": row.touched,
+        }
+
+    def told_rows(self) -> list[Told | None]:
+        return [self.told_row(name) for name in sorted(self.rows, key=lambda name: self.rows[name].birth)]
+
+    def take_changes(self) -> dict[str, Told | None]:
+        names, self.changed = list(self.changed), {}
+        return {name: self.told_row(name) for name in names}
+
+    def told(self, first: int, count: int) -> list[Told]:
+        return [entries.told(entry, self.trace) for entry in self.entries[first : first + count]]
+
+    def news(self, first: int, client: int) -> list[Told]:
+        return entries.news(self.entries[first:], client)
+
+
+def exchange(row: Row, at: int) -> None:
+    for listed in (row.events, row.since):
+        listed[at], listed[at + 1] = listed[at + 1], listed[at]

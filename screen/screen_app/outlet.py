@@ -1,0 +1,47 @@
+"""What is sent to one browser, in the order in which it was said."""
+
+from __future__ import annotations
+
+import asyncio
+import json
+
+from aiohttp import web
+
+from .text import Told
+
+# How long a browser has to take a message, and how many may wait for that.
+SLOW, MOST = 10, 1_000
+
+
+class Outlet:
+    """Sends what it is given, one after another, so nobody waits for a browser that takes nothing.
+
+    The order matters: a step's entry of the log is told before the step's answer, and the page acts on that.
+    """
+
+    def __init__(self, socket: web.WebSocketResponse, transport: asyncio.Transport | None) -> None:
+        self.socket, self.transport = socket, transport
+        self.queue: asyncio.Queue[str] = asyncio.Queue(MOST)
+        self.writing = asyncio.ensure_future(self._write())
+
+    def send(self, told: Told) -> None:
+        try:
+            self.queue.put_nowait(json.dumps(told, separators=(",", ":")))
+        except asyncio.QueueFull:
+            self._let_go()
+
+    async def _write(self) -> None:
+        try:
+            while True:
+                text = await self.queue.get()
+                await asyncio.wait_for(self.socket.send_str(text), SLOW)
+        except (ConnectionResetError, RuntimeError, asyncio.TimeoutError):
+            self._let_go()
+
+    def _let_go(self) -> None:
+        """Ends the connection. The page connects again when its browser is awake."""
+        if self.transport:
+            self.transport.abort()
+
+    def stop(self) -> None:
+        self.writing.cancel()

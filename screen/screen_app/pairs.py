@@ -1,0 +1,148 @@
+"""Pairs of events: their witnesses and explanations, and the list of races."""
+
+from __future__ import annotations
+
+import asyncio
+from array import array
+from typing import Any
+
+from .bench import Bench
+from .checked import Mistake
+from .kept import Confirmed
+from .session import Gone, Session, output, triage
+from .text import Told, clean
+
+# So many lines of an explanation are shown.
+LINES = 400
+# So many witnesses are kept; each has four bytes an event.
+WITNESSES = 16
+
+
+class Pairs:
+    """Looks at pairs beside the log: nothing here makes an entry."""
+
+    def __init__(self, bench: Bench) -> None:
+        self.bench = bench
+        self.latest: object = None
+        self.looking: asyncio.Task[tuple[int, bytes, str]] | None = None
+        self.looker: Session | None = None
+        self.explained: dict[tuple[int, int], list[str]] = {}
+        self.knows_witness = True  # until the program says that it is no question
+
+    @property
+    def is_asked(self) -> bool:
+        return self.bench.questions and self.knows_witness
+
+    async def witness(self, pair: tuple[int, int]) -> Told:
+        """The list that shows the pair, kept for views of it; what is said of the pair where there is none."""
+        if pair[1] >= len(self.bench.trace):
+            raise Mistake("no such event")
+        told: Told = {"pair": list(pair), "told": [self.bench.trace.told(event) for event in pair]}
+        if pair not in self.bench.witnesses:
+            none = await (self._ask(pair) if self.is_asked else self._run(pair))
+            if none is not None:
+                return {**told, "none": clean(none)}
+        return {**told, "length": len(self.bench.witnesses[pair])}
+
+    def _keep(self, pair: tuple[int, int], events: array[int]) -> None:
+        kept = self.bench.witnesses
+        while len(kept) >= WITNESSES:
+            kept.pop(next(iter(kept)))
+        kept[pair] = events
+
+    async def _run(self, pair: tuple[int, int]) -> str | None:
+        """Has `witness` of the program print the list. Who walks down the races looks at the last one alone."""
+        if self.looking:
+            self.looking.cancel()
+        mine = asyncio.ensure_future(output(self.bench.program, "witness", self.bench.trace.path, *map(str, pair)))
+        self.looking = mine
+        try:
+            status, out, error = await mine
+        except asyncio.CancelledError:
+            return "left for another"
+        finally:
+            if self.looking is mine:
+                self.looking = None
+        if status:
+            return error.removeprefix("racebench: ")
+        self._keep(pair, array("I", [int(line.split(b" ", 1)[0]) for line in out.splitlines() if line]))
+        return None
+
+    async def _ask(self, pair: tuple[int, int]) -> str | None:
+        """Asks a second session, so that no step waits for it. It knows the trace already."""
+        self.latest = mine = object()
+        if self.looker is None:
+            self.looker = Session(*self.bench.session.given)
+        await self.looker.turn.acquire()
+        self.looker.turn.release()
+        if self.latest is not mine:
+            return "left for another"
+        try:
+            (answer,) = await self.looker.ask(f"? witness {pair[0]} {pair[1]}")
+        except Gone:
+            answer = "line"
+        if answer.startswith("line"):  # it is no question there, or too much for that session
+            self.knows_witness = False
+            return await self._run(pair)
+        if not answer.startswith("witness "):
+            return answer.removeprefix("refused ")
+        self._keep(pair, array("I", list(map(int, answer.split(" ")[2:]))))
+        return None
+
+    async def explain(self, pair: tuple[int, int]) -> Told:
+        if pair not in self.explained:
+            status, out, error = await output(
+                self.bench.program, "explain", self.bench.trace.path, *map(str, pair))
+            text = error.encode() if status else out
+            self.explained[pair] = [clean(line) for line in text.split(b"\n")[:LINES]]
+        return {"pair": list(pair), "lines": self.explained[pair]}
+
+    async def stop(self) -> None:
+        if self.looking:
+            self.looking.cancel()
+        if self.looker:
+            await self.looker.stop()
+
+
+class Races:
+    """What `triage` says of the trace, in windows."""
+
+    def __init__(self) -> None:
+        self.state: Told = {"state": "searching"}
+        self.blocks: list[dict[str, Any]] = []
+        self.hays: list[str] = []  # of each block, made when something is sought for the first time
+
+    async def look(self, bench: Bench) -> None:
+        try:
+            counts, self.blocks = await triage(bench.program, bench.trace.path)
+        except Gone as why:
+            self.state = {"state": "failed", "why": clean(str(why))}
+            return
+        for block in self.blocks:
+            for access in block["accesses"]:
+                access.update({key: clean(access[key]) for key in ("thread", "variable", "location")})
+                access["holds"] = [clean(lock) for lock in access["holds"]]
+        confirmed = Confirmed(bench.trace.path).read()
+        for block in self.blocks:
+            first, second = sorted(access["event"] for access in block["accesses"])
+            if (first, second) in confirmed:
+                block["ended"] = confirmed[first, second]
+        self.state = {"state": "found", "counts": counts}
+
+    def window(self, text: str, kinds: list[str], first: int, count: int) -> Told:
+        words = text.lower().split()
+        if words and len(self.hays) < len(self.blocks):
+            self.hays = [hay(block) for block in self.blocks]
+        found = [
+            block for at, block in enumerate(self.blocks)
+            if block["kind"] in kinds and all(word in self.hays[at] for word in words)
+        ]
+        return {**self.state, "total": len(found), "from": first, "blocks": found[first : first + count]}
+
+
+def hay(block: dict[str, Any]) -> str:
+    """What a filter looks in."""
+    words = [block["kind"], block.get("how", "")]
+    for access in block["accesses"]:
+        words += [access["location"], access["thread"], access["variable"], str(access["event"])]
+    return " ".join(words).lower()

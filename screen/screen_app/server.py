@@ -1,0 +1,216 @@
+"""The screen's server: pages, sockets, and what is pushed to them."""
+
+import asyncio
+import json
+import os
+import sys
+from collections.abc import Coroutine, Iterator
+from typing import Any
+
+from aiohttp import WSMsgType, web
+
+from .bench import Bench
+from .checked import Mistake
+from .guard import Guard, guarded, put_headers
+from .kept import Names, Seen
+from .outlet import Outlet
+from .pairs import Pairs, Races
+from .requests import Requests
+from .session import Gone
+from .source import Source
+from .text import Told, clean
+from .trace import CONNECTED
+
+STATIC = os.path.join(os.path.dirname(os.path.dirname(os.path.abspath(__file__))), "static")
+# How often the log is looked at, in seconds.
+POLL = 0.05
+# The longest message, the most sockets, the most that have not named their key, and how long they have for it.
+MESSAGE, SOCKETS, WAITING, PATIENCE = 1 << 16, 16, 16, 5
+# How long a browser has to answer that the socket ends.
+GRACE = 0.5
+# The most requests of one socket that are at work.
+AT_WORK = 64
+# The most entries that one push has.
+PUSHED = 300
+# What comes of a request that is no dictionary, or lacks something, or has another type.
+BAD = (KeyError, TypeError, ValueError, AttributeError, IndexError, OverflowError, RecursionError)
+
+
+async def in_turn(work: Iterator[Any]) -> None:
+    """Does work in portions, with turns for others in between."""
+    for _ in work:
+        await asyncio.sleep(0)
+
+
+class Server:
+    def __init__(self, bench: Bench, source: Source, title: str) -> None:
+        self.bench, self.races = bench, Races()
+        self.guard, self.pairs = Guard(), Pairs(bench)
+        seen, self.names = Seen(bench.mirror.path, bench.client), Names(bench.mirror.path)
+        self.requests = Requests(bench, self.races, self.pairs, source, seen, title)
+        self.requests.link, self.requests.names = self.guard.link, self.names
+        self.files = {name for name in os.listdir(STATIC) if name.endswith((".js", ".css", ".svg"))}
+        self.outlets: set[Outlet] = set()
+        self.waiting = 0
+        self.told_to = 0
+        self.stopping = asyncio.Event()
+        self.tasks: list[asyncio.Task[None]] = []
+
+    # HTTP.
+
+    async def page(self, request: web.Request) -> web.StreamResponse:
+        return web.FileResponse(os.path.join(STATIC, "index.html"))
+
+    async def file(self, request: web.Request) -> web.StreamResponse:
+        name = request.match_info["name"]
+        if name not in self.files:
+            raise web.HTTPNotFound
+        return web.FileResponse(os.path.join(STATIC, name))
+
+    async def enter(self, request: web.Request) -> web.StreamResponse:
+        """Gives the key for a ticket, once."""
+        given = (await request.content.read(256)).decode("ascii", "replace")
+        if not self.guard.spend(given):
+            await asyncio.sleep(0.3)
+            raise web.HTTPForbidden(text="spent")
+        return web.Response(text=self.guard.key, content_type="text/plain")
+
+    async def socket(self, request: web.Request) -> web.StreamResponse:
+        if len(self.outlets) >= SOCKETS or self.waiting >= WAITING:
+            raise web.HTTPServiceUnavailable
+        socket = web.WebSocketResponse(max_msg_size=MESSAGE, heartbeat=30, compress=False)
+        self.waiting += 1
+        try:
+            await socket.prepare(request)
+            is_let_in = await self._is_let_in(socket)
+        finally:
+            self.waiting -= 1
+        if is_let_in and len(self.outlets) < SOCKETS:
+            await self._serve(socket, Outlet(socket, request.transport))
+        else:
+            await socket.close(code=4403)
+        return socket
+
+    async def _is_let_in(self, socket: web.WebSocketResponse) -> bool:
+        try:
+            first = await socket.receive(timeout=PATIENCE)
+        except asyncio.TimeoutError:
+            return False
+        return first.type == WSMsgType.TEXT and self.guard.is_key(first.data)
+
+    async def _serve(self, socket: web.WebSocketResponse, outlet: Outlet) -> None:
+        self.outlets.add(outlet)
+        room = asyncio.Semaphore(AT_WORK)
+        work: set[asyncio.Task[None]] = set()
+        try:
+            async for message in socket:
+                if message.type == WSMsgType.TEXT:
+                    await room.acquire()
+                    task = asyncio.ensure_future(self._answer(outlet, message.data, room))
+                    work.add(task)
+                    task.add_done_callback(work.discard)
+        finally:
+            self.outlets.discard(outlet)
+            outlet.stop()
+
+    async def _answer(self, outlet: Outlet, text: str, room: asyncio.Semaphore) -> None:
+        number, answer = None, None
+        try:
+            request = json.loads(text)
+            number = request.get("id")
+            answer = await self.requests.answer(request)
+        except Gone as why:
+            answer = {"gone": clean(str(why))}
+        except Mistake as why:
+            answer = {"mistake": clean(str(why))}
+        except BAD as why:
+            print(f"screen: bad request {clean(text[:200])}: {why!r}", file=sys.stderr, flush=True)
+            answer = {"mistake": "bad request"}
+        room.release()
+        self._tell_changes()
+        outlet.send({**answer, "id": number})
+
+    def push(self, what: str, told: Told) -> None:
+        for outlet in self.outlets:
+            outlet.send({"push": what, **told})
+
+    # What others do, and what is looked for beside the steps.
+
+    def _tell_changes(self) -> None:
+        mirror = self.bench.mirror
+        known, total = self.told_to, len(mirror.entries)
+        if total != known:
+            self.told_to = total
+            first = max(known, total - PUSHED)
+            entries = mirror.told(first, total - first)
+            self.push("log", {"n": total, "entries": entries, "rows": mirror.take_changes()})
+
+    async def watch(self) -> None:
+        """Looks at the size of the log: that also sees what another machine wrote, which inotify does not."""
+        mirror = self.bench.mirror
+        while not mirror.fault:
+            await asyncio.sleep(POLL)
+            if self.names.changed():
+                self.push("names", {"names": self.names.names})
+            if mirror.grew():
+                mirror.sync()
+                self._tell_changes()
+        self.requests.fault = mirror.fault
+        self.push("fault", {"why": mirror.fault})
+
+    async def compare_traces(self) -> None:
+        """Whether the screen reads the trace as the program does: the log's first line has the program's digest."""
+        if not self.bench.trace.is_connected:
+            await in_turn(self.bench.trace.connect())
+        digest = ""
+        for digest in self.bench.trace.digests():
+            await asyncio.sleep(0)
+        if digest != self.bench.mirror.digest:
+            self.requests.fault = "this screen reads the trace otherwise than the program"
+            self.push("fault", {"why": self.requests.fault})
+
+    async def look_for_races(self) -> None:
+        await self.races.look(self.bench)
+        self.push("races", {})
+
+    def beside(self, work: Coroutine[Any, Any, None]) -> None:
+        self.tasks.append(asyncio.ensure_future(work))
+
+    # Life.
+
+    async def start(self, port: int) -> None:
+        app = guarded(self.guard)
+        app.on_response_prepare.append(put_headers)
+        app.router.add_get("/", self.page)
+        app.router.add_post("/enter", self.enter)
+        app.router.add_get("/ws", self.socket)
+        app.router.add_get("/{name}", self.file)
+        self.runner = web.AppRunner(app, access_log=None)
+        await self.runner.setup()
+        await web.TCPSite(self.runner, "127.0.0.1", port, shutdown_timeout=GRACE).start()
+        self.guard.port = self.runner.addresses[0][1]
+        self.beside(self.look_for_races())
+
+    async def read(self) -> None:
+        """Reads the trace, while the page is served already; the log is followed from here on."""
+        await in_turn(self.bench.trace.read())
+        if len(self.bench.trace) <= CONNECTED:
+            await in_turn(self.bench.trace.connect())
+        self.bench.mirror.sync()
+        self.bench.mirror.take_changes()
+        self.told_to = len(self.bench.mirror.entries)
+        self.names.changed()
+        self.requests.is_ready.set()
+        self.beside(self.watch())
+        self.beside(self.compare_traces())
+
+    async def _close(self) -> None:
+        await asyncio.gather(*[outlet.socket.close() for outlet in list(self.outlets)])
+
+    async def stop(self) -> None:
+        for task in self.tasks:
+            task.cancel()
+        await asyncio.wait([asyncio.ensure_future(self._close()), *self.tasks], timeout=GRACE)
+        await self.runner.cleanup()
+        await self.pairs.stop()
+        await self.bench.session.stop()

@@ -1,0 +1,165 @@
+"""What an analyst does to a schedule. Each step is lines of the session; its answers say what was done."""
+
+from __future__ import annotations
+
+import re
+from array import array
+from collections.abc import Sequence
+
+from .bench import Bench
+from .causes import Causes, dependent
+from .text import Told, clean
+
+# The most commands of a batch; so many batches are written together.
+BATCH = 64
+CHUNK = 64
+# The longest line that is sent as a proposal; a line of a script has at most 65,536 bytes.
+LINE = 65_000
+# The most events that one run adds.
+MOST = 200_000
+REFUSED_ADD = re.compile(r"refused 70 at (\d+) 46 (.*)")
+REFUSED_SWAP = re.compile(r"refused (?:70 at (\d+) )?47 ")
+RESTS = re.compile(r"refused 52 rests on (\d+) (\S+)")
+PROPOSED = re.compile(r"\d+: proposed (\d+)\Z")
+
+
+def is_done(answer: str) -> bool:
+    return answer.endswith(": done")
+
+
+def entry_of(answer: str) -> int:
+    return int(answer.split(":", 1)[0])
+
+
+def adds(name: str, events: Sequence[int]) -> str:
+    return "batch " + " ; ".join(f"add {name} {event}" for event in events)
+
+
+async def one(bench: Bench, line: str) -> Told:
+    return {"answer": clean(await bench.say_one(line))}
+
+
+async def add(bench: Bench, name: str, event: int) -> Told:
+    answer = await bench.say_one(f"add {name} {event}")
+    told: Told = {"answer": clean(answer)}
+    if answer.startswith("refused 46 ") and event < len(bench.trace):
+        told["why"] = Causes(bench.sheet(name)).told(event, answer.removeprefix("refused 46 "))
+    return told
+
+
+class Run:
+    """Adds a thread's events up to one of them, or until the next is refused, by as few batches as may be."""
+
+    def __init__(self, bench: Bench, name: str) -> None:
+        self.bench, self.name = bench, name
+        self.added = 0
+        self.entries: list[int] = []
+
+    async def to(self, thread: int, until: int | None) -> Told:
+        events = self.bench.trace.events_of[thread]
+        at = self.bench.sheet(self.name).counts[thread]
+        end = min(len(events) if until is None else self.bench.trace.index[until] + 1, at + MOST)
+        while at < end:
+            parts = cut(events[at : min(end, at + BATCH * CHUNK)])
+            answers = await self.bench.say(*[adds(self.name, part) for part in parts])
+            for part, answer in zip(parts, answers):
+                if not is_done(answer):
+                    return await self._stopped(part, answer)
+                self._count(part, answer)
+                at += len(part)
+        return self._told(f"{self.entries[-1]}: done" if self.entries else "nothing to add")
+
+    def _count(self, part: Sequence[int], answer: str) -> None:
+        self.added += len(part)
+        self.entries.append(entry_of(answer))
+
+    def _told(self, answer: str) -> Told:
+        return {"added": self.added, "entries": self.entries, "answer": clean(answer)}
+
+    async def _stopped(self, part: Sequence[int], answer: str) -> Told:
+        """A batch was refused at one of its events: those before it are added, and the cause is told."""
+        found = REFUSED_ADD.match(answer)
+        if not found:
+            return self._told(answer)
+        good = int(found[1])
+        if good:
+            more = await self.bench.say_one(adds(self.name, part[:good]))
+            if not is_done(more):
+                return self._told(more)
+            self._count(part[:good], more)
+        event = part[good]
+        why = Causes(self.bench.sheet(self.name)).told(event, found[2])
+        return {**self._told(answer), "stop": {"e": event, **why}}
+
+
+def cut(events: array[int]) -> list[array[int]]:
+    return [events[start : start + BATCH] for start in range(0, len(events), BATCH)]
+
+
+def swaps(name: str, places: Sequence[int]) -> str:
+    line = " ; ".join(f"swap {name} {place}" for place in places)
+    return line if len(places) == 1 else "batch " + line
+
+
+async def move(bench: Bench, name: str, position: int, by: int) -> Told:
+    """Moves an event up or down by neighbours that change places, as far as that goes."""
+    places = list(range(position - 1, position + by - 1, -1) if by < 0 else range(position, position + by))[:BATCH]
+    if not places or min(places) < 0:
+        return {"moved": 0, "answer": "nothing to move"}
+    answer = await bench.say_one(swaps(name, places))
+    if is_done(answer):
+        return {"moved": len(places), "answer": answer}
+    found = REFUSED_SWAP.match(answer)
+    if not found:
+        return {"moved": 0, "answer": clean(answer)}
+    good = int(found[1] or 0)
+    if good:
+        more = await bench.say_one(swaps(name, places[:good]))
+        if not is_done(more):
+            return {"moved": 0, "answer": clean(more)}
+    return {"moved": good, "answer": clean(answer), **stays(bench, name, position, good if by > 0 else -good, by)}
+
+
+def stays(bench: Bench, name: str, position: int, moved: int, by: int) -> Told:
+    """Why an event that was moved so far goes no farther."""
+    sheet = bench.sheet(name)
+    here = position + moved
+    other = here + (1 if by > 0 else -1)
+    if not (0 <= other < len(sheet) and 0 <= here < len(sheet)):
+        return {}
+    why = dependent(sheet, sheet.events[here], sheet.events[other])
+    return {"stop": {"p": min(here, other), "why": why, "with": sheet.trace.told(sheet.events[other])}}
+
+
+async def undo(bench: Bench, entries: list[int]) -> Told:
+    """Takes back these entries, newest first, under one lock; none named is the latest of this client."""
+    answers = await bench.say(*[f"undo {entry}" for entry in entries] or ["undo"])
+    failed = next((answer for answer in answers if ": undone" not in answer), None)
+    told: Told = {"answer": failed or answers[-1], "undone": sum(": undone" in answer for answer in answers)}
+    found = RESTS.match(failed or "")
+    if found:
+        told["rests"] = {"entry": bench.mirror.told(int(found[1]), 1)[0], "name": found[2]}
+    return told
+
+
+async def enter(bench: Bench, name: str, events: array[int], pair: tuple[int, int] | None) -> Told:
+    """Makes a schedule of these events: a proposal that is adopted where its line is short enough, else batches."""
+    line = f"propose {pair[0]} {pair[1]} " + " ".join(map(str, events)) if pair else ""
+    if pair and len(line) <= LINE:
+        answer = await bench.say_one(line)
+        found = PROPOSED.match(answer)
+        return await one(bench, f"batch new {name} ; adopt {name} {found[1]}") if found else {"answer": clean(answer)}
+    answer = await bench.say_one(f"new {name}")
+    parts = cut(events) if is_done(answer) else []
+    for start in range(0, len(parts), CHUNK):
+        for answer in await bench.say(*[adds(name, part) for part in parts[start : start + CHUNK]]):
+            if not is_done(answer):
+                return {"answer": clean(answer)}
+    return {"answer": clean(answer)}
+
+
+async def propose(bench: Bench, pair: tuple[int, int], events: array[int]) -> Told:
+    line = f"propose {pair[0]} {pair[1]} " + " ".join(map(str, events))
+    if len(line) > LINE:
+        return {"answer": "not sent: the list is longer than a line of a script may be (65,536 bytes)"}
+    return await one(bench, line)

@@ -1,0 +1,18 @@
+"""Bytes and words from outside, made harmless."""
+
+import unicodedata
+from typing import Any
+
+# What goes to the browser: a dictionary that JSON can hold.
+Told = dict[str, Any]
+
+# Control, format (bidi), surrogate, private, unassigned, and the two separators of lines.
+HIDDEN = frozenset({"Cc", "Cf", "Cs", "Co", "Cn", "Zl", "Zp"})
+
+
+def clean(raw: bytes | str) -> str:
+    """Text that shows what is there: no control, format (bidi) or private character keeps its effect."""
+    text = raw if isinstance(raw, str) else raw.decode("utf-8", "replace")
+    if text.isascii() and text.isprintable():
+        return text
+    return "".join(f"\\u{{{ord(char):x}}}" if unicodedata.category(char) in HIDDEN else char for char in text)

@@ -1,0 +1,101 @@
+// The screen: one trace, one log, one analyst. This module begins, and takes what the server pushes.
+import { $, el, fill, many } from "./make.js";
+import { connect, on, ask } from "./net.js";
+import { state } from "./words.js";
+import { act, bad, say } from "./act.js";
+import { showKeys, showLink } from "./dialogs.js";
+import { isNarrow, pane } from "./frame.js";
+import "./keys.js";
+import * as sheet from "./sheet.js";
+import * as frontier from "./frontier.js";
+import * as races from "./races.js";
+import * as feed from "./feed.js";
+import * as schedules from "./schedules.js";
+import * as views from "./views.js";
+import * as pair from "./pair.js";
+
+for (const part of [sheet, frontier, feed, pair]) part.events.act = act;
+frontier.events.say = say;
+feed.events.open = schedules.events.open = views.open;
+schedules.events.adopt = views.adopt;
+races.events.open = (block) => views.openPair(block.accesses.map((access) => access.event));
+$("keys").addEventListener("click", showKeys);
+$("link").addEventListener("click", showLink);
+$("new").addEventListener("click", views.fresh);
+$("undo").addEventListener("click", () => act("undo", {}));
+
+function learn(told) {
+  for (const key of ["threads", "client", "title", "n", "source"]) state[key] = told[key];
+  state.names = told.names ?? {};
+  state.rows = new Map(told.rows.map((row) => [row.name, row]));
+  state.entries = new Map(told.feed.map((entry) => [entry.i, entry]));
+  document.title = `${told.title} · client ${told.client}`;
+  $("title").textContent = told.title;
+  const facts = [many(told.events, "event"), many(told.threads.length, "thread"), many(told.variables, "variable"),
+    many(told.locks, "lock")];
+  $("facts").textContent = facts.join(" · ");
+  showClient();
+  if (told.fault) fault(told.fault);
+}
+
+function showClient() {
+  const name = state.names[state.client];
+  fill($("live"), el("span", "live-dot", "●"), ` client ${state.client}`, name ? [", ", el("bdi", "", name)] : null);
+}
+
+function fault(why) {
+  fill($("live"), bad(`Do not go by what is drawn here: ${why}.`));
+}
+
+// The schedule that this analyst worked on last.
+function latest() {
+  const own = [...state.rows.values()].filter((row) => row.owner === state.client || row.by === state.client);
+  return own.sort((one, other) => other.touched - one.touched)[0] ?? [...state.rows.values()].at(-1);
+}
+
+on("open", async () => {
+  races.load();
+  const told = await ask("hello");
+  if (told.mistake) {
+    say(bad(told.mistake));
+    return;
+  }
+  learn(told);
+  feed.begin(told.seen);
+  feed.render();
+  views.bar();
+  const row = latest();
+  if (state.view) views.open(state.view, { end: false });
+  else if (row) views.open({ schedule: row.name });
+  else {
+    views.close();
+    if (isNarrow()) pane("races");
+  }
+});
+on("closed", (text) => fill($("live"), bad(text)));
+on("races", () => races.load());
+on("fault", (told) => fault(told.why));
+on("names", (told) => {
+  state.names = told.names;
+  showClient();
+  feed.render();
+  views.bar();
+});
+
+// What is drawn is asked for first, and the feed is drawn while the answer is under way.
+on("log", async (told) => {
+  const name = state.view?.schedule;
+  const isMine = told.entries.length > 0 && told.entries.every((entry) => entry.c === state.client);
+  feed.take(told);
+  const isTouched = name && name in told.rows;
+  const drawn = isTouched && told.rows[name] ? [sheet.refresh(isMine), frontier.load()] : [];
+  feed.render();
+  if (isTouched && !told.rows[name]) {
+    sheet.reset();
+    frontier.load();
+  }
+  await Promise.all(drawn);
+  if (isTouched) views.bar();
+});
+
+connect();

@@ -1,0 +1,69 @@
+// Dialogs: a name that is asked for, all keys, and a link for another browser.
+import { $, el, fill, button } from "./make.js";
+import { ask } from "./net.js";
+
+// The name that was given, or null.
+export function asked(label, value, note = "") {
+  return new Promise((done) => {
+    const dialog = $("ask");
+    const field = $("ask-input");
+    $("ask-label").textContent = label;
+    $("ask-note").textContent = note;
+    field.value = value;
+    dialog.returnValue = "no";
+    $("ask-no").onclick = () => dialog.close("no");
+    dialog.onclose = () => done((dialog.returnValue === "yes" && field.value.trim()) || null);
+    dialog.showModal();
+    field.select();
+  });
+}
+
+const KEYS = [
+  ["Next events", [
+    ["↑ ↓  j k", "choose a thread"], ["↵  1–9", "add its next event"], ["⌫", "take the last event back"],
+    ["r", "run the thread until it must stop"], ["t", "run it as far as the aim needs"],
+    ["f", "run what it waits for"], ["→", "see what comes, and run to there"],
+  ]],
+  ["Schedule", [
+    ["↑ ↓", "move the cursor"], ["Alt ↑ ↓", "swap with the neighbour"],
+    ["↵", "open or close a block, go to the write that is read"], ["Home End", "first, last event"],
+    ["b", "branch after the cursor"],
+  ]],
+  ["Work", [
+    ["w", "witness of the aim; work on it"], ["e", "start empty towards the aim"], ["x", "why: the explanation"],
+    ["p", "propose the pair that is shown"], ["n", "new schedule"], ["[ ]", "other schedules"],
+    ["u", "undo my latest"], ["s", "mark the log as seen"],
+  ]],
+  ["Screen", [
+    ["/", "filter races"], ["F6", "next pane"], ["?", "keys"], ["Esc", "close"],
+  ]],
+];
+
+function group([title, lines]) {
+  return el("div", "", el("h3", "", title),
+    lines.map(([key, does]) => el("div", "key", el("kbd", "", key), el("span", "", does))));
+}
+
+function show(title, ...inner) {
+  const box = $("help");
+  const close = el("div", "row", el("span", "gap"), button("Close", "Esc", () => box.close()));
+  fill(box, el("h2", "", title), inner, close);
+  box.setAttribute("aria-label", title);
+  box.showModal();
+}
+
+export const showKeys = () => show("Keys", el("div", "keys", KEYS.map(group)));
+
+// Each link opens once, so another browser gets one of its own.
+export async function showLink() {
+  const told = await ask("link");
+  if (!told.link) return;
+  const field = el("input", "link");
+  field.readOnly = true;
+  field.value = told.link;
+  field.setAttribute("aria-label", "Link");
+  show("A link for another browser on this machine",
+    el("p", "dim", "It opens once. Whoever has it works as you do. Another analyst runs screen with another number."),
+    field);
+  field.select();
+}

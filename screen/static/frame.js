@@ -1,0 +1,76 @@
+// The frame: panes, light and dark, and the splitter between the lanes and what may come next.
+import { $ } from "./make.js";
+
+const narrow = matchMedia("(max-width: 820px)");
+export const isNarrow = () => narrow.matches;
+
+export const PANES = ["race-list", "stage", "next-list", "row-list", "feed"];
+export const paneOf = (element) => PANES.find((id) => $(id).contains(element));
+
+export function pane(name) {
+  $("main").dataset.pane = name;
+  for (const tab of $("tabs").children) tab.setAttribute("aria-current", tab.dataset.pane === name);
+}
+
+export function nextPane(by) {
+  const at = PANES.indexOf(paneOf(document.activeElement));
+  for (let tries = 1; tries <= PANES.length; tries++) {
+    const box = $(PANES[(at + by * tries + PANES.length * 2) % PANES.length]);
+    if (box.offsetParent) {
+      box.focus();
+      return;
+    }
+  }
+}
+
+for (const tab of $("tabs").children) tab.addEventListener("click", () => pane(tab.dataset.pane));
+
+// Light and dark.
+const root = document.documentElement;
+const kept = localStorage.getItem("theme");
+if (kept) root.dataset.theme = kept;
+$("theme").addEventListener("click", () => {
+  const isDark = matchMedia("(prefers-color-scheme: dark)").matches;
+  root.dataset.theme = (root.dataset.theme ?? (isDark ? "dark" : "light")) === "dark" ? "light" : "dark";
+  localStorage.setItem("theme", root.dataset.theme);
+});
+
+// The splitter. The lanes keep LANES pixels, what may come next keeps NEXT.
+const LANES = 150;
+const NEXT = 64;
+const STEP = 24;
+const splitter = $("splitter");
+const next = $("next");
+
+function most() {
+  return Math.max(NEXT, $("stage-box").clientHeight + next.offsetHeight - LANES);
+}
+
+function setHeight(height) {
+  const kept = Math.round(Math.max(NEXT, Math.min(most(), height)));
+  root.style.setProperty("--next-height", `${kept}px`);
+  next.classList.add("sized");
+  splitter.setAttribute("aria-valuemax", String(most()));
+  splitter.setAttribute("aria-valuenow", String(kept));
+}
+
+splitter.addEventListener("pointerdown", (event) => {
+  const [from, height] = [event.clientY, next.offsetHeight];
+  splitter.setPointerCapture(event.pointerId);
+  splitter.onpointermove = (one) => setHeight(height + from - one.clientY);
+  splitter.onpointerup = () => {
+    splitter.onpointermove = null;
+  };
+  event.preventDefault();
+  splitter.focus();
+});
+splitter.addEventListener("dblclick", () => next.classList.remove("sized"));
+splitter.addEventListener("keydown", (event) => {
+  const by = { ArrowUp: STEP, ArrowDown: -STEP }[event.key];
+  if (!by) return;
+  event.preventDefault();
+  event.stopPropagation();
+  setHeight(next.offsetHeight + by);
+});
+
+pane("centre");

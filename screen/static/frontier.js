@@ -1,0 +1,211 @@
+// What may come next: one line a thread, and the program's own refusal of what may not.
+import { $, el, fill, button, count, many, option } from "./make.js";
+import { ask } from "./net.js";
+import { state, tag, operation, place, reason, help, threadName, spoken } from "./words.js";
+import { showPair } from "./pair.js";
+
+// With more threads than this there is a filter, and those that the aim needs come first.
+const FEW = 12;
+// So many events to come are shown.
+const AHEAD = 40;
+const list = $("next-list");
+const filter = $("next-filter");
+export const events = { act: null, say: null };
+
+let told = null;
+let chosen = null;
+let open = null;
+let asked = 0;
+let pending = Promise.resolve();
+
+export const current = () => told;
+export const load = () => (pending = fetchNext());
+const name = () => state.view?.schedule;
+const chosenOne = () => told?.next.find((one) => one.t === chosen) ?? null;
+
+// Waits for the latest list: an older one that is overtaken is thrown away.
+export async function settled() {
+  for (let seen = null; seen !== pending; ) {
+    seen = pending;
+    await seen;
+  }
+}
+
+async function fetchNext() {
+  const mine = ++asked;
+  const schedule = name();
+  if (!schedule) {
+    told = null;
+    render();
+    return;
+  }
+  const got = await ask("frontier", { name: schedule, aim: state.aim });
+  if (mine !== asked || schedule !== name()) return;
+  told = got.mistake || got.gone ? null : got;
+  if (told && !chosenOne()) chosen = (told.next.find((one) => !one.why) ?? told.next[0])?.t ?? null;
+  if (open !== null) await more();
+  render();
+}
+
+// Of a witness, whose two accesses come next.
+export function show(pair) {
+  asked++;
+  const next = pair.told.map((one) => ({ ...one, left: 0, fixed: true }));
+  told = { source: pair.source, next, pairs: [pair.pair], witness: true, ended: 0 };
+  chosen = open = null;
+  render();
+}
+
+function sorted() {
+  if (told.next.length <= FEW) return told.next;
+  const rank = (one) => (one.aim >= 0 ? 0 : one.why ? 2 : 1);
+  const text = filter.value.toLowerCase();
+  const kept = told.next.filter((one) => `${threadName(one.t)} ${one.n} ${one.l}`.toLowerCase().includes(text));
+  return kept.sort((one, other) => rank(one) - rank(other) || one.t - other.t);
+}
+
+function render() {
+  showPair(told);
+  $("next").hidden = !told || Boolean(told.witness);
+  if (!told || told.witness) return;
+  const free = told.next.filter((one) => !one.why).length;
+  const ended = told.ended ? `, ${told.ended} at an end` : "";
+  $("next-count").textContent = `${free} of ${told.next.length} threads may go on${ended}`;
+  filter.hidden = told.next.length <= FEW;
+  const lit = new Set(told.pairs.flat());
+  list.dataset.length = told.length;
+  list.removeAttribute("aria-activedescendant");
+  const empty = told.next.length ? "Nothing matches." : "All events of the trace stand in this schedule.";
+  const lines = sorted().map((one) => line(one, lit));
+  fill(list, lines.length ? lines : el("p", "empty", empty));
+  list.querySelector(".on")?.scrollIntoView({ block: "nearest" });
+}
+
+// How far a thread is from what the aim needs of it.
+function distance(one) {
+  if (one.aim > 0) {
+    const text = `${count(one.aim)} ${one.own ? "to aim" : "needed"}`;
+    return el("span", `aim-left${one.own ? "" : " dim"}`, text);
+  }
+  if (!one.own) return null;
+  return one.aim === 0 ? el("span", "aim-left here", "aim") : el("span", "aim-left dim", "past the aim");
+}
+
+function buttons(one) {
+  if (one.t !== chosen) return null;
+  const does = help(one.why);
+  if (one.why) return does ? button(does.text, "f", () => follow(one)) : null;
+  return [button("add", "↵", () => add(one)), button("run", "r", () => run(one)),
+    one.to === undefined ? null : button("to aim", "t", () => toAim(one))];
+}
+
+function line(one, lit) {
+  const source = told.source?.[one.l];
+  const why = one.why ? reason(one.why, one) : null;
+  const more = button(open === one.t ? "▾" : `${count(one.left)} ›`, "", () => {
+    choose(one.t);
+    unfold();
+  }, "more plain");
+  more.title = `${many(one.left, "event")} of ${threadName(one.t)} to come (→)`;
+  const made = el("div", `next${why ? " no" : " yes"}${one.t === chosen ? " on" : ""}${lit.has(one.e) ? " lit" : ""}`,
+    el("kbd", "digit", one.t < 9 ? String(one.t + 1) : ""), tag(one.t), el("span", "dot", why ? "○" : "●"),
+    el("span", "what", el("span", "num", String(one.e)), " ", operation(one)),
+    why ?? el("span", "code", place(one.l), source ? el("code", "", source) : null),
+    el("span", "do", distance(one), buttons(one), more));
+  made.dataset.t = one.t;
+  made.dataset.place = one.l;
+  made.addEventListener("click", (event) => {
+    if (state.source && event.target.closest(".place")) return;
+    choose(one.t);
+    if (!one.why) add(one);
+  });
+  const label = `${spoken(one)}, ${why ? `may not come next: ${why.textContent}` : "may come next"}`;
+  option(made, list, `next-${one.t}`, label, one.t === chosen);
+  return open === one.t && told.ahead ? [made, ahead(one)] : made;
+}
+
+// What comes of a thread; a click runs to there.
+function ahead(one) {
+  const rows = told.ahead.events.map((event, at) => {
+    const made = el("button", `coming${state.aim?.includes(event.e) ? " aimed" : ""}`,
+      el("span", "num", String(event.e)), el("span", "", operation(event)), place(event.l, true),
+      el("code", "", told.ahead.source?.[event.l] ?? ""),
+      el("span", "dim until", at ? `run to here (${at + 1})` : "add"));
+    made.addEventListener("click", () => events.act("run", { name: name(), until: event.e }));
+    return made;
+  });
+  const left = told.ahead.left - rows.length;
+  return el("div", "ahead", rows, left > 0 ? untilField(one, told.ahead.left) : null);
+}
+
+function untilField(one, left) {
+  const field = el("input", "until-event");
+  field.placeholder = `event of ${threadName(one.t)}, up to ${count(left)} more`;
+  field.setAttribute("aria-label", "Run to event");
+  field.addEventListener("keydown", (key) => {
+    if (key.key !== "Enter" || !/^\d+$/.test(field.value)) return;
+    key.stopPropagation();
+    events.act("run", { name: name(), until: Number(field.value) });
+  });
+  return field;
+}
+
+async function more() {
+  const got = await ask("ahead", { name: name(), thread: open, from: 0, count: AHEAD });
+  if (told) told.ahead = got.mistake ? null : got;
+}
+
+export async function unfold() {
+  open = open === chosen ? null : chosen;
+  if (open !== null) await more();
+  render();
+}
+
+export function choose(thread) {
+  chosen = thread;
+  if (open !== thread) open = null;
+  render();
+}
+
+export function step(by) {
+  if (!told?.next.length) return;
+  const order = sorted();
+  const at = order.findIndex((one) => one.t === chosen);
+  const one = order[Math.max(0, Math.min(order.length - 1, at + by))];
+  if (one) choose(one.t);
+}
+
+export const add = (one = chosenOne()) => one && !one.fixed && events.act("add", { name: name(), event: one.e });
+export const run = (one = chosenOne()) => one && !one.fixed && events.act("run", { name: name(), thread: one.t });
+
+export function toAim(one = chosenOne()) {
+  if (one?.to !== undefined) return events.act("run", { name: name(), until: one.to });
+  if (one && !state.aim) events.say("open a race first: it is the aim");
+  else if (one) events.say(`${threadName(one.t)} has come as far as the aim needs`);
+  return null;
+}
+
+export function follow(one = chosenOne()) {
+  const does = help(one?.why);
+  if (does) return events.act("run", { name: name(), until: does.until });
+  if (one) events.say(one.why ? "no run of one thread helps here" : `${threadName(one.t)} waits for nothing`);
+  return null;
+}
+
+// A digit is the number of a thread, so it does not move when another thread ends.
+export function digit(thread) {
+  const one = told?.next.find((other) => other.t === thread);
+  if (!one) return null;
+  choose(one.t);
+  return one.why ? null : add(one);
+}
+
+filter.addEventListener("input", () => told && render());
+filter.addEventListener("keydown", (key) => {
+  if (key.key !== "Enter" && key.key !== "Escape") return;
+  key.stopPropagation();
+  if (key.key === "Escape") filter.value = "";
+  else chosen = sorted()[0]?.t ?? chosen;
+  render();
+  list.focus();
+});

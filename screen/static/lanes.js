@@ -1,0 +1,81 @@
+// Where lanes stand: one a thread, close together, since each row has one event, whose text may run over the lanes
+// to its right.
+import { $, el, fill, hue, count } from "./make.js";
+import { state, threadName } from "./words.js";
+
+// The height of a row; where the first lane begins; where the axis of a lane is in it.
+export const HEIGHT = 22;
+const GUTTER = 92;
+const AXIS = 17;
+const space = $("space");
+
+let lanes = new Map();
+let width = 0;
+let hasOthers = false;
+
+export const lane = (thread) => lanes.get(thread) ?? lanes.size;
+export const isOther = (thread) => !lanes.has(thread);
+export const left = (thread) => GUTTER + lane(thread) * width;
+export const axis = (thread) => left(thread) + AXIS;
+export const indent = (thread) => `${lane(thread) * width}px`;
+
+export function lay(win, breadth) {
+  lanes = new Map(win.lanes.map((thread, at) => [thread, at]));
+  hasOthers = win.counts.some(([thread]) => !lanes.has(thread));
+  const number = Math.max(1, lanes.size + (hasOthers ? 1 : 0));
+  const name = Math.round(Math.max(150, Math.min(300, breadth * 0.19)));
+  const room = breadth - GUTTER - Math.max(200, breadth * 0.44) - name;
+  width = Math.max(22, Math.min(132, Math.floor(room / Math.max(1, number - 1))));
+  const all = (number - 1) * width + name;
+  space.style.setProperty("--lanes", `${all}px`);
+  space.classList.toggle("sourced", Boolean(win.source && Object.keys(win.source).length));
+  head(win, number, name, all);
+}
+
+function head(win, number, room, all) {
+  const made = new Map(win.counts);
+  const names = win.lanes.map((thread, at) => {
+    const [own, whole] = [made.get(thread) ?? 0, state.threads[thread][1]];
+    const cell = el("span", `lane-name ${hue(thread)}${width < 40 ? " tight" : ""}`,
+      el("bdi", "", threadName(thread)), width < 88 ? null : el("span", "dim num", ` ${own}/${whole}`));
+    cell.title = `${threadName(thread)}: ${count(own)} of ${count(whole)} events`;
+    cell.style.left = `${GUTTER + at * width}px`;
+    cell.style.width = `${at < number - 1 ? width : room}px`;
+    return cell;
+  });
+  if (hasOthers) {
+    const cell = el("span", "lane-name", "others");
+    cell.style.left = `${GUTTER + lanes.size * width}px`;
+    names.push(cell);
+  }
+  const code = el("span", "lane-name dim", win.source ? "place and source" : "place");
+  code.style.left = `${GUTTER + all + 3}px`;
+  fill($("lanes-head"), el("span", "lane-name dim pos-name", "#"), el("span", "lane-name dim event-name", "event"),
+    names, code);
+}
+
+export function rails() {
+  return Array.from({ length: lanes.size + (hasOthers ? 1 : 0) }, (_, at) => {
+    const line = el("div", "rail-line");
+    line.style.left = `${GUTTER + at * width + AXIS}px`;
+    return line;
+  });
+}
+
+// The bars of locks: those that a thread holds at once stand side by side.
+export function bars(locks) {
+  const slots = new Map();
+  return locks.map((held) => {
+    const mine = slots.get(held.t) ?? [];
+    let slot = mine.findIndex((until) => until <= held.from);
+    if (slot < 0) slot = mine.length;
+    mine[slot] = held.to;
+    slots.set(held.t, mine);
+    const bar = el("div", `lock${held.open ? " open" : ""}${held.above ? " above" : ""} k${held.lock % 4}`);
+    bar.style.left = `${left(held.t) + 1 + Math.min(slot, 2) * 4}px`;
+    bar.style.top = `${held.from * HEIGHT + HEIGHT / 2}px`;
+    bar.style.height = `${Math.max(6, (held.to - held.from) * HEIGHT)}px`;
+    bar.title = `${held.n}, held by ${threadName(held.t)} since ${held.e}`;
+    return bar;
+  });
+}

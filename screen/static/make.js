@@ -1,0 +1,58 @@
+// Elements. Text is set as text and nothing else: no string of the trace is ever read as markup.
+export const $ = (id) => document.getElementById(id);
+
+export function el(tag, classes = "", ...inner) {
+  const made = document.createElement(tag);
+  if (classes) made.className = classes;
+  add(made, inner);
+  return made;
+}
+
+function add(into, inner) {
+  for (const one of inner) {
+    if (one === null || one === undefined || one === false) continue;
+    if (Array.isArray(one)) add(into, one);
+    else into.append(one);
+  }
+}
+
+export function fill(into, ...inner) {
+  into.replaceChildren();
+  add(into, inner);
+  return into;
+}
+
+export function button(text, key, act, classes = "") {
+  const made = el("button", classes, text);
+  made.type = "button";
+  if (key) {
+    const sign = el("kbd", "", key);
+    sign.setAttribute("aria-hidden", "true");
+    made.append(" ", sign);
+  }
+  made.addEventListener("click", (event) => {
+    event.stopPropagation();
+    act(event);
+  });
+  return made;
+}
+
+export function svg(tag, given) {
+  const made = document.createElementNS("http://www.w3.org/2000/svg", tag);
+  for (const [name, value] of Object.entries(given)) made.setAttribute(name, value);
+  return made;
+}
+
+// An option of a list: what a screen reader says of it, and whether it is the chosen one, where the list's focus is.
+export function option(made, list, id, label, isChosen) {
+  made.id = id;
+  made.setAttribute("role", "option");
+  made.setAttribute("aria-label", label);
+  made.setAttribute("aria-selected", isChosen);
+  if (isChosen) list.setAttribute("aria-activedescendant", id);
+  return made;
+}
+
+export const count = (number) => number.toLocaleString("en");
+export const many = (number, one, more = `${one}s`) => `${count(number)} ${number === 1 ? one : more}`;
+export const hue = (thread) => `h${thread % 8}`;

@@ -1,0 +1,73 @@
+// The one connection. The ticket of the link is spent for a key, which stays in this tab.
+const REFUSED = 4403;
+const AGAIN = 1000;
+
+let socket = null;
+let number = 0;
+const waiting = new Map();
+const listeners = new Map();
+
+export function on(what, act) {
+  listeners.set(what, act);
+}
+
+const tell = (what, told) => listeners.get(what)?.(told);
+
+async function key() {
+  const ticket = location.hash.slice(1);
+  if (ticket) {
+    history.replaceState(null, "", "/");
+    const answer = await fetch("/enter", { method: "POST", body: ticket });
+    if (answer.ok) sessionStorage.setItem("key", await answer.text());
+  }
+  return sessionStorage.getItem("key");
+}
+
+export async function connect() {
+  const mine = await key();
+  if (!mine) {
+    tell("closed", "This link was used already. Press Enter where screen runs to get another one.");
+    return;
+  }
+  socket = new WebSocket(`ws://${location.host}/ws`);
+  socket.onopen = () => {
+    socket.send(mine);
+    tell("open");
+  };
+  socket.onmessage = (message) => take(JSON.parse(message.data));
+  socket.onclose = closed;
+}
+
+function take(told) {
+  if (told.push) {
+    tell(told.push, told);
+    return;
+  }
+  const done = waiting.get(told.id);
+  waiting.delete(told.id);
+  done?.(told);
+}
+
+function closed(event) {
+  for (const done of waiting.values()) done({ mistake: "the connection ended" });
+  waiting.clear();
+  if (event.code === REFUSED) {
+    sessionStorage.removeItem("key");
+    tell("closed", "This link is no longer good. Press Enter where screen runs to get another one.");
+    return;
+  }
+  tell("closed", "screen does not answer; trying again");
+  setTimeout(connect, AGAIN);
+}
+
+export function ask(what, given = {}) {
+  return new Promise((done) => {
+    if (socket?.readyState !== WebSocket.OPEN) {
+      done({ mistake: "not connected" });
+      return;
+    }
+    const id = ++number;
+    waiting.set(id, done);
+    socket.send(JSON.stringify({ id, do: what, ...given }));
+  });
+}

@@ -1,0 +1,148 @@
+// The races of the trace, and what is undecided or apart.
+import { $, el, fill, button, count, many, option } from "./make.js";
+import { ask } from "./net.js";
+import { place } from "./words.js";
+
+const HEIGHT = 58;
+// So many races are fetched at once; a new window begins so many before what is to be seen.
+const WINDOW = 80;
+const BEFORE = 30;
+// Who walks down the list by keys looks at the race on which he rests.
+const REST = 90;
+const KINDS = [["race", "races"], ["undecided", "undecided"], ["apart", "apart"]];
+const list = $("race-list");
+const filter = $("race-filter");
+const kinds = new Set(["race", "undecided"]);
+export const events = { open: null };
+
+let got = null;
+let chosen = null;
+let asked = 0;
+let soon = null;
+
+const keyOf = (block) => block.accesses.map((access) => access.event).join("-");
+
+export async function load(from = 0) {
+  const mine = ++asked;
+  const told = await ask("races", { text: filter.value, kinds: [...kinds], from, count: WINDOW });
+  if (mine !== asked || told.mistake) return;
+  got = told;
+  render();
+}
+
+function chip([kind, plural]) {
+  const total = got?.counts?.[kind === "race" ? "races" : kind];
+  const word = total === 1 && kind === "race" ? "race" : plural;
+  const made = button(total === undefined ? word : `${count(total)} ${word}`, "", () => {
+    if (!kinds.delete(kind)) kinds.add(kind);
+    load();
+  }, "chip");
+  made.setAttribute("aria-pressed", kinds.has(kind));
+  return made;
+}
+
+function render() {
+  fill($("race-kinds"), KINDS.map(chip));
+  list.removeAttribute("aria-activedescendant");
+  if (got?.state === "searching") {
+    fill(list, el("p", "empty", "Looking for the races of the trace. You can make schedules meanwhile."));
+    $("race-count").textContent = "";
+    return;
+  }
+  if (got?.state === "failed") {
+    fill(list, el("p", "empty bad", got.why));
+    return;
+  }
+  $("race-count").textContent = filter.value ? `${count(got.total)} match` : "";
+  const space = el("div", "race-space", got.blocks.map((block, at) => card(block, got.from + at)));
+  space.setAttribute("role", "presentation");
+  space.style.height = `${got.total * HEIGHT}px`;
+  if (!got.total) space.append(el("p", "empty", filter.value ? "Nothing matches." : "No pair of this kind."));
+  fill(list, space);
+}
+
+// A long name is cut in its middle: its end tells most.
+function variable(name) {
+  const signs = [...name];
+  const cut = signs.length > 16 ? signs.length - 9 : signs.length;
+  const [front, end] = [signs.slice(0, cut).join(""), signs.slice(cut).join("")];
+  return el("bdi", "variable", el("span", "front", front), el("span", "", end));
+}
+
+function side(access) {
+  return el("span", "side", el("span", `op op-${access.operation}`, access.operation), " ",
+    place(access.location.split(" < ")[0]), el("bdi", "dim", access.thread));
+}
+
+function title(block) {
+  const [one, other] = block.accesses;
+  const shown = block.events === undefined ? "" :
+    `, shown by ${many(block.events, "event")} of ${many(block.threads, "thread")}`;
+  const held = block.accesses.filter((access) => access.holds.length)
+    .map((access) => `\n${access.event} holds ${access.holds.join(", ")}`);
+  return `${many(block.pairs, "pair")} of events; the least: ${one.event} and ${other.event}${shown}${held.join("")}`;
+}
+
+function card(block, at) {
+  const [one, other] = block.accesses;
+  const isChosen = keyOf(block) === chosen;
+  const verdict = block.kind === "race" ? block.how : block.kind;
+  const made = el("div", `race v-${block.kind}${isChosen ? " on" : ""}`,
+    el("span", "race-top", variable(one.variable), el("span", "gap"), ended(block),
+      el("span", `verdict v-${verdict}`, verdict), el("span", "num count", `×${count(block.pairs)}`)),
+    side(one), side(other));
+  made.style.top = `${at * HEIGHT}px`;
+  made.title = title(block);
+  made.setAttribute("aria-setsize", got.total);
+  made.setAttribute("aria-posinset", at + 1);
+  const sides = [one, other].map((access) => `${access.operation} at ${access.location} by ${access.thread}`);
+  const label = `${verdict}, ${one.variable}, ${sides.join(" and ")}, ${many(block.pairs, "pair")}`;
+  made.addEventListener("click", () => pick(block));
+  return option(made, list, `race-${at}`, label, isChosen);
+}
+
+// How a replay of the real program ended, where somebody had it follow the witness.
+function ended(block) {
+  if (!block.ended) return null;
+  const made = el("span", "ended", block.ended.word);
+  made.title = block.ended.text;
+  return made;
+}
+
+function pick(block, wait = 0) {
+  chosen = keyOf(block);
+  render();
+  clearTimeout(soon);
+  if (wait) soon = setTimeout(() => events.open(block), wait);
+  else events.open(block);
+}
+
+export function step(by) {
+  if (!got?.blocks?.length) return;
+  const at = got.blocks.findIndex((block) => keyOf(block) === chosen);
+  const next = Math.max(0, Math.min(got.blocks.length - 1, at + by));
+  const top = (got.from + next) * HEIGHT;
+  if (top < list.scrollTop) list.scrollTop = top;
+  else if (top + HEIGHT > list.scrollTop + list.clientHeight) list.scrollTop = top + HEIGHT - list.clientHeight;
+  pick(got.blocks[next], REST);
+}
+
+filter.addEventListener("input", () => load());
+filter.addEventListener("keydown", (key) => {
+  if (key.key === "Escape") {
+    filter.value = "";
+    load();
+    list.focus();
+  } else if (key.key === "Enter" || key.key === "ArrowDown") {
+    list.focus();
+    step(1);
+    key.preventDefault();
+  }
+});
+
+list.addEventListener("scroll", () => {
+  if (!got?.blocks) return;
+  const top = Math.floor(list.scrollTop / HEIGHT);
+  const bottom = Math.min(got.total, top + Math.ceil(list.clientHeight / HEIGHT) + 1);
+  if (top < got.from || bottom > got.from + got.blocks.length) load(Math.max(0, top - BEFORE));
+}, { passive: true });

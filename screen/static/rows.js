@@ -1,0 +1,89 @@
+// The rows of a schedule: an event, or a block of many.
+import { $, el, count, hue } from "./make.js";
+import { HEIGHT, indent, isOther } from "./lanes.js";
+import { state, tag, operation, place, threadName, clientName, spoken } from "./words.js";
+
+function cell(row, ...inner) {
+  const made = el("span", `cell ${hue(row.t)}`, ...inner);
+  made.style.marginLeft = indent(row.t);
+  return made;
+}
+
+function code(row, source) {
+  const line = source?.[row.l];
+  const at = place(row.l, Boolean(line));
+  at.title = row.l;
+  return [at, line ? el("code", "", line) : null];
+}
+
+const isNew = (row) => row.by !== undefined && row.by !== state.client && row.a >= state.marked;
+
+function position(row) {
+  const made = el("span", `pos${isNew(row) ? " new" : ""}`, String(row.p));
+  if (row.by !== undefined) made.title = `put here by ${clientName(row.by)} in entry ${row.a}`;
+  return made;
+}
+
+// What a screen reader says of a row.
+function label(row) {
+  const at = `position ${row.p}, `;
+  if (row.b) return `${at}block of ${count(row.b)} events of ${threadName(row.t)}`;
+  const write = row.rf < 0 ? "initial value" : `write at ${row.rf}`;
+  const reads = row.rf === undefined ? "" : `, reads the ${write}`;
+  const news = isNew(row) ? `, put here by ${clientName(row.by)}` : "";
+  return `${at}${spoken(row)}${reads}${state.aim?.includes(row.e) ? ", of the aim" : ""}${news}`;
+}
+
+function finish(made, row, at, total, isOn) {
+  made.style.top = `${at * HEIGHT}px`;
+  made.dataset.p = row.p;
+  made.id = `at-${row.p}`;
+  made.setAttribute("role", "option");
+  made.setAttribute("aria-label", label(row));
+  made.setAttribute("aria-posinset", at + 1);
+  made.setAttribute("aria-setsize", total);
+  made.setAttribute("aria-selected", isOn);
+  return made;
+}
+
+function single(row, source, isFirst, classes) {
+  const aimed = state.aim?.includes(row.e) ? " aimed" : "";
+  const what = el("span", "what", isOther(row.t) ? [tag(row.t), " "] : null, operation(row));
+  what.title = `${row.o} ${row.n}`;
+  const made = el("div", `row${classes}${aimed}`, position(row), el("span", "event num", String(row.e)),
+    el("span", "lanes", cell(row, el("i", `node n-${row.o}${isFirst ? " first" : ""}`), what)),
+    el("span", "info", code(row, source)));
+  made.dataset.place = row.l;
+  return made;
+}
+
+const WORDS = [["w", 1], ["r", 0], ["acq", 2], ["rel", 3], ["fork", 4], ["join", 5]];
+
+function block(row, classes) {
+  const words = WORDS.filter(([, at]) => row.w[at]).map(([word, at]) => `${count(row.w[at])} ${word}`);
+  const box = el("span", "box", isOther(row.t) ? [tag(row.t), " "] : null, `${count(row.b)} events `,
+    el("span", "dim num", `${row.first.e}–${row.last.e}`));
+  const made = el("div", `row block${classes}`, position(row), el("span", "event num", "⋯"),
+    el("span", "lanes", cell(row, box)),
+    el("span", "info",
+      el("span", "span", row.first.l.split(" < ")[0], " … ", row.last.l.split(" < ")[0]),
+      el("span", "dim counts", words.join(" · "))));
+  made.dataset.block = row.b;
+  const last = row.p + row.b - 1;
+  const text = `${threadName(row.t)}: ${count(row.b)} events, positions ${row.p} to ${last}`;
+  made.title = `${text}. Enter or a click opens it.`;
+  return made;
+}
+
+export function rows(win, cursor) {
+  let before = null;
+  return win.rows.map((row, at) => {
+    const isOn = row.p === cursor;
+    const classes = isOn ? " on" : "";
+    const made = row.b ? block(row, classes) : single(row, win.source, before !== row.t, classes);
+    before = row.t;
+    return finish(made, row, win.from + at, win.total, isOn);
+  });
+}
+
+export const rowElement = (at) => $("space").querySelector(`.row[data-p="${at}"]`);

@@ -1,0 +1,49 @@
+// All schedules, and proposals.
+import { $, el, fill, button, count, many, option } from "./make.js";
+import { state, who, clientName } from "./words.js";
+
+// So many of the latest proposals are shown.
+const PROPOSALS = 6;
+const list = $("row-list");
+export const events = { open: null, adopt: null };
+
+const byBirth = (one, other) => one.birth[0] - other.birth[0] || one.birth[1] - other.birth[1];
+export const inOrder = () => [...state.rows.values()].sort(byBirth);
+
+function line(row) {
+  const isFresh = row.touched >= state.marked && row.by !== state.client;
+  const isOn = state.view?.schedule === row.name;
+  const made = el("div", `sched${isOn ? " on" : ""}`, el("span", `fresh${isFresh ? " is" : ""}`, "●"),
+    el("span", "sched-name", row.name), el("span", "gap"), el("span", "num dim", count(row.length)), who(row.owner));
+  const born = `made by ${clientName(row.owner)} in entry ${row.birth[0]}`;
+  const changed = `last changed by ${clientName(row.by)} in entry ${row.touched}`;
+  const text = `${row.name}: ${many(row.length, "event")}, ${born}, ${changed}`;
+  made.title = text;
+  made.addEventListener("click", () => events.open({ schedule: row.name }));
+  return option(made, list, `schedule-${row.name}`, isFresh ? `${text}, since you last looked` : text, isOn);
+}
+
+function proposal(entry) {
+  return el("div", "proposal",
+    el("span", "told", el("span", "num", `p${entry.p}`), " shows ", el("span", "num", entry.pair.join("–")),
+      el("span", "dim", ` · ${count(entry.n)}`)),
+    who(entry.c), button("Adopt", "", () => events.adopt(entry)));
+}
+
+export function render() {
+  const all = inOrder();
+  $("row-count").textContent = all.length ? String(all.length) : "";
+  list.removeAttribute("aria-activedescendant");
+  fill(list, all.length ? all.map(line) : el("p", "empty", "None yet."));
+  list.querySelector(".on")?.scrollIntoView({ block: "nearest" });
+  const proposals = [...state.entries.values()].filter((entry) => entry.k === "propose").slice(-PROPOSALS).reverse();
+  const made = proposals.length ? [el("div", "subhead", "Proposals"), proposals.map(proposal)] : null;
+  fill($("proposals"), made);
+}
+
+export function neighbour(by) {
+  const names = inOrder().map((row) => row.name);
+  const at = names.indexOf(state.view?.schedule);
+  const next = (Math.max(at, by > 0 ? -1 : 0) + by + names.length) % names.length;
+  if (names.length) events.open({ schedule: names[next] });
+}

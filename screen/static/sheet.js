@@ -1,0 +1,245 @@
+// The schedule: rows of one height, of which only a window is fetched and drawn; the cursor, and swaps.
+import { $, el, fill } from "./make.js";
+import { ask } from "./net.js";
+import { state } from "./words.js";
+import { HEIGHT, lay, rails, bars } from "./lanes.js";
+import { rows, rowElement } from "./rows.js";
+import * as edges from "./edges.js";
+import * as map from "./map.js";
+
+// So many rows beyond the sight are drawn on both sides.
+const AHEAD = 24;
+// The farthest that an event is moved at once.
+const FARTHEST = 64;
+const stage = $("stage");
+const space = $("space");
+export const events = { act: null };
+
+let win = null;
+let asked = 0;
+let cursor = null;
+let stop = null;
+let hovered = null;
+let follow = true;
+let height = 0;
+let breadth = 0;
+
+export const current = () => win;
+export const cursorEvent = () => win?.rows.find((row) => row.p === cursor && !row.b) ?? null;
+
+const visible = () => Math.ceil((height || stage.clientHeight) / HEIGHT) + 1;
+const topRow = () => Math.floor(stage.scrollTop / HEIGHT);
+
+export function reset() {
+  win = cursor = stop = null;
+  follow = true;
+  asked++;
+  fill($("lanes-head"));
+  render();
+}
+
+export async function load({ end = false, at = null, toggle = undefined } = {}) {
+  if (!state.view) {
+    reset();
+    return;
+  }
+  const mine = ++asked;
+  const view = state.view;
+  const from = end ? null : Math.max(0, topRow() - AHEAD);
+  const given = { view, aim: state.aim, count: visible() + 2 * AHEAD, from };
+  if (at !== null) given.at = at;
+  if (toggle !== undefined) given.toggle = toggle;
+  const told = await ask("view", given);
+  if (mine !== asked || view !== state.view) return;
+  if (told.mistake) {
+    reset();
+    return;
+  }
+  win = told;
+  if (end) follow = true;
+  else if (at !== null) follow = false;
+  draw();
+  if (end) stage.scrollTop = win.total * HEIGHT;
+  else if (at !== null) stage.scrollTop = Math.max(0, told.row * HEIGHT - stage.clientHeight / 2);
+  map.mark();
+}
+
+function draw() {
+  breadth ||= stage.clientWidth;
+  height ||= stage.clientHeight;
+  lay(win, breadth);
+  settle();
+  render();
+}
+
+// A short schedule stands at the foot, where what comes next is.
+function settle() {
+  const all = win.total * HEIGHT + 6;
+  space.style.height = `${all}px`;
+  space.style.setProperty("--base", `${Math.max(0, height - all)}px`);
+}
+
+// After a step of anyone: the end stays in sight where it was in sight.
+export async function refresh(isMine) {
+  stop = null;
+  return load({ end: isMine || follow });
+}
+
+function render() {
+  for (const old of [...space.children]) if (old.id !== "edges") old.remove();
+  edges.clear();
+  map.draw(win, visible());
+  stage.removeAttribute("aria-activedescendant");
+  if (!win) return;
+  const made = [...rails(), ...bars(win.locks), ...rows(win, cursor)];
+  if (win.total === 0) made.push(el("p", "empty", "No events yet. Choose one below."));
+  if (stop) {
+    const told = el("div", "stop", stop.text);
+    told.style.top = `${stop.row * HEIGHT}px`;
+    made.push(told);
+  }
+  space.append(...made);
+  if (cursor !== null && rowElement(cursor)) stage.setAttribute("aria-activedescendant", `at-${cursor}`);
+  edges.show(win, hovered ?? cursor);
+}
+
+// The cursor.
+
+export function select(position, { into = true } = {}) {
+  const old = cursor === null ? null : rowElement(cursor);
+  old?.classList.remove("on");
+  old?.setAttribute("aria-selected", "false");
+  cursor = position;
+  const made = rowElement(position);
+  made?.classList.add("on");
+  made?.setAttribute("aria-selected", "true");
+  if (made) stage.setAttribute("aria-activedescendant", made.id);
+  if (into && made) {
+    const top = parseFloat(made.style.top);
+    if (top < stage.scrollTop) stage.scrollTop = top;
+    else if (top + HEIGHT > stage.scrollTop + stage.clientHeight) stage.scrollTop = top + HEIGHT - stage.clientHeight;
+  }
+  edges.show(win, position);
+}
+
+export function step(by) {
+  if (!win?.rows.length) return;
+  const last = win.rows.length - 1;
+  const at = cursor === null ? last : win.rows.findIndex((row) => row.p === cursor) + by;
+  select(win.rows[Math.max(0, Math.min(last, at))].p);
+}
+
+// Puts the cursor on an event, or on the block that has it.
+function land(position, how) {
+  const at = win ? edges.rowAt(win, position) : -1;
+  if (at >= 0) select(win.rows[at].p, how);
+}
+
+export async function jump(position) {
+  await load({ at: position });
+  land(position);
+}
+
+export async function toggle(position) {
+  await load({ toggle: position, at: position });
+  land(position, { into: false });
+}
+
+// Opens or closes a block, or goes to the write that is read.
+export async function enter() {
+  const row = win?.rows.find((one) => one.p === cursor);
+  if (row?.b || (row?.x && !(row.rf >= 0))) await toggle(row.p);
+  else if (row?.rf >= 0) await jump(row.rf);
+}
+
+// Moves an event as far as it goes; why it goes no farther stands between the two rows.
+export async function swap(position, by) {
+  if (!state.view?.schedule || !by) return;
+  stop = null;
+  const told = await events.act("swap", { name: state.view.schedule, p: position, by });
+  if (told.mistake || told.gone) return;
+  cursor = position + (by > 0 ? told.moved : -told.moved);
+  await load();
+  if (told.stop && win) {
+    stop = { row: win.from + edges.rowAt(win, told.stop.p) + 1, text: `stays: ${told.stop.why}` };
+    render();
+  }
+  select(cursor);
+}
+
+// The mouse.
+
+let drag = null;
+stage.addEventListener("pointerdown", (event) => {
+  const row = event.target.closest(".row");
+  if (!row || event.button || row.dataset.block || !state.view?.schedule || !event.target.closest(".lanes")) return;
+  drag = { p: Number(row.dataset.p), y: event.clientY, by: 0, row };
+});
+stage.addEventListener("pointermove", (event) => {
+  if (!drag) return;
+  const by = Math.round((event.clientY - drag.y) / HEIGHT);
+  if (by === drag.by) return;
+  drag.by = by;
+  drag.row.classList.toggle("dragged", by !== 0);
+  drag.row.style.transform = `translateY(${by * HEIGHT}px)`;
+});
+addEventListener("pointerup", () => {
+  const mine = drag;
+  drag = null;
+  if (!mine?.by || !win) return;
+  mine.row.classList.remove("dragged");
+  mine.row.style.transform = "";
+  const at = win.rows.findIndex((row) => row.p === mine.p);
+  const other = win.rows[Math.max(0, Math.min(win.rows.length - 1, at + mine.by))];
+  swap(mine.p, Math.max(-FARTHEST, Math.min(FARTHEST, other.p - mine.p)));
+});
+
+stage.addEventListener("click", (event) => {
+  const row = event.target.closest(".row");
+  if (!row) return;
+  if (row.dataset.block) toggle(Number(row.dataset.p));
+  else select(Number(row.dataset.p), { into: false });
+});
+stage.addEventListener("dblclick", (event) => {
+  const row = event.target.closest(".row");
+  const at = Number(row?.dataset.p);
+  if (row && !row.dataset.block && win.rows.find((one) => one.p === at)?.x) toggle(at);
+});
+stage.addEventListener("mousemove", (event) => {
+  const row = event.target.closest(".row");
+  const at = row && !row.dataset.block ? Number(row.dataset.p) : null;
+  if (at === hovered) return;
+  hovered = at;
+  edges.show(win, hovered ?? cursor);
+});
+stage.addEventListener("mouseleave", () => {
+  hovered = null;
+  edges.show(win, cursor);
+});
+
+// Scrolling.
+
+let pending = false;
+function wants() {
+  const top = topRow();
+  const end = win.from + win.rows.length;
+  return (top < win.from && win.from > 0) || (top + visible() > end && end < win.total);
+}
+stage.addEventListener("scroll", () => {
+  map.mark();
+  if (stage.clientHeight === height) follow = stage.scrollTop + stage.clientHeight > stage.scrollHeight - HEIGHT * 2;
+  if (!win || pending || !wants()) return;
+  pending = true;
+  requestAnimationFrame(async () => {
+    do await load(); while (win && wants());
+    pending = false;
+  });
+}, { passive: true });
+
+new ResizeObserver(() => {
+  height = stage.clientHeight;
+  breadth = stage.clientWidth;
+  if (!win) return;
+  draw();
+  if (follow) stage.scrollTop = stage.scrollHeight;
+}).observe(stage);

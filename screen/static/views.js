@@ -1,0 +1,196 @@
+// What is looked at: a schedule, a witness, or why a pair has none; and the aim, which is the race that is open.
+import { $, el, fill, button, many } from "./make.js";
+import { ask } from "./net.js";
+import { state, who, short, isDone, isRefused } from "./words.js";
+import { act, bad } from "./act.js";
+import { asked } from "./dialogs.js";
+import { pane, isNarrow } from "./frame.js";
+import * as sheet from "./sheet.js";
+import * as frontier from "./frontier.js";
+import * as schedules from "./schedules.js";
+
+const note = $("note");
+
+function say(...parts) {
+  note.hidden = false;
+  fill(note, ...parts);
+}
+
+export const hideNote = () => {
+  note.hidden = true;
+};
+
+export async function open(view, { end = true } = {}) {
+  state.view = view;
+  hideNote();
+  sheet.reset();
+  bar();
+  if (isNarrow()) pane("centre");
+  if (view.schedule) await openSchedule(view.schedule, end);
+  else {
+    await sheet.load({ end });
+    frontier.show(view.pair);
+    schedules.render();
+  }
+  bar();
+}
+
+async function openSchedule(name, end) {
+  const aim = /^r(\d+)-(\d+)/.exec(name);
+  if (aim && !state.aim) await aimAt([Number(aim[1]), Number(aim[2])]);
+  await Promise.all([sheet.load({ end }), frontier.load()]);
+  schedules.render();
+  check(name);
+}
+
+// Nothing is open.
+export function close() {
+  state.view = null;
+  sheet.reset();
+  frontier.load();
+  bar();
+}
+
+// The program shows the schedule once, and that has to be what is drawn.
+async function check(name) {
+  const told = await ask("check", { name });
+  if (told.same !== false) return;
+  say(bad("The program shows this schedule otherwise than it is drawn here. " +
+    "Do not go by the drawing; reload the page, and report this."));
+}
+
+export async function aimAt(pair) {
+  state.aim = pair;
+  state.aimTold = [];
+  if (pair) {
+    const told = await ask("pair", { pair });
+    if (told.mistake) state.aim = null;
+    else state.aimTold = told.told;
+  }
+  bar();
+}
+
+export async function clearAim() {
+  await aimAt(null);
+  frontier.load();
+  sheet.load();
+}
+
+// A race of the list: its witness, or the explanation why it has none.
+export async function openPair(pair) {
+  await aimAt(pair);
+  const told = await ask("witness", { pair });
+  if (state.aim !== pair) return;
+  if (!told.none && !told.mistake && !told.gone) {
+    open({ witness: told.pair, pair: told });
+    return;
+  }
+  const text = await ask("explain", { pair });
+  if (state.aim !== pair) return;
+  close();
+  say(el("pre", "explained", (text.lines ?? [told.none ?? told.mistake ?? told.gone]).join("\n")));
+}
+
+export const witness = () => state.aim && openPair([...state.aim]);
+
+export async function why() {
+  if (!state.aim) return;
+  if (!note.hidden) {
+    hideNote();
+    return;
+  }
+  const text = await ask("explain", { pair: state.aim });
+  say(el("pre", "explained", (text.lines ?? [text.mistake ?? text.gone]).join("\n")));
+}
+
+// The line over the schedule, and that of the aim.
+
+function titled() {
+  const view = state.view;
+  if (view?.schedule) {
+    const row = state.rows.get(view.schedule);
+    const size = row ? el("span", "dim", many(row.length, "event")) : el("span", "bad", "dropped");
+    return [el("h2", "title", view.schedule), size, row ? [" ", who(row.owner)] : null];
+  }
+  if (view?.witness) {
+    const size = `${many(view.pair.length, "event")} · proved, and not in the log`;
+    return [el("h2", "title", "Witness"), el("span", "dim", size)];
+  }
+  if (state.aim) return [el("h2", "title", "No schedule shows this pair")];
+  return [el("h2", "title", "No schedule"), el("span", "dim", "open a race at the left, or make an empty schedule")];
+}
+
+function viewButtons() {
+  if (state.view?.witness) {
+    return [button("Work on it", "w", take, "main"), button("Start empty", "e", startEmpty), button("Why", "x", why)];
+  }
+  return state.view?.schedule ? [button("Branch", "b", branch), button("Drop", "", drop)] : null;
+}
+
+function aimLine() {
+  const clear = button("×", "", clearAim, "plain");
+  clear.title = "Drop the aim";
+  clear.setAttribute("aria-label", "Drop the aim");
+  const pair = state.aimTold.map((event, at) => [at ? " ↔ " : " ", short(event)]);
+  const empty = () => button("Start empty", "e", startEmpty);
+  const does = state.view?.schedule ? [button("Witness", "w", witness), empty(), button("Why", "x", why)]
+    : state.view ? null : empty();
+  return el("div", "line", el("span", "aim", el("span", "word", "aim"), pair), clear, el("span", "gap"), does);
+}
+
+export function bar() {
+  fill($("bar"), el("div", "line", titled(), el("span", "gap"), viewButtons()), state.aim ? aimLine() : null);
+  $("centre").classList.toggle("none", !state.view && Boolean(state.aim));
+}
+
+// Schedules are made.
+
+function freeName(base) {
+  if (!state.rows.has(base)) return base;
+  for (let at = 2; ; at++) if (!state.rows.has(`${base}.${at}`)) return `${base}.${at}`;
+}
+
+export async function take() {
+  const view = state.view;
+  if (!view?.witness) return;
+  const name = freeName(`r${view.witness.join("-")}`);
+  const told = await act("enter", { view, name });
+  if (told.answer && !isRefused(told)) open({ schedule: name });
+}
+
+export async function startEmpty() {
+  if (!state.aim) return;
+  const name = freeName(`r${state.aim.join("-")}`);
+  if (isDone(await act("new", { name }))) open({ schedule: name });
+}
+
+export async function fresh() {
+  const name = await asked("Name of the new schedule", freeName("A"), "letters, digits, _ - .");
+  if (name && isDone(await act("new", { name }))) open({ schedule: name });
+}
+
+export async function branch() {
+  const name = state.view?.schedule;
+  const row = state.rows.get(name);
+  if (!row) return;
+  const event = sheet.cursorEvent();
+  const length = event ? event.p + 1 : row.length;
+  const to = await asked(`Branch ${name} after its first ${many(length, "event")}`, freeName(`${name}.b`),
+    event ? `up to and with event ${event.e}, where the cursor is` : "all of it; move the cursor to branch earlier");
+  if (to && isDone(await act("branch", { name, length, to }))) open({ schedule: to });
+}
+
+export async function drop() {
+  const name = state.view?.schedule;
+  if (name && isDone(await act("drop", { name }))) close();
+}
+
+export async function adopt(entry) {
+  const base = state.view?.schedule ?? freeName(`r${entry.pair.join("-")}`);
+  const name = await asked(`Adopt proposal p${entry.p} into`, base, "a new name makes a new schedule");
+  if (!name) return;
+  if (!state.rows.has(name) && !isDone(await act("new", { name }))) return;
+  if (!isDone(await act("adopt", { name, proposal: entry.p }))) return;
+  await aimAt(entry.pair);
+  open({ schedule: name });
+}

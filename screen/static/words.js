@@ -1,0 +1,89 @@
+// What the page knows, and events and answers in words.
+import { el, hue, many } from "./make.js";
+
+export const state = {
+  threads: [], client: 1, title: "", names: {}, source: false,
+  view: null, aim: null, aimTold: [],
+  rows: new Map(), entries: new Map(), n: 0, marked: 0,
+};
+
+export const threadName = (thread) => state.threads[thread]?.[0] ?? String(thread);
+export const clientName = (client) => (client === state.client ? "you" : state.names[client] ?? String(client));
+export const tag = (thread, more = "") => el("bdi", `thread ${hue(thread)} ${more}`, threadName(thread));
+
+export function who(client) {
+  const made = el("bdi", `who${client === state.client ? " me" : ""}`, clientName(client));
+  made.title = `client ${client}`;
+  return made;
+}
+
+export const operation = (event) => [el("span", `op op-${event.o}`, event.o), " ", el("bdi", "name", event.n)];
+export const short = (event) =>
+  el("span", "short", el("span", "num", String(event.e)), " ", tag(event.t), " ", operation(event));
+
+const DOES = { r: "reads", w: "writes", acq: "takes lock", rel: "releases lock", fork: "forks", join: "joins" };
+
+// An event as a screen reader says it.
+export const spoken = (event) => `event ${event.e}, ${threadName(event.t)} ${DOES[event.o]} ${event.n}, ${event.l}`;
+
+// The place of an event and of the call that it stands in: "list.c:787 < list.c:730".
+export function place(text, isShort = false) {
+  const [first, ...rest] = text.split(" < ");
+  return el("bdi", "place", first, rest.length && !isShort ? el("span", "dim", ` < ${rest.join(" < ")}`) : null);
+}
+
+// What a refusal means, with the event that it is about. The program's words stand in the title.
+export function reason(why, event) {
+  const inner = { 23: notBegun, 24: wrongWriter, 25: lockHeld, 26: joinEarly }[why.code]?.(why, event);
+  const made = el("span", "reason", inner ?? why.said.replace(/^\d+ /, ""));
+  made.title = `the program: refused 46 ${why.said}`;
+  return made;
+}
+
+const notBegun = (why) => ["not begun: ", why.about ? short(why.about) : "its fork", " has to come first"];
+
+function lockHeld(why, event) {
+  const holder = why.said.replace(/^25 lock held by /, "");
+  const since = why.about ? [" since ", el("span", "num", String(why.about.e))] : null;
+  const thread = why.about ? tag(why.about.t) : el("bdi", "", holder);
+  return ["lock ", el("bdi", "name", event.n), " held by ", thread, since];
+}
+
+function wrongWriter(why) {
+  const [, needs, has] = /needs (\S+) has (\S+)/.exec(why.said) ?? [];
+  const seen = why.has ? short(why.has) : has;
+  const missed = why.about ? short(why.about) : needs;
+  if (has === "none") return ["would miss the write by ", missed];
+  if (needs === "none") return ["would read the write by ", seen, ", where the trace has none before it"];
+  return ["would read the write by ", seen, " and miss the one by ", missed];
+}
+
+function joinEarly(why, event) {
+  const rest = why.left ? `: ${many(why.left, "event")} of it to come` : ": it is not forked";
+  return ["waits for ", el("bdi", "name", why.joined ?? event.n), rest];
+}
+
+// What would help: the run of another thread to one of its events.
+export function help(why) {
+  if (why?.help === undefined || why.steps <= 0) return null;
+  return { until: why.help, text: `run ${threadName(why.helper)} to ${why.help} (${why.steps})` };
+}
+
+const REFUSALS = {
+  42: "no such schedule", 43: "that name is taken", 44: "no such proposal", 45: "there is no event to take back",
+  48: "the schedule is shorter", 51: "you have nothing to undo", 54: "it does not show that pair",
+  55: "the log is full", 58: "that entry is not yours", 59: "that entry was taken back already",
+};
+
+// A line of the session, as a person says it.
+export function said(answer) {
+  const done = /^(\d+): (done|undone (\d+)|proposed (\d+))$/.exec(answer);
+  if (done?.[3]) return `entry ${done[1]}: took back ${done[3]}`;
+  if (done?.[4]) return `entry ${done[1]}: proposal ${done[4]}`;
+  if (done) return `entry ${done[1]}`;
+  const refused = /^refused (\d+) (.*)$/.exec(answer);
+  return refused ? `refused: ${REFUSALS[refused[1]] ?? refused[2]}` : answer;
+}
+
+export const isDone = (told) => /: done$/.test(told.answer ?? "");
+export const isRefused = (told) => /^(refused|line|not sent)/.test(told.answer ?? "");

@@ -1,0 +1,87 @@
+#!/usr/bin/python3
+"""racebench, with an answer for each question of the screen: `? rows`, `? next NAME`, `? witness A B`.
+
+All else is passed on to the program that RACEBENCH names. The answers are made of that program's own: of `show`, of
+batches that are refused, of `witness`. So a screen that asks questions is tested also with a program that knows none.
+The lines that came are kept in the file `asked`.
+"""
+
+import os
+import subprocess
+import sys
+
+sys.dont_write_bytecode = True
+sys.path.insert(0, os.path.dirname(os.path.dirname(os.path.abspath(__file__))))
+from screen_app.trace import Trace  # noqa: E402
+
+PROGRAM = os.environ["RACEBENCH"]
+
+
+class Session:
+    def __init__(self, words):
+        self.trace, self.path, self.log = Trace(words[1]).read_at_once(), words[1], words[2]
+        self.process = subprocess.Popen([PROGRAM, *words], stdin=subprocess.PIPE, stdout=subprocess.PIPE)
+
+    def ask(self, line):
+        self.process.stdin.write(line.encode() + b"\n")
+        self.process.stdin.flush()
+        return self.process.stdout.readline().decode().rstrip("\n")
+
+    def length(self):
+        with open(self.log, "rb") as file:
+            return sum(line.startswith(b" ") for line in file)
+
+    def answer(self, line):
+        words = line.split()
+        if words[0] != "?":
+            return self.ask(line)
+        if words[1] == "rows":
+            names = self.ask("list").split()[1:]
+            return " ".join([f"rows {self.length()}", *(f"{name}:0:0:1" for name in names)])
+        if words[1] == "next":
+            return self.next(words[2])
+        if os.environ.get("WITNESS") == "unknown":
+            return "line 1: 87 bad question"
+        return self.witness(words[2], words[3])
+
+    def next(self, name):
+        word, *events = self.ask(f"show {name}").split()
+        if word != "shown":
+            return " ".join([word, *events])
+        counts = [0] * len(self.trace.events_of)
+        for event in events:
+            counts[self.trace.thread[int(event)]] += 1
+        left = [own[count] for own, count in zip(self.trace.events_of, counts) if count < len(own)]
+        return " ".join([f"next {self.length()} {len(events)}", *(self.item(name, event) for event in left)])
+
+    def item(self, name, event):
+        said = self.ask(f"batch add {name} {event} ; new {name}").removeprefix("refused 70 at ")
+        if said.startswith("1 43"):
+            return str(event)
+        code, *words = said.removeprefix("0 46 ").split()
+        if code == "24":
+            return f"{event}:24:{words[3]}:{words[5]}"
+        if code == "25":
+            return f"{event}:25:{self.trace.threads.raw.index(words[-1].encode())}"
+        return f"{event}:{code}"
+
+    def witness(self, first, second):
+        done = subprocess.run([PROGRAM, "witness", self.path, first, second], capture_output=True)
+        if done.returncode:
+            return "refused 99 not shown: FORCED"
+        return " ".join(["witness found", *(line.split()[0].decode() for line in done.stdout.splitlines() if line)])
+
+
+def main():
+    words = sys.argv[1:]
+    if words[0] != "session":
+        os.execv(PROGRAM, [PROGRAM, *words])
+    session = Session(words)
+    with open("asked", "a", encoding="ascii") as asked:
+        for line in sys.stdin:
+            asked.write(line)
+            asked.flush()
+            print(session.answer(line.rstrip("\n")), flush=True)
+
+
+main()

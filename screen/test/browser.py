@@ -1,0 +1,208 @@
+"""A small client of Chromium's remote protocol: pages, keys, clicks, pictures."""
+
+import asyncio
+import base64
+import json
+import os
+import re
+import shutil
+import tempfile
+
+import aiohttp
+
+KEYS = {
+    "Enter": 13, "Backspace": 8, "Escape": 27, "ArrowUp": 38, "ArrowDown": 40, "ArrowLeft": 37, "ArrowRight": 39,
+    "F6": 117, "Home": 36, "End": 35, "Tab": 9,
+}
+ALT, CONTROL, SHIFT = 1, 2, 8
+
+
+def chromium():
+    """Chromium itself; the script in /usr/bin starts it with more words."""
+    return next(filter(os.path.exists, ("/usr/lib/chromium/chromium", "/usr/bin/chromium")))
+
+
+class Browser:
+    """The browser of all tests. Leaving it closes its pages, and `end` the browser."""
+
+    started = None
+
+    async def __aenter__(self):
+        if Browser.started is None:
+            await self._start()
+            Browser.started = self
+        return Browser.started
+
+    async def __aexit__(self, *_):
+        for page in Browser.started.pages.values():
+            if not page.is_closed:
+                page.is_closed = True
+                await self.started.call("Target.disposeBrowserContext", browserContextId=page.context)
+
+    async def _start(self):
+        self.folder = tempfile.mkdtemp(prefix="chromium-")
+        self.process = await asyncio.create_subprocess_exec(
+            chromium(), "--headless=new", "--no-sandbox", "--disable-gpu", "--no-first-run", "--disable-dev-shm-usage",
+            "--remote-debugging-port=0", f"--user-data-dir={self.folder}", "about:blank",
+            stdout=asyncio.subprocess.DEVNULL, stderr=asyncio.subprocess.PIPE)
+        address = None
+        while not address:
+            line = (await asyncio.wait_for(self.process.stderr.readline(), 30)).decode()
+            address = re.search(r"ws://\S+", line)
+        self.drain = asyncio.ensure_future(self._drain())
+        self.client = aiohttp.ClientSession()
+        self.socket = await self.client.ws_connect(address[0], max_msg_size=0)
+        self.number, self.waiting, self.pages = 0, {}, {}
+        self.reader = asyncio.ensure_future(self._read())
+
+    async def _drain(self):
+        while await self.process.stderr.read(4096):
+            pass
+
+    async def _read(self):
+        async for message in self.socket:
+            told = json.loads(message.data)
+            if "id" in told:
+                self.waiting.pop(told["id"]).set_result(told)
+            elif told.get("sessionId") in self.pages:
+                self.pages[told["sessionId"]].take(told["method"], told["params"])
+
+    async def call(self, method, session=None, **params):
+        self.number += 1
+        message = {"id": self.number, "method": method, "params": params}
+        if session:
+            message["sessionId"] = session
+        future = self.waiting[self.number] = asyncio.get_running_loop().create_future()
+        await self.socket.send_str(json.dumps(message))
+        told = await asyncio.wait_for(future, 60)
+        if "error" in told:
+            raise RuntimeError(f"{method}: {told['error']}")
+        return told["result"]
+
+    async def page(self, url, width=1440, height=900, dark=False):
+        """A page that shares nothing with the others."""
+        context = (await self.call("Target.createBrowserContext"))["browserContextId"]
+        target = (await self.call("Target.createTarget", url="about:blank", browserContextId=context))["targetId"]
+        session = (await self.call("Target.attachToTarget", targetId=target, flatten=True))["sessionId"]
+        page = self.pages[session] = Page(self, session, context)
+        for domain in ("Page", "Runtime", "Log", "Network"):
+            await page.call(f"{domain}.enable")
+        await page.size(width, height)
+        scheme = {"name": "prefers-color-scheme", "value": "dark" if dark else "light"}
+        await page.call("Emulation.setEmulatedMedia", features=[scheme])
+        await page.open(url)
+        return page
+
+    @classmethod
+    async def end(cls):
+        if cls.started is not None:
+            await cls.started._end()
+
+    async def _end(self):
+        self.reader.cancel()
+        await self.socket.close()
+        await self.client.close()
+        self.process.terminate()
+        await self.process.wait()
+        self.drain.cancel()
+        shutil.rmtree(self.folder, ignore_errors=True)
+
+
+class Page:
+    def __init__(self, browser, session, context):
+        self.browser, self.session, self.context = browser, session, context
+        self.is_closed = False
+        self.faults, self.requests = [], []
+
+    def take(self, method, given):
+        """Keeps each error of the page and each address that it asks for."""
+        if method == "Runtime.exceptionThrown":
+            details = given["exceptionDetails"]
+            self.faults.append(details.get("exception", {}).get("description") or details["text"])
+        elif method == "Log.entryAdded" and given["entry"]["level"] in ("error", "warning"):
+            self.faults.append(given["entry"]["text"] + " " + given["entry"].get("url", ""))
+        elif method == "Runtime.consoleAPICalled" and given["type"] == "error":
+            self.faults.append(str([one.get("value") or one.get("description") for one in given["args"]]))
+        elif method == "Network.requestWillBeSent":
+            self.requests.append(given["request"]["url"])
+        elif method == "Network.webSocketCreated":
+            self.requests.append(given["url"])
+
+    async def call(self, method, **params):
+        return await self.browser.call(method, self.session, **params)
+
+    async def size(self, width, height):
+        await self.call("Emulation.setDeviceMetricsOverride", width=width, height=height, deviceScaleFactor=1,
+                        mobile=False)
+
+    async def open(self, url):
+        await self.call("Page.navigate", url=url)
+
+    async def run(self, code):
+        told = await self.call("Runtime.evaluate", expression=code, awaitPromise=True, returnByValue=True)
+        if "exceptionDetails" in told:
+            raise RuntimeError(told["exceptionDetails"].get("exception", {}).get("description"))
+        return told["result"].get("value")
+
+    async def until(self, code, seconds=30, what=None):
+        """Waits by condition, never by time."""
+        loop = asyncio.get_running_loop()
+        end = loop.time() + seconds
+        while loop.time() < end:
+            try:
+                got = await self.run(code)
+            except RuntimeError:
+                got = None
+            if got:
+                return got
+            await asyncio.sleep(0.02)
+        raise AssertionError(f"not within {seconds} s: {what or code}; faults {self.faults}")
+
+    async def key(self, key, modifiers=0):
+        code = KEYS.get(key, ord(key.upper()) if len(key) == 1 else 0)
+        given = {"key": key, "windowsVirtualKeyCode": code, "modifiers": modifiers}
+        if len(key) == 1 and not modifiers:
+            given["text"] = key
+        if key == "Enter":
+            given["text"] = "\r"
+        await self.call("Input.dispatchKeyEvent", type="keyDown", **given)
+        await self.call("Input.dispatchKeyEvent", type="keyUp", key=key, windowsVirtualKeyCode=code)
+
+    async def type(self, text):
+        await self.call("Input.insertText", text=text)
+
+    async def point(self, selector, at=0):
+        """A point of an element that is in sight."""
+        found = await self.run(
+            f"(() => {{ const e = document.querySelectorAll({json.dumps(selector)})[{at}]; if (!e) return null; "
+            "e.scrollIntoView({block: 'nearest'}); const b = e.getBoundingClientRect(); "
+            "return [b.left + Math.min(b.width / 2, 60), b.top + b.height / 2]; })()")
+        assert found, f"nothing is {selector}"
+        return found
+
+    async def mouse(self, kind, x, y, **more):
+        await self.call("Input.dispatchMouseEvent", type=kind, x=x, y=y, **more)
+
+    async def click(self, selector, at=0, times=1):
+        x, y = await self.point(selector, at)
+        await self.mouse("mouseMoved", x, y)
+        for time in range(1, times + 1):
+            for kind in ("mousePressed", "mouseReleased"):
+                await self.mouse(kind, x, y, button="left", clickCount=time)
+
+    async def hover(self, selector, at=0):
+        x, y = await self.point(selector, at)
+        await self.mouse("mouseMoved", x, y)
+
+    async def drag(self, selector, at, by):
+        x, y = await self.point(selector, at)
+        await self.mouse("mouseMoved", x, y)
+        await self.mouse("mousePressed", x, y, button="left", clickCount=1)
+        for part in (0.3, 0.6, 1):
+            await self.mouse("mouseMoved", x, y + by * part, button="left", buttons=1)
+        await self.mouse("mouseReleased", x, y + by, button="left", clickCount=1)
+
+    async def picture(self, path):
+        told = await self.call("Page.captureScreenshot", format="png")
+        with open(path, "wb") as file:
+            file.write(base64.b64decode(told["data"]))

@@ -1,0 +1,179 @@
+"""Two analysts at once, sessions that die, and logs that are not this trace's."""
+
+import asyncio
+import os
+import signal
+
+import traces
+from browser import Browser
+from judged import same
+from stage import LENGTH, NEXT, ROWS, SAID, TITLE, Screen, focus, is_clean, logged, new, press
+
+AWAY = "[...document.querySelectorAll('.away-line')].map((l) => l.textContent.trim().replace(/ +/g, ' ')).join('; ')"
+
+
+async def session(program, client, text):
+    process = await asyncio.create_subprocess_exec(
+        program, "session", "trace", "log", "--client", str(client), stdin=asyncio.subprocess.PIPE,
+        stdout=asyncio.subprocess.PIPE)
+    return (await process.communicate(text.encode()))[0].decode()
+
+
+async def test_two_analysts(program):
+    """Each sees the other's steps; an undo that another's entry rests on names that entry."""
+    traces.write("trace", traces.COUNT)
+    async with Screen(program, "trace", "log") as one, Screen(program, "trace", "log", "--client", "2") as two, \
+            Browser() as browser:
+        page, other = await browser.page(one.link), await browser.page(two.link)
+        await other.until(TITLE, 90)
+        await new(page, 3)
+        await press(page, "1", "1")
+        await page.until(f"{ROWS} === 2")
+        await press(page, "Backspace")
+        await page.until(f"{ROWS} === 1")
+        await press(page, "u")
+        await page.until(f"{ROWS} === 2")
+        same(logged(), ["1 new A", "1 add A 0", "1 add A 1", "1 back A", "1 undo 3"])
+        await other.until("document.querySelectorAll('.sched').length === 1")
+        await other.click(".sched")
+        await other.until(f"{ROWS} === 2")
+        await other.key("b")
+        await other.until("document.getElementById('ask').open")
+        await other.key("Enter")
+        await page.until("document.querySelectorAll('.sched').length === 2", 15)
+        await press(page, "u")
+        said = await page.run(SAID)
+        assert said.startswith("not taken back: entry 5 of 2 rests on it"), said
+        await page.until("document.querySelectorAll('.entry.flash').length === 1")
+        await page.until(f"{AWAY} === '2 A.b made'")
+        await page.key("s")
+        await page.until("document.getElementById('away').hidden")
+        await other.key("u")
+        await page.until("document.querySelectorAll('.sched').length === 1", 15)
+        await press(page, "u")
+        await page.until(f"{ROWS} === 1")
+        is_clean(page, one)
+        is_clean(other, two)
+
+
+async def test_both_type_at_once(program):
+    """Two analysts add to one schedule at once: both pages show what the program shows."""
+    traces.write("trace", "".join(f"T{thread}|w(a{thread})|a:{at}\n" for at in range(40) for thread in (1, 2)))
+    async with Screen(program, "trace", "log") as one, Screen(program, "trace", "log", "--client", "2") as two, \
+            Browser() as browser:
+        page, other = await browser.page(one.link), await browser.page(two.link)
+        await other.until(TITLE, 90)
+        await new(page, 2)
+        await other.until("document.querySelectorAll('.sched').length === 1")
+        await other.click(".sched")
+        await other.until(f"{NEXT} === 2")
+        await focus(other, "next-list")
+        for _ in range(20):
+            await asyncio.gather(page.key("1"), other.key("2"))
+        for each in (page, other):
+            await each.until(f"{LENGTH} === '40 events'", 90)
+        events = "[...document.querySelectorAll('#bar h2, #feed-count')].map((e) => e.textContent).join()"
+        same(await page.run(events), await other.run(events))
+        shown = (await session(program, 3, "show A\n")).split()
+        same(len(shown), 41)
+        is_clean(page, one)
+        is_clean(other, two)
+
+
+async def test_what_others_did_meanwhile(program):
+    traces.write("trace", traces.COUNT)
+    async with Browser() as browser:
+        async with Screen(program, "trace", "log") as screen:
+            page = await browser.page(screen.link)
+            await new(page, 3)
+            await asyncio.sleep(1)  # a look lasts 0.7 seconds before it counts
+        await session(program, 7, "add A 0\nadd A 1\nbatch branch A 2 B ; add B 2\nback A\n"
+                                  "propose 7 12 0 2 3 4 5 6 1 8 9 10 11\n")
+        async with Screen(program, "trace", "log") as screen:
+            page = await browser.page(screen.link)
+            await page.until(f"{AWAY} === '7 1 proposal; 7 A +2, −1; 7 B made, +1'")
+            await page.until("document.querySelectorAll('.pos.new').length === 1")  # the event that is left of theirs
+            await page.key("s")
+            await page.until("document.getElementById('away').hidden && !document.querySelector('.fresh.is')")
+            is_clean(page, screen)
+
+
+def children(process):
+    """The sessions that a screen started."""
+    with open(f"/proc/{process.pid}/task/{process.pid}/children", encoding="ascii") as file:
+        for child in map(int, file.read().split()):
+            with open(f"/proc/{child}/cmdline", "rb") as words:
+                if b"session" in words.read().split(b"\0"):
+                    yield child
+
+
+async def test_a_session_that_dies_comes_back(program):
+    traces.write("trace", traces.COUNT)
+    async with Screen(program, "trace", "log") as screen, Browser() as browser:
+        page = await browser.page(screen.link)
+        await new(page, 3)
+        await press(page, "1")
+        killed = list(children(screen.process))
+        assert killed, "there is no session"
+        for child in killed:
+            os.kill(child, signal.SIGKILL)
+        await asyncio.sleep(0.3)
+        await press(page, "1")
+        await page.until(f"{ROWS} === 2")
+        assert list(children(screen.process)) != killed
+        same(logged(), ["1 new A", "1 add A 0", "1 add A 1"])
+        is_clean(page, screen)
+
+
+async def test_a_log_that_breaks_is_said(program):
+    traces.write("trace", traces.COUNT)
+    async with Screen(program, "trace", "log") as screen, Browser() as browser:
+        page = await browser.page(screen.link)
+        await new(page, 3)
+        await press(page, "1")
+        os.truncate("log", 90)
+        await page.until("document.getElementById('live').textContent.includes('shorter than it was')")
+        is_clean(page, screen)
+
+
+async def test_a_log_of_another_trace(program):
+    traces.write("trace", traces.COUNT)
+    await session(program, 1, "new A\n")
+    traces.write("trace", traces.COUNT.replace("count.c:5", "count.c:4"))
+    try:
+        async with Screen(program, "trace", "log"):
+            pass
+    except AssertionError as why:
+        assert "101" in str(why) or "other trace" in str(why), why
+        return
+    raise AssertionError("the screen began on a log of another trace")
+
+
+async def test_a_trace_that_is_refused(program):
+    traces.write("trace", "T1|rel(m)|a:1\n")
+    try:
+        async with Screen(program, "trace", "log"):
+            pass
+    except AssertionError as why:
+        assert "release not held" in str(why), why
+        return
+    raise AssertionError("the screen began on a trace that the program refuses")
+
+
+async def test_a_link_for_another_browser(program):
+    traces.write("trace", traces.COUNT)
+    async with Screen(program, "trace", "log") as screen, Browser() as browser:
+        page = await browser.page(screen.link)
+        await new(page, 3)
+        await page.click("#link")
+        await page.until("document.querySelector('#help input.link')?.value.includes('#')")
+        other = await browser.page(await page.run("document.querySelector('#help input.link').value"))
+        await other.until(f"{NEXT} === 3", 90)
+        await page.click("#help button")
+        await focus(page, "next-list")
+        await press(page, "1")
+        await other.until(f"{ROWS} === 1", 15)
+        again = await browser.page(screen.link)
+        await again.until("document.getElementById('live').textContent.includes('used already')")
+        is_clean(other, screen)
+        is_clean(page, screen)

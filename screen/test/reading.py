@@ -1,0 +1,244 @@
+"""What the screen reads and lays out, judged by chance and without a browser."""
+
+import hashlib
+import os
+import random
+import subprocess
+import sys
+from array import array
+
+sys.path.insert(0, os.path.dirname(os.path.dirname(os.path.abspath(__file__))))
+import traces  # noqa: E402
+from judged import same  # noqa: E402
+from screen_app.layout import Layout  # noqa: E402
+from screen_app.mirror import Mirror  # noqa: E402
+from screen_app.sheet import Sheet  # noqa: E402
+from screen_app.source import Source  # noqa: E402
+from screen_app.text import clean  # noqa: E402
+from screen_app.trace import NONE, READ, WRITE, Trace  # noqa: E402
+
+ROUNDS = 6
+CALLS = 300
+NAMES = ["A", "B", "C", "D"]
+WITNESS = "7 12 0 2 3 4 5 6 1 8 9 10 11"
+
+
+# Lines as the format allows them, and the canonical text that they stand for.
+ODD = b"""  T1 |\tw( x )| a:1 \r
+
+T1|begin(start)|a:0
+T2 | end
+T2|r(x)
+ T1|w(x)|b|c | d:2
+T3|acq((m))|a:3
+T3|rel((m))|
+T1|fork(T4)|a:1\r
+T4|r( x)|a:1
+   \t
+T1|join( T4 )|a:1
+T5|w(y)|a:9"""
+CANONICAL = b"""T1|w(x)|a:1
+T2|r(x)|
+T1|w(x)|b|c | d:2
+T3|acq((m))|a:3
+T3|rel((m))|
+T1|fork(T4)|a:1
+T4|r(x)|a:1
+T1|join(T4)|a:1
+T5|w(y)|a:9
+"""
+
+
+def test_a_trace_with_odd_lines(program):
+    with open("odd", "wb") as file:
+        file.write(ODD)
+    trace = Trace("odd").read_at_once()
+    same(len(trace), 9)
+    same([*trace.digests()][-1], hashlib.sha256(CANONICAL).hexdigest())
+    same(trace.threads.raw, [b"T1", b"T2", b"T3", b"T4", b"T5"])
+    same(list(trace.writer), [NONE, 0, NONE, NONE, NONE, NONE, 2, NONE, NONE])
+    same([list(trace.readers(write)) for write in (0, 2, 8)], [[1], [6], []])
+    same([list(own) for own in trace.events_of], [[0, 2, 5, 7], [1], [3, 4], [6], [8]])
+    same(trace.fork_of, {3: 5})
+    told = subprocess.run([program, "info", "odd"], capture_output=True)
+    if told.returncode or told.stdout:  # a stand-in of the program says nothing
+        assert b"events 9" in told.stdout, told
+
+
+def command(draw, events):
+    name, event = draw.choice(NAMES), draw.randrange(events)
+    return draw.choice([
+        f"new {name}", f"add {name} {event}", f"add  {name}\t00{event}", f"add {name} {draw.randrange(8)}",
+        f"back {name}", f"swap {name} {draw.randrange(6)}", f"branch {name} {draw.randrange(6)} {draw.choice(NAMES)}",
+        f"drop {name}", f"adopt {name} {draw.randrange(3)}", f"add {name} {event % 12}", f"add {name} {event % 5}",
+    ])
+
+
+def calls(draw, events):
+    """Lines of a script, of three clients, with odd blanks."""
+    for _ in range(CALLS):
+        name = draw.choice(NAMES)
+        one, two, three = (command(draw, events) for _ in range(3))
+        adds = " ; ".join(f"add {name} {number}" for number in range(draw.randrange(1, 12)))
+        yield f"{draw.randrange(1, 4)}  " + draw.choice([
+            one, one, one, "undo", f"undo {draw.randrange(60)}", f"batch {one} ; {two}  ;  {three}",
+            f"propose {WITNESS}", "propose 7 12", f"batch new {name} ; {adds}",
+        ])
+
+
+def session(program, text):
+    done = subprocess.run([program, "session", "trace", "log"], input=text.encode(), capture_output=True, check=True)
+    return done.stdout.decode().splitlines()
+
+
+def mirrored(program, draw, trace):
+    """The mirror of a log that came in two parts."""
+    text = "\n".join(calls(draw, len(trace))) + "\n"
+    half = text.find("\n", len(text) // 2) + 1
+    mirror = Mirror("log", trace)
+    for part in (text[:half], text[half:]):
+        session(program, part)
+        mirror.sync()
+        same(mirror.fault, None)
+    return mirror
+
+
+def test_the_mirror_is_the_log(program):
+    entries = 0
+    for seed in range(ROUNDS):
+        traces.write("trace", traces.COUNT)
+        trace = Trace("trace").read_at_once()
+        mirror = mirrored(program, random.Random(seed), trace)
+        names = [row["name"] for row in mirror.told_rows()]
+        told = session(program, "1 list\n" + "".join(f"1 show {name}\n" for name in names))
+        same(told[0], " ".join(["names", *names]))
+        for name, line in zip(names, told[1:]):
+            row = mirror.rows[name]
+            same(line, " ".join(["shown", *map(str, row.events)]))
+            same(len(row.since), len(row.events))
+            for entry, event in zip(row.since, row.events):  # what put it there names it, or took it from elsewhere
+                words = " ".join(mirror.entries[entry].words)
+                same(mirror.entries[entry].undone, None)
+                assert f" {event}" in words or "adopt" in words or "00" in words, (event, words)
+        same([*trace.digests(7)][-1], mirror.digest)
+        entries += len(mirror.entries)
+        os.remove("log")
+    assert entries > ROUNDS * 50, entries
+
+
+def test_a_log_that_cannot_be_followed(program):
+    traces.write("trace", traces.COUNT)
+    session(program, "1 new A\n1 add A 0\n")
+    with open("log", "rb") as file:
+        text = file.read()
+    foreign = (text[:-1] + b" 1 add B 7\n!", "no call")
+    for changed, why in ((text[:90], "shorter"), foreign, (text[:-1] + b" x\n!", "no call")):
+        mirror = Mirror("log", Trace("trace").read_at_once())
+        mirror.sync()
+        same(mirror.fault, None)
+        with open("other", "wb") as file:
+            file.write(changed)
+        mirror.path = "other"
+        mirror.sync()
+        assert why in (mirror.fault or ""), (why, mirror.fault)
+    os.remove("log")
+    mirror = Mirror("log", Trace("trace").read_at_once())
+    mirror.sync()
+    assert "cannot be read" in (mirror.fault or ""), mirror.fault
+
+
+def last_writes(trace, events):
+    """Of each read the position of the write that it sees, by going over the list."""
+    last = {}
+    for position, event in enumerate(events):
+        if trace.word[event] == READ:
+            yield position, last.get(trace.name[event], NONE)
+        elif trace.word[event] == WRITE:
+            last[trace.name[event]] = position
+
+
+def changed(draw, trace, events):
+    """The list with two neighbours of other threads and variables exchanged, or another beginning of the trace."""
+    if draw.random() < 0.3 and len(events) > 2:
+        at = draw.randrange(len(events) - 1)
+        one, two = events[at], events[at + 1]
+        if trace.thread[one] != trace.thread[two] and max(trace.word[one], trace.word[two]) <= WRITE:
+            if trace.name[one] != trace.name[two]:
+                events = events[:]
+                events[at], events[at + 1] = two, one
+        return events
+    return array("I", range(draw.randrange(3000)))
+
+
+def test_a_sheet_grows_and_shrinks(program):
+    """A sheet that became another list, again and again, is the one that is made of that list at once."""
+    for seed in range(4):
+        draw = random.Random(seed)
+        traces.big("bigger", 3000, 6, seed)
+        trace = Trace("bigger").read_at_once()
+        sheet, events = Sheet(trace), array("I")
+        for _ in range(20):
+            events = changed(draw, trace, events)
+            sheet.become(events)
+            other = Sheet(trace)
+            other.become(events)
+            other.expanded = sheet.expanded
+            for field in ("events", "counts", "run_start", "run_thread", "run_before", "run_row", "position"):
+                same(getattr(sheet, field), getattr(other, field))
+            same(Layout(sheet).window(0, 10**6), Layout(other).window(0, 10**6))
+            for position, write in last_writes(trace, events):
+                same(sheet.seen(position), write)
+            if len(events) > 10 and draw.random() < 0.5:
+                sheet.toggle(draw.randrange(len(events)))
+
+
+def test_windows_are_parts_of_the_whole(program):
+    traces.big("bigger", 3000, 6, 5)
+    trace = Trace("bigger").read_at_once()
+    sheet = Sheet(trace)
+    sheet.become(array("I", range(2900)))
+    for position in (0, 700, 1500):
+        sheet.toggle(position)
+    layout = Layout(sheet)
+    whole = layout.window(0, 10**6)["rows"]
+    same([row for first in range(0, layout.total, 37) for row in layout.window(first, 37)["rows"]], whole)
+    assert any("b" in row for row in whole) and len(whole) == layout.total
+    at = 0
+    for number, row in enumerate(whole):
+        same((row["p"], layout.row_of(at)), (at, number))
+        at += row.get("b", 1)
+    same(at, 2900)
+    for number in range(0, layout.total, 11):  # locks of a window are those that a look over all events finds
+        window = layout.window(number, 11)
+        low, high = window["rows"][0]["p"], window["rows"][-1]["p"] + window["rows"][-1].get("b", 1) - 1
+        held = {(section.lock, section.begin) for section in sheet.sections.all
+                if section.begin <= high and (section.end is None or section.end >= low)}
+        same({(lock["lock"], sheet.position[lock["e"]]) for lock in window["locks"]}, held)
+
+
+def test_names_are_made_harmless(program):
+    same(clean("a\u202eb\x1b[31m\x00"), "a\\u{202e}b\\u{1b}[31m\\u{0}")
+    same(clean(b"\xff\xfe"), "\ufffd\ufffd")
+    same(clean("é🙂"), "é🙂")
+
+
+def test_source_lines_of_one_folder_alone(program):
+    os.makedirs("project/src")
+    os.makedirs("outside")
+    traces.write("project/src/a.c", "one\ntwo\n\tthree\n")
+    traces.write("outside/secret.c", "secret\n")
+    os.symlink(os.path.abspath("outside/secret.c"), "project/src/secret.c")
+    os.symlink(os.path.abspath("outside"), "project/linked")
+    source = Source("project")
+    same(source.around("a.c:2", 1)["lines"], [[1, "one"], [2, "two"], [3, "    three"]])
+    same(source.around("other/src/a.c:1")["file"], "src/a.c")
+    for place in ("secret.c:1", "linked/secret.c:1", "../outside/secret.c:1", "/etc/passwd:1", "a.c:0", "a.c:9", "a.c",
+                  "src/../src/:1", "\0:1"):
+        same(source.around(place), None)
+    os.remove("project/src/a.c")
+    os.symlink(os.path.abspath("outside/secret.c"), "project/src/a.c")
+    same(Source("project").around("a.c:1"), None)
+    source = Source("outside")
+    os.rename("outside/secret.c", "moved.c")
+    os.symlink(os.path.abspath("moved.c"), "outside/secret.c")
+    same(source.around("secret.c:1"), None)  # it became a link after the walk

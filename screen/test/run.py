@@ -1,0 +1,77 @@
+#!/usr/bin/python3
+"""Tests the screen: run.py PROGRAM [NAME..] by all tests, or those whose names have one of the words.
+
+Each test runs in a folder of its own. The last line is `N passed, M failed`.
+"""
+
+import asyncio
+import importlib.util
+import inspect
+import os
+import sys
+import tempfile
+import time
+import traceback
+
+sys.dont_write_bytecode = True
+sys.path.insert(0, os.path.dirname(os.path.abspath(__file__)))
+
+# A test that takes longer has failed.
+LIMIT = 240
+CHROMIUM = ("/usr/lib/chromium/chromium", "/usr/bin/chromium")
+
+
+def modules():
+    """The modules whose needs are here."""
+    yield "reading"
+    if importlib.util.find_spec("aiohttp") is None:
+        print("aiohttp is not here: nothing but the reading is tested (apt-get install python3-aiohttp)")
+        return
+    yield "security"
+    if not any(map(os.path.exists, CHROMIUM)):
+        print("chromium is not here: what needs a browser is not tested (apt-get install chromium)")
+        return
+    yield from ("framed", "table", "look", "live", "questions", "big")
+
+
+def tests(wanted):
+    for module in map(importlib.import_module, modules()):
+        for name, test in vars(module).items():
+            if name.startswith("test_") and (not wanted or any(word in name for word in wanted)):
+                yield name.removeprefix("test_").replace("_", " "), test
+
+
+async def passes(name, test, program):
+    began = time.monotonic()
+    with tempfile.TemporaryDirectory() as folder:
+        os.chdir(folder)
+        os.environ["XDG_STATE_HOME"] = os.path.join(folder, "state")
+        try:
+            done = test(program)
+            if inspect.isawaitable(done):
+                await asyncio.wait_for(done, LIMIT)
+        except Exception as why:
+            print(f"FAIL  {name}: {type(why).__name__}: {why}", flush=True)
+            traceback.print_exc(limit=-2)
+            return False
+        finally:
+            os.chdir("/")
+    print(f"ok    {name} ({time.monotonic() - began:.1f} s)", flush=True)
+    return True
+
+
+async def outcomes_of(program, wanted):
+    outcomes = [await passes(name, test, program) for name, test in tests(wanted)]
+    if "browser" in sys.modules:
+        await sys.modules["browser"].Browser.end()
+    return outcomes
+
+
+def main():
+    program, *wanted = sys.argv[1:]
+    outcomes = asyncio.run(outcomes_of(os.path.abspath(program), wanted))
+    print(f"{outcomes.count(True)} passed, {outcomes.count(False)} failed")
+    sys.exit(1 if False in outcomes or not outcomes else 0)
+
+
+main()

@@ -1,0 +1,200 @@
+"""Who is let in, and what gets through to files and to the session. No browser is needed."""
+
+import asyncio
+import json
+
+import aiohttp
+
+import traces
+from judged import same
+from stage import Screen, Socket, logged
+
+EVIL = "http://evil.example"
+
+
+async def status(screen, path="/", method="GET", body=None, **headers):
+    """The status of one request, whose path is sent as it is written."""
+    reader, writer = await asyncio.open_connection("127.0.0.1", screen.port)
+    given = {"Host": f"127.0.0.1:{screen.port}", "Connection": "close", **headers}
+    if body is not None:
+        given["Content-Length"] = str(len(body))
+    head = "".join(f"{name.replace('_', '-')}: {value}\r\n" for name, value in given.items())
+    writer.write(f"{method} {path} HTTP/1.1\r\n{head}\r\n".encode() + (body or b""))
+    answer = await reader.read()
+    writer.close()
+    return int(answer.split(b" ", 2)[1]), answer
+
+
+async def code(screen, *words, **more):
+    return (await status(screen, *words, **more))[0]
+
+
+def on_count(test):
+    """A test on a screen of the small trace."""
+    async def run(program):
+        traces.write("trace", traces.COUNT)
+        async with Screen(program, "trace", "log") as screen:
+            await test(screen)
+    return run
+
+
+@on_count
+async def test_another_host_is_refused(screen):
+    same(await code(screen), 200)
+    same(await code(screen, Host=f"localhost:{screen.port}"), 200)
+    for host in ("evil.example", f"evil.example:{screen.port}", "127.0.0.1", f"127.0.0.2:{screen.port}", ""):
+        same(await code(screen, Host=host), 421)
+        same(await code(screen, "/app.js", Host=host), 421)
+
+
+@on_count
+async def test_another_origin_is_refused(screen):
+    ticket = screen.ticket.encode()
+    for origin in (EVIL, "null", f"http://localhost:{screen.port}", f"https://127.0.0.1:{screen.port}"):
+        same(await code(screen, Origin=origin), 403)
+        same(await code(screen, "/enter", "POST", ticket, Origin=origin), 403)
+    same(await code(screen, "/enter", "POST", ticket), 403)  # none is named
+    for site in ("cross-site", "same-site"):
+        same(await code(screen, Sec_Fetch_Site=site), 403)
+    same(await code(screen, "/enter", "POST", ticket, Origin=screen.base), 200)
+
+
+@on_count
+async def test_a_ticket_opens_once(screen):
+    ticket = screen.ticket.encode()
+    for wrong in (b"", b"wrong", ticket[:-1], ticket + b"x", b"x" * 900, b"\xff" * 8):
+        same(await code(screen, "/enter", "POST", wrong, Origin=screen.base), 403)
+    assert await code(screen, "/enter", "POST", b"x" * 5000, Origin=screen.base) in (403, 413)
+    first, answer = await status(screen, "/enter", "POST", ticket, Origin=screen.base)
+    same(first, 200)
+    assert len(answer.rsplit(b"\r\n", 1)[1]) > 40
+    same(await code(screen, "/enter", "POST", ticket, Origin=screen.base), 403)
+
+
+async def closed_with(client, screen, first):
+    """The code with which the socket is closed where this is its first message."""
+    socket = await client.ws_connect(screen.base.replace("http", "ws") + "/ws", origin=screen.base)
+    await socket.send_str(first)
+    answer = await socket.receive(timeout=5)
+    assert answer.type in (aiohttp.WSMsgType.CLOSE, aiohttp.WSMsgType.CLOSED), answer
+    return socket.close_code
+
+
+@on_count
+async def test_a_socket_needs_the_key_and_the_origin(screen):
+    async with aiohttp.ClientSession() as client:
+        for origin in (None, EVIL, "null"):
+            try:
+                await client.ws_connect(screen.base.replace("http", "ws") + "/ws", origin=origin)
+                raise AssertionError(f"{origin} was let in")
+            except aiohttp.WSServerHandshakeError as why:
+                same(why.status, 403)
+        for wrong in ("", "wrong", screen.ticket, json.dumps({"id": 1, "do": "hello"})):
+            same(await closed_with(client, screen, wrong), 4403)
+
+
+async def is_full(client, screen):
+    try:
+        await client.ws_connect(screen.base.replace("http", "ws") + "/ws", origin=screen.base)
+    except aiohttp.WSServerHandshakeError as why:
+        same(why.status, 503)
+        return
+    raise AssertionError("there is a seventeenth socket")
+
+
+@on_count
+async def test_no_more_than_sixteen_sockets(screen):
+    async with Socket(screen) as socket:
+        more = []
+        for _ in range(15):
+            one = await socket.client.ws_connect(screen.base.replace("http", "ws") + "/ws", origin=screen.base)
+            await one.send_str(socket.key)
+            await one.send_str('{"id": 7, "do": "link"}')
+            same(json.loads((await one.receive()).data)["id"], 7)
+            more.append(one)
+        await is_full(socket.client, screen)
+        await more.pop().close()
+        await asyncio.sleep(0.2)
+        again = await socket.client.ws_connect(screen.base.replace("http", "ws") + "/ws", origin=screen.base)
+        await again.send_str(socket.key)
+        await again.send_str('{"id": 8, "do": "link"}')
+        same(json.loads((await again.receive()).data)["id"], 8)
+
+
+@on_count
+async def test_who_names_no_key_shuts_nobody_out(screen):
+    async with aiohttp.ClientSession() as client:
+        address = screen.base.replace("http", "ws") + "/ws"
+        waiting = [await client.ws_connect(address, origin=screen.base) for _ in range(16)]
+        await is_full(client, screen)
+        await waiting[0].receive(timeout=8)
+        same(waiting[0].close_code, 4403)
+        await asyncio.sleep(0.3)
+        async with Socket(screen) as socket:
+            same((await socket.call(do="hello"))["events"], 17)
+
+
+@on_count
+async def test_long_and_broken_messages(screen):
+    async with Socket(screen) as socket:
+        for text in ("[" * 40_000, "not json", "[]", "7", "null", '{"do": 7}', '{"id": {}, "do": "__init__"}', "{}"):
+            await socket.socket.send_str(text)
+            answer = json.loads((await socket.socket.receive(timeout=5)).data)
+            assert "mistake" in answer, answer
+        same((await socket.call(do="hello"))["events"], 17)
+        await socket.socket.send_str(json.dumps({"id": 1, "do": "hello", "more": "x" * (1 << 16)}))
+        while (await socket.socket.receive(timeout=5)).type == aiohttp.WSMsgType.TEXT:
+            pass
+        same(socket.socket.close_code, 1009)
+    same(await code(screen), 200)
+
+
+@on_count
+async def test_paths_that_escape(screen):
+    for path in ("/../screen", "/%2e%2e/screen", "/..%2fscreen", "/index.html.bak", "/static/../screen", "/.",
+                 "//etc/passwd", "/screen_app/server.py", "/%00", "/app.js%00.css", "/..%5cscreen", "/index.html"):
+        assert await code(screen, path) in (400, 404), path
+    same(await code(screen, "/app.js"), 200)
+
+
+@on_count
+async def test_every_answer_has_its_headers(screen):
+    for path in ("/", "/app.js", "/none"):
+        _, answer = await status(screen, path)
+        head = answer.split(b"\r\n\r\n")[0].decode()
+        for part in ("default-src 'self'", "frame-ancestors 'none'", "require-trusted-types-for 'script'", "nosniff",
+                     "no-referrer", "X-Frame-Options: DENY", "Cross-Origin-Resource-Policy: same-origin", "no-store"):
+            assert part in head, (path, part, head)
+        assert "\nServer:" not in head
+
+
+BAD = [
+    dict(do="nothing"), dict(do="_send"), dict(do="new", name="A\nundo"), dict(do="new", name="A ; drop B"),
+    dict(do="new", name=""), dict(do="new", name="x" * 65), dict(do="new", name=["A"]), dict(do="new", name="A\n"),
+    dict(do="add", name="A", event="3 ; new B"), dict(do="add", name="A", event=-1),
+    dict(do="add", name="A", event=True), dict(do="add", name="A", event=1.5),
+    dict(do="undo", entries=["1\nnew X"]), dict(do="undo", entries="7"),
+    dict(do="branch", name="A", length="1 B\nnew", to="C"), dict(do="branch", name="A", length=1, to="B\nnew C"),
+    dict(do="adopt", name="A", proposal="0\nnew B"),
+    dict(do="propose", view={"schedule": "A"}, pair=["1\nnew B", 2]),
+    dict(do="source", place=7, around=1), dict(do="view", view={"schedule": "../x"}, count=10),
+    dict(do="view", view=7), dict(do="view", view={"witness": ["1\nnew B", 2]}, count=10),
+    dict(do="run", name="A"), dict(do="run", name="A", until=10**12), dict(do="swap", name="A", p=0, by=10**9),
+    dict(do="swap", name="A", p=0, by="1"), dict(do="witness", pair=[0, 10**12]), dict(do="witness", pair="--script"),
+    dict(do="explain", pair=["--all", 1]), dict(do="ahead", name="A", thread=999, **{"from": 0}, count=1),
+    dict(do="frontier", name="A", aim=[1, 10**9]), dict(do="seen", n=10**9),
+    dict(do="feed", **{"from": 0}, count="x"), dict(do="enter", name="B", view={"witness": [1, 2]}),
+]
+
+
+@on_count
+async def test_nothing_is_smuggled_into_the_session(screen):
+    async with Socket(screen) as socket:
+        same((await socket.call(do="new", name="A"))["answer"], "0: done")
+        for bad in BAD:
+            told = await socket.call(**bad)
+            assert "mistake" in told or told.get("answer", "").startswith("refused"), (bad, told)
+        same(await socket.call(do="source", place="../../../etc/passwd:1", around=3), {"none": True, "id": 1})
+        same(logged(), ["1 new A"])
+        same((await socket.call(do="add", name="A", event=0))["answer"], "1: done")
+        same(logged(), ["1 new A", "1 add A 0"])

@@ -1,0 +1,124 @@
+"""What the tests stand on: a screen that is started, its socket, and what its page and its log say."""
+
+import asyncio
+import json
+import os
+import re
+
+import aiohttp
+
+from judged import same
+
+SCREEN = os.path.join(os.path.dirname(os.path.dirname(os.path.abspath(__file__))), "screen")
+HEAD = 81
+
+NEXT = "document.querySelectorAll('#next-list .next').length"
+ROWS = "document.querySelectorAll('#space .row').length"
+SAID = "document.getElementById('said').textContent"
+SAYINGS = "(document.getElementById('said').dataset.n ?? '')"
+LENGTH = "document.querySelector('#bar .line > .dim')?.textContent"
+TITLE = "!!document.getElementById('title').textContent"
+ORDER = ("[...document.querySelectorAll('#space .row')].sort((a, b) => a.dataset.p - b.dataset.p)"
+         ".map((r) => r.querySelector('.event').textContent).join(' ')")
+
+
+class Screen:
+    """A process `screen`, its link and its port."""
+
+    def __init__(self, program, trace, log, *words):
+        self.has_page = False
+        self.words = ["/usr/bin/python3", SCREEN, trace, log, *words, "--program", program]
+
+    async def __aenter__(self):
+        pipe = asyncio.subprocess.PIPE
+        self.process = await asyncio.create_subprocess_exec(
+            *self.words, stdin=asyncio.subprocess.DEVNULL, stdout=pipe, stderr=pipe)
+        self.link = (await asyncio.wait_for(self.process.stdout.readline(), 120)).decode().strip()
+        if not self.link:
+            raise AssertionError((await self.process.stderr.read()).decode())
+        self.base, self.ticket = self.link.split("/#")
+        self.port = int(re.search(r":(\d+)/", self.link)[1])
+        return self
+
+    async def __aexit__(self, *_):
+        if self.process.returncode is None:
+            self.process.terminate()
+        await self.process.wait()
+        said = (await self.process.stderr.read()).decode()
+        if self.has_page:  # what a page asks for is never a bad request
+            assert "bad request" not in said and "Traceback" not in said, said
+
+
+class Socket:
+    """The page's socket, without a page."""
+
+    def __init__(self, screen):
+        self.screen = screen
+
+    async def __aenter__(self):
+        self.client = aiohttp.ClientSession()
+        origin = {"Origin": self.screen.base}
+        answer = await self.client.post(self.screen.base + "/enter", data=self.screen.ticket.encode(), headers=origin)
+        assert answer.status == 200, answer.status
+        self.key = await answer.text()
+        self.socket = await self.client.ws_connect(
+            self.screen.base.replace("http", "ws") + "/ws", origin=self.screen.base, max_msg_size=0)
+        await self.socket.send_str(self.key)
+        return self
+
+    async def call(self, **given):
+        await self.socket.send_str(json.dumps({"id": 1, **given}))
+        while True:
+            told = json.loads((await self.socket.receive()).data)
+            if told.get("id") == 1:
+                return told
+
+    async def __aexit__(self, *_):
+        await self.socket.close()
+        await self.client.close()
+
+
+def logged():
+    """The calls in the log."""
+    with open("log", "rb") as file:
+        lines = file.read()[HEAD:].split(b"\n")
+    return [line[1:].decode() for line in lines if line.startswith(b" ")]
+
+
+async def focus(page, name):
+    await page.run(f"document.getElementById('{name}').focus()")
+
+
+async def press(page, *keys):
+    """Presses keys one after another, and waits for the answer to each."""
+    for key in keys:
+        before = await page.run(SAYINGS)
+        await page.key(key)
+        try:
+            await page.until(f"{SAYINGS} !== {json.dumps(before)}", 30, f"an answer to {key}")
+        except AssertionError as why:
+            told = await page.run(f"document.activeElement?.id + ' | ' + {SAID} + ' | ' + "
+                                  "(document.querySelector('#next-list .on')?.textContent ?? 'none chosen')")
+            raise AssertionError(f"{why}; {told}") from why
+
+
+async def new(page, threads, name=None):
+    """Makes a schedule by the key, and waits until so many threads have a next event."""
+    await page.until(TITLE, 90)
+    await page.key("n")
+    await page.until("document.getElementById('ask').open")
+    if name:
+        await page.run("document.getElementById('ask-input').select()")
+        await page.type(name)
+    await page.key("Enter")
+    await page.until(f"{NEXT} === {threads}", 90)
+    await focus(page, "next-list")
+
+
+def is_clean(page, screen):
+    """Nothing went wrong in the page, and it asked nobody else for anything."""
+    same(page.faults, [])
+    own = (f"http://127.0.0.1:{screen.port}/", f"ws://127.0.0.1:{screen.port}/")
+    same([url for url in page.requests if not url.startswith(own)], [])
+    assert page.requests, "the page asked for nothing"
+    screen.has_page = True

@@ -1,0 +1,104 @@
+"""Traces for tests: a small one, hostile names, many threads, and big ones."""
+
+import random
+
+COUNT = """T0|fork(T1)|count.c:17
+T0|fork(T2)|count.c:17
+T1|w(value)|count.c:5
+T1|acq(m)|count.c:6
+T1|w(ready)|count.c:6
+T1|rel(m)|count.c:6
+T1|r(hits)|count.c:7
+T1|w(hits)|count.c:7
+T2|acq(m)|count.c:11
+T2|r(ready)|count.c:11
+T2|rel(m)|count.c:11
+T2|r(value)|count.c:12
+T2|r(hits)|count.c:13
+T2|w(hits)|count.c:13
+T0|join(T1)|count.c:18
+T0|join(T2)|count.c:18
+T0|r(hits)|count.c:18
+"""
+
+HOSTILE = [
+    "<script>window.hacked=1</script>", "<img src=x onerror=window.hacked=1>", "\u202egnp.exe", "a\x00b\x1b[31mc",
+    "\"'`><b>", "&lt;i&gt;", "x" * 255, "javascript:window.hacked=1", "{{constructor}}", "🙂é\u0301", "-->",
+    "__proto__",
+]
+
+
+def write(path, text):
+    with open(path, "w", encoding="utf-8") as file:
+        file.write(text)
+
+
+def hostile(path):
+    lines = []
+    for number, name in enumerate(HOSTILE):
+        lines += [
+            f"<b>T{number % 3}</b>|w({name})|</td><script>window.hacked=1</script>{number}.c:{number}",
+            f"__proto__|r({name})|../../../etc/passwd:1",
+            f"<b>T{number % 3}</b>|acq({name})|%00:{number}",
+            f"<b>T{number % 3}</b>|rel({name})|file:///etc/passwd:{number} < <i>",
+        ]
+    raw = "\n".join(lines).encode() + b"\n\xff\xfe|w(\xff\xfe)|\xc3\x28:3\nT9|w(\xff\xfe)|z:1\n"
+    with open(path, "wb") as file:
+        file.write(raw)
+
+
+class Workers:
+    """Threads that work under locks, read what they wrote, and now and then meet at a counter without one."""
+
+    def __init__(self, threads, seed):
+        self.draw = random.Random(seed)
+        self.held = [None] * threads
+        self.taken = set()
+        self.lines = []
+
+    def put(self, thread, operation, place):
+        self.lines.append(f"T{thread}|{operation}|src/{place}")
+
+    def release(self, thread):
+        lock, self.held[thread] = self.held[thread], None
+        self.taken.remove(lock)
+        self.put(thread, f"rel(l{lock})", f"work.c:{200 + lock}")
+
+    def step(self, thread):
+        draw, lock, roll = self.draw, self.held[thread], self.draw.random()
+        if lock is None and roll < 0.06:
+            lock = draw.randrange(64)
+            if lock not in self.taken:
+                self.taken.add(lock)
+                self.held[thread] = lock
+                self.put(thread, f"acq(l{lock})", f"work.c:{100 + lock}")
+        elif lock is not None and roll < 0.2:
+            self.release(thread)
+        elif lock is not None and roll < 0.6:
+            self.put(thread, f"{draw.choice('rw')}(shared{lock})", f"work.c:{300 + lock}")
+        elif roll > 0.9995:
+            self.put(thread, f"w(hits{draw.randrange(5)})", f"stats.c:{draw.randrange(40)}")
+        else:
+            self.put(thread, f"{draw.choice('rrw')}(own{thread}_{draw.randrange(50)})", f"own.c:{draw.randrange(900)}")
+
+
+def big(path, events=1_048_576, threads=16, seed=1):
+    made = Workers(threads, seed)
+    while len(made.lines) < events - 2 * threads:
+        thread = made.draw.randrange(threads)
+        for _ in range(made.draw.choice((1, 2, 3, 5, 8, 40))):
+            made.step(thread)
+    for thread, lock in enumerate(made.held):
+        if lock is not None:
+            made.release(thread)
+    while len(made.lines) < events:
+        made.put(0, "w(own0_0)", "own.c:1")
+    write(path, "\n".join(made.lines[:events]) + "\n")
+
+
+def many_threads(path, threads=200):
+    lines = [f"T0|fork(W{number})|main.c:{number % 50}" for number in range(threads)]
+    for number in range(threads):
+        lines += [f"W{number}|{operation}|w.c:1" for operation in ("acq(m)", "w(x)", "rel(m)", "w(y)")]
+    lines += [f"T0|join(W{number})|main.c:99" for number in range(threads)]
+    write(path, "\n".join(lines) + "\n")
