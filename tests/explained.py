@@ -118,6 +118,19 @@ LINKS = {
     "forks the thread that is joined by": forks_joined,
 }
 SHB_LINKS = {**LINKS, "lets the lock go that is taken by": lets_go}
+READ = "is read by"
+
+
+def without_note(trace, tally, first, words, second):
+    """The words of a link without the note that a write and its read race, which has to stand there exactly where the two are a candidate."""
+    if not words.startswith(READ):
+        return words
+    is_race = trace.conflict(first, second) and trace.is_candidate(first, second)
+    wanted = READ + (f" (these two race: explain {first} {second})" if is_race else "")
+    if words != wanted:
+        raise Wrong(f"of {first} and {second} the words are {words!r}, and plainly {wanted!r}")
+    tally["reads that race" if is_race else "reads that do not race"] += 1
+    return READ
 
 
 # Races.
@@ -196,7 +209,7 @@ def judge_race(trace, tally, text, how, pair, listed, is_all):
     """Judges the text on a pair that this list shows."""
     runs = runs_of(trace, listed)
     lines = Lines(text)
-    lines.expect(f"race {how}: after {count(len(listed), 'event')} in {count(len(runs), 'run')} both can come next")
+    lines.expect(f"race {how}: after {count(len(listed), 'event')} in {count(len(runs), 'run')} both are next")
     lines.expect(*with_locks(trace, pair[0]), *with_locks(trace, pair[1]))
     first = 0 if is_all or len(runs) <= MOST_RUNS else len(runs) - LAST_RUNS
     if first:
@@ -230,6 +243,7 @@ def section_begun(trace, release):
 
 def judge_link(trace, tally, first, words, second):
     """Judges a link of a chain. Of one that ends a section, the event that begins it and the event before which it has to end; else None."""
+    words = without_note(trace, tally, first, words, second)
     if words in LINKS:
         if not LINKS[words](trace, first, second):
             raise Wrong(f"of {first} and {second} that is not so: {words}")
@@ -328,7 +342,8 @@ def judge_undecided(trace, tally, text, pair):
     lines.end()
     if (chain.events[0], chain.events[-1]) != pair:
         raise Wrong(f"the chain leads from {chain.events[0]} to {chain.events[-1]}")
-    for first, words, second in zip(chain.events, chain.words, chain.events[1:]):
+    for first, noted, second in zip(chain.events, chain.words, chain.events[1:]):
+        words = without_note(trace, tally, first, noted, second)
         if words not in SHB_LINKS or not SHB_LINKS[words](trace, first, second):
             raise Wrong(f"of {first} and {second} that is not so: {words}")
         tally[f"SHB|{words}"] += 1

@@ -1,4 +1,5 @@
-"""Runs the program with each call of a kind failing in turn, by tools/refuse.c, and judges what it writes.
+"""Runs the program with each call of a kind failing in turn, by tools/refuse.c and tools/disk.c. It judges what the
+program writes, and the log that a session leaves.
 
 Each run has to write what is wanted, or to end with the fault's status and text after a beginning of it, and to write nothing else:
   an allocation    `out of memory`; in a thread or a session the call's line may say so, and the others go on; beside workers one slice may not be
@@ -8,14 +9,22 @@ Each run has to write what is wanted, or to end with the fault's status and text
                    made); or only notes are missing, for which a file is read once more
   a write          `write failed`; or only standard error is cut, where the fault's own text could not be written
   a thread         what is wanted, since another thread makes the calls of such a script; or, where workers are asked for, `no thread`
+  a write at a place, a cut, a sync, a lock, a new name of a session's log: `write failed`, or `read failed` if the lock
+                   is not had; never what is wanted, but for a write of one byte that cannot be cut
 A call that is interrupted and one that moves a single byte change nothing.
+
+The log that a session leaves has the lines from before and those of the calls that were answered, and no others. Only
+if a write failed may it have those of the turn at work too, all or none. So it is with each of these calls failing.
 """
 
 import os
 import pathlib
+import re
 import shutil
 import subprocess
 from collections import namedtuple
+
+from disk import HEAD, kept_lines
 
 TOP = pathlib.Path(__file__).resolve().parent.parent
 # The kinds of calls, and how they fail.
@@ -23,13 +32,23 @@ WAYS = [
     ("memory", "error"), ("read", "error"), ("read", "interrupted"), ("read", "short"), ("open", "error"), ("thread", "error"),
     ("write", "error"), ("write", "interrupted"), ("write", "short"), ("write", "nothing"), ("write", "cut"),
 ]  # fmt: skip
+# Those of a session's log alone.
+DISK_WAYS = [
+    ("pwrite", "error"), ("pwrite", "interrupted"), ("pwrite", "short"), ("pwrite", "nothing"), ("pwrite", "cut"),
+    ("ftruncate", "error"), ("ftruncate", "interrupted"), ("fsync", "error"), ("fsync", "interrupted"),
+    ("flock", "error"), ("link", "error"),
+]  # fmt: skip
 # How long the runs of one sweep may take, in seconds.
 LONGEST = 600
 
-# How a run ended: its status or, below 0, its signal; whether it met the call that fails; and what it wrote.
-Run = namedtuple("Run", "status met out err")
+# How a run ended: its status or, below 0, its signal; whether it met the call that fails; what it wrote; and the file
+# that it left, if that is told.
+Run = namedtuple("Run", "status met out err left")
 # What is wanted, and whether scripts run in threads, whether beside workers, and whether a session answers.
 Wanted = namedtuple("Wanted", "status out err in_threads has_workers in_session")
+# A session's log: its file, the bytes of that before and as the case leaves it, or None; the client of each line, if it
+# is told; and the input.
+Log = namedtuple("Log", "name before after client text")
 
 
 class Wrong(Exception):
@@ -41,26 +60,32 @@ def library(folder):
     made = pathlib.Path(folder) / "refuse.so"
     kit = pathlib.Path(subprocess.run(["rt", "doc"], capture_output=True, text=True, check=False).stdout.strip() or "/").parent
     compiler = shutil.which("cc") or shutil.which("clang") or kit / "toolchain/bin/clang"
-    subprocess.run([compiler, "-O2", "-shared", "-fPIC", "-o", made, TOP / "tools/refuse.c"], check=True)
+    sources = [TOP / "tools/refuse.c", TOP / "tools/disk.c"]
+    subprocess.run([compiler, "-O2", "-shared", "-fPIC", "-o", made, *sources], check=True)
     return made
 
 
-def runs_of(made, program, words, stdin, here, way, files):
+def runs_of(made, program, words, stdin, here, way, files, left=None):
     """The program's runs in the folder `here` with each call of one kind failing in turn; the last one met none. Where they change files, each finds
-    those of the folder `files`."""
+    those of the folder `files`. With what each left of the file `left`."""
     report = made.parent / "report"
     told = {"REFUSE": way[0], "REFUSE_HOW": way[1], "REFUSE_IN": str(stdin), "REFUSE_EACH": str(report), "LD_PRELOAD": str(made)}
     if files:
         told["REFUSE_FILES"] = str(files)
+    if left:
+        told["REFUSE_LEFT"] = str(left)
     status = subprocess.run([program, *words], cwd=here, env={**os.environ, **told}, timeout=LONGEST, check=False).returncode
     if status != 0:
         raise Wrong(f"the runs were not made: status {status}")
-    left = report.read_bytes()
-    while left:
-        line, left = left.split(b"\n", 1)
-        ended, met, out, err = (int(number) for number in line.split(b" "))
-        yield Run(ended, met == 1, left[:out], left[out : out + err])
-        left = left[out + err :]
+    rest = report.read_bytes()
+    while rest:
+        line, rest = rest.split(b"\n", 1)
+        ended, met, *sizes = (int(number) for number in line.split(b" "))
+        texts = []
+        for size in sizes:
+            texts.append(rest[:size] if size >= 0 else None)
+            rest = rest[max(size, 0) :]
+        yield Run(ended, met == 1, *texts)
 
 
 def has_fault(run, text, behind=b""):
@@ -70,9 +95,12 @@ def has_fault(run, text, behind=b""):
 
 
 def lacks_notes(run, wanted):
-    """Whether the run ended as the case wants, but for notes that are missing."""
+    """Whether the run ended as the case wants, but for notes that are missing, or that quote nothing of a line."""
     lines, known = run.err.splitlines(), wanted.err.splitlines()
-    return (run.status, run.out, lines[:1]) == (wanted.status, wanted.out, known[:1]) and all(line in known for line in lines)
+    fault = [line for line in known[:1] if not line.startswith(b"note: ")]
+    notes = lines[len(fault) :]
+    are_known = all(line in known or (line.startswith(b"note: line ") and line.endswith(b" is ``")) for line in notes)
+    return (run.status, run.out, lines[: len(fault)]) == (wanted.status, wanted.out, fault) and are_known
 
 
 def is_told_in_threads(run, wanted):
@@ -112,8 +140,18 @@ def lacks_a_slice(run, wanted):
     return any(b" propose " in entry and told[1] == known[1][:at] + known[1][at + 1 :] for at, entry in enumerate(known[1]))
 
 
+def has_disk_fault(run, wanted, kind):
+    """Whether a call on the log's file that failed is told, after the answers of the turns before."""
+    is_told = has_fault(run, b"write failed", b"note: ") or (kind == "flock" and has_fault(run, b"read failed"))
+    return is_told and wanted.out.startswith(run.out)
+
+
 def is_right(run, wanted, kind, how):
-    if (run.status, run.out, run.err) == wanted[:3]:
+    is_wanted = (run.status, run.out, run.err) == wanted[:3]
+    if run.met and (kind, how) in DISK_WAYS and how not in ("interrupted", "short"):
+        # A write of one byte is never cut.
+        return has_disk_fault(run, wanted, kind) or (how == "cut" and is_wanted)
+    if is_wanted:
         return True
     if not run.met or how in ("interrupted", "short"):
         return False
@@ -130,14 +168,76 @@ def is_right(run, wanted, kind, how):
         return is_told or (wanted.err and lacks_notes(run, wanted))
     if kind in ("read", "open"):
         is_begun = wanted.out.startswith(run.out) if wanted.in_session else not run.out
-        is_told = has_fault(run, b"read failed", b"note: ") or (wanted.in_session and kind == "open" and has_fault(run, b"write failed"))
+        is_told = has_fault(run, b"read failed", b"note: ") or (wanted.in_session and kind == "open" and has_fault(run, b"write failed", b"note: "))
         return (is_told and is_begun) or (wanted.err and lacks_notes(run, wanted))
     if run.out != wanted.out:
-        return has_fault(run, b"write failed") and wanted.out.startswith(run.out)
+        return has_fault(run, b"write failed", b"note: ") and wanted.out.startswith(run.out)
     return run.status == wanted.status and wanted.err.startswith(run.err)
 
 
-def judge(runs, wanted, way, tally):
+def turns_of(text):
+    """The lines that are answered at a time: the whole lines of the input; then the last one, if it has no end."""
+    whole, feed, last = text.rpartition(b"\n")
+    return [lines for lines in (whole.split(b"\n") if feed else [], [last] if last else []) if lines]
+
+
+def kept_by(log, lines, answers):
+    """The lines that the log gains of these, the first of which are answered so; and how many answers those are."""
+    kept = []
+    count = 0
+    for line in lines:
+        line = line.strip(b" \t\r")
+        if not line or count == len(answers):
+            continue
+        answer = answers[count]
+        count += 1
+        if log.client is not None:
+            line = log.client + b" " + line
+        undone = re.fullmatch(rb"\d+: undone (\d+)", answer)
+        if undone:
+            kept.append(line.split()[0] + b" undo " + undone[1])
+        elif re.fullmatch(rb"\d+: (done|proposed \d+)", answer):
+            kept.append(line)
+    return kept, count
+
+
+def lines_behind_turns(log, out):
+    """The lines of the log before the first turn, and after each that is answered whole by what was written."""
+    states = [kept_lines(log.before) or []]
+    answers = out.split(b"\n")[:-1]
+    for lines in turns_of(log.text):
+        kept, count = kept_by(log, lines, answers)
+        if count < sum(1 for line in lines if line.strip(b" \t\r")):
+            break
+        states.append(states[-1] + kept)
+        answers = answers[count:]
+    return states
+
+
+def judge_left(run, wanted, kind, log):
+    """The log that a run left has to be the one from before, and all that was answered, and no part of a turn."""
+    if wanted.status != 0:
+        if run.left != log.before:
+            raise Wrong(f"a session that is refused leaves the log {run.left!r}")
+        return
+    states = lines_behind_turns(log, run.out)
+    now = kept_lines(run.left)
+    if run.status == 0 and len(states) == len(turns_of(log.text)) + 1:
+        head = (log.before or log.after or run.left)[:HEAD]
+        if run.left != head + b"".join(b" " + line + b"\n" for line in states[-1]) + b"!":
+            raise Wrong(f"it ended well, and the log that is left is {run.left!r}")
+        return
+    if now is None and log.before is None and len(states) == 1:
+        return
+    # Only where a write failed may the turn at work be there: of the file, or of the answers.
+    more = lines_behind_turns(log, wanted.out)[len(states) :] if has_fault(run, b"write failed", b"note: ") else []
+    if now not in [states[-1], *more[:1]]:
+        raise Wrong(f"{states[-1]} was answered, or {more[:1]} may have been, and the log that is left has {now}")
+    if kind == "write" and now != (more or states[-1:])[0]:
+        raise Wrong(f"the answers could not be written, and their turn is not in the log, which has {now}")
+
+
+def judge(runs, wanted, way, tally, log=None):
     """Counts the runs, each of which has to be right."""
     kind, how = way
     run = None
@@ -147,5 +247,11 @@ def judge(runs, wanted, way, tally):
         tally["told in a line"] += kind == "memory" and run.met and run.status == 0 and b"\nrefused 56 out of memory\n" in run.out
         if not is_right(run, wanted, kind, how):
             raise Wrong(f"{kind} {number} fails, {how}: status {run.status}, {run.err[:300]!r} and {run.out[:300]!r}")
+        if log:
+            tally["logs"] += 1
+            try:
+                judge_left(run, wanted, kind, log)
+            except Wrong as what:
+                raise Wrong(f"{kind} {number} fails, {how}: {what}") from None
     if run is None or run.met:
         raise Wrong(f"{kind}, {how}: the runs do not end")

@@ -39,6 +39,8 @@ FORMS = [[], ["--script"], ["--std"], ["--svg"]]
 REACHED = [
     *"none candidate beyond turned forced guarded undecided small folded links|section chains|2 pictures arrows".split(),
     "pictures with earlier runs",
+    "reads that race",
+    "reads that do not race",
     *[f"links|{words}" for words in explained.LINKS],
     *["SHB|and later in its thread", "SHB|lets the lock go that is taken by"],
     *[f"waits|{words}" for words in explained.WAITS if not words.startswith("forks")],

@@ -1,6 +1,7 @@
 #!/usr/bin/env python3
-"""Judges the man page and the completions of package/: each command and flag that the program's `--help` names, each word of a script and
-each fault has to be there. What is missing is named.
+"""Judges the man pages and completions of package/, and the pages that tools/man_pages.py makes.
+
+Each command and flag that `--help` names, each word of a script and each fault has to be there. What is missing is named.
 
 Takes the program's path. The last line is `N passed, M failed`. Where bash is not here its completions are not run; where man is
 not here the page is not read by it, and a line says so.
@@ -11,8 +12,12 @@ import re
 import shutil
 import subprocess
 import sys
+import tempfile
 
 TOP = os.path.dirname(os.path.dirname(os.path.abspath(__file__)))
+sys.dont_write_bytecode = True
+sys.path.insert(0, os.path.join(TOP, "tools"))
+import man_pages
 
 
 def printed(*words, **more):
@@ -42,7 +47,7 @@ class Words:
         self.flags = {"": self.flags_of(whole)}
         for command in self.commands:
             self.flags[command] = self.flags_of(printed(program, command, "--help"))
-        script = part(r"line of a script has one of\n\n((?:  [^\n]*\n)+)", whole, "words of a script in --help")
+        script = part(r"comes one of these commands:\n\n((?:  [^\n]*\n)+)", whole, "words of a script in --help")
         self.script = re.findall(r"^  (\w+)", script, re.MULTILINE)
 
     @staticmethod
@@ -91,11 +96,42 @@ def bash_lacks(words):
     return lacks
 
 
-def page_warnings():
+def screen_page_lacks():
+    """Each option of the screen, and each of its arguments."""
+    told = printed("/usr/bin/python3", "screen/screen", "--help", cwd=TOP)
+    page = text_of("package", "racebench-screen.1").replace("\\-", "-")
+    wanted = re.findall(r"(?<![\w-])--?[a-z][\w-]*", part(r"^options:\n(.*)", told, "options in --help of the screen"))
+    wanted += re.findall(r"^  ([A-Z]+)$", told, re.MULTILINE)
+    return [word for word in wanted if not re.search(rf"(?<![\w-]){word}(?![\w-])", page, re.IGNORECASE)]
+
+
+def recorder_page_lacks(command, page):
+    """Each option that a command of the recorder names, and each part that a page has."""
+    page = page.replace("\\-", "-").replace("\\fB", "").replace("\\fR", "")
+    wanted = [f"section {name}" for name in ("NAME", "SYNOPSIS", "DESCRIPTION") if f"\n.SH {name}\n" not in page]
+    named = set(re.findall(r"(?<![\w-])--[a-z][\w-]*", man_pages.told(command)))
+    if command not in ("racebench-cc", "racebench-c++") and not named:
+        wanted.append("any option")
+    return wanted + [f"option {word}" for word in sorted(named) if not re.search(rf"(?<![\w-]){word}(?![\w-])", page)]
+
+
+def recorder_pages():
+    """What is wrong with each page that is made of what a command of the recorder says of itself."""
+    judged = []
+    for command in man_pages.COMMANDS:
+        page = man_pages.page(command, "0.0.0")
+        with tempfile.NamedTemporaryFile("w", suffix=".1", encoding="utf-8") as file:
+            file.write(page)
+            file.flush()
+            judged.append((f"{command}.1", recorder_page_lacks(command, page) + page_warnings(file.name)))
+    return judged
+
+
+def page_warnings(name):
     if shutil.which("man") is None:
-        print("package/racebench.1: not read by man, which is not here")
+        print(f"package/{name}: not read by man, which is not here")
         return []
-    path = os.path.join(TOP, "package", "racebench.1")
+    path = os.path.join(TOP, "package", name)
     environment = dict(os.environ, MANWIDTH="80", LC_ALL="C.UTF-8", MANROFFOPT="")
     told = subprocess.run(["man", "--warnings=w", "--local-file", path], capture_output=True, text=True, check=False, env=environment)
     return told.stderr.splitlines()
@@ -104,7 +140,10 @@ def page_warnings():
 def main():
     words = Words(os.path.abspath(sys.argv[1]))
     judged = [("package/racebench.1 lacks", page_lacks(words)), ("package/_racebench lacks", zsh_lacks(words)),
-              ("package/racebench.1, read by man", page_warnings())]
+              ("package/racebench.1, read by man", page_warnings("racebench.1")),
+              ("package/racebench-screen.1 lacks", screen_page_lacks()),
+              ("package/racebench-screen.1, read by man", page_warnings("racebench-screen.1"))]
+    judged += recorder_pages()
     if shutil.which("bash"):
         judged.append(("package/racebench.bash lacks", bash_lacks(words)))
     for name, wrong in judged:

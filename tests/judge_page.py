@@ -3,7 +3,8 @@
 
 Takes the program's path, how many traces to draw, and the first seed. Each page is read as a browser's parser would read it: every tag is closed in
 its order, nothing runs and nothing is fetched, and the policy in its head forbids both. Its counts, its rows with their accesses and locks, and
-its runs are those of the texts that `triage` and `explain` print, neither more nor fewer. The traces are those of examples/, traces whose names look like markup, and such
+its runs are those of the texts that `triage` and `explain` print, neither more nor fewer. Each picture is judged by pictured.py: it draws the schedule that `witness`
+prints, which by plain.py is a correct reordering that shows the row's pair. The traces are those of examples/, traces whose names look like markup, and such
 that are drawn by chance. Says what is wrong, if something is, and ends with status 1 then, also where something that has to be seen was never met.
 """
 
@@ -18,17 +19,22 @@ import tempfile
 
 sys.dont_write_bytecode = True
 import by_chance
+import pictured
+import plain
 import running
+from explained import Wrong
 
 TRACES = 40
 MOST_EVENTS = [8, 16, 28]
-REACHED = ["race", "undecided", "untried", "apart", "picture", "locks", "replaced", "known", "hidden", "left out", "undrawn"]
+REACHED = ["race", "undecided", "untried", "apart", "picture", "locks", "replaced", "known", "hidden", "left out", "undrawn", "pictures", "arrows", "schedules", "raced"]
+# A trace with so many events at most is small enough for a plain program to go over its schedules.
+SMALL = 60
 POLICY = "default-src 'none'; style-src 'unsafe-inline'; base-uri 'none'; form-action 'none'"
 VOID = {"meta", "path", "rect"}
 ALLOWED = {
     *("html", "head", "meta", "title", "style", "body", "header", "main", "section", "h1", "h2", "h3", "h4", "p", "bdi", "table", "thead", "tbody"),
     *("tr", "th", "td", "details", "summary", "span", "pre", "code", "figure", "figcaption", "div"),
-    *("svg", "defs", "marker", "path", "rect", "text"),
+    *("svg", "defs", "desc", "marker", "path", "rect", "text"),
 }
 ATTRIBUTES = {
     *("lang", "charset", "http-equiv", "content", "name", "id", "class", "scope", "tabindex", "role", "aria-label", "aria-hidden"),
@@ -40,10 +46,6 @@ FORBIDDEN = re.compile(r"url\((?!#tip\))|javascript:|data:|@import|https?:(?!//w
 
 # What is said where no open pair was tried; `explain` would try the one that is told.
 UNTRIED = "undecided: no pair was tried, and neither order nor lock forbids a schedule"
-
-
-class Wrong(Exception):
-    """The page is not well formed, not safe, or says something else than the text."""
 
 
 class Element:
@@ -192,6 +194,49 @@ def access_of(line):
     return int(event.text()), code.text(), found
 
 
+def is_read_that_races(line):
+    """The write and the read of a link that says that the two race, or None."""
+    note = re.fullmatch(r" *is read by \(these two race: explain (\d+) (\d+)\)", line)
+    return note and (note[1], note[2])
+
+
+def reasons_of(explained):
+    """What the row of a pair that is no race may say: the first line of what `explain` prints, and where a read on the way races, one such."""
+    notes = [note for note in map(is_read_that_races, explained) if note]
+    return [f"{explained[0]}, since {read} reads {write} (these two race: explain {write} {read})" for write, read in notes] or explained[:1]
+
+
+class Placed(plain.Trace):
+    """A trace whose events have locations."""
+
+    def __init__(self, events, locations):
+        super().__init__(events)
+        self.locations = locations
+
+    def location(self, event):
+        return self.locations[event]
+
+
+def plain_trace(name):
+    """The trace in the file, for a plain program; None where its names are not plain."""
+    with open(name, "rb") as file:
+        text = file.read()
+    if not text.isascii() or re.search(rb"[\x00-\x09\x0b-\x1f\x7f]", text):
+        return None
+    parts = [re.fullmatch(r"([^|]*)\|(\w+)\((.*)\)\|([^|]*)", line) for line in text.decode("ascii").splitlines()]
+    return Placed([plain.Event(part[1], part[2], part[3]) for part in parts], [part[4] for part in parts])
+
+
+def pictures_of(page):
+    """The pictures of the page's rows, by their events."""
+    found = {}
+    for row in re.findall(rb'<details id="race-(\d+)-(\d+)">\n(.*?)</details>\n', page, re.DOTALL):
+        svg = re.search(rb"<svg .*</svg>", row[2], re.DOTALL)
+        if svg:
+            found[int(row[0]), int(row[1])] = svg[0].decode("utf-8")
+    return found
+
+
 def shell_word(name):
     plain = re.fullmatch(r"[A-Za-z0-9./_+,:@%-]+", name)
     return ("./" if name.startswith("-") else "") + (name if plain else "'" + name.replace("'", "'\\''") + "'")
@@ -201,10 +246,30 @@ class Judge:
     def __init__(self, program):
         self.program = program
         self.tally = collections.Counter()
+        self.pictures = {}
+        self.trace = None
 
     def explained(self, name, block):
         out = running.printed(self.program, ["explain", name, str(block.first), str(block.second)])
         return [shown(line) for line in out.split(b"\n")[:-1]]
+
+    def judge_picture(self, name, block):
+        """Judges the picture of the row of a race: it is that of the schedule which `witness` prints, and that shows the pair."""
+        pair = (block.first, block.second)
+        if pair not in self.pictures:
+            raise Wrong(f"no picture of {pair}")
+        out = running.printed(self.program, ["witness", name, str(block.first), str(block.second)])
+        listed = tuple(int(line.split(b" ")[0]) for line in out.split(b"\n")[:-1])
+        if self.trace is None:
+            picture = pictured.Picture(self.pictures[pair])
+            if picture.one("title") != f"A schedule that shows {pair[0]} and {pair[1]}" or picture.one("desc") != " ".join(["Its events:", *map(str, listed)]):
+                raise Wrong(f"the picture of {pair} is {picture.one('title')!r}, {picture.one('desc')!r}")
+            return
+        if len(self.trace.events) <= SMALL:
+            if not self.trace.is_reordering(listed) or not self.trace.shows(listed, *pair):
+                raise Wrong(f"{listed} is no correct reordering that shows {pair}")
+            self.tally["schedules"] += 1
+        pictured.judge_picture(self.trace, self.tally, self.pictures[pair], pair, listed)
 
     def judge_row(self, row, block, name, is_drawn):
         if row.attributes != {"id": f"{block.sort}-{block.first}-{block.second}"}:
@@ -212,10 +277,11 @@ class Judge:
         facts = [span.text() for span in row.one("summary").all("span")]
         explained = self.explained(name, block)
         is_untried = facts_of(block).endswith(" 0 tried")
-        reason = [UNTRIED] if is_untried else explained[:1]
-        wanted = [facts_of(block)] + ([] if block.sort == "race" else reason)
-        if facts != wanted:
-            raise Wrong(f"{facts}, and not {wanted}")
+        reasons = [UNTRIED] if is_untried else reasons_of(explained) if block.sort == "apart" else explained[:1]
+        wanted = [[facts_of(block), reason] for reason in reasons] if block.sort != "race" else [[facts_of(block)]]
+        if facts not in wanted:
+            raise Wrong(f"{facts}, and none of {wanted}")
+        self.tally["raced"] += block.sort == "apart" and reasons != explained[:1]
         lines = [access_of(line) for line in row.one("table").one("tbody").all("tr")]
         accesses = [(event, *access) for event, access in zip((block.first, block.second), block.accesses)]
         if lines != accesses:
@@ -224,8 +290,9 @@ class Judge:
         runs, commands = [], list(row.all("pre"))[-1].text()
         if is_drawn:
             runs = list(row.all("pre"))[0].text().split("\n")[:-1]
-            if len(pictures) != 1 or pictures[0].one("title").text() != f"A schedule that shows {block.first} and {block.second}":
-                raise Wrong("no picture")
+            if len(pictures) != 1:
+                raise Wrong(f"{len(pictures)} pictures")
+            self.judge_picture(name, block)
             if runs != explained:
                 raise Wrong(f"{runs}, and not {explained}")
         elif pictures:
@@ -241,7 +308,10 @@ class Judge:
     def judge(self, name, words):
         """Judges the page that these words give."""
         lines = running.printed(self.program, ["triage", name, *words]).split(b"\n")[:-1]
-        root = read(running.printed(self.program, ["triage", name, "--page", *words]))
+        page = running.printed(self.program, ["triage", name, "--page", *words])
+        root = read(page)
+        self.pictures = pictures_of(page)
+        self.trace = plain_trace(name)
         if root.one("h1").text() != f"Races of {name}" or root.one("head").one("title").text() != f"Races of {name}":
             raise Wrong("another name")
         sections = list(root.one("main").all("section"))
@@ -328,6 +398,8 @@ def judge_made(judge, here):
     judge.judge("many", ["--only", "|A12|", "--only", "A7"])
     write("undecided", UNDECIDED)
     judge.judge("undecided", ["--tries", "0"])
+    write("raced", b"T1|w(x)|1\nT1|w(y)|2\nT2|r(y)|3\nT2|r(x)|4\n")
+    judge.judge("raced", ["--apart"])
     write("empty", b"")
     judge.judge("empty", ["--apart"])
 
@@ -349,8 +421,11 @@ def main():
             trace = draw(chance, chance.choice(MOST_EVENTS))
             places = [f"p{place}.c" for place in range(chance.randint(1, 6))]
             running.write("trace", "".join(trace.line(event) + chance.choice(places) + "\n" for event in range(len(trace.events))))
-            running.write("known", running.printed(judge.program, ["triage", "trace"]).decode("ascii"))
-            words = ["--tries", chance.choice(["0", "1", "16"]), *chance.choice([[], ["--apart"], ["--known", "known"], ["--hide", "p0.c"]])]
+            known = running.printed(judge.program, ["triage", "trace"]).decode("ascii")
+            running.write("known", known)
+            # A text without a race would be said on standard error.
+            choices = [[], ["--apart"], ["--known", "known"] if "\nrace " in known else [], ["--hide", "p0.c"]]
+            words = ["--tries", chance.choice(["0", "1", "16"]), *chance.choice(choices)]
             try:
                 judge.judge("trace", words)
             except Wrong as what:

@@ -3,7 +3,7 @@
 anything else is written.
 
 The trace is one whose work takes long enough, which is measured, since no size would do on every machine. What comes on standard output and the status
-have to be those of a run whose standard error is a pipe, and nothing may come through that pipe. What is quick shows nothing.
+have to be those of a run whose standard error is a pipe, and nothing may come through that pipe, or lines with `--progress`. What is quick shows nothing.
 Takes the program's path. Says what is wrong, if something is, and ends with status 1 then.
 """
 
@@ -104,12 +104,25 @@ def judge_quick(program):
     """What is quick shows nothing, whether it ends well or with a fault."""
     running.write("quick", "T1|w(x)|1\nT2|w(x)|2\n")
     for words in (["triage", "quick"], ["triage", "none"]):
-        status, out, err = running.ended(program, words)
+        status, out, err = running.ended(program, words, {"RACEBENCH_NOTES": "1"})
         run = Shown(program, words, "out")
         judge_status(words, run.status, status)
         judge_output(words, out)
         if run.seconds < QUIET_SECONDS and run.sent != err.decode("ascii"):
             sys.exit(f"progress: {words} shows {run.sent!r}, and writes {err!r} where no terminal is")
+
+
+def judge_asked(program, events, pairs, wanted):
+    """With `--progress` a pipe is sent lines of rising numbers, and standard output is as without it."""
+    status, out, err = running.ended(program, ["triage", "trace", "--progress"])
+    if (status, out) != (0, wanted):
+        sys.exit(f"progress: status {status} with --progress, or another standard output")
+    told = [re.fullmatch(r"events (\d+)|pairs of places (\d+) of (\d+)", line) for line in err.decode("ascii").splitlines()]
+    if not all(told) or len(told) < LEAST_LINES:
+        sys.exit(f"progress: with --progress a pipe is sent {err[:300]!r}")
+    counts = [int(line[2]) for line in told if line[2]]
+    if counts != sorted(counts) or any(int(line[1] or events) != events or int(line[3] or pairs) != pairs for line in told):
+        sys.exit(f"progress: with --progress other numbers are sent: {err[:300]!r}")
 
 
 def long_run(program):
@@ -134,6 +147,7 @@ def judge_long(program):
     if status != 0 or err:
         sys.exit(f"progress: status {status} where no terminal is, and on standard error {err[:300]!r}")
     judge_output(["triage", "trace"], out)
+    judge_asked(program, events, pairs, out)
     lines = judge_shown(run, events, pairs)
     words = ["triage", "trace", "--workers", "1"]
     run = Shown(program, words, None)
@@ -142,7 +156,7 @@ def judge_long(program):
     words = ["triage", "trace"]
     run = Shown(program, words, "/dev/full")
     judge_status(words, run.status, 1)
-    return lines + judge_shown(run, events, pairs, "racebench: write failed\n"), pairs
+    return lines + judge_shown(run, events, pairs, "racebench: write failed\nnote: standard output cannot be written\n"), pairs
 
 
 def main():

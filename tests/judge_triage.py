@@ -169,11 +169,15 @@ class Judge:
         self.compare(counts + sum(rest, []), running.printed(self.program, ["triage", "trace", *flag]))
         running.write("known", out.decode("ascii"))
         kept = [block for block in rest if block not in races]
-        self.compare(counts + sum(kept, []) + [f"known {len(races)}"], running.printed(self.program, ["triage", "trace", "--known", "known", *flag]))
+        status, out, err = running.ended(self.program, ["triage", "trace", "--known", "known", *flag])
+        said = b"" if races else b"racebench: known has no block `race`: no race is known\n"
+        if (status, err) != (0, said):
+            raise Wrong(f"status {status} with {len(races)} known races, and on standard error {err!r}, and not {said!r}")
+        self.compare(counts + sum(kept, []) + [f"known {len(races)}"], out)
         self.tally["known"] += len(races)
         self.judge_filters(counts, rest, flag, chance)
         status, _, _ = running.ended(self.program, ["triage", "trace", "--fail", *flag])
-        if status != (3 if races else 0):
+        if status != (3 if races else 0 if located.trace.events else 4):
             raise Wrong(f"the status is {status} at {len(races)} races")
         self.tally["failed"] += bool(races)
         self.tally["traces"] += 1

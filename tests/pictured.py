@@ -36,7 +36,7 @@ def cut(text):
 
 def label(trace, event):
     _, word, name = trace.events[event]
-    return cut(f"{event}  {word}({name}) ")
+    return cut(f"{event}  {word}({name}) {trace.location(event)}")
 
 
 class Picture:

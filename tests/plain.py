@@ -79,6 +79,10 @@ class Trace:
         thread, word, name = self.events[event]
         return f"{thread}|{word}({name})|"
 
+    def location(self, event):
+        """Where the event is; drawn traces have no locations."""
+        return ""
+
     def text(self):
         return "".join(self.line(event) + "\n" for event in range(len(self.events)))
 
@@ -396,7 +400,7 @@ class Trace:
             wanted = grown
 
     def turned(self, first, second):
-        """What a search finds that begins with the least list in the order of the trace after which the second event can come next,
+        """What a search finds that begins with the least list in the order of the trace after which the second event is next,
         and goes on by the first event that is wanted and may come next, and never goes back; or None."""
         listed = self.needed({self.base(second)} - {None})
         wanted = [event for event in self.wanted(first, second) if event not in (first, second)]

@@ -10,9 +10,9 @@ def write(name, text):
         out.write(text)
 
 
-def ended(program, words):
-    """The status with which the program ends, and what it writes on standard output and on standard error."""
-    done = subprocess.run([program, *words], capture_output=True, timeout=60, check=False)
+def ended(program, words, more=None):
+    """The status with which the program ends, and what it writes on standard output and on standard error; `more` is added to its environment."""
+    done = subprocess.run([program, *words], capture_output=True, timeout=60, check=False, env={**os.environ, **(more or {})})
     return done.returncode, done.stdout, done.stderr
 
 

@@ -1,5 +1,6 @@
 /* Loaded before the C library (LD_PRELOAD), it has one call of the program fail. The environment says which:
- *   REFUSE      what kind of call: memory (malloc and realloc; so where it is missing), read, write, open or thread
+ *   REFUSE      what kind of call: memory (malloc and realloc; so where it is missing), read, write, open or thread;
+ *               or, of disk.c, pwrite, ftruncate, fsync, flock or link
  *   REFUSE_AT   the number of the call of this kind, from 1
  *   REFUSE_HOW  how it fails: error (so where it is missing), interrupted, short (one byte is moved), nothing (a write takes no byte), or
  *               cut (one byte is written, and the next write fails)
@@ -7,8 +8,9 @@
  * Or it runs the program again and again before its first instruction, with each call of the kind failing in turn, until a run ends
  * without such a call:
  *   REFUSE_EACH the file that gets, for each run, a line `STATUS MET OUT ERR` and then what the run wrote: its exit status or, below 0,
- *               the signal that ended it; whether the call came; and how many bytes stand behind the line of its standard output and of
- *               its standard error
+ *               the signal that ended it; whether the call came; and how many bytes follow of its standard output,
+ *               of its standard error and of the file REFUSE_LEFT, -1 if there is none
+ *   REFUSE_LEFT the file whose bytes are told as each run left them
  *   REFUSE_IN   the path of the standard input of these runs
  *   REFUSE_FILES the folder whose files each of them finds where it runs, and nothing else there; without it they find what is left by the one before
  * A run of these may take 20 seconds. */
@@ -22,21 +24,22 @@
 #include <stdlib.h>
 #include <string.h>
 #include <sys/mman.h>
+#include <sys/stat.h>
 #include <sys/syscall.h>
 #include <sys/uio.h>
 #include <sys/wait.h>
 #include <unistd.h>
 
+#include "refuse.h"
+
 enum { MOST_RUNS = 20000, SECONDS = 20 };
-enum kind { NONE, MEMORY, READ, WRITE, OPEN, THREAD };
-enum how { FAILS, INTERRUPTED, SHORT, NOTHING, CUT };
 
 extern void *__libc_malloc(size_t);
 extern void *__libc_realloc(void *, size_t);
 static int (*next_create)(pthread_t *, const pthread_attr_t *, void *(*)(void *), void *);
 
 static enum kind kind;
-static enum how how;
+enum how refuse_how;
 static long at;
 static atomic_long made;
 /* Whether the call came; the runs of REFUSE_EACH share it with the process that counts them. */
@@ -48,7 +51,7 @@ static int is(const char *name, const char *value) {
 }
 
 /* Counts a call of this kind, and says whether it is the one that fails. */
-static int is_refused(enum kind called) {
+int is_refused(enum kind called) {
     if (called != kind || atomic_fetch_add(&made, 1) + 1 != at) return 0;
     if (met) *met = 1;
     const char *mark = getenv("REFUSE_MARK");
@@ -59,18 +62,13 @@ static int is_refused(enum kind called) {
     return 1;
 }
 
-static long failed(int number) {
-    errno = number;
-    return -1;
-}
-
 void *malloc(size_t size) { return is_refused(MEMORY) ? 0 : __libc_malloc(size); }
 void *realloc(void *block, size_t size) { return is_refused(MEMORY) ? 0 : __libc_realloc(block, size); }
 
 ssize_t read(int file, void *bytes, size_t size) {
     if (is_refused(READ)) {
-        if (how == FAILS) return failed(EIO);
-        if (how == INTERRUPTED) return failed(EINTR);
+        if (refuse_how == FAILS) return failed(EIO);
+        if (refuse_how == INTERRUPTED) return failed(EINTR);
         if (size > 1) size = 1;
     }
     return syscall(SYS_read, file, bytes, size);
@@ -81,14 +79,15 @@ static long taken(size_t size) {
     static atomic_int is_cut;
     if (atomic_exchange(&is_cut, 0)) return failed(ENOSPC);
     if (!is_refused(WRITE)) return size;
-    if (how == FAILS) return failed(ENOSPC);
-    if (how == INTERRUPTED) return failed(EINTR);
-    if (how == NOTHING) return 0;
-    if (how == CUT) is_cut = 1;
+    if (refuse_how == FAILS) return failed(ENOSPC);
+    if (refuse_how == INTERRUPTED) return failed(EINTR);
+    if (refuse_how == NOTHING) return 0;
+    if (refuse_how == CUT) is_cut = 1;
     return size > 1 ? 1 : size;
 }
 
 ssize_t write(int file, const void *bytes, size_t size) {
+    note_answer(file);
     long most = taken(size);
     return most <= 0 && size > 0 ? most : syscall(SYS_write, file, bytes, most);
 }
@@ -96,6 +95,7 @@ ssize_t write(int file, const void *bytes, size_t size) {
 ssize_t writev(int file, const struct iovec *parts, int count) {
     size_t size = 0;
     for (int i = 0; i < count; i++) size += parts[i].iov_len;
+    note_answer(file);
     long most = taken(size);
     if (most == (long)size) return syscall(SYS_writev, file, parts, count);
     if (most <= 0) return most;
@@ -105,7 +105,7 @@ ssize_t writev(int file, const struct iovec *parts, int count) {
 }
 
 int openat(int folder, const char *path, int flags, ...) {
-    if (is_refused(OPEN)) return failed(how == INTERRUPTED ? EINTR : EMFILE);
+    if (is_refused(OPEN)) return failed(refuse_how == INTERRUPTED ? EINTR : EMFILE);
     return syscall(SYS_openat, folder, path, flags, 0666);
 }
 
@@ -118,7 +118,7 @@ int pthread_create(pthread_t *thread, const pthread_attr_t *how_made, void *(*do
 static void copy(FILE *to, int file, long size) {
     char bytes[4096];
     for (long done = 0; done < size;) {
-        long got = pread(file, bytes, sizeof bytes, done);
+        long got = syscall(SYS_pread64, file, bytes, sizeof bytes, done);
         if (got <= 0) _exit(3);
         fwrite(bytes, 1, got, to);
         done += got;
@@ -141,6 +141,13 @@ static void put_files(const char *files) {
         _exit(127);
     }
     if (child < 0 || waitpid(child, &status, 0) != child || status != 0) _exit(3);
+}
+
+/* The file of this name, opened, or below 0 where there is none; a folder is none. */
+static int left_file(const char *name) {
+    struct stat what;
+    if (!name || stat(name, &what) != 0 || !S_ISREG(what.st_mode)) return -1;
+    return (int)syscall(SYS_openat, AT_FDCWD, name, O_RDONLY);
 }
 
 /* Runs the program with each call failing in turn. Returns in the runs alone. */
@@ -167,9 +174,16 @@ static void run_each(const char *report) {
         }
         if (child < 0 || waitpid(child, &status, 0) != child) _exit(3);
         long told = lseek(out, 0, SEEK_END), complained = lseek(err, 0, SEEK_END);
-        fprintf(to, "%d %d %ld %ld\n", WIFEXITED(status) ? WEXITSTATUS(status) : -WTERMSIG(status), *met, told, complained);
+        int left = left_file(getenv("REFUSE_LEFT"));
+        long kept = left < 0 ? -1 : lseek(left, 0, SEEK_END);
+        int ended = WIFEXITED(status) ? WEXITSTATUS(status) : -WTERMSIG(status);
+        fprintf(to, "%d %d %ld %ld %ld\n", ended, *met, told, complained, kept);
         copy(to, out, told);
         copy(to, err, complained);
+        if (left >= 0) {
+            copy(to, left, kept);
+            close(left);
+        }
         close(out);
         close(err);
         if (!*met) break;
@@ -183,10 +197,11 @@ __attribute__((constructor)) static void begin(void) {
     next_create = dlsym((void *)-1L, "pthread_create"); /* the one behind this library's: RTLD_NEXT */
     const char *text = getenv("REFUSE_AT");
     long wanted = text ? atol(text) : 0;
-    how = is("REFUSE_HOW", "interrupted") ? INTERRUPTED : is("REFUSE_HOW", "short") ? SHORT : is("REFUSE_HOW", "nothing") ? NOTHING
-        : is("REFUSE_HOW", "cut") ? CUT : FAILS;
+    refuse_how = is("REFUSE_HOW", "interrupted") ? INTERRUPTED : is("REFUSE_HOW", "short") ? SHORT
+        : is("REFUSE_HOW", "nothing") ? NOTHING : is("REFUSE_HOW", "cut") ? CUT : FAILS;
     enum kind asked = is("REFUSE", "read") ? READ : is("REFUSE", "write") ? WRITE : is("REFUSE", "open") ? OPEN
-        : is("REFUSE", "thread") ? THREAD : MEMORY;
+        : is("REFUSE", "thread") ? THREAD : is("REFUSE", "pwrite") ? PWRITE : is("REFUSE", "ftruncate") ? FTRUNCATE
+        : is("REFUSE", "fsync") ? FSYNC : is("REFUSE", "flock") ? FLOCK : is("REFUSE", "link") ? LINK : MEMORY;
     const char *report = getenv("REFUSE_EACH");
     if (report) run_each(report);
     else at = wanted;

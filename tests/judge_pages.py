@@ -1,0 +1,198 @@
+#!/usr/bin/env python3
+"""Types the commands of the pages, and compares what is printed with what the pages show.
+
+  tests/judge_pages.py PROGRAM [PAGE ..]
+
+PROGRAM is racebench; without PAGE all pages are judged. A command is a line `$ ..` of a block ```text; the lines up to
+the next command are what it prints, on standard output and on standard error. A line `..` stands for one or more lines
+that the page leaves out. Each page has an empty folder, with links to `examples`, `record` and `screen`, and
+`racebench` on the path. Where the page shows `racebench session`, lines to type and their answers take turns.
+
+Prints what differs, and what was left out. The last line is `N passed, M failed`; if nothing was typed, one failed.
+"""
+
+import os
+import pathlib
+import re
+import signal
+import subprocess
+import sys
+import tempfile
+import threading
+
+TOP = pathlib.Path(__file__).resolve().parent.parent
+LINKED = ("examples", "record", "screen")
+# A command may take so many seconds.
+LONGEST = 900
+# A recording is made again so often if the machine was so busy that a thread lost its turn by force.
+AGAIN = 3
+# Programs that sleep: each recording has other turns, and `record/confirm` prints its races in another order.
+SLEEPS = r"\b(?:watchdog|mended)\b"
+# Commands that are not typed: the page, how the command begins, and why.
+LEFT_OUT = [
+    ("docs/BUILDS.md", "cmake", "needs CMake and a project"),
+    ("docs/BUILDS.md", "$R/run", "runs what CMake built"),
+    ("record/README.md", "record/reported report.txt", "names the two accesses in the order in which the sanitizer met them"),
+    ("docs/CONFIRM.md", "racebench triage watchdog.std", "names events of one recording of a program that sleeps"),
+    ("docs/CONFIRM.md", "racebench witness watchdog.std", "names events of one recording of a program that sleeps"),
+    ("docs/CONFIRM.md", "record/follow --then both", "names events of one recording of a program that sleeps"),
+    ("docs/CONFIRM.md", "record/follow --gdb", "needs gdb, and a reader at it"),
+    ("docs/SCREEN.md", "screen/screen", "needs a browser"),
+]
+
+
+def commands(text):
+    """The commands of a page: the line's number, the command, and the lines that are shown after it."""
+    found, here = [], False
+    for number, line in enumerate(text.splitlines(), start=1):
+        if line.startswith("```"):
+            here, open_one = line == "```text", None
+        elif here and line.startswith("$ "):
+            open_one = (number, line[2:], [])
+            found.append(open_one)
+        elif here and open_one:
+            open_one[2].append(line)
+    return found
+
+
+def settled(command, lines):
+    """The lines without what is another in each build, and of a program that sleeps also in each recording."""
+    text = re.sub(r"\b0x[0-9a-f]{5,}\b(?:\.\.)?|\b[0-9a-f]{10,}\b", "ADDRESS", "\n".join(lines))
+    if re.search(SLEEPS, command):
+        text = re.sub(r"\d+ events, \d+ turns", "N events, M turns", text)
+        text = "\n".join(sorted(text.splitlines())) if "record/confirm" in command else text
+    return text.splitlines()
+
+
+def as_shown(command, printed, shown):
+    """Whether the command printed what the page shows."""
+    printed = "".join(f"{line}\n" for line in settled(command, printed.splitlines()))
+    shown = settled(command, shown)
+    pattern = "".join(r"(?:.*\n)+?" if line == ".." else re.escape(line) + r"\n" for line in shown)
+    return re.fullmatch(pattern, printed) is not None
+
+
+class Folder:
+    """The folder in which the commands of a page are typed."""
+
+    def __init__(self, path, program):
+        self.path, self.status = path, 0
+        for name in LINKED:
+            (path / name).symlink_to(TOP / name)
+        path.joinpath("bin").mkdir()
+        wrapper = path / "bin/racebench"
+        wrapper.write_text(f'#!/bin/sh\nexec "{program}" "$@"\n', encoding="utf-8")
+        wrapper.chmod(0o755)
+        self.more = {**os.environ, "PATH": f"{wrapper.parent}:{os.environ['PATH']}", "LC_ALL": "C.UTF-8"}
+
+    def start(self, command, **pipes):
+        """Starts the command in a shell that has the last command's status."""
+        text = f"(exit {self.status})\n{command}\n"
+        pipes |= {"stderr": subprocess.STDOUT, "cwd": self.path, "env": self.more}
+        return subprocess.Popen(["bash", "-c", text], start_new_session=True, **pipes)
+
+    def printed(self, command):
+        """What the command prints; its status is kept for the next."""
+        with self.start(command, stdin=subprocess.DEVNULL, stdout=subprocess.PIPE) as process:
+            timer = end_after(process)
+            out = process.communicate()[0]
+            timer.cancel()
+        self.status = process.returncode
+        return out.decode(errors="replace")
+
+    def typed(self, command, shown):
+        """The lines of a session, of which every other one is typed. `Killed` at the end is a kill of the session."""
+        killed = shown[-1:] == ["Killed"]
+        came = []
+        with self.start(f"exec {command}", stdin=subprocess.PIPE, stdout=subprocess.PIPE) as process:
+            timer = end_after(process)
+            for line in shown[: len(shown) - killed : 2]:
+                process.stdin.write(f"{line}\n".encode())
+                process.stdin.flush()
+                came += [line, process.stdout.readline().decode(errors="replace").rstrip("\n")]
+            if killed:
+                process.kill()
+                came.append("Killed")
+            rest = process.communicate()[0].decode(errors="replace")
+            timer.cancel()
+        return "".join(f"{line}\n" for line in came) + rest
+
+
+def end_after(process):
+    """Ends the command and all that it started if it takes too long."""
+    timer = threading.Timer(LONGEST, os.killpg, (process.pid, signal.SIGKILL))
+    timer.start()
+    return timer
+
+
+def answered(folder, command, shown):
+    """What the command prints; a recording that was disturbed is made again."""
+    if command.startswith("racebench session "):
+        return folder.typed(command, shown)
+    for _ in range(AGAIN):
+        printed = folder.printed(command)
+        if not re.search(r"\b[1-9]\d* taken by force$", printed, re.MULTILINE):
+            break
+    return printed
+
+
+def why_left_out(page, command):
+    """The entry of LEFT_OUT for a command, or None."""
+    return next((entry for entry in LEFT_OUT if entry[0] == page and command.startswith(entry[1])), None)
+
+
+def judged(page, program, used):
+    """Types the commands of a page: how many printed what is shown, how many did not, how many were left out."""
+    passed = failed = left = 0
+    with tempfile.TemporaryDirectory(prefix="pages") as temporary:
+        folder = Folder(pathlib.Path(temporary), program)
+        for number, command, shown in commands((TOP / page).read_text(encoding="utf-8")):
+            entry = why_left_out(page, command)
+            if entry:
+                print(f"{page}:{number}: left out, it {entry[2]}: {command}")
+                used.add(entry)
+                left += 1
+                continue
+            printed = answered(folder, command, shown)
+            if as_shown(command, printed, shown):
+                passed += 1
+            else:
+                failed += 1
+                print(f"{page}:{number}: $ {command}\n  prints\n{printed[:4000]}  and the page shows", *shown, sep="\n")
+    return passed, failed, left
+
+
+def all_pages():
+    docs = sorted(f"docs/{path.name}" for path in (TOP / "docs").glob("*.md"))
+    return ["README.md", *docs, "record/README.md", "screen/README.md"]
+
+
+def prepare(program):
+    """Compiles and records a program once: what the recorder says as it is built for the first time is on no page."""
+    with tempfile.TemporaryDirectory(prefix="pages") as temporary:
+        folder = Folder(pathlib.Path(temporary), program)
+        return folder.printed("record/cc examples/count.c -o count && record/run ./count > count.std"), folder.status
+
+
+def main():
+    program = pathlib.Path(sys.argv[1]).resolve()
+    pages = sys.argv[2:] or all_pages()
+    printed, status = prepare(program)
+    if status:
+        print(f"examples/count.c is not recorded: {printed}")
+    used, counts = set(), [0, 0, 0]
+    for page in pages:
+        for place, count in enumerate(judged(page, program, used)):
+            counts[place] += count
+    stale = [entry for entry in LEFT_OUT if entry[0] in pages and entry not in used]
+    for page, begins, _ in stale:
+        print(f"{page} has no command that begins with {begins}: take it out of LEFT_OUT")
+    if counts[0] + counts[1] == 0:
+        print("no command was typed")
+    passed, failed = counts[0], counts[1] + len(stale) + (counts[0] + counts[1] == 0)
+    print(f"{len(pages)} pages; {counts[2]} commands were left out")
+    print(f"{passed} passed, {failed} failed")
+    return 1 if failed else 0
+
+
+sys.exit(main())
