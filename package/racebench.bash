@@ -1,4 +1,4 @@
-# Completion of racebench for bash. A new word of the program is named in `commands` and gets a line of `flags`.
+# Completion of racebench for bash. `tools/flags --write` writes the commands and flags of the help.
 
 _racebench() {
     local commands="info replay session log threads triage explain witness" word=${COMP_WORDS[COMP_CWORD]} command= flags= at
