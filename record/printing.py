@@ -2,6 +2,7 @@
 import os
 import sys
 import threading
+import time
 
 import clocks
 import decoders
@@ -16,6 +17,8 @@ MOST_FRAMES = 8
 NO_LIMIT = (1 << 64) - 1
 STREAM_ROOM = 1 << 36
 ROOM_AT = 8
+# So many seconds are between two looks whether a program has begun.
+LOOK = 0.005
 
 
 def say(text):
@@ -47,16 +50,19 @@ def decoder_words(given):
 
 
 def stop_recording_after(seconds, file):
-    """After so many seconds no more records are kept: the room ends where it is. The program goes on."""
+    """So many seconds after the first record no more are kept: the room ends where it is. The program goes on."""
+
+    def used():
+        head = os.pread(file.fileno(), raw_file.HEAD_SIZE, 0)
+        return raw_file.Words(head).used if len(head) == raw_file.HEAD_SIZE else 0
 
     def stop():
-        used = raw_file.Words(os.pread(file.fileno(), raw_file.HEAD_SIZE, 0)).used
-        if used:
-            os.pwrite(file.fileno(), used.to_bytes(8, sys.byteorder), ROOM_AT)
+        while not used():
+            time.sleep(LOOK)
+        time.sleep(seconds)
+        os.pwrite(file.fileno(), used().to_bytes(8, sys.byteorder), ROOM_AT)
 
-    timer = threading.Timer(seconds, stop)
-    timer.daemon = True
-    timer.start()
+    threading.Thread(target=stop, daemon=True).start()
 
 
 def print_trace(given, status, file):

@@ -13,6 +13,8 @@ import re
 import subprocess
 import tempfile
 
+from recorded_places import PATIENCE
+
 TOP = os.path.dirname(os.path.dirname(os.path.abspath(__file__)))
 RECORD = os.path.join(TOP, "record")
 SOURCES = os.path.join(TOP, "tests", "recorded", "races")
@@ -31,7 +33,7 @@ class WrongFollow(Exception):
 
 def ran(words, wanted=0, text=None, **more):
     given = text.encode("utf-8", "surrogateescape") if text is not None else None
-    done = subprocess.run(words, input=given, capture_output=True, timeout=300, check=False, **more)
+    done = subprocess.run(words, input=given, capture_output=True, timeout=PATIENCE, check=False, **more)
     out, said = done.stdout.decode("utf-8", "surrogateescape"), done.stderr.decode(errors="replace")
     if wanted is not None and done.returncode != wanted:
         raise WrongFollow(f"{' '.join(words)}: status {done.returncode}, and not {wanted}: {said[-900:]}")

@@ -114,9 +114,20 @@ def judge_length():
     limited, said = run("--max", "1000", "./program", "1000")
     if len(limited) != 1000 or "events left out after the first 1000" not in said:
         raise WrongPlace(f"--max 1000: {len(limited)} events, and {said}")
-    short, said = run("--for", "0.3", "./program", "100", "10000")
-    if not 4 < len(short) < 300 or "(--for)" not in said or "ended with status 0" not in said:
-        raise WrongPlace(f"--for 0.3: {len(short)} events of some 400, and {said}")
+    judge_seconds()
+
+
+def judge_seconds():
+    """--for ends the trace early, and the program goes on. A turn of its loop pauses for 10 ms at least, so with four times as many
+    turns as fit into the time a part is left out; on a slow machine the time may be over before much is recorded."""
+    for seconds in (0.3, 1, 3, 10):
+        turns = int(400 * seconds)
+        short, said = run("--for", str(seconds), "./program", str(turns), "10000")
+        if len(short) > 4 * turns or "(--for)" not in said or "ended with status 0" not in said:
+            raise WrongPlace(f"--for {seconds}: {len(short)} events, and {said}")
+        if len(short) > 4:
+            return
+    raise WrongPlace(f"--for {seconds}: {len(short)} events")
 
 
 def compile_with(c, *sources):

@@ -14,6 +14,8 @@ import subprocess
 import tempfile
 import time
 
+from recorded_places import PATIENCE
+
 TOP = os.path.dirname(os.path.dirname(os.path.abspath(__file__)))
 RECORD = os.path.join(TOP, "record")
 SOURCES = os.path.join(TOP, "tests", "recorded")
@@ -42,7 +44,7 @@ class WrongRun(Exception):
 
 
 def ran(words, wanted=0, **more):
-    done = subprocess.run(words, capture_output=True, timeout=300, check=False, **more)
+    done = subprocess.run(words, capture_output=True, timeout=PATIENCE, check=False, **more)
     out, said = done.stdout.decode(errors="replace"), done.stderr.decode(errors="replace")
     if wanted is not None and done.returncode != wanted:
         raise WrongRun(f"{' '.join(words)}: status {done.returncode}, and not {wanted}: {said[:600]}")
@@ -127,7 +129,7 @@ def judge_full_disk(c):
     compiled(TWO_THREADS, by="cc")
     os.mkdir("small")
     command = FULL_DISK % ("64k", os.path.join(RECORD, "run"))
-    done = subprocess.run(["unshare", "--map-root-user", "--mount", "sh", "-c", command], capture_output=True, check=False, timeout=60)
+    done = subprocess.run(["unshare", "--map-root-user", "--mount", "sh", "-c", command], capture_output=True, check=False, timeout=PATIENCE)
     if done.returncode == 99 or b"unshare" in done.stderr:
         print("record/: a full disk is not tested, since no small one can be mounted here")
         return
@@ -145,11 +147,10 @@ def judge_killed(c):
     started.stderr.readline()
     started.kill()
     started.wait()
-    for _ in range(50):
+    here, end = True, time.monotonic() + PATIENCE
+    while here and time.monotonic() < end:
         time.sleep(0.1)
         here = [pid for pid in filter(str.isdigit, os.listdir("/proc")) if is_ours(pid)]
-        if not here:
-            break
     if here or os.listdir("records"):
         raise WrongRun(f"a killed run leaves {os.listdir('records')} and the processes {here}")
     started.stderr.close()

@@ -230,6 +230,14 @@ static int is_asleep(u32 thread) {
     return !behind_the_name || behind_the_name[1] != ' ' || behind_the_name[2] == 'S';
 }
 
+/* How many milliseconds a thread has had a processor: its clock as pthread_getcpuclockid names it. */
+static u64 ran_ms(u32 thread) {
+    struct timespec t = {0, 0};
+    if (thread >= MOST_THREADS) return 0;
+    syscall(SYS_clock_gettime, ~(clockid_t)kernel_ids[thread] << 3 | 6, &t);
+    return (u64)t.tv_sec * 1000 + (u64)t.tv_nsec / 1000000;
+}
+
 /* Where nothing happened for so many looks of 20 ms, and threads are parked, these look again: what they wait for
  * may have come from a library or from another process. */
 #define LOOKS_BEFORE_RESCUE 5

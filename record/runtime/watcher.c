@@ -1,16 +1,19 @@
 /* A thread beside those of the program: it takes the token from one that keeps it. */
 
+/* Milliseconds of a processor. */
+#define LONG_RUN 1000
+
 /* Takes the token from a thread that has neither made a record nor given it away while another waits for it: after two
- * looks where it sleeps in a call that the recorder does not know, and after a second where it runs without hooks. The
- * turns' lock is held. */
-static void look(u64 looks, int asleep) {
+ * looks where it sleeps in a call that the recorder does not know, and where it ran for a second without hooks. A thread
+ * that waits for a processor keeps it. The turns' lock is held. */
+static void look(u64 looks, int asleep, int runs_long) {
     int idle = holder == NOBODY || asleep;
     if (idle && looks >= LOOKS_BEFORE_RESCUE && !waiting_count && parked_count && !following) {
         head->forced += holder != NOBODY;
         rescue();
         return;
     }
-    if (!looks || holder == NOBODY || !waiting_count || !(asleep || looks >= 50) || (following && is_due(holder)))
+    if (!looks || holder == NOBODY || !waiting_count || !(asleep || runs_long) || (following && is_due(holder)))
         return;
     u32 was = holder;
     hand_on();
@@ -19,7 +22,7 @@ static void look(u64 looks, int asleep) {
 
 /* It ends with the program's threads: a program may end with the last of them. */
 static void *watcher(void *none) {
-    u64 seen = 0, still = 0;
+    u64 seen = 0, still = 0, ran = 0;
     u32 who = NOBODY, looks = 0, sleeps = 0;
     inside = 1;
     while (__atomic_load_n(&living, __ATOMIC_SEQ_CST)) {
@@ -30,7 +33,8 @@ static void *watcher(void *none) {
         looks = holder == who && same ? looks + 1 : 0;
         still = same ? still + 1 : 0;
         sleeps = looks && who != NOBODY && !short_wait && is_asleep(who) ? sleeps + 1 : 0;
-        look(looks, sleeps >= 2);
+        if (!looks) ran = ran_ms(holder);
+        look(looks, sleeps >= 2, ran_ms(holder) >= ran + LONG_RUN);
         who = holder;
         seen = progress;
         if (following && still * 20 > plan->patience_ms) hangs();
