@@ -1,5 +1,5 @@
 // Dialogs: a name that is asked for, all keys, and a link for another browser.
-import { $, el, fill, button } from "./make.js";
+import { $, el, replace, button } from "./make.js";
 import { ask } from "./net.js";
 
 // The name that was given, or null.
@@ -47,7 +47,7 @@ function group([title, lines]) {
 function show(title, ...inner) {
   const box = $("help");
   const close = el("div", "row", el("span", "gap"), button("Close", "Esc", () => box.close()));
-  fill(box, el("h2", "", title), inner, close);
+  replace(box, el("h2", "", title), inner, close);
   box.setAttribute("aria-label", title);
   box.showModal();
 }

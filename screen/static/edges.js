@@ -34,8 +34,6 @@ export function show(win, position) {
   const links = row.rf >= 0 ? [[row.rf, position]] : (row.rd ?? []).map((reader) => [position, reader]);
   const height = win.rows.length * HEIGHT;
   edges.style.top = `${win.from * HEIGHT}px`;
-  edges.setAttribute("height", height);
-  edges.setAttribute("width", space.clientWidth);
   for (const [write, read] of links) {
     const to = end(win, read, row, height);
     edges.append(svg("path", { d: path(end(win, write, row, 0), to), class: "edge" }),

@@ -1,12 +1,19 @@
 // The log as a feed: who did what, in groups; and what others did since this analyst last looked.
 import { $, el, fill, button, count, many } from "./make.js";
 import { ask } from "./net.js";
+import { part } from "./morph.js";
+import { does } from "./press.js";
 import { state, tag, who, short } from "./words.js";
 import * as schedules from "./schedules.js";
 
-// The latest entries that are shown at first, and how many more a click shows.
+// The latest entries that are shown at first, how many more a click shows, and the most that are shown and kept.
 const SHOWN = 120;
 const MORE = 200;
+const MOST = 520;
+const KEPT = 8_000;
+// So many entries behind one that is jumped to are shown, and so many before it.
+const BEHIND = 40;
+const BEFORE = 20;
 // How long a look lasts before it counts, and how long news are gathered.
 const LOOK = 700;
 const GATHER = 150;
@@ -16,6 +23,7 @@ export const events = { open: null, act: null };
 
 let flashed = null;
 let shown = SHOWN;
+let end = null; // behind the last entry that is shown, where that is not the latest
 let keeping = null;
 let looking = null;
 
@@ -63,12 +71,7 @@ function groups(list) {
 }
 
 function nameLink(text) {
-  const made = el("a", "sched-name", text);
-  made.addEventListener("click", (event) => {
-    event.stopPropagation();
-    if (state.rows.has(text)) events.open({ schedule: text });
-  });
-  return made;
+  return does(el("a", "sched-name", text), () => state.rows.has(text) && events.open({ schedule: text }));
 }
 
 function added(group) {
@@ -101,20 +104,15 @@ const SENTENCES = {
 
 const sentence = (group) => (group.adds ? added(group) : SENTENCES[group.entries[0].k](group.entries[0]));
 
-export function link(number) {
-  const made = el("a", "num", String(number));
-  made.addEventListener("click", (event) => {
-    event.stopPropagation();
-    jump(number);
-  });
-  return made;
-}
+export const link = (number) => does(el("a", "num", String(number)), () => jump(number));
 
 // Shows an entry and lets it flash.
 export async function jump(number) {
   flashed = number;
-  shown = Math.max(shown, state.n - number + 20);
-  if (!state.entries.has(number)) await fetchFrom(Math.max(0, number - 20));
+  const first = Math.max(0, number - BEFORE);
+  if (state.n - first > MOST) [end, shown] = [number + BEHIND, BEHIND + BEFORE];
+  else [end, shown] = [null, Math.max(SHOWN, state.n - first)];
+  await know(first, until());
   render();
   $("feed").querySelector(".flash")?.scrollIntoView({ block: "center" });
 }
@@ -154,6 +152,11 @@ function groupLine(group) {
   const [first, last] = [group.entries[0].i, group.entries.at(-1).i];
   const isFlashed = flashed !== null && first <= flashed && flashed <= last;
   const isFresh = first >= state.marked && group.c !== state.client;
+  const sign = [last, group.dead && group.entries.map((entry) => entry.u), isFlashed, isFresh, state.names[group.c]];
+  return part(`entry-${first}`, JSON.stringify(sign), () => drawn(group, first, last, isFlashed, isFresh));
+}
+
+function drawn(group, first, last, isFlashed, isFresh) {
   const isMine = group.c === state.client && group.entries.every(isLive);
   const entries = group.entries.map((entry) => entry.i).reverse();
   const classes = `${group.dead ? " dead" : ""}${isFlashed ? " flash" : ""}${isFresh ? " fresh" : ""}`;
@@ -167,36 +170,55 @@ function groupLine(group) {
   return made;
 }
 
+const until = () => Math.min(end ?? state.n, state.n);
+
+// The entries that are shown, in rising order.
+function inSight() {
+  const found = [];
+  for (let at = until() - 1; at >= 0 && found.length < shown && state.entries.has(at); at--) {
+    found.push(state.entries.get(at));
+  }
+  return found.reverse();
+}
+
 export function render() {
   schedules.render();
   away();
   $("feed-count").textContent = state.n ? count(state.n) : "";
-  const list = [...state.entries.values()].sort((one, other) => one.i - other.i).slice(-shown);
+  const list = inSight();
   const made = [];
   let isDivided = state.marked >= state.n || state.marked === 0;
   for (const group of groups(list).reverse()) {
     if (!isDivided && group.entries[0].i < state.marked && made.length) {
-      made.push(el("div", "divide", "seen"));
+      made.push(part("divide", "", () => el("div", "divide", "seen")));
       isDivided = true;
     }
     made.push(groupLine(group));
   }
-  if (list.length && list[0].i > 0) made.push(button("older", "", older, "plain"));
+  if (end !== null && end < state.n) made.unshift(part("newest", "", () => button("newest", "", newest, "plain")));
+  if (list.length && list[0].i > 0) made.push(part("older", "", () => button("older", "", older, "plain")));
   fill($("feed"), made.length ? made : el("p", "empty", "Nothing was done yet."));
 }
 
-async function fetchFrom(from) {
-  const first = Math.min(...state.entries.keys());
-  for (let at = from; at < first; at += MORE) {
-    const told = await ask("feed", { from: at, count: Math.min(MORE, first - at) });
-    for (const entry of told.entries ?? []) state.entries.set(entry.i, entry);
+// Fetches the entries from one to another that are not known.
+async function know(first, last) {
+  for (let at = first; at < last; at++) {
+    if (state.entries.has(at)) continue;
+    const told = await ask("feed", { from: at, count: Math.min(MORE, last - at) });
+    if (!told.entries?.length) return;
+    for (const entry of told.entries) state.entries.set(entry.i, entry);
   }
 }
 
 async function older() {
-  shown += MORE;
-  const first = Math.min(...state.entries.keys());
-  if (state.n - shown < first) await fetchFrom(Math.max(0, first - MORE));
+  if (shown + MORE <= MOST) shown += MORE;
+  else end = Math.max(shown, until() - MORE);
+  await know(Math.max(0, until() - shown), until());
+  render();
+}
+
+function newest() {
+  [end, shown] = [null, SHOWN];
   render();
 }
 
@@ -211,6 +233,10 @@ export function take(told) {
   for (const [name, row] of Object.entries(told.rows)) {
     if (row) state.rows.set(name, row);
     else state.rows.delete(name);
+  }
+  for (const number of state.entries.keys()) {
+    if (state.entries.size <= KEPT) break;
+    state.entries.delete(number);
   }
   const isMine = told.entries.every((entry) => entry.c === state.client);
   if (isMine && state.marked >= told.n - told.entries.length) state.marked = told.n;

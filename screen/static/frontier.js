@@ -1,5 +1,7 @@
 // What may come next: one line a thread, and the program's own refusal of what may not.
-import { $, el, fill, button, count, many, option } from "./make.js";
+import { $, el, fill, button, count, many, option, nameChosen } from "./make.js";
+import { part } from "./morph.js";
+import { does } from "./press.js";
 import { ask } from "./net.js";
 import { state, tag, operation, place, reason, help, threadName, spoken } from "./words.js";
 import { showPair } from "./pair.js";
@@ -14,6 +16,7 @@ export const events = { act: null, say: null };
 
 let told = null;
 let chosen = null;
+let shown = null; // which was scrolled to
 let open = null;
 let asked = 0;
 let pending = Promise.resolve();
@@ -74,11 +77,12 @@ function render() {
   filter.hidden = told.next.length <= FEW;
   const lit = new Set(told.pairs.flat());
   list.dataset.length = told.length;
-  list.removeAttribute("aria-activedescendant");
   const empty = told.next.length ? "Nothing matches." : "All events of the trace stand in this schedule.";
   const lines = sorted().map((one) => line(one, lit));
   fill(list, lines.length ? lines : el("p", "empty", empty));
-  list.querySelector(".on")?.scrollIntoView({ block: "nearest" });
+  nameChosen(list);
+  if (shown !== chosen) list.querySelector(".on")?.scrollIntoView({ block: "nearest" });
+  shown = chosen;
 }
 
 // How far a thread is from what the aim needs of it.
@@ -100,6 +104,13 @@ function buttons(one) {
 }
 
 function line(one, lit) {
+  const about = [one, one.t === chosen, open === one.t, lit.has(one.e), told.source?.[one.l]];
+  const made = part(`next-${one.t}`, JSON.stringify(about), () => drawn(one, lit));
+  if (open !== one.t || !told.ahead) return made;
+  return [made, part(`ahead-${one.t}`, JSON.stringify([told.ahead, state.aim]), () => ahead(one))];
+}
+
+function drawn(one, lit) {
   const source = told.source?.[one.l];
   const why = one.why ? reason(one.why, one) : null;
   const more = button(open === one.t ? "▾" : `${count(one.left)} ›`, "", () => {
@@ -114,14 +125,13 @@ function line(one, lit) {
     el("span", "do", distance(one), buttons(one), more));
   made.dataset.t = one.t;
   made.dataset.place = one.l;
-  made.addEventListener("click", (event) => {
-    if (state.source && event.target.closest(".place")) return;
+  does(made, ({ target }) => {
+    if (state.source && target.closest(".place")) return;
     choose(one.t);
     if (!one.why) add(one);
   });
   const label = `${spoken(one)}, ${why ? `may not come next: ${why.textContent}` : "may come next"}`;
-  option(made, list, `next-${one.t}`, label, one.t === chosen);
-  return open === one.t && told.ahead ? [made, ahead(one)] : made;
+  return option(made, label, one.t === chosen);
 }
 
 // What comes of a thread; a click runs to there.
@@ -131,8 +141,7 @@ function ahead(one) {
       el("span", "num", String(event.e)), el("span", "", operation(event)), place(event.l, true),
       el("code", "", told.ahead.source?.[event.l] ?? ""),
       el("span", "dim until", at ? `run to here (${at + 1})` : "add"));
-    made.addEventListener("click", () => events.act("run", { name: name(), until: event.e }));
-    return made;
+    return does(made, () => events.act("run", { name: name(), until: event.e }));
   });
   const left = told.ahead.left - rows.length;
   return el("div", "ahead", rows, left > 0 ? untilField(one, told.ahead.left) : null);

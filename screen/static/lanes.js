@@ -74,7 +74,8 @@ export function bars(locks) {
     const bar = el("div", `lock${held.open ? " open" : ""}${held.above ? " above" : ""} k${held.lock % 4}`);
     bar.style.left = `${left(held.t) + 1 + Math.min(slot, 2) * 4}px`;
     bar.style.top = `${held.from * HEIGHT + HEIGHT / 2}px`;
-    bar.style.height = `${Math.max(6, (held.to - held.from) * HEIGHT)}px`;
+    const beyond = held.open ? HEIGHT / 2 : 0; // one that is held still ends with the last row
+    bar.style.height = `${Math.max(6, (held.to - held.from) * HEIGHT - beyond)}px`;
     bar.title = `${held.n}, held by ${threadName(held.t)} since ${held.e}`;
     return bar;
   });

@@ -1,4 +1,7 @@
 // Elements. Text is set as text and nothing else: no string of the trace is ever read as markup.
+import { does } from "./press.js";
+import { put } from "./morph.js";
+
 export const $ = (id) => document.getElementById(id);
 
 export function el(tag, classes = "", ...inner) {
@@ -16,10 +19,17 @@ function add(into, inner) {
   }
 }
 
+// Draws an element's inside anew; nodes that stay are kept.
 export function fill(into, ...inner) {
+  const there = inner.flat(Infinity).filter((one) => one !== null && one !== undefined && one !== false);
+  put(into, there.map((one) => (typeof one === "object" ? one : document.createTextNode(one))));
+  return into;
+}
+
+// The same with new nodes alone.
+export function replace(into, ...inner) {
   into.replaceChildren();
   add(into, inner);
-  return into;
 }
 
 export function button(text, key, act, classes = "") {
@@ -30,11 +40,7 @@ export function button(text, key, act, classes = "") {
     sign.setAttribute("aria-hidden", "true");
     made.append(" ", sign);
   }
-  made.addEventListener("click", (event) => {
-    event.stopPropagation();
-    act(event);
-  });
-  return made;
+  return does(made, act);
 }
 
 export function svg(tag, given) {
@@ -44,13 +50,18 @@ export function svg(tag, given) {
 }
 
 // An option of a list: what a screen reader says of it, and whether it is the chosen one, where the list's focus is.
-export function option(made, list, id, label, isChosen) {
-  made.id = id;
+export function option(made, label, isChosen) {
   made.setAttribute("role", "option");
   made.setAttribute("aria-label", label);
   made.setAttribute("aria-selected", isChosen);
-  if (isChosen) list.setAttribute("aria-activedescendant", id);
   return made;
+}
+
+// Names the chosen option to a screen reader.
+export function nameChosen(list) {
+  const chosen = list.querySelector("[aria-selected=true]");
+  if (chosen) list.setAttribute("aria-activedescendant", chosen.id);
+  else list.removeAttribute("aria-activedescendant");
 }
 
 export const count = (number) => number.toLocaleString("en");

@@ -1,5 +1,7 @@
 // The races of the trace, and what is undecided or apart.
-import { $, el, fill, button, count, many, option } from "./make.js";
+import { $, el, fill, button, count, many, option, nameChosen } from "./make.js";
+import { part } from "./morph.js";
+import { does } from "./press.js";
 import { ask } from "./net.js";
 import { place } from "./words.js";
 
@@ -7,6 +9,8 @@ const HEIGHT = 58;
 // So many races are fetched at once; a new window begins so many before what is to be seen.
 const WINDOW = 80;
 const BEFORE = 30;
+// So many races beyond the sight are drawn on both sides.
+const SIDES = 6;
 // Who walks down the list by keys looks at the race on which he rests.
 const REST = 90;
 const KINDS = [["race", "races"], ["undecided", "undecided"], ["apart", "apart"]];
@@ -19,6 +23,9 @@ let got = null;
 let chosen = null;
 let asked = 0;
 let soon = null;
+const space = el("div", "race-space");
+space.id = "race-space";
+space.setAttribute("role", "presentation");
 
 const keyOf = (block) => block.accesses.map((access) => access.event).join("-");
 
@@ -43,7 +50,6 @@ function chip([kind, plural]) {
 
 function render() {
   fill($("race-kinds"), KINDS.map(chip));
-  list.removeAttribute("aria-activedescendant");
   if (got?.state === "searching") {
     fill(list, el("p", "empty", "Looking for the races of the trace. You can make schedules meanwhile."));
     $("race-count").textContent = "";
@@ -54,11 +60,18 @@ function render() {
     return;
   }
   $("race-count").textContent = filter.value ? `${count(got.total)} match` : "";
-  const space = el("div", "race-space", got.blocks.map((block, at) => card(block, got.from + at)));
-  space.setAttribute("role", "presentation");
   space.style.height = `${got.total * HEIGHT}px`;
-  if (!got.total) space.append(el("p", "empty", filter.value ? "Nothing matches." : "No pair of this kind."));
+  const empty = el("p", "empty", filter.value ? "Nothing matches." : "No pair of this kind.");
   fill(list, space);
+  fill(space, got.total ? inSight().map(([block, at]) => card(block, at)) : empty);
+  nameChosen(list);
+}
+
+// Of the races that were fetched those in sight, and some on both sides; each with its place in the list.
+function inSight() {
+  const top = Math.floor(list.scrollTop / HEIGHT) - SIDES;
+  const bottom = top + Math.ceil(list.clientHeight / HEIGHT) + 2 * SIDES;
+  return got.blocks.map((block, at) => [block, got.from + at]).filter(([, at]) => top <= at && at < bottom);
 }
 
 // A long name is cut in its middle: its end tells most.
@@ -84,8 +97,12 @@ function title(block) {
 }
 
 function card(block, at) {
-  const [one, other] = block.accesses;
   const isChosen = keyOf(block) === chosen;
+  return part(`race-${keyOf(block)}`, JSON.stringify([at, isChosen, got.total]), () => drawn(block, at, isChosen));
+}
+
+function drawn(block, at, isChosen) {
+  const [one, other] = block.accesses;
   const verdict = block.kind === "race" ? block.how : block.kind;
   const made = el("div", `race v-${block.kind}${isChosen ? " on" : ""}`,
     el("span", "race-top", variable(one.variable), el("span", "gap"), ended(block),
@@ -97,8 +114,8 @@ function card(block, at) {
   made.setAttribute("aria-posinset", at + 1);
   const sides = [one, other].map((access) => `${access.operation} at ${access.location} by ${access.thread}`);
   const label = `${verdict}, ${one.variable}, ${sides.join(" and ")}, ${many(block.pairs, "pair")}`;
-  made.addEventListener("click", () => pick(block));
-  return option(made, list, `race-${at}`, label, isChosen);
+  does(made, () => pick(block));
+  return option(made, label, isChosen);
 }
 
 // How a replay of the real program ended, where somebody had it follow the witness.
@@ -145,4 +162,5 @@ list.addEventListener("scroll", () => {
   const top = Math.floor(list.scrollTop / HEIGHT);
   const bottom = Math.min(got.total, top + Math.ceil(list.clientHeight / HEIGHT) + 1);
   if (top < got.from || bottom > got.from + got.blocks.length) load(Math.max(0, top - BEFORE));
+  else render();
 }, { passive: true });

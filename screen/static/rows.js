@@ -1,7 +1,12 @@
 // The rows of a schedule: an event, or a block of many.
 import { $, el, count, hue } from "./make.js";
+import { part } from "./morph.js";
+import { does } from "./press.js";
 import { HEIGHT, indent, isOther } from "./lanes.js";
 import { state, tag, operation, place, threadName, clientName, spoken } from "./words.js";
+
+const space = $("space");
+export const events = { click: null };
 
 function cell(row, ...inner) {
   const made = el("span", `cell ${hue(row.t)}`, ...inner);
@@ -37,7 +42,7 @@ function label(row) {
 function finish(made, row, at, total, isOn) {
   made.style.top = `${at * HEIGHT}px`;
   made.dataset.p = row.p;
-  made.id = `at-${row.p}`;
+  does(made, () => events.click(row));
   made.setAttribute("role", "option");
   made.setAttribute("aria-label", label(row));
   made.setAttribute("aria-posinset", at + 1);
@@ -77,13 +82,16 @@ function block(row, classes) {
 
 export function rows(win, cursor) {
   let before = null;
+  const base = JSON.stringify([win.lanes, space.style.getPropertyValue("--lanes"), state.aim]);
   return win.rows.map((row, at) => {
-    const isOn = row.p === cursor;
+    const [isOn, isFirst] = [row.p === cursor, before !== row.t];
     const classes = isOn ? " on" : "";
-    const made = row.b ? block(row, classes) : single(row, win.source, before !== row.t, classes);
     before = row.t;
-    return finish(made, row, win.from + at, win.total, isOn);
+    const about = [row, win.from + at, isOn, isFirst, isNew(row), state.names[row.by], win.source?.[row.l]];
+    const sign = JSON.stringify(about) + base;
+    return part(`at-${row.p}`, sign, () => finish(
+      row.b ? block(row, classes) : single(row, win.source, isFirst, classes), row, win.from + at, win.total, isOn));
   });
 }
 
-export const rowElement = (at) => $("space").querySelector(`.row[data-p="${at}"]`);
+export const rowElement = (at) => space.querySelector(`.row[data-p="${at}"]`);

@@ -1,5 +1,7 @@
 // All schedules, and proposals.
-import { $, el, fill, button, count, many, option } from "./make.js";
+import { $, el, fill, button, count, many, option, nameChosen } from "./make.js";
+import { part } from "./morph.js";
+import { does } from "./press.js";
 import { state, who, clientName } from "./words.js";
 
 // So many of the latest proposals are shown.
@@ -7,35 +9,45 @@ const PROPOSALS = 6;
 const list = $("row-list");
 export const events = { open: null, adopt: null };
 
+let shown = null; // which schedule was scrolled to
+
 const byBirth = (one, other) => one.birth[0] - other.birth[0] || one.birth[1] - other.birth[1];
 export const inOrder = () => [...state.rows.values()].sort(byBirth);
 
 function line(row) {
   const isFresh = row.touched >= state.marked && row.by !== state.client;
   const isOn = state.view?.schedule === row.name;
+  const sign = JSON.stringify([row, isFresh, isOn, clientName(row.owner), clientName(row.by)]);
+  return part(`schedule-${row.name}`, sign, () => drawn(row, isFresh, isOn));
+}
+
+function drawn(row, isFresh, isOn) {
   const made = el("div", `sched${isOn ? " on" : ""}`, el("span", `fresh${isFresh ? " is" : ""}`, "●"),
     el("span", "sched-name", row.name), el("span", "gap"), el("span", "num dim", count(row.length)), who(row.owner));
   const born = `made by ${clientName(row.owner)} in entry ${row.birth[0]}`;
   const changed = `last changed by ${clientName(row.by)} in entry ${row.touched}`;
   const text = `${row.name}: ${many(row.length, "event")}, ${born}, ${changed}`;
   made.title = text;
-  made.addEventListener("click", () => events.open({ schedule: row.name }));
-  return option(made, list, `schedule-${row.name}`, isFresh ? `${text}, since you last looked` : text, isOn);
+  does(made, () => events.open({ schedule: row.name }));
+  return option(made, isFresh ? `${text}, since you last looked` : text, isOn);
 }
 
 function proposal(entry) {
-  return el("div", "proposal",
+  const made = el("div", "proposal",
     el("span", "told", el("span", "num", `p${entry.p}`), " shows ", el("span", "num", entry.pair.join("–")),
       el("span", "dim", ` · ${count(entry.n)}`)),
     who(entry.c), button("Adopt", "", () => events.adopt(entry)));
+  made.id = `proposal-${entry.p}`;
+  return made;
 }
 
 export function render() {
   const all = inOrder();
   $("row-count").textContent = all.length ? String(all.length) : "";
-  list.removeAttribute("aria-activedescendant");
   fill(list, all.length ? all.map(line) : el("p", "empty", "None yet."));
-  list.querySelector(".on")?.scrollIntoView({ block: "nearest" });
+  nameChosen(list);
+  if (shown !== state.view?.schedule) list.querySelector(".on")?.scrollIntoView({ block: "nearest" });
+  shown = state.view?.schedule;
   const proposals = [...state.entries.values()].filter((entry) => entry.k === "propose").slice(-PROPOSALS).reverse();
   const made = proposals.length ? [el("div", "subhead", "Proposals"), proposals.map(proposal)] : null;
   fill($("proposals"), made);

@@ -1,9 +1,9 @@
 // The schedule: rows of one height, of which only a window is fetched and drawn; the cursor, and swaps.
-import { $, el, fill } from "./make.js";
+import { $, el, fill, nameChosen } from "./make.js";
 import { ask } from "./net.js";
 import { state } from "./words.js";
 import { HEIGHT, lay, rails, bars } from "./lanes.js";
-import { rows, rowElement } from "./rows.js";
+import * as drawn from "./rows.js";
 import * as edges from "./edges.js";
 import * as map from "./map.js";
 
@@ -86,31 +86,33 @@ export async function refresh(isMine) {
 }
 
 function render() {
-  for (const old of [...space.children]) if (old.id !== "edges") old.remove();
   edges.clear();
   map.draw(win, visible());
-  stage.removeAttribute("aria-activedescendant");
-  if (!win) return;
-  const made = [...rails(), ...bars(win.locks), ...rows(win, cursor)];
+  fill(space, $("edges"), win ? inside() : null);
+  if (win) for (const row of space.querySelectorAll(".row")) row.setAttribute("aria-setsize", win.total);
+  nameChosen(stage);
+  if (win) edges.show(win, hovered ?? cursor);
+}
+
+function inside() {
+  const made = [...rails(), ...bars(win.locks), ...drawn.rows(win, cursor)];
   if (win.total === 0) made.push(el("p", "empty", "No events yet. Choose one below."));
   if (stop) {
     const told = el("div", "stop", stop.text);
     told.style.top = `${stop.row * HEIGHT}px`;
     made.push(told);
   }
-  space.append(...made);
-  if (cursor !== null && rowElement(cursor)) stage.setAttribute("aria-activedescendant", `at-${cursor}`);
-  edges.show(win, hovered ?? cursor);
+  return made;
 }
 
 // The cursor.
 
 export function select(position, { into = true } = {}) {
-  const old = cursor === null ? null : rowElement(cursor);
+  const old = cursor === null ? null : drawn.rowElement(cursor);
   old?.classList.remove("on");
   old?.setAttribute("aria-selected", "false");
   cursor = position;
-  const made = rowElement(position);
+  const made = drawn.rowElement(position);
   made?.classList.add("on");
   made?.setAttribute("aria-selected", "true");
   if (made) stage.setAttribute("aria-activedescendant", made.id);
@@ -173,8 +175,10 @@ let drag = null;
 stage.addEventListener("pointerdown", (event) => {
   const row = event.target.closest(".row");
   if (!row || event.button || row.dataset.block || !state.view?.schedule || !event.target.closest(".lanes")) return;
-  drag = { p: Number(row.dataset.p), y: event.clientY, by: 0, row };
+  const p = Number(row.dataset.p);
+  drag = { p, event: win?.rows.find((one) => one.p === p)?.e, y: event.clientY, by: 0, row };
 });
+stage.addEventListener("dragstart", (event) => event.preventDefault());
 stage.addEventListener("pointermove", (event) => {
   if (!drag) return;
   const by = Math.round((event.clientY - drag.y) / HEIGHT);
@@ -183,23 +187,24 @@ stage.addEventListener("pointermove", (event) => {
   drag.row.classList.toggle("dragged", by !== 0);
   drag.row.style.transform = `translateY(${by * HEIGHT}px)`;
 });
-addEventListener("pointerup", () => {
+function letGo() {
   const mine = drag;
   drag = null;
+  mine?.row.classList.remove("dragged");
+  if (mine) mine.row.style.transform = "";
+  return mine;
+}
+addEventListener("pointercancel", letGo);
+addEventListener("pointerup", () => {
+  const mine = letGo();
   if (!mine?.by || !win) return;
-  mine.row.classList.remove("dragged");
-  mine.row.style.transform = "";
   const at = win.rows.findIndex((row) => row.p === mine.p);
+  if (win.rows[at]?.e !== mine.event) return; // another analyst moved it meanwhile
   const other = win.rows[Math.max(0, Math.min(win.rows.length - 1, at + mine.by))];
   swap(mine.p, Math.max(-FARTHEST, Math.min(FARTHEST, other.p - mine.p)));
 });
 
-stage.addEventListener("click", (event) => {
-  const row = event.target.closest(".row");
-  if (!row) return;
-  if (row.dataset.block) toggle(Number(row.dataset.p));
-  else select(Number(row.dataset.p), { into: false });
-});
+drawn.events.click = (row) => (row.b ? toggle(row.p) : select(row.p, { into: false }));
 stage.addEventListener("dblclick", (event) => {
   const row = event.target.closest(".row");
   const at = Number(row?.dataset.p);

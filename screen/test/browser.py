@@ -15,6 +15,10 @@ KEYS = {
     "F6": 117, "Home": 36, "End": 35, "Tab": 9,
 }
 ALT, CONTROL, SHIFT = 1, 2, 8
+# How long a condition, an answer of the browser and its start may take, in seconds: a machine may be slow and busy.
+PATIENCE, TRIES = 120, 3
+# How much slower than it could a page works, so that tests are tried as on a slow machine.
+SLOWER = float(os.environ.get("SLOWER", 1))
 
 
 def chromium():
@@ -28,18 +32,33 @@ class Browser:
     started = None
 
     async def __aenter__(self):
+        if Browser.started is not None and Browser.started.is_dead:
+            await Browser.end()
         if Browser.started is None:
             await self._start()
             Browser.started = self
         return Browser.started
 
     async def __aexit__(self, *_):
-        for page in Browser.started.pages.values():
-            if not page.is_closed:
+        browser = Browser.started
+        for page in browser.pages.values():
+            if not page.is_closed and not browser.is_dead:
                 page.is_closed = True
-                await self.started.call("Target.disposeBrowserContext", browserContextId=page.context)
+                await browser.call("Target.disposeBrowserContext", browserContextId=page.context)
 
     async def _start(self):
+        """Starts the browser; a slow machine may need more than one try."""
+        for _ in range(TRIES):
+            try:
+                return await asyncio.wait_for(self._start_once(), PATIENCE)
+            except (asyncio.TimeoutError, OSError, aiohttp.ClientError) as why:
+                failed = why
+                self.process.kill()
+                await self.process.wait()
+                shutil.rmtree(self.folder, ignore_errors=True)
+        raise failed
+
+    async def _start_once(self):
         self.folder = tempfile.mkdtemp(prefix="chromium-")
         self.process = await asyncio.create_subprocess_exec(
             chromium(), "--headless=new", "--no-sandbox", "--disable-gpu", "--no-first-run", "--disable-dev-shm-usage",
@@ -47,12 +66,14 @@ class Browser:
             stdout=asyncio.subprocess.DEVNULL, stderr=asyncio.subprocess.PIPE)
         address = None
         while not address:
-            line = (await asyncio.wait_for(self.process.stderr.readline(), 30)).decode()
+            line = (await self.process.stderr.readline()).decode()
+            if not line:
+                raise ConnectionResetError("the browser ended at its start")
             address = re.search(r"ws://\S+", line)
         self.drain = asyncio.ensure_future(self._drain())
         self.client = aiohttp.ClientSession()
         self.socket = await self.client.ws_connect(address[0], max_msg_size=0)
-        self.number, self.waiting, self.pages = 0, {}, {}
+        self.number, self.waiting, self.pages, self.is_dead = 0, {}, {}, False
         self.reader = asyncio.ensure_future(self._read())
 
     async def _drain(self):
@@ -66,6 +87,9 @@ class Browser:
                 self.waiting.pop(told["id"]).set_result(told)
             elif told.get("sessionId") in self.pages:
                 self.pages[told["sessionId"]].take(told["method"], told["params"])
+        self.is_dead = True
+        for future in self.waiting.values():
+            future.set_exception(ConnectionResetError("the browser ended"))
 
     async def call(self, method, session=None, **params):
         self.number += 1
@@ -74,7 +98,7 @@ class Browser:
             message["sessionId"] = session
         future = self.waiting[self.number] = asyncio.get_running_loop().create_future()
         await self.socket.send_str(json.dumps(message))
-        told = await asyncio.wait_for(future, 60)
+        told = await asyncio.wait_for(future, PATIENCE)
         if "error" in told:
             raise RuntimeError(f"{method}: {told['error']}")
         return told["result"]
@@ -90,6 +114,8 @@ class Browser:
         await page.size(width, height)
         scheme = {"name": "prefers-color-scheme", "value": "dark" if dark else "light"}
         await page.call("Emulation.setEmulatedMedia", features=[scheme])
+        if SLOWER > 1:
+            await page.call("Emulation.setCPUThrottlingRate", rate=SLOWER)
         await page.open(url)
         return page
 
@@ -97,12 +123,14 @@ class Browser:
     async def end(cls):
         if cls.started is not None:
             await cls.started._end()
+            cls.started = None
 
     async def _end(self):
         self.reader.cancel()
         await self.socket.close()
         await self.client.close()
-        self.process.terminate()
+        if self.process.returncode is None:
+            self.process.terminate()
         await self.process.wait()
         self.drain.cancel()
         shutil.rmtree(self.folder, ignore_errors=True)
@@ -144,7 +172,7 @@ class Page:
             raise RuntimeError(told["exceptionDetails"].get("exception", {}).get("description"))
         return told["result"].get("value")
 
-    async def until(self, code, seconds=30, what=None):
+    async def until(self, code, seconds=PATIENCE, what=None):
         """Waits by condition, never by time."""
         loop = asyncio.get_running_loop()
         end = loop.time() + seconds
@@ -178,29 +206,45 @@ class Page:
             "e.scrollIntoView({block: 'nearest'}); const b = e.getBoundingClientRect(); "
             "return [b.left + Math.min(b.width / 2, 60), b.top + b.height / 2]; })()")
         assert found, f"nothing is {selector}"
-        return found
+        return tuple(found)
 
     async def mouse(self, kind, x, y, **more):
         await self.call("Input.dispatchMouseEvent", type=kind, x=x, y=y, **more)
 
-    async def click(self, selector, at=0, times=1):
-        x, y = await self.point(selector, at)
+    async def steady(self, selector, at=0):
+        """Waits until the element stands where it stood a moment ago."""
+        before = None
+        while (now := await self.point(selector, at)) != before:
+            before = now
+            await asyncio.sleep(0.03)
+        return now
+
+    async def press(self, selector, at=0):
+        """Moves to the element and lets the button down; gives the place."""
+        x, y = await self.steady(selector, at)
         await self.mouse("mouseMoved", x, y)
-        for time in range(1, times + 1):
-            for kind in ("mousePressed", "mouseReleased"):
-                await self.mouse(kind, x, y, button="left", clickCount=time)
+        await self.mouse("mousePressed", x, y, button="left", clickCount=1)
+        return x, y
+
+    async def release(self, x, y, count=1):
+        await self.mouse("mouseReleased", x, y, button="left", clickCount=count)
+
+    async def click(self, selector, at=0, times=1):
+        x, y = await self.press(selector, at)
+        await self.release(x, y)
+        for time in range(2, times + 1):
+            await self.mouse("mousePressed", x, y, button="left", clickCount=time)
+            await self.release(x, y, time)
 
     async def hover(self, selector, at=0):
-        x, y = await self.point(selector, at)
+        x, y = await self.steady(selector, at)
         await self.mouse("mouseMoved", x, y)
 
     async def drag(self, selector, at, by):
-        x, y = await self.point(selector, at)
-        await self.mouse("mouseMoved", x, y)
-        await self.mouse("mousePressed", x, y, button="left", clickCount=1)
+        x, y = await self.press(selector, at)
         for part in (0.3, 0.6, 1):
             await self.mouse("mouseMoved", x, y + by * part, button="left", buttons=1)
-        await self.mouse("mouseReleased", x, y + by, button="left", clickCount=1)
+        await self.release(x, y + by)
 
     async def picture(self, path):
         told = await self.call("Page.captureScreenshot", format="png")

@@ -21,6 +21,13 @@ async def other_site(body):
     return runner, f"http://127.0.0.1:{runner.addresses[0][1]}/"
 
 
+async def frames_in(page):
+    """Of each frame that has come to its end the address that was refused, or `shown`."""
+    tree = (await page.call("Page.getFrameTree"))["frameTree"]
+    frames = [one["frame"] for one in tree.get("childFrames", [])]
+    return [frame.get("unreachableUrl") or "shown" for frame in frames if frame["url"] not in ("", "about:blank")]
+
+
 async def test_another_page_gets_nothing(program):
     """A page of another origin can neither frame the screen, nor read it, nor open its socket."""
     traces.write("trace", traces.COUNT)
@@ -36,15 +43,14 @@ async def test_another_page_gets_nothing(program):
         </script>"""
         runner, address = await other_site(tries)
         await page.open(address)
-        told = await page.until("Object.keys(window.told ?? {}).length === 3 && window.told", 30)
+        told = await page.until("Object.keys(window.told ?? {}).length === 3 && window.told")
         same(told, {"read": "refused", "enter": "refused", "socket": "refused"})
-        await asyncio.sleep(0.3)
-        tree = await page.call("Page.getFrameTree")
-        frames = [one["frame"] for one in tree["frameTree"].get("childFrames", [])]
-        same([frame.get("unreachableUrl") or "shown" for frame in frames], [screen.base + "/"])
+        while not (frames := await frames_in(page)):
+            await asyncio.sleep(0.05)
+        same(frames, [screen.base + "/"])
         await runner.cleanup()
         mine = await browser.page(screen.link)  # the ticket was not spent
-        await mine.until("document.querySelectorAll('.race').length === 1", 90)
+        await mine.until("document.querySelectorAll('.race').length === 1")
         is_clean(mine, screen)
 
 
@@ -52,7 +58,7 @@ async def test_hostile_names(program):
     traces.hostile("trace")
     async with Screen(program, "trace", "log", "--source", ".") as screen, Browser() as browser:
         page = await browser.page(screen.link)
-        await page.until("document.querySelectorAll('.race').length > 0", 90)
+        await page.until("document.querySelectorAll('.race').length > 0")
         await page.click(".race")
         await page.until("!document.getElementById('pair').hidden || !document.getElementById('note').hidden")
         await page.key("e")
@@ -60,7 +66,6 @@ async def test_hostile_names(program):
         await focus(page, "next-list")
         for _ in range(3):
             await page.key("r")
-            await asyncio.sleep(0.2)
             await page.key("ArrowDown")
         await page.key("ArrowRight")
         await page.until("document.querySelectorAll('.coming').length > 0")

@@ -1,13 +1,14 @@
 """Two analysts at once, sessions that die, and logs that are not this trace's."""
 
 import asyncio
+import glob
 import os
 import signal
 
 import traces
 from browser import Browser
 from judged import same
-from stage import LENGTH, NEXT, ROWS, SAID, TITLE, Screen, focus, is_clean, logged, new, press
+from stage import LENGTH, NEXT, ROWS, SAID, TITLE, Screen, comes, focus, is_clean, logged, new, press
 
 AWAY = "[...document.querySelectorAll('.away-line')].map((l) => l.textContent.trim().replace(/ +/g, ' ')).join('; ')"
 
@@ -25,7 +26,7 @@ async def test_two_analysts(program):
     async with Screen(program, "trace", "log") as one, Screen(program, "trace", "log", "--client", "2") as two, \
             Browser() as browser:
         page, other = await browser.page(one.link), await browser.page(two.link)
-        await other.until(TITLE, 90)
+        await other.until(TITLE)
         await new(page, 3)
         await press(page, "1", "1")
         await page.until(f"{ROWS} === 2")
@@ -40,7 +41,7 @@ async def test_two_analysts(program):
         await other.key("b")
         await other.until("document.getElementById('ask').open")
         await other.key("Enter")
-        await page.until("document.querySelectorAll('.sched').length === 2", 15)
+        await page.until("document.querySelectorAll('.sched').length === 2")
         await press(page, "u")
         said = await page.run(SAID)
         assert said.startswith("not taken back: entry 5 of 2 rests on it"), said
@@ -49,7 +50,7 @@ async def test_two_analysts(program):
         await page.key("s")
         await page.until("document.getElementById('away').hidden")
         await other.key("u")
-        await page.until("document.querySelectorAll('.sched').length === 1", 15)
+        await page.until("document.querySelectorAll('.sched').length === 1")
         await press(page, "u")
         await page.until(f"{ROWS} === 1")
         is_clean(page, one)
@@ -62,7 +63,7 @@ async def test_both_type_at_once(program):
     async with Screen(program, "trace", "log") as one, Screen(program, "trace", "log", "--client", "2") as two, \
             Browser() as browser:
         page, other = await browser.page(one.link), await browser.page(two.link)
-        await other.until(TITLE, 90)
+        await other.until(TITLE)
         await new(page, 2)
         await other.until("document.querySelectorAll('.sched').length === 1")
         await other.click(".sched")
@@ -71,7 +72,7 @@ async def test_both_type_at_once(program):
         for _ in range(20):
             await asyncio.gather(page.key("1"), other.key("2"))
         for each in (page, other):
-            await each.until(f"{LENGTH} === '40 events'", 90)
+            await each.until(f"{LENGTH} === '40 events'")
         events = "[...document.querySelectorAll('#bar h2, #feed-count')].map((e) => e.textContent).join()"
         same(await page.run(events), await other.run(events))
         shown = (await session(program, 3, "show A\n")).split()
@@ -80,13 +81,21 @@ async def test_both_type_at_once(program):
         is_clean(other, two)
 
 
+def looked_at():
+    """How many entries the analyst has looked at, as his own folder keeps it."""
+    for path in glob.glob(os.path.join(os.environ["XDG_STATE_HOME"], "racebench-screen", "*")):
+        with open(path, encoding="ascii") as file:
+            return int(file.read().split()[1])
+    return None
+
+
 async def test_what_others_did_meanwhile(program):
     traces.write("trace", traces.COUNT)
     async with Browser() as browser:
         async with Screen(program, "trace", "log") as screen:
             page = await browser.page(screen.link)
             await new(page, 3)
-            await asyncio.sleep(1)  # a look lasts 0.7 seconds before it counts
+            await comes(lambda: looked_at() == 1)
         await session(program, 7, "add A 0\nadd A 1\nbatch branch A 2 B ; add B 2\nback A\n"
                                   "propose 7 12 0 2 3 4 5 6 1 8 9 10 11\n")
         async with Screen(program, "trace", "log") as screen:
@@ -117,8 +126,10 @@ async def test_a_session_that_dies_comes_back(program):
         assert killed, "there is no session"
         for child in killed:
             os.kill(child, signal.SIGKILL)
-        await asyncio.sleep(0.3)
+        await comes(lambda: not any(os.path.exists(f"/proc/{child}") for child in killed))
         await press(page, "1")
+        if "the program ended" in await page.run(SAID):  # the screen did not know of it yet
+            await press(page, "1")
         await page.until(f"{ROWS} === 2")
         assert list(children(screen.process)) != killed
         same(logged(), ["1 new A", "1 add A 0", "1 add A 1"])
@@ -168,11 +179,11 @@ async def test_a_link_for_another_browser(program):
         await page.click("#link")
         await page.until("document.querySelector('#help input.link')?.value.includes('#')")
         other = await browser.page(await page.run("document.querySelector('#help input.link').value"))
-        await other.until(f"{NEXT} === 3", 90)
+        await other.until(f"{NEXT} === 3")
         await page.click("#help button")
         await focus(page, "next-list")
         await press(page, "1")
-        await other.until(f"{ROWS} === 1", 15)
+        await other.until(f"{ROWS} === 1")
         again = await browser.page(screen.link)
         await again.until("document.getElementById('live').textContent.includes('used already')")
         is_clean(other, screen)

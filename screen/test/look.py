@@ -1,6 +1,5 @@
 """How the page looks and who can use it: light and dark, each width, the keyboard alone, a screen reader, names."""
 
-import asyncio
 import json
 
 import traces
@@ -23,14 +22,13 @@ async def test_light_dark_and_each_width(program):
             for width in (760, 1000, 1440, 2200):
                 await page.size(width, 900)
                 await page.until(f"innerWidth === {width} && {ROWS} === 2")
-                same(await page.run("document.documentElement.scrollWidth <= innerWidth"), True)
-                shown = "[...document.querySelectorAll('#next-list .next')].every((n) => n.offsetHeight > 0)"
-                same(await page.run(shown), True)
+                await page.until("document.documentElement.scrollWidth <= innerWidth")
+                await page.until("[...document.querySelectorAll('#next-list .next')].every((n) => n.offsetHeight > 0)")
         same(len(grounds), 2)
         await page.size(760, 900)
         await page.click("#tabs button", 2)
         await page.until("document.getElementById('side').offsetHeight > 0")
-        same(await page.run("document.getElementById('centre').offsetHeight"), 0)
+        await page.until("document.getElementById('centre').offsetHeight === 0")
         await page.click("#tabs button", 0)
         await page.until("document.getElementById('races').offsetHeight > 0")
         await page.size(1440, 900)
@@ -45,7 +43,7 @@ async def test_the_keyboard_alone(program):
     traces.write("trace", traces.COUNT)
     async with Screen(program, "trace", "log") as screen, Browser() as browser:
         page = await browser.page(screen.link)
-        await page.until("document.querySelectorAll('.race').length === 1", 90)
+        await page.until("document.querySelectorAll('.race').length === 1")
         await page.key("F6")
         same(await page.run("document.activeElement.id"), "race-list")
         await page.key("ArrowDown")
@@ -64,8 +62,7 @@ async def test_the_keyboard_alone(program):
         await page.key("?")
         await page.until("document.getElementById('help').open")
         await page.key("Escape")
-        await asyncio.sleep(0.1)
-        same(await page.run("document.getElementById('help').open"), False)
+        await page.until("!document.getElementById('help').open")
         is_clean(page, screen)
 
 
@@ -82,9 +79,10 @@ async def test_what_a_screen_reader_finds(program):
     traces.write("trace", traces.COUNT)
     async with Screen(program, "trace", "log") as screen, Browser() as browser:
         page = await browser.page(screen.link)
-        await page.until("document.querySelectorAll('.race').length === 1", 90)
+        await page.until("document.querySelectorAll('.race').length === 1")
         await new(page, 3)
         await press(page, "1")
+        await page.until(f"{ROWS} === 1 && document.getElementById('next-list').dataset.length === '1'")
         found = await spoken(page)
         for role, name in (
                 ("listbox", "Races"), ("listbox", "Events of the schedule"), ("listbox", "Each thread's next event"),
@@ -103,10 +101,10 @@ async def test_what_a_screen_reader_finds(program):
         same(live, "live,pair,said,away")
         await page.key("ArrowDown")
         active = "document.getElementById(document.activeElement.getAttribute('aria-activedescendant'))"
-        same(await page.run(f"{active}.getAttribute('aria-selected') + {active}.dataset.t"), "true1")
+        await page.until(f"{active}.getAttribute('aria-selected') + {active}.dataset.t === 'true1'")
         await focus(page, "stage")
         await page.key("ArrowUp")
-        same(await page.run(f"{active}.getAttribute('aria-label')"), "position 0, event 0, T0 forks T1, count.c:17")
+        await page.until(f"{active}.getAttribute('aria-label') === 'position 0, event 0, T0 forks T1, count.c:17'")
         is_clean(page, screen)
 
 
@@ -124,11 +122,11 @@ async def test_the_splitter(program):
         await page.key("ArrowDown")
         await page.until(f"Math.abs({height} - {before} - 76) < 5")
         value = "document.getElementById('splitter').getAttribute('aria-valuenow')"
-        same(await page.run(f"{value} === String({height})"), True)
+        await page.until(f"{value} === String({height})")
         await page.drag("#splitter", 0, 2000)
-        assert await page.run(f"{height} >= 60")
+        await page.until(f"{height} >= 60 && {height} < {before}")
         await page.drag("#splitter", 0, -2000)
-        assert await page.run("document.getElementById('stage-box').offsetHeight >= 140")
+        await page.until(f"document.getElementById('stage-box').offsetHeight >= 140 && {height} > {before}")
         await page.click("#splitter", times=2)
         await page.until(f"{height} === {before}")
         is_clean(page, screen)
@@ -158,7 +156,7 @@ async def test_how_a_race_ended(program):
     traces.write("trace.confirmed", f"no json\n[]\n{json.dumps(ended)}\n")
     async with Screen(program, "trace", "log") as screen, Browser() as browser:
         page = await browser.page(screen.link)
-        await page.until("document.querySelector('.race .ended')?.textContent === 'stands'", 90)
+        await page.until("document.querySelector('.race .ended')?.textContent === 'stands'")
         same(await page.run("document.querySelector('.race .ended').title"),
              "the race stands <b>\n7 first: status 0\n12 first: signal 11 (SIGSEGV)\nthe order matters")
         is_clean(page, screen)

@@ -17,7 +17,7 @@ async def walked(program):
     said = []
     async with Screen(program, "trace", "log") as screen, Browser() as browser:
         page = await browser.page(screen.link)
-        await page.until("document.querySelectorAll('.race').length === 1", 90)
+        await page.until("document.querySelectorAll('.race').length === 1")
         await page.click(".race")
         await page.until("!document.getElementById('pair').hidden")
         said.append(await page.run(f"{LENGTH} + document.getElementById('pair').textContent"))

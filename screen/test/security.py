@@ -75,7 +75,7 @@ async def closed_with(client, screen, first):
     """The code with which the socket is closed where this is its first message."""
     socket = await client.ws_connect(screen.base.replace("http", "ws") + "/ws", origin=screen.base)
     await socket.send_str(first)
-    answer = await socket.receive(timeout=5)
+    answer = await socket.receive(timeout=60)
     assert answer.type in (aiohttp.WSMsgType.CLOSE, aiohttp.WSMsgType.CLOSED), answer
     return socket.close_code
 
@@ -91,6 +91,17 @@ async def test_a_socket_needs_the_key_and_the_origin(screen):
                 same(why.status, 403)
         for wrong in ("", "wrong", screen.ticket, json.dumps({"id": 1, "do": "hello"})):
             same(await closed_with(client, screen, wrong), 4403)
+
+
+async def let_in(client, screen):
+    """A socket, as soon as there is room for one."""
+    for _ in range(600):
+        try:
+            return await client.ws_connect(screen.base.replace("http", "ws") + "/ws", origin=screen.base)
+        except aiohttp.WSServerHandshakeError as why:
+            same(why.status, 503)
+            await asyncio.sleep(0.05)
+    raise AssertionError("there is no room")
 
 
 async def is_full(client, screen):
@@ -114,8 +125,7 @@ async def test_no_more_than_sixteen_sockets(screen):
             more.append(one)
         await is_full(socket.client, screen)
         await more.pop().close()
-        await asyncio.sleep(0.2)
-        again = await socket.client.ws_connect(screen.base.replace("http", "ws") + "/ws", origin=screen.base)
+        again = await let_in(socket.client, screen)
         await again.send_str(socket.key)
         await again.send_str('{"id": 8, "do": "link"}')
         same(json.loads((await again.receive()).data)["id"], 8)
@@ -125,11 +135,12 @@ async def test_no_more_than_sixteen_sockets(screen):
 async def test_who_names_no_key_shuts_nobody_out(screen):
     async with aiohttp.ClientSession() as client:
         address = screen.base.replace("http", "ws") + "/ws"
-        waiting = [await client.ws_connect(address, origin=screen.base) for _ in range(16)]
+        waiting = await asyncio.gather(*[client.ws_connect(address, origin=screen.base) for _ in range(16)])
         await is_full(client, screen)
-        await waiting[0].receive(timeout=8)
-        same(waiting[0].close_code, 4403)
-        await asyncio.sleep(0.3)
+        for one in waiting:
+            await one.receive(timeout=60)
+            same(one.close_code, 4403)
+        await (await let_in(client, screen)).close()
         async with Socket(screen) as socket:
             same((await socket.call(do="hello"))["events"], 17)
 
@@ -139,11 +150,11 @@ async def test_long_and_broken_messages(screen):
     async with Socket(screen) as socket:
         for text in ("[" * 40_000, "not json", "[]", "7", "null", '{"do": 7}', '{"id": {}, "do": "__init__"}', "{}"):
             await socket.socket.send_str(text)
-            answer = json.loads((await socket.socket.receive(timeout=5)).data)
+            answer = json.loads((await socket.socket.receive(timeout=60)).data)
             assert "mistake" in answer, answer
         same((await socket.call(do="hello"))["events"], 17)
         await socket.socket.send_str(json.dumps({"id": 1, "do": "hello", "more": "x" * (1 << 16)}))
-        while (await socket.socket.receive(timeout=5)).type == aiohttp.WSMsgType.TEXT:
+        while (await socket.socket.receive(timeout=60)).type == aiohttp.WSMsgType.TEXT:
             pass
         same(socket.socket.close_code, 1009)
     same(await code(screen), 200)

@@ -43,7 +43,11 @@ class Screen:
     async def __aexit__(self, *_):
         if self.process.returncode is None:
             self.process.terminate()
-        await self.process.wait()
+        try:
+            await asyncio.wait_for(self.process.wait(), 60)
+        except asyncio.TimeoutError:
+            self.process.kill()
+            raise
         said = (await self.process.stderr.read()).decode()
         if self.has_page:  # what a page asks for is never a bad request
             assert "bad request" not in said and "Traceback" not in said, said
@@ -78,6 +82,16 @@ class Socket:
         await self.client.close()
 
 
+async def comes(condition, seconds=120):
+    """Waits until a condition outside the page holds, and gives its value."""
+    loop = asyncio.get_running_loop()
+    end = loop.time() + seconds
+    while not (got := condition()):
+        assert loop.time() < end, f"not within {seconds} s"
+        await asyncio.sleep(0.02)
+    return got
+
+
 def logged():
     """The calls in the log."""
     with open("log", "rb") as file:
@@ -95,7 +109,7 @@ async def press(page, *keys):
         before = await page.run(SAYINGS)
         await page.key(key)
         try:
-            await page.until(f"{SAYINGS} !== {json.dumps(before)}", 30, f"an answer to {key}")
+            await page.until(f"{SAYINGS} !== {json.dumps(before)}", what=f"an answer to {key}")
         except AssertionError as why:
             told = await page.run(f"document.activeElement?.id + ' | ' + {SAID} + ' | ' + "
                                   "(document.querySelector('#next-list .on')?.textContent ?? 'none chosen')")
@@ -104,14 +118,14 @@ async def press(page, *keys):
 
 async def new(page, threads, name=None):
     """Makes a schedule by the key, and waits until so many threads have a next event."""
-    await page.until(TITLE, 90)
+    await page.until(TITLE)
     await page.key("n")
     await page.until("document.getElementById('ask').open")
     if name:
         await page.run("document.getElementById('ask-input').select()")
         await page.type(name)
     await page.key("Enter")
-    await page.until(f"{NEXT} === {threads}", 90)
+    await page.until(f"{NEXT} === {threads}")
     await focus(page, "next-list")
 
 

@@ -27,7 +27,7 @@ async def test_races_filter_kinds_and_a_witness(program):
     traces.write("trace", SEVERAL)
     async with Screen(program, "trace", "log") as screen, Browser() as browser:
         page = await browser.page(screen.link)
-        await page.until("document.querySelectorAll('.race').length === 2", 90)
+        await page.until("document.querySelectorAll('.race').length === 2")
         cards = await page.run(CARDS)
         for part in ("two.c:5", "one.c:1", "w one.c:5", "r two.c:1", "another_variable_of_a_long_name", "×1"):
             assert part in cards, (part, cards)
@@ -57,7 +57,7 @@ async def test_a_race_from_the_list_to_the_pair(program):
     traces.write("trace", traces.COUNT)
     async with Screen(program, "trace", "log") as screen, Browser() as browser:
         page = await browser.page(screen.link)
-        await page.until("document.querySelectorAll('.race').length === 1", 90)
+        await page.until("document.querySelectorAll('.race').length === 1")
         await page.click(".race")
         await page.until("!document.getElementById('pair').hidden")
         assert "11 events" in await page.run(LENGTH)
@@ -88,7 +88,7 @@ async def test_work_on_a_witness(program):
     traces.write("trace", traces.COUNT)
     async with Screen(program, "trace", "log") as screen, Browser() as browser:
         page = await browser.page(screen.link)
-        await page.until("document.querySelectorAll('.race').length === 1", 90)
+        await page.until("document.querySelectorAll('.race').length === 1")
         await page.key("/")
         await page.key("ArrowDown")  # into the list, to the first race
         await page.until("!document.getElementById('pair').hidden")
@@ -217,7 +217,7 @@ async def test_lanes_blocks_locks_reads_and_the_map(program):
         for key in ("r", "2", "2", "2"):
             await press(page, key)
         await page.until("document.querySelectorAll('.block').length >= 1")
-        same(await page.run("document.querySelectorAll('.lock').length"), 2)  # m to the end, and n
+        await page.until("document.querySelectorAll('.lock').length === 2")  # m to the end, and n
         assert (await page.run("document.querySelector('.lock').title")).endswith("held by T0 since 1")
         assert "events" in await page.run("document.querySelector('.block .box').textContent")
         found = "[...document.querySelectorAll('.row')].find((r) => r.textContent.includes('r a1'))"
@@ -234,7 +234,7 @@ async def test_lanes_blocks_locks_reads_and_the_map(program):
         await page.until("document.querySelector('#map') && !document.querySelector('#map').hidden")
         await page.key("Home")
         await page.until("document.querySelector('.row.on')?.dataset.p === '0'")
-        same(await page.run("document.querySelector('.row.on code')?.textContent"), "line 1;")
+        await page.until("document.querySelector('.row.on code')?.textContent === 'line 1;'")
         await page.click(".row.on .place")
         await page.until("!document.getElementById('peek').hidden")
         same(await page.run("document.querySelector('.peek-line.here code').textContent"), "line 1;")
@@ -272,7 +272,7 @@ async def test_a_branch_at_the_cursor_and_who_did_what(program):
         await page.key("Enter")
         await page.until("document.querySelector('#bar h2').textContent === 'A.b'")
         same(logged()[-1], "1 branch A 2 A.b")
-        same(await page.run("document.querySelector('#space .pos').title"), "put here by you in entry 1")
+        await page.until("document.querySelector('#space .pos')?.title === 'put here by you in entry 1'")
         await page.key("[")
         await page.until("document.querySelector('#bar h2').textContent === 'A'")
         feed = await page.run("document.getElementById('feed').textContent")

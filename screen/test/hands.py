@@ -1,0 +1,116 @@
+"""As a hand does: what is pressed is what is meant, whatever others do until the button goes up."""
+
+import traces
+from browser import Browser
+from judged import same
+from live import session
+from stage import LENGTH, ROWS, SAID, Screen, focus, is_clean, logged, new, press
+
+SCHEDULES = "document.querySelectorAll('.sched').length"
+NEXT_LENGTH = "document.getElementById('next-list').dataset.length"
+OPEN = "document.querySelector('#bar h2').textContent"
+
+
+async def test_a_click_on_a_schedule_that_another_changes(program):
+    """The list is drawn anew between the press and the release: the schedule that was pressed opens."""
+    traces.write("trace", traces.COUNT)
+    async with Screen(program, "trace", "log") as screen, Browser() as browser:
+        page = await browser.page(screen.link)
+        await new(page, 3)
+        await session(program, 2, "new B\nnew C\n")
+        await page.until(f"{SCHEDULES} === 3")
+        at = await page.press(".sched", 1)
+        await session(program, 3, "add B 0\nadd B 1\n")
+        await page.until("document.querySelectorAll('.sched .num')[1].textContent === '2'")
+        await page.release(*at)
+        await page.until(f"{OPEN} === 'B' && {ROWS} === 2")
+        at = await page.press(".sched", 2)
+        await session(program, 1, "drop A\n")  # the one that is pressed moves up, from under the hand
+        await page.until(f"{SCHEDULES} === 2")
+        await page.release(*at)
+        await page.until(f"{OPEN} === 'C'")
+        is_clean(page, screen)
+
+
+async def test_a_click_on_what_may_come_next(program):
+    traces.write("trace", "".join(f"T{thread}|w(a{thread})|a:{at}\n" for at in range(9) for thread in (1, 2)))
+    async with Screen(program, "trace", "log") as screen, Browser() as browser:
+        page = await browser.page(screen.link)
+        await new(page, 2)
+        at = await page.press(".next", 1)
+        await session(program, 2, "add A 0\n")
+        await page.until(f"{ROWS} === 1 && document.querySelector('.next .num').textContent === '2'")
+        await page.release(*at)
+        await page.until(f"{ROWS} === 2")
+        same(logged()[-1], "1 add A 1")
+        at = await page.press(".next .do button", 2)  # run
+        await session(program, 2, "add A 2\nadd A 4\n")
+        await page.until(f"{ROWS} === 4 && {NEXT_LENGTH} === '4'")
+        await page.release(*at)
+        await page.until(f"{LENGTH} === '12 events'")
+        assert logged()[-1].startswith("1 batch add A 3 ; add A 5 "), logged()[-1]
+        is_clean(page, screen)
+
+
+async def test_a_click_on_an_undo_that_moves_down(program):
+    """Entries of others come in above it: the undo that was pressed is made."""
+    traces.write("trace", traces.COUNT)
+    async with Screen(program, "trace", "log") as screen, Browser() as browser:
+        page = await browser.page(screen.link)
+        await new(page, 3)
+        await press(page, "1")
+        await session(program, 2, "new B\n")
+        await page.until(f"{SCHEDULES} === 2")
+        at = await page.press(".entry .quiet", 0)
+        await session(program, 1, "new D\nadd D 0\n")  # another tab of this analyst
+        await session(program, 3, "new C\n")
+        await page.until(f"{SCHEDULES} === 4 && document.querySelectorAll('.entry').length === 6")
+        await page.release(*at)
+        await page.until(f"{LENGTH} === '0 events'")
+        same(logged()[-1], "1 undo 1")
+        is_clean(page, screen)
+
+
+async def test_clicks_over_and_beside_the_schedule(program):
+    """The bar, the pair, the rows and the news are drawn anew between the press and the release."""
+    traces.write("trace", traces.COUNT)
+    async with Screen(program, "trace", "log") as screen, Browser() as browser:
+        page = await browser.page(screen.link)
+        await new(page, 3, "A")
+        await press(page, "1", "1")
+        await session(program, 2, "add A 2\n")
+        await page.until(f"{ROWS} === 3 && {NEXT_LENGTH} === '3' && !document.getElementById('away').hidden")
+        at = await page.press("#away button")
+        await session(program, 2, "add A 3\n")
+        await page.until("document.querySelector('.away-line').textContent.includes('+2')")
+        await page.release(*at)
+        await page.until(f"document.getElementById('away').hidden && {ROWS} === 4 && {NEXT_LENGTH} === '4'")
+        at = await page.press("#space .row[data-p='1'] .info")
+        await session(program, 2, "add A 4\n")
+        await page.until(f"{ROWS} === 5")
+        await page.release(*at)
+        await page.until("document.querySelector('.row.on')?.dataset.p === '1'")
+        at = await page.press("#bar button")  # branch
+        await session(program, 2, "add A 5\n")
+        await page.until(f"{LENGTH} === '6 events'")
+        await page.release(*at)
+        await page.until("document.getElementById('ask').open")
+        await page.key("Enter")
+        await page.until(f"{OPEN} === 'A.b' && {ROWS} === 2")
+        is_clean(page, screen)
+
+
+async def test_a_press_that_is_taken_back(program):
+    """Who lets go elsewhere has thought better of it."""
+    traces.write("trace", traces.COUNT)
+    async with Screen(program, "trace", "log") as screen, Browser() as browser:
+        page = await browser.page(screen.link)
+        await new(page, 3)
+        x, y = await page.press(".next")
+        await page.mouse("mouseMoved", x, y - 200, button="left", buttons=1)
+        await page.release(x, y - 200)
+        await focus(page, "next-list")
+        await press(page, "1")
+        same(logged(), ["1 new A", "1 add A 0"])
+        same(await page.run(f"{SAID}.includes('refused')"), False)
+        is_clean(page, screen)
