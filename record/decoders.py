@@ -8,6 +8,7 @@ import tempfile
 from array import array
 
 import built
+import running
 
 HERE = os.path.dirname(os.path.realpath(__file__))
 WORDS = ["-std=c++17", "-O2", "-w"]
@@ -84,7 +85,11 @@ def decoded(file, words, out=None, numbered=False):
         words = command(folder) + words + (["--numbers", numbers] if numbered else []) + ["/dev/fd/%d" % file.fileno()]
         with tempfile.TemporaryFile() as said:
             started = subprocess.Popen(
-                words, stdout=subprocess.PIPE if out else None, stderr=said, pass_fds=[file.fileno()]
+                words,
+                stdout=subprocess.PIPE if out else None,
+                stderr=said,
+                pass_fds=[file.fileno()],
+                preexec_fn=running.be_deaf,
             )
             for line in started.stdout if out else ():
                 out.write(line)

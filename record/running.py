@@ -13,6 +13,10 @@ SIGNAL_AT_PARENTS_DEATH = 1
 C_LIBRARY = ctypes.CDLL(None)
 
 
+# The signals that asked this script to end while its program ran.
+passed_on = []
+
+
 class Unrunnable(Exception):
     """Why nothing was run or recorded."""
 
@@ -53,12 +57,24 @@ def run(words, surroundings, out, patience=None, source=None):
     signal.signal(signal.SIGINT, signal.SIG_IGN)
     signal.signal(signal.SIGQUIT, signal.SIG_IGN)
     for number in (signal.SIGTERM, signal.SIGHUP):
-        signal.signal(number, lambda number, _: started.send_signal(number))
+        signal.signal(number, lambda number, _: pass_on(started, number))
     try:
         return started.wait(patience), False
     except subprocess.TimeoutExpired:
         started.kill()
         return started.wait(), True
+
+
+def pass_on(started, number):
+    passed_on.append(number)
+    started.send_signal(number)
+
+
+def be_deaf():
+    """In a child that works up what there is after a signal ended the program: more of that kind, as a whole group of processes
+    gets it, do not end it."""
+    for number in passed_on:
+        signal.signal(number, signal.SIG_IGN)
 
 
 def ending(status):

@@ -36,6 +36,8 @@ PROGRAMS = [
     ("tests/recorded/read_lock.c", [], {"RACE"}),
     ("tests/recorded/freed.c", ["--no-free"], set()),
     ("tests/recorded/freed.c", [], {("freed.c:11", "freed.c:6")}),
+    ("tests/recorded/signals.c", [], {"RACE"}),
+    ("tests/recorded/sockets.c", [], {"RACE"}),
 ]
 
 
@@ -103,8 +105,8 @@ def recorded(words, seed):
     trace, said = done([os.path.join(RECORD, "run"), "--seed", str(seed), *words, "./program"])
     if not re.search(r"^record/run: recorded \d+ events, \d+ turns, \d+ taken by force$", said, re.MULTILINE):
         raise Wrong(f"the recorder did not say what it recorded: {said[:600]}")
-    if "left out" in said:
-        raise Wrong(f"something was left out: {said[:600]}")
+    if "left out" in said or "not made by pthread_create" in said:
+        raise Wrong(f"something was left out, or has no fork: {said[:600]}")
     with open("trace.std", "w", encoding="utf-8") as text:
         text.write(trace)
     return trace

@@ -156,6 +156,20 @@ def judge_killed(c):
     started.stderr.close()
 
 
+def judge_group(c):
+    """A signal to the whole group of processes, as `timeout` sends it, ends the program and not what works up its records."""
+    compiled(TWO_THREADS.replace("abort();", 'puts("on"), fflush(0), pause();').replace("<stdlib.h>", "<stdio.h>\n#include <unistd.h>"))
+    words = [os.path.join(RECORD, "run"), "./program", "waits"]
+    started = subprocess.Popen(words, stdout=subprocess.PIPE, stderr=subprocess.PIPE, start_new_session=True)
+    started.stderr.readline()
+    for _ in range(2):
+        os.killpg(started.pid, signal.SIGTERM)
+        time.sleep(0.05)
+    out, told = started.communicate(timeout=PATIENCE)
+    if b"ended by signal 15 (SIGTERM)" not in told or b"recorded" not in told or out.count(b"\n") < 6:
+        raise WrongRun(f"a group that is ended: {told}{out}")
+
+
 def is_ours(pid):
     try:
         return os.readlink(f"/proc/{pid}/exe").startswith(os.path.abspath("program"))
@@ -178,7 +192,7 @@ def judge_once(c):
 
 
 JUDGES = [("ten recordings of one seed", judge_same_runs), ("how programs end", judge_ends), ("hooks", judge_hooks),
-          ("a full disk", judge_full_disk), ("a killed run", judge_killed), ("the recorder is compiled once", judge_once)]
+          ("a full disk", judge_full_disk), ("a killed run", judge_killed), ("a group that is ended", judge_group), ("the recorder is compiled once", judge_once)]
 
 
 def cases(c):

@@ -13,8 +13,10 @@
 #include "conditions.c"
 #include "readers.c"
 #include "meetings.c"
+#include "signals.c"
 #include "descriptors.c"
 #include "channels.c"
+#include "sockets.c"
 #include "world.c"
 #undef syscall
 #include "futex.c"

@@ -27,12 +27,12 @@ static int comes_at_once(int f, u32 channel, short what, int flags) {
 
 #define ON_CHANNEL(f, channel, what, flags, call) (comes_at_once(f, channel, what, flags) ? (call) : OUTSIDE(call))
 
-/* After a call that received, or was refused. */
+/* After a call that received, or was told that nothing more comes, or was refused. */
 static ssize_t received(int f, ssize_t n, u64 pc) {
     u32 channel = in_of(f);
     int error = errno;
     if (IDLE) return n;
-    if (n > 0 && channel) {
+    if (n >= 0 && channel) {
         put_record((struct record){.kind = PASS, .at = channel, .of = OF_CHANNEL, .pc = pc, .answer = (u64)n});
         unpark(key_of(channel));
     } else {
@@ -103,9 +103,28 @@ static ssize_t write_pieces(int f, const char *from, size_t n) {
     return (ssize_t)there;
 }
 
+/* A socket takes as much as it has room for. */
+static ssize_t send_pieces(int f, const char *from, size_t n, int flags) {
+    REAL(send, ssize_t, int, const void *, size_t, int);
+    size_t there = 0;
+    do {
+        if (!comes_at_once(f, out_of(f), POLLOUT, 0)) return OUTSIDE(real(f, from + there, n - there, flags));
+        ssize_t more = real(f, from + there, n - there, flags | MSG_DONTWAIT);
+        if (more < 0 && errno == EAGAIN) let_others();
+        else if (more < 0) return there ? (ssize_t)there : more;
+        else there += (size_t)more, sent(f, more);
+    } while (there < n);
+    return (ssize_t)there;
+}
+
+static int is_waiting_socket(int f) {
+    return !IDLE && out_of(f) && in_of(f) != out_of(f) && !ends[f].is_pipe && !is_nonblocking(f);
+}
+
 static ssize_t write_at(int f, const void *from, size_t n, u64 pc) {
     access_(READ, from, n, pc);
     sends(f, pc);
+    if (is_waiting_socket(f)) return send_pieces(f, from, n, 0);
     if (!IDLE && out_of(f) && ends[f].is_pipe && n > PIPE_BUF && !is_nonblocking(f)) return write_pieces(f, from, n);
     return sent(f, ON_CHANNEL(f, out_of(f), POLLOUT, 0, __real_write(f, from, n)));
 }
@@ -129,9 +148,23 @@ RECEIVES(readv, (int f, const struct iovec *v, int n), (f, v, n), f, 0)
 RECEIVES(recvfrom, (int f, void *to, size_t n, int g, struct sockaddr *a, socklen_t *m), (f, to, n, g, a, m), f, g)
 RECEIVES(recvmsg, (int f, struct msghdr *m, int g), (f, m, g), f, g)
 SENDS(writev, (int f, const struct iovec *v, int n), (f, v, n), f, 0)
-SENDS(send, (int f, const void *from, size_t n, int g), (f, from, n, g), f, g)
 SENDS(sendto, (int f, const void *b, size_t n, int g, const struct sockaddr *a, socklen_t m), (f, b, n, g, a, m), f, g)
 SENDS(sendmsg, (int f, const struct msghdr *m, int g), (f, m, g), f, g)
+
+ssize_t send(int f, const void *from, size_t n, int g) {
+    REAL(send, ssize_t, int, const void *, size_t, int);
+    sends(f, PC);
+    if (!(g & MSG_DONTWAIT) && is_waiting_socket(f)) return send_pieces(f, from, n, g);
+    return sent(f, ON_CHANNEL(f, out_of(f), POLLOUT, g, real(f, from, n, g)));
+}
+
+/* The other end is told that nothing more comes. */
+int shutdown(int f, int how) {
+    REAL(shutdown, int, int, int);
+    u32 channel = how == SHUT_RD ? 0 : out_of(f);
+    if (channel) sends(f, PC);
+    return (int)sent(f, real(f, how));
+}
 
 ssize_t recv(int f, void *to, size_t n, int g) {
     REAL(recv, ssize_t, int, void *, size_t, int);

@@ -45,10 +45,11 @@ static int gives_again(int from, int to, u64 pc) {
     return to;
 }
 
-/* Before a call that closes. */
+/* Before a call that closes: who reads to the end comes after it. */
 static void closes(int f, u64 pc) {
     if (IDLE) return;
     maybe_give();
+    if (out_of(f)) pass_of(OF_CHANNEL, out_of(f), pc);
     pass_of(OF_DESCRIPTOR, (u64)f, pc);
 }
 

@@ -4,6 +4,7 @@ struct child {
     void *(*body)(void *);
     void *argument;
     u32 number;
+    sigset_t mask;
 };
 
 static u32 threads = 1;
@@ -54,6 +55,7 @@ static void end_of_thread(void *round) {
 }
 
 static void *child_body(void *p) {
+    inside = 1;
     struct child c = *(struct child *)p;
     __libc_free(p);
     me = c.number;
@@ -62,17 +64,25 @@ static void *child_body(void *p) {
     kernel_ids[me] = (pid_t)syscall(SYS_gettid);
     joinable[me] = 1;
     /* The maker goes on when this thread waits for its turn, so that the order of turns follows from the seed alone. */
-    inside = 1;
     get_in_line();
     __atomic_store_n(&came[me], 1, SC);
     wait_in_line();
     inside = 0;
     own_stack();
+    pthread_sigmask(SIG_SETMASK, &c.mask, NULL);
     if (is_of_openmp(c.body)) {
         __atomic_store_n(&came[me], 2, SC);
         give();
     }
     return c.body(c.argument);
+}
+
+/* A thread that begins has no signals until it has its number and its turn. `mask` is the one that it gets then. */
+static void hold_signals(const pthread_attr_t *attributes, sigset_t *mask, sigset_t *before) {
+    sigset_t all;
+    sigfillset(&all);
+    pthread_sigmask(SIG_SETMASK, &all, before);
+    if (!attributes || pthread_attr_getsigmask_np(attributes, mask)) *mask = *before;
 }
 
 static int create(pthread_t *id, const pthread_attr_t *attributes, void *(*body)(void *), void *argument, u64 pc) {
@@ -85,11 +95,14 @@ static int create(pthread_t *id, const pthread_attr_t *attributes, void *(*body)
     if (number == NOBODY) number = __atomic_fetch_add(&threads, 1, SC);
     struct child *c = number < MOST_THREADS ? __libc_malloc(sizeof *c) : NULL;
     if (!c) return real(id, attributes, body, argument);
-    *c = (struct child){body, argument, number};
+    *c = (struct child){.body = body, .argument = argument, .number = number};
+    sigset_t before;
     u64 place = put(FORK, number, 0, pc);
     __atomic_fetch_add(&living, 1, SC);
     inside = 1;
+    hold_signals(attributes, &c->mask, &before);
     int answer = real(id, attributes, child_body, c);
+    pthread_sigmask(SIG_SETMASK, &before, NULL);
     if (!answer) while (!__atomic_load_n(&came[number], SC)) syscall(SYS_sched_yield);
     inside = 0;
     /* A thread of libgomp has its first turn at once: its maker may wait for it in the library. */

@@ -9,13 +9,21 @@ WAITS(int, select, (int n, fd_set *r, fd_set *w, fd_set *e, struct timeval *t), 
 WAITS(int, pselect, (int n, fd_set *r, fd_set *w, fd_set *e, const struct timespec *t, const sigset_t *s),
       (n, r, w, e, t, s))
 WAITS(int, epoll_pwait, (int f, struct epoll_event *e, int n, int t, const sigset_t *s), (f, e, n, t, s))
-WAITS(int, connect, (int f, const struct sockaddr *a, socklen_t n), (f, a, n))
 WAITS(int, nanosleep, (const struct timespec *t, struct timespec *rest), (t, rest))
 WAITS(int, clock_nanosleep, (clockid_t c, int g, const struct timespec *t, struct timespec *rest), (c, g, t, rest))
 WAITS(int, usleep, (useconds_t t), (t))
 WAITS(unsigned, sleep, (unsigned t), (t))
 WAITS(pid_t, wait, (int *status), (status))
 WAITS(pid_t, waitpid, (pid_t p, int *status, int g), (p, status, g))
+WAITS(pid_t, wait3, (int *status, int g, struct rusage *u), (status, g, u))
+WAITS(pid_t, wait4, (pid_t p, int *status, int g, struct rusage *u), (p, status, g, u))
+WAITS(int, waitid, (idtype_t of, id_t id, siginfo_t *info, int g), (of, id, info, g))
+WAITS(int, pause, (void), ())
+WAITS(int, sigsuspend, (const sigset_t *s), (s))
+WAITS(int, sigwait, (const sigset_t *s, int *number), (s, number))
+WAITS(int, sigwaitinfo, (const sigset_t *s, siginfo_t *info), (s, info))
+WAITS(int, sigtimedwait, (const sigset_t *s, siginfo_t *info, const struct timespec *t), (s, info, t))
+WAITS(int, flock, (int f, int what), (f, what))
 WAITS(int, thrd_sleep, (const struct timespec *t, struct timespec *rest), (t, rest))
 
 int sched_yield(void) {
@@ -98,13 +106,13 @@ int epoll_wait(int f, struct epoll_event *to, int n, int t) {
         if (IDLE) return real passed_on; \
         struct tick_entry *e = following ? entry_of_accept(PC) : NULL; \
         if (e && (e->code & 127) == ANSWER) return errno = (int)e->answer, gives(-1, PC); \
-        if (!e) return gives(OUTSIDE(real passed_on), PC); \
+        if (!e) return is_accepted(gives(OUTSIDE(real passed_on), PC), PC); \
         int got_one; \
         for (int tries = 0; (got_one = at_once(f, POLLIN) ? real passed_on : (errno = EAGAIN, -1)) < 0; tries++) { \
             if ((errno != EAGAIN && errno != EINTR) || given_up(tries)) world_differs(); \
             moment(); \
         } \
-        return gives(got_one, PC); \
+        return is_accepted(gives(got_one, PC), PC); \
     }
 static struct tick_entry *entry_of_accept(u64 pc) {
     struct tick_entry *e = world_expected(ANSWER, pc);

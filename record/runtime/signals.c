@@ -1,0 +1,50 @@
+/* Signals. A handler that comes while its thread waits outside of its turn takes the turn at its first hook, and gives
+ * it back at its end: else the thread would wait on with the token. */
+
+static struct sigaction handlers[NSIG];
+
+static void handle(int number, siginfo_t *info, void *context) {
+    struct sigaction *a = &handlers[number];
+    int outside = !IDLE && me < MOST_THREADS && holder != me;
+    if (a->sa_flags & SA_SIGINFO) a->sa_sigaction(number, info, context);
+    else a->sa_handler(number);
+    if (outside) give();
+}
+
+static int is_handler(const struct sigaction *a) {
+    return (a->sa_flags & SA_SIGINFO) || (a->sa_handler != SIG_DFL && a->sa_handler != SIG_IGN);
+}
+
+static int set_handler(int number, const struct sigaction *wanted, struct sigaction *before) {
+    REAL(sigaction, int, int, const struct sigaction *, struct sigaction *);
+    if (number <= 0 || number >= NSIG) return real(number, wanted, before);
+    struct sigaction was = handlers[number], ours;
+    if (wanted) ours = *wanted;
+    if (wanted && is_handler(wanted)) {
+        handlers[number] = *wanted;
+        ours.sa_sigaction = handle, ours.sa_flags |= SA_SIGINFO;
+    }
+    int answer = real(number, wanted ? &ours : NULL, before);
+    if (!answer && before && (before->sa_flags & SA_SIGINFO) && before->sa_sigaction == handle) {
+        before->sa_sigaction = was.sa_sigaction;
+        if (!(was.sa_flags & SA_SIGINFO)) before->sa_flags &= ~SA_SIGINFO;
+    }
+    return answer;
+}
+
+int sigaction(int number, const struct sigaction *wanted, struct sigaction *before) {
+    u8 outer = inside;
+    inside = 1;
+    int answer = set_handler(number, wanted, before);
+    inside = outer;
+    return answer;
+}
+
+/* As signal() of the C library: a call that is interrupted goes on, and the handler stays. */
+sighandler_t signal(int number, sighandler_t handler) {
+    struct sigaction wanted = {.sa_flags = SA_RESTART}, before;
+    wanted.sa_handler = handler;
+    sigemptyset(&wanted.sa_mask);
+    sigaddset(&wanted.sa_mask, number);
+    return handler == SIG_ERR || sigaction(number, &wanted, &before) ? SIG_ERR : before.sa_handler;
+}
