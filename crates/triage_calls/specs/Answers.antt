@@ -1,5 +1,5 @@
 -- What `triage` answers of the bytes that it reads, and what its writer has taken. All notions here are this project's own.
-use Rattle.std.specs.Prelude.{◌≡◌, ◌⊎◌, ℕ, Bool, List, length, map, All, None, Some, Option, Result, Ok, Err, IfSome, Vec, slice_index, ⊤}
+use Rattle.std.specs.Prelude.{◌≡◌, ◌≤◌, ◌⊎◌, ℕ, Bool, List, length, map, All, None, Some, Option, Result, Ok, Err, IfSome, Vec, slice_index, ⊤}
 use Rattle.std.specs.declared.alloc.Global.{Global}
 use Rattle.std.specs.Io.KnownBytes.{Appends}
 use Rattle.rapid_text.specs.Recording.{Recording}
@@ -9,10 +9,12 @@ use Rattle.race_page.specs.Pages.{IsPage}
 use Rattle.race_page.specs.Rows.{all_rows}
 use Rattle.race_triage.specs.Chosen.{AreChosen}
 use Rattle.race_triage.specs.Known.{AreKnown}
-use Rattle.race_triage.specs.Places.{AreNumbered, AreNumbers}
-use Rattle.race_triage.specs.Texts.{IsTriageText}
-use Rattle.race_triage.specs.Verdicts.{IsVerdict, AreAllTold, AreRising}
+use Rattle.race_triage.specs.Places.{AreFirstUses, AreNumbered, AreNumbers}
+use Rattle.race_triage.specs.Texts.{AreTotals, IsTriageText}
+use Rattle.race_triage.specs.Totals.{AreTotalsOf}
+use Rattle.race_triage.specs.Verdicts.{IsVerdict, AreAllTold, AreOnceTold, AreRising}
 use Rattle.race_triage.specs.declared.chosen.Chosen.{Chosen}
+use Rattle.race_triage.specs.declared.totals.Totals.{Totals}
 use Rattle.race_triage.specs.declared.verdicts.TheConstants.{MAX_PLACES}
 use Rattle.race_triage.specs.declared.verdicts.Verdict.{Verdict}
 use Rattle.client_scripts.specs.Replay.{AppendsPart, IsAccepted, IsFault, IsUnreadable, of_trace}
@@ -26,12 +28,16 @@ use Rattle.triage_calls.specs.declared.listing.Asked.{Asked}
 use Rattle.triage_calls.specs.declared.listing.Form.{Form}
 use Rattle.triage_calls.specs.declared.listing.Form.TheVariants.{Text, Json, Page}
 
--- The verdicts on a trace, whose events have these numbers of places, where so many open pairs of two places are tried.
+-- The verdicts on a trace, whose events have these numbers of places, where so many open pairs of two places are tried: one for each two places of
+-- a conflicting pair. What is counted of them is counted of the trace.
 pub record AreVerdicts (r : Recording) (numbers : List ℕ) (tries : ℕ) (apart : Bool) (vs : List Verdict) : Type 0 where
   pub places : AreNumbers r numbers
   pub verdicts : All (IsVerdict r (slice_index numbers) tries apart) vs
   pub complete : AreAllTold r.events (slice_index numbers) vs
+  pub once : AreOnceTold vs
+  pub few : length vs ≤ MAX_PLACES
   pub rising : AreRising vs
+  pub totals : (t : Totals) → AreTotals r vs t → AreTotalsOf r (slice_index numbers) t
 
 -- the filters' texts
 abbrev pub only_of : Asked → List (List ℕ)
@@ -60,6 +66,7 @@ pub record IsListing (r : Recording) (given : Option (List ℕ)) (asked : Asked)
   pub keys : List (Vec ℕ Global)
   pub numbers : List ℕ
   pub numbered : AreNumbered r (length r.events) keys numbers
+  pub firsts : AreFirstUses r (length r.events) keys
   pub known : Option (List (ℕ × ℕ))
   pub known_is : IsGiven keys given known
   pub verdicts : List Verdict

@@ -1,2 +1,3 @@
 pub mod Answers
 pub mod TriageFaults
+pub mod Laws

@@ -4,7 +4,7 @@ ghost use Rattle.client_scripts.specs.declared.fault.ReadCause.TheVariants.{Devi
 ghost use Rattle.client_scripts.specs.declared.fault.ReplayFault.TheVariants.{Read, Write};
 ghost use Rattle.client_scripts.specs.Loading.{IsTraceOf};
 ghost use Rattle.race_triage.specs.Chosen.{known_places, AreChosen};
-ghost use Rattle.race_triage.specs.Places.{AreNumbered};
+ghost use Rattle.race_triage.specs.Places.{AreFirstUses, AreNumbered};
 ghost use Rattle.triage_calls.specs.Answers.{hide_of, only_of, AreVerdicts, IsGiven, IsKnownRead, IsKnownUnread, IsListing, IsToldIn, IsTriaged, IsUntold, IsWritten};
 ghost use Rattle.triage_calls.specs.declared.fault.TriageFault.TheVariants.{Replay};
 
@@ -243,6 +243,7 @@ fn text_of_found(
     requires must { must.now ≡ indexed.now }
     requires found { AreVerdicts indexed.now found.now.places.numbers.items asked.tries asked.apart found.now.verdicts.items }
     requires numbered { AreNumbered indexed.now (length indexed.now.events) found.now.places.locations.keys found.now.places.numbers.items }
+    requires firsts { AreFirstUses indexed.now (length indexed.now.events) found.now.places.locations.keys }
     ensures listing { IfOk result (λ made. IsListing indexed.now (option_map (λ v. v.items) listed.now) asked.entry made.1 made.0.items) }
     ensures fault { IfErr result (IsUntold indexed.now) }
 {
@@ -266,6 +267,7 @@ fn told(
     requires must { must.now ≡ indexed.now }
     requires found { AreVerdicts indexed.now found.now.places.numbers.items asked.tries asked.apart found.now.verdicts.items }
     requires numbered { AreNumbered indexed.now (length indexed.now.events) found.now.places.locations.keys found.now.places.numbers.items }
+    requires firsts { AreFirstUses indexed.now (length indexed.now.events) found.now.places.locations.keys }
     ensures { IfOk result (λ made. IsListing indexed.now (option_map (λ v. v.items) listed.now) asked.entry made.1 made.0.items) }
 {
     let known = known_in(alloc, &found.places, listed)?;
@@ -349,6 +351,7 @@ fn found_of<R: Threads + Sync, W: Watch + Sync>(
     requires must { must.now ≡ indexed.now }
     ensures found { IfOk result (λ found. AreVerdicts indexed.now found.places.numbers.items asked.entry.tries asked.entry.apart found.verdicts.items) }
     ensures numbered { IfOk result (λ found. AreNumbered indexed.now (length indexed.now.events) found.places.locations.keys found.places.numbers.items) }
+    ensures firsts { IfOk result (λ found. AreFirstUses indexed.now (length indexed.now.events) found.places.locations.keys) }
     ensures fault { IfErr result (IsUntold indexed.now) }
 {
     match verdicts_of(

@@ -1,0 +1,24 @@
+-- What is told of a trace is one, whoever found it. All notions here are this project's own.
+use Rattle.std.specs.Prelude.{◌≡◌, ℕ, List, Option, ⊤}
+use Rattle.rapid_text.specs.Recording.{Recording}
+use Rattle.race_triage.specs.Same.{IsLegal}
+use Rattle.triage_calls.specs.Answers.{IsListing}
+use Rattle.triage_calls.specs.declared.listing.Asked.{Asked}
+use Rattle.triage_calls.specs.declared.listing.Form.{Form}
+use Rattle.triage_calls.specs.declared.listing.Form.TheVariants.{Text, Json, Page}
+
+-- lines, of text or of JSON, and no page
+abbrev pub IsLines : Form → Type 0
+IsLines Text = ⊤
+IsLines Json = ⊤
+IsLines (Page name) = ⊥
+
+-- Two texts in lines that tell of one trace what was asked for are one, and tell of as many races, however many workers there were for each.
+abbrev pub ListingsAreOne : Type 0
+ListingsAreOne =
+    (r : Recording) (given : Option (List ℕ)) (asked : Asked) (workers races others : ℕ) (text words : List ℕ)
+    → IsLegal r
+    → IsLines asked.form
+    → IsListing r given asked races text
+    → IsListing r given (record asked { workers = workers }) others words
+    → (text ≡ words) × (races ≡ others)
