@@ -1,8 +1,9 @@
 -- What is read of the lines of a text, one by one.
-use Rattle.std.proofs.Common.{◌≡◌, ℕ, suc, ◌+◌, Bool, true, false, cond, not, List, [], ◌∷◌, ◌++◌, length, take, drop, filter, get_or, min, max, Contains, Vec, Option, Some, None, refl, sym, ap, ◌∙◌, subst, arith, inl, inr, true≢false}
+use Rattle.std.proofs.Common.{◌≡◌, ℕ, suc, ◌+◌, ◌<◌, ◌≤◌, Bool, true, false, cond, not, List, [], ◌∷◌, ◌++◌, length, take, drop, filter, get_or, min, max, Contains, Vec, Option, Some, None, refl, sym, ap, ◌∙◌, subst, arith, inl, inr, true≢false}
 use Rattle.std.specs.Prelude.{◌↔◌, ◌⊎◌, IfNone, IfSome, slice_index}
 use Rattle.std.specs.Bool.{if◌then◌else◌}
 use Rattle.std.specs.List.{before_first, list_any, position_or_len, slice_split}
+use Rattle.std.proofs.lemmas.Map.Views.{list_any-from_Contains}
 use Rattle.std.proofs.lemmas.List.Elements.{Contains-append_left, Contains-push_cases}
 use Rattle.std.specs.declared.alloc.Global.{Global}
 use denote.Ref.{Bor}
@@ -12,9 +13,9 @@ use Rattle.indexmap.specs.IndexSet.{insert_key}
 use Rattle.rapid_text.specs.Reading.{is_line_feed}
 use Rattle.rapid_text.specs.Recording.{Recording}
 use Rattle.race_groups.specs.Rows.{same_places}
-use Rattle.race_groups.proofs.RowLemmas.{between_cases, same_places_are}
+use Rattle.race_groups.proofs.RowLemmas.{between_cases, same_places-equiv, same_places_are}
 use Rattle.race_triage.specs.Blocks.{AreAhead, ArePair, IsAhead, IsNoted, IsPlace, IsReadUpTo, IsRead, IsTold}
-use Rattle.race_triage.specs.Known.{accesses_in, is_access, is_head, AreFirstTwo, AreKnown, HasBlock, IsBlock, NamesRace, OnlyNamed}
+use Rattle.race_triage.specs.Known.{accesses_in, is_access, is_head, AreFirstTwo, AllNamed, AreKnown, HasBlock, IsBlock, NamesRace, OnlyNamed}
 use Rattle.race_triage.specs.Places.{AreNumbered, IsSpot}
 use Rattle.race_triage.proofs.PlaceLemmas.{is_text, one_text}
 use Rattle.race_triage.specs.declared.known.Block.{Block}
@@ -328,3 +329,31 @@ module _ (r : Recording) (keys : List (Vec ℕ Global)) (numbers text : List ℕ
         | inl same ↦ inl (names_same x y h.0 h.1 a b told.0 told.1 x_at y_at told.2 told.3 same h.2)
         | inr turned ↦ inr (names_turned x y h.0 h.1 a b told.0 told.1 x_at y_at told.2 told.3 turned h.2)
       ]
+
+-- a rising pair of two numbers has the lesser of them first, in which order they may stand
+rising_pair : (p q a b : ℕ) → p ≤ q → ((a ≡ p) × (b ≡ q)) ⊎ ((a ≡ q) × (b ≡ p)) → (p ≡ min a b) × (q ≡ max a b)
+rising_pair p q a b low (inl is) = (omega (arith, low, is.0, is.1), omega (arith, low, is.0, is.1))
+rising_pair p q a b low (inr is) = (omega (arith, low, is.0, is.1), omega (arith, low, is.0, is.1))
+
+turned_pair : (p q a b : ℕ) → (p ≡ min a b) × (q ≡ max a b) → (p ≡ min b a) × (q ≡ max b a)
+turned_pair p q a b is = (omega (arith, is.0), omega (arith, is.1))
+
+module _ (r : Recording) (keys : List (Vec ℕ Global)) (numbers text : List ℕ) where
+  -- what the text names is noted
+  noted_pair : (pairs : List (ℕ × ℕ)) → AreKnown keys text pairs → (x y : List ℕ) (a b p q : ℕ)
+      → IsSpot keys x a → IsSpot keys y b → (p ≡ min a b) × (q ≡ max a b) → NamesRace text x y → Contains pairs (p, q)
+  noted_pair pairs are x y a b p q x_at y_at is names = (are p q).1 (x, y, names, (a, b, x_at, y_at, is.0, is.1))
+
+  pub all_named : (pairs : List (ℕ × ℕ)) → AreKnown keys text pairs → AreNumbered r (length r.events) keys numbers → AllNamed r numbers text pairs
+  all_named pairs are numbered v x y first second at also low lie named =
+      let places : ℕ × ℕ = v.row.places in
+      let a : ℕ = slice_index numbers v.first in
+      let b : ℕ = slice_index numbers v.second in
+      let x_at : IsSpot keys x a = numbered.spots v.first x first at in
+      let y_at : IsSpot keys y b = numbered.spots v.second y second also in
+      let is = rising_pair places.0 places.1 a b low (between_cases places.0 places.1 a b lie) in
+      let there : Contains pairs (places.0, places.1) = elim named [
+        | inl one ↦ noted_pair pairs are x y a b places.0 places.1 x_at y_at is one
+        | inr other ↦ noted_pair pairs are y x b a places.0 places.1 y_at x_at (turned_pair places.0 places.1 a b is) other
+      ] in
+      list_any-from_Contains same_places-equiv places pairs there

@@ -1,5 +1,5 @@
 -- Which races a text names, and which pairs of places these are. All notions here are this project's own.
-use Rattle.std.specs.Prelude.{◌≡◌, ◌↔◌, ◌⊎◌, ◌&&◌, ◌<◌, ℕ, nat_eq, not, min, max, Bool, true, List, ◌∷◌, ◌++◌, filter, length, slice_get, slice_index, Contains, Vec, Some, codes}
+use Rattle.std.specs.Prelude.{◌≡◌, ◌↔◌, ◌⊎◌, ◌&&◌, ◌<◌, ◌≤◌, ℕ, nat_eq, not, min, max, Bool, true, List, ◌∷◌, ◌++◌, filter, length, slice_get, slice_index, Contains, Vec, Some, codes}
 use Rattle.std.specs.List.{after_first, before_first, list_any, slice_split, starts_with}
 use Rattle.std.specs.declared.alloc.Global.{Global}
 use Rattle.rapid_text.specs.Reading.{is_bar, is_line_feed, trimmed}
@@ -64,3 +64,12 @@ OnlyNamed r numbers text pairs =
     (v : Verdict) (x y : List ℕ) → v.first < length r.events → v.second < length r.events
     → slice_get r.locations v.first ≡ Some x → slice_get r.locations v.second ≡ Some y
     → AreAt (slice_index numbers) v.row.places v.first v.second → is_known (Some pairs) v ≡ true → NamesRace text x y ⊎ NamesRace text y x
+
+-- A verdict on two places, the lesser first, at which its two events lie, is known if the text names their two locations, in one order or
+-- the other.
+abbrev pub AllNamed : Recording → List ℕ → List ℕ → List (ℕ × ℕ) → Type 0
+AllNamed r numbers text pairs =
+    (v : Verdict) (x y : List ℕ) → v.first < length r.events → v.second < length r.events
+    → slice_get r.locations v.first ≡ Some x → slice_get r.locations v.second ≡ Some y
+    → v.row.places.0 ≤ v.row.places.1 → AreAt (slice_index numbers) v.row.places v.first v.second
+    → NamesRace text x y ⊎ NamesRace text y x → is_known (Some pairs) v ≡ true

@@ -5,7 +5,7 @@ ghost use Rattle.rapid_text.specs.LinesLeft.{bytes_left, lines_left};
 ghost use Rattle.rapid_text.specs.Reading.{is_bar, is_line_feed};
 ghost use Rattle.rapid_text.specs.Recording.{Recording};
 ghost use Rattle.race_triage.specs.Blocks.{ArePair, IsNoted, IsPlace, IsRead};
-ghost use Rattle.race_triage.specs.Known.{is_access, is_head, AreKnown, HasBlock, IsLocation, OnlyNamed};
+ghost use Rattle.race_triage.specs.Known.{is_access, is_head, AllNamed, AreKnown, HasBlock, IsLocation, OnlyNamed};
 ghost use Rattle.race_triage.specs.Places.{AreNumbered};
 
 use crate::places::Places;
@@ -24,6 +24,9 @@ pub fn known_of(alloc: Global, places: &Places, text: &[u8]) -> Result<Known, Ou
     // Where these are the places of a trace, a verdict on it is known only where the text names its two locations.
     ensures named { IfOk result (λ known. (r : Recording) → AreNumbered r (length r.events) places.now.locations.keys places.now.numbers.items
         → OnlyNamed r places.now.numbers.items text.now known.keys) }
+    // And it is known if the text names them.
+    ensures all_named { IfOk result (λ known. (r : Recording) → AreNumbered r (length r.events) places.now.locations.keys places.now.numbers.items
+        → AllNamed r places.now.numbers.items text.now known.keys) }
 {
     let mut known = IndexSet::new(alloc);
     let mut block = Block::Nothing;

@@ -5,7 +5,7 @@ use Rattle.rapid_text.specs.Reading.{is_line_feed}
 use Rattle.race_triage.specs.Blocks.{IsReadUpTo}
 use Rattle.race_triage.specs.declared.known.Block.TheVariants.{Nothing}
 use Rattle.race_triage.specs.Known.{AreKnown}
-use Rattle.race_triage.proofs.KnownLemmas.{AreKnown-end, IsReadUpTo-start, IsReadUpTo-step, only_named}
+use Rattle.race_triage.proofs.KnownLemmas.{AreKnown-end, IsReadUpTo-start, IsReadUpTo-step, all_named, only_named}
 use Rattle.race_triage.proofs.known.known_of.Goals as goal
 
 pub loop-left-init : goal.loop-left-init
@@ -29,4 +29,5 @@ returns c =
     record {
       known = are;
       named = λ r numbered. only_named r keys c.args.places.now.numbers.items c.args.text.now known are numbered;
+      all_named = λ r numbered. all_named r keys c.args.places.now.numbers.items c.args.text.now known are numbered;
     }
