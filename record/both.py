@@ -1,31 +1,56 @@
 """A race in both orders: what each leads to, and whether the order matters."""
+import re
 import sys
 import tempfile
+from collections import namedtuple
 
 import following
 import telling
 
 ORDERS = (("first", "A first"), ("second", "B first"))
 
+# Outputs that differ are looked at with so many seeds at least.
+SEEDS = 4
+# Words that vary by themselves are taken for a difference of the orders no more often than this.
+CHANCE = 0.1
+
+Run = namedtuple("Run", "seed result ending output")
+
 
 class Tried:
-    """The runs of one order: their results, endings and outputs."""
+    """The runs of one order: their seeds, results, endings and outputs."""
 
     def __init__(self):
-        self.results, self.endings, self.outputs = [], [], []
+        self.runs = []
 
-    def run(self, plan, then, words, options, echo=False):
+    def run(self, plan, then, words, options, seed, echo=False):
         with tempfile.TemporaryFile(prefix="record") as out:
-            result = following.followed(plan, then, words, options.seed + len(self.results), options.timeout, out=out)
+            result = following.followed(plan, then, words, seed, options.timeout, out=out)
             out.seek(0)
             output = out.read()
         if echo:
             sys.stderr.buffer.write(output)
             sys.stderr.flush()
-        self.results.append(result)
-        self.endings.append(telling.ending(result))
-        self.outputs.append(output)
+        self.runs.append(Run(seed, result, telling.ending(result), output))
         return result
+
+    @property
+    def results(self):
+        return [run.result for run in self.runs]
+
+    @property
+    def endings(self):
+        return [run.ending for run in self.runs]
+
+    @property
+    def outputs(self):
+        return {run.output for run in self.runs}
+
+    @property
+    def words(self):
+        """What all outputs have at each place: the set of words there, and last how many words there are."""
+        split = [re.split(rb"(\s+)", output) for output in self.outputs]
+        return [set(there) for there in zip(*split)] + [{len(words) for words in split}]
 
     def text(self):
         """The endings, and how often each was seen if there are several."""
@@ -35,26 +60,40 @@ class Tried:
         return ", ".join("%s in %d of %d" % (one, self.endings.count(one), len(self.endings)) for one in seen)
 
 
+def is_told_apart(first, second):
+    """Whether a word, or how many there are, is always one in an order and always another in the other order. If other
+    words vary, there have to be enough seeds that this is not theirs by chance (as if each had two values)."""
+    differ = vary = 0
+    for one, other in [*zip(first.words[:-1], second.words[:-1]), (first.words[-1], second.words[-1])]:
+        vary += max(len(one), len(other)) > 1
+        differ += len(one) == len(other) == 1 and one != other
+    seeds = min(len({run.seed for run in tried.runs}) for tried in (first, second))
+    return differ and vary * 2.0 ** (1 - 2 * seeds) < CHANCE
+
+
 def difference(first, second):
-    """Why the order matters, or nothing. Outputs count only if each order gives its own again."""
+    """Whether the order matters, or None if that is not known; and why."""
     if set(first.endings) != set(second.endings):
-        return "the endings differ"
-    if len(set(first.outputs)) == 1 and len(set(second.outputs)) == 1 and first.outputs[0] != second.outputs[0]:
-        return "the outputs differ"
-    return ""
+        return True, "the endings differ"
+    if len(first.outputs | second.outputs) == 1:
+        return False, ""
+    return (True, "the outputs differ") if is_told_apart(first, second) else (None, "the outputs vary by themselves")
 
 
 def both(plan, words, options, echo=False):
-    """Follows the race in both orders, each as often as is wanted. It ends at the first that departs."""
+    """Follows the race in both orders, each with as many seeds as are wanted. It ends at the first that departs.
+    If outputs differ, the first seed is taken once more, and so many others that there are SEEDS."""
     tried = {then: Tried() for then, _ in ORDERS}
+    seeds = range(options.seed, options.seed + options.tries)
     for then, _ in ORDERS:
-        for _ in range(options.tries):
-            if not tried[then].run(plan, then, words, options, echo).stands:
+        for seed in seeds:
+            if not tried[then].run(plan, then, words, options, seed, echo).stands:
                 return tried
-    first, second = tried["first"], tried["second"]
-    if options.tries == 1 and difference(first, second) == "the outputs differ":
+    first, second = tried.values()
+    if first.outputs.isdisjoint(second.outputs) and set(first.endings) == set(second.endings):
         for then, _ in ORDERS:
-            tried[then].run(plan, then, words, options)
+            for seed in [options.seed, *range(seeds.stop, options.seed + SEEDS)]:
+                tried[then].run(plan, then, words, options, seed)
     return tried
 
 

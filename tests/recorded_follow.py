@@ -35,6 +35,14 @@ PROGRAMS = {
 }
 # So many races stand at least in all programs together: ring.c waits by the time, so it has one or more.
 ALL_RACES = 16
+DIFFER, NO_DIFFERENCE = "the order matters: the outputs differ", "it makes no difference"
+UNKNOWN = "whether the order matters is not known: the outputs vary by themselves"
+# What outputs.c shows, how many tries, whether the order matters, and what is told: a value that hangs on the order, alone and beside
+# others that do not; nothing; one of two values that come in both orders; values that are others in each run.
+OUTPUTS = [
+    ("seen", 1, True, DIFFER), ("seen order", 1, True, DIFFER), ("seen order", 3, True, DIFFER), ("", 3, False, NO_DIFFERENCE),
+    ("half", 6, None, UNKNOWN), ("order", 3, None, UNKNOWN), ("process", 1, None, UNKNOWN),
+]
 
 
 class WrongFollow(Exception):
@@ -59,10 +67,10 @@ def recorded(source, words, name="program"):
         file.write(trace)
 
 
-def confirmed(racebench, name="program", *words, wanted=0):
+def confirmed(racebench, name="program", *words, wanted=0, **more):
     """What record/confirm found of each race."""
     out, _ = ran([os.path.join(RECORD, "confirm"), "--racebench", racebench, "--json", name + ".json", "--timeout", "20", *words,
-                  name + ".std", name + ".clock"], wanted)
+                  name + ".std", name + ".clock"], wanted, **more)
     with open(name + ".json", encoding="ascii") as lines:
         found = [json.loads(line) for line in lines]
     if not out.splitlines()[-1].startswith(f"races {len(found)}, stand "):
@@ -119,6 +127,21 @@ def judge_orders(racebench):
             raise WrongFollow(f"count.c, {then}: {told}")
 
 
+def judge_outputs(racebench):
+    """Whether the order matters is told by outputs that hang on the order alone, and is not known where they vary by themselves."""
+    recorded(os.path.join(SOURCES, "outputs.c"), [])
+    pair, witness = witness_of(racebench, "program")
+    follow = [os.path.join(RECORD, "follow"), "--then", "both", "program.clock", *pair]
+    for shown, tries, matters, told in OUTPUTS:
+        env = dict(os.environ, SHOWN=shown)
+        found = confirmed(racebench, "program", "--tries", str(tries), env=env)
+        if [one["matters"] for one in found] != [matters]:
+            raise WrongFollow(f"outputs that show {shown}, {tries} tries: {found}")
+        _, said = ran([*follow[:1], "--tries", str(tries), *follow[1:]], text=witness, env=env)
+        if said.splitlines()[-1] != f"record/follow: {told}":
+            raise WrongFollow(f"outputs that show {shown}, {tries} tries: {said}")
+
+
 def judge_departs(racebench):
     """A run whose addresses are others goes another way: that is told, with the places of both ways."""
     recorded(os.path.join(SOURCES, "departs.c"), [])
@@ -151,7 +174,10 @@ def judge_refusals(racebench):
             raise WrongFollow(f"{' '.join(words)}: {told}")
 
 
-JUDGES = [("races stand", judge_races), ("both orders", judge_orders), ("a departure", judge_departs), ("refusals", judge_refusals)]
+JUDGES = [
+    ("races stand", judge_races), ("both orders", judge_orders), ("outputs", judge_outputs), ("a departure", judge_departs),
+    ("refusals", judge_refusals),
+]
 
 
 def soak(racebench):

@@ -99,7 +99,8 @@ def ending(line: bytes) -> tuple[tuple[int, int], Told] | None:
         word = str(told["ended"])
         lines = [str(told.get("text", word))]
         if "first" in told and "second" in told:
-            matters = "the order matters" if told.get("matters") else "the order makes no difference"
+            known = {True: "the order matters", False: "the order makes no difference"}
+            matters = known.get(told.get("matters"), "it is not known whether the order matters")
             one, other = told["events"]
             lines += [f"{one} first: {told['first']}", f"{other} first: {told['second']}", matters]
         return (first, second), {"word": clean(word), "text": "\n".join(map(clean, lines))}
