@@ -12,6 +12,21 @@ from recorded_places import RECORD, TOP, WrongPlace, ran
 
 FOLDER = os.path.join(TOP, "examples", "ci")
 MAKEFILE = "tests: tests.c\n\t$(CC) -g tests.c -o tests\n"
+# A race whose first access is under a lock.
+HELD = """#include <pthread.h>
+#include <stddef.h>
+int n;
+pthread_mutex_t m = PTHREAD_MUTEX_INITIALIZER;
+void *one(void *p) { pthread_mutex_lock(&m); n = 1; pthread_mutex_unlock(&m); return p; }
+void *two(void *p) { n = 2; return p; }
+int main(void) {
+  pthread_t a, b;
+  pthread_create(&a, NULL, one, NULL);
+  pthread_create(&b, NULL, two, NULL);
+  pthread_join(a, NULL);
+  return pthread_join(b, NULL);
+}
+"""
 QUIET = "#include <stdio.h>\nint main(void) { puts(\"quiet\"); return 0; }\n"
 
 
@@ -55,6 +70,17 @@ def judge_service(racebench, name):
         raise WrongPlace("a known race is new")
 
 
+def judge_locks(racebench):
+    """A race whose first access holds a lock is shown whole."""
+    environment = {**lay_out(racebench), "SEEDS": "1"}
+    with open("tests.c", "w", encoding="ascii") as file:
+        file.write(HELD)
+    ran(["make", "CC=racebench-cc"], env=environment)
+    said = ran(["sh", "ci/triage.sh", "ci/known.txt", "./tests"], wanted=3, env=environment)
+    if not re.search(r"^race .*\n  T1\|w\(n\)\|.*\n    holds m\n  T2\|w\(n\)\|.*\n\Z", said, re.MULTILINE):
+        raise WrongPlace(f"a race with a lock is not shown whole: {said!r}")
+
+
 def judge_no_green(racebench):
     """A program without hooks, a program that is not there, and a racebench that refuses: no build is green."""
     environment = lay_out(racebench)
@@ -76,4 +102,5 @@ def judge_no_green(racebench):
 def cases(racebench):
     names = ("github.yml", "gitlab.yml", "Jenkinsfile")
     found = [(f"words of examples/ci/{name}", judge_service, (racebench, name)) for name in names]
+    found.append(("a race with a lock in a build", judge_locks, (racebench,)))
     return [*found, ("a build without a judgement is not green", judge_no_green, (racebench,))]

@@ -32,7 +32,7 @@ while [ "$seed" -le "${SEEDS:-20}" ]; do
         3)
             worst=3
             echo "seed $seed: a new race"
-            grep -A 2 '^race ' "races/$seed.txt"
+            awk '/^[^ ]/ { shown = /^race / } shown' "races/$seed.txt"
             "$racebench" triage "$trace" --known "$known" --page > "races/$seed.html" || exit 1
             ;;
         *)
