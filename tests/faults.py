@@ -95,11 +95,11 @@ def has_fault(run, text, behind=b""):
 
 
 def lacks_notes(run, wanted):
-    """Whether the run ended as the case wants, but for notes that are missing, or that quote nothing of a line."""
+    """Whether the run ended as the case wants, but for notes that are missing."""
     lines, known = run.err.splitlines(), wanted.err.splitlines()
     fault = [line for line in known[:1] if not line.startswith(b"note: ")]
     notes = lines[len(fault) :]
-    are_known = all(line in known or (line.startswith(b"note: line ") and line.endswith(b" is ``")) for line in notes)
+    are_known = all(line in known for line in notes)
     return (run.status, run.out, lines[: len(fault)]) == (wanted.status, wanted.out, fault) and are_known
 
 

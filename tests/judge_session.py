@@ -341,7 +341,7 @@ def judge_opened(sessions):
 
 
 def judge_full(sessions):
-    """Where the file may get no longer nothing is answered, the log is what it was, and the next session goes on."""
+    """Where the file may get no longer nothing is answered, a note names it, the log is what it was, and the next session goes on."""
     fresh()
     running.write("trace", "T1|w(x)|1\nT2|w(x)|2\n")
     sessions.run(b"1 new A\n")
@@ -353,7 +353,9 @@ def judge_full(sessions):
             signal.signal(signal.SIGXFSZ, signal.SIG_IGN)
             resource.setrlimit(resource.RLIMIT_FSIZE, (limit, limit))
 
-        told = sessions.run(b"1 new long-name-of-a-schedule\n", status=1, error=b"racebench: write failed\n", preexec_fn=limited)
+        noted = {**os.environ, "RACEBENCH_NOTES": "1"}
+        error = b"racebench: write failed\nnote: log cannot be written\n"
+        told = sessions.run(b"1 new long-name-of-a-schedule\n", status=1, error=error, preexec_fn=limited, env=noted)
         if told or sessions.entries() != [(1, "new A")]:
             fail(f"with {more} bytes left is told {told}, and the log has {sessions.entries()}")
         if sessions.run(b"1 list\n") != b"names A\n" or pathlib.Path("log").read_bytes() != before:

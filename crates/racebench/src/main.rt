@@ -9,6 +9,7 @@ mod input;
 mod likeness;
 mod lines;
 mod notes;
+mod output;
 mod pair_notes;
 mod progress;
 mod quoted;

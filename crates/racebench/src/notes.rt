@@ -23,7 +23,7 @@ const ASKED_BY: &str = "RACEBENCH_NOTES";
 /// How notes call standard input and output, and the script of a joint text.
 const STANDARD_INPUT: &str = "standard input";
 
-const STANDARD_OUTPUT: &str = "standard output";
+pub(crate) const STANDARD_OUTPUT: &str = "standard output";
 
 const SCRIPT: &str = "the script";
 
@@ -184,23 +184,23 @@ pub(crate) fn is_plain(rt: &HostRuntime, path: &str) -> bool {
     }
 }
 
-/// What a file holds, read again. Nothing if it is no plain file, since another kind may not give its bytes twice, or wait.
-fn bytes_again(rt: &HostRuntime, path: &str) -> Vec<u8> {
+/// What a file holds, read again. None if that fails, or if it is no plain file, since another kind may not give its bytes twice, or wait.
+fn bytes_again(rt: &HostRuntime, path: &str) -> Option<Vec<u8>> {
     if !is_plain(rt, path) {
-        return Vec::new(rt.alloc());
+        return None;
     }
     match File::open(rt, path) {
         Ok(file) => bytes_of(rt, file),
-        Err(_) => Vec::new(rt.alloc()),
+        Err(_) => None,
     }
 }
 
-/// What is read of a file.
-fn bytes_of(rt: &HostRuntime, file: File) -> Vec<u8> {
+/// What is read of a file, if it can be read whole.
+fn bytes_of(rt: &HostRuntime, file: File) -> Option<Vec<u8>> {
     let mut source = FromRead::new(file);
     match read_all(rt.alloc(), &mut source) {
-        Ok(bytes) => bytes,
-        Err(_) => Vec::new(rt.alloc()),
+        Ok(bytes) => Some(bytes),
+        Err(_) => None,
     }
 }
 
@@ -215,16 +215,15 @@ fn can_be_opened(rt: &HostRuntime, path: &str) -> bool {
     }
 }
 
-/// Appends the notes on a refused line of the trace in a file.
+/// Appends the notes on a refused line of a trace that is to stand alone, of which this is the whole text.
 fn append_trace_notes(
-    rt: &HostRuntime,
     out: &mut Vec<u8>,
     path: &str,
+    text: &[u8],
     number: u64,
 ) -> Result<(), OutOfMemory> {
-    let text = bytes_again(rt, path);
-    append_text_notes(out, path, &text, true, number)?;
-    let at_divider = match line_of(&text, true, number) {
+    append_text_notes(out, path, text, true, number)?;
+    let at_divider = match line_of(text, true, number) {
         Some(line) => is_divider(line),
         None => false,
     };
@@ -236,6 +235,22 @@ fn append_trace_notes(
     Ok(())
 }
 
+/// Appends the notes on a refused line of the trace in a file, or on a broken rule of it.
+fn append_trace_file_notes(
+    rt: &HostRuntime,
+    out: &mut Vec<u8>,
+    path: &str,
+    line: Option<u64>,
+) -> Result<(), OutOfMemory> {
+    let Some(text) = bytes_again(rt, path) else {
+        return Ok(());
+    };
+    match line {
+        Some(number) => append_trace_notes(out, path, &text, number),
+        None => append_likeness(out, path, &text),
+    }
+}
+
 /// Appends the notes on a refused line of the script in a file.
 fn append_script_file_notes(
     rt: &HostRuntime,
@@ -243,8 +258,10 @@ fn append_script_file_notes(
     path: &str,
     refusal: &ScriptRefusal,
 ) -> Result<(), OutOfMemory> {
-    let text = bytes_again(rt, path);
-    append_script_notes(out, path, &text, true, refusal)
+    match bytes_again(rt, path) {
+        Some(text) => append_script_notes(out, path, &text, true, refusal),
+        None => Ok(()),
+    }
 }
 
 /// Appends the notes on a fault of a trace and scripts in files, of which the first is the trace: input 1, and then the scripts.
@@ -256,11 +273,10 @@ pub(crate) fn append_file_notes(
 ) -> Result<(), OutOfMemory> {
     match fault {
         BenchFault::Replay(ReplayFault::Text(refusal)) => {
-            append_trace_notes(rt, out, path_of(paths, 1), refusal.line)
+            append_trace_file_notes(rt, out, path_of(paths, 1), Some(refusal.line))
         }
         BenchFault::Replay(ReplayFault::Rule(_)) => {
-            let text = bytes_again(rt, path_of(paths, 1));
-            append_likeness(out, path_of(paths, 1), &text)
+            append_trace_file_notes(rt, out, path_of(paths, 1), None)
         }
         BenchFault::Replay(ReplayFault::Script(refusal)) => {
             append_script_file_notes(rt, out, path_of(paths, 2), refusal)

@@ -1,10 +1,13 @@
 //! What the program does at the words `session` and `log`: it opens the inputs and the file of a log, which it makes where it is missing.
+ghost use Rattle.std.specs.Prelude.{◌≡◌, false};
 ghost use Rattle.kept_session.specs.Sessions.{IsInStep};
 
 use crate::doing::finish;
 use crate::input::input_at;
+use crate::notes::is_plain;
+use crate::output::Output;
 use crate::telling::{tell_log, tell_session};
-use client_scripts::{FromRead, FromWrite, ReadCause, ReplayFault, read_trace};
+use client_scripts::{FromRead, FromWrite, ReadCause, ReplayFault, Sink, read_trace};
 use event_index::Indexed;
 use kept_host::Host;
 use kept_log::Device;
@@ -130,6 +133,15 @@ fn is_missing(rt: &HostRuntime, path: &str) -> bool {
     }
 }
 
+/// The log's file was not opened to be read and written: if it can be read, it was not written.
+fn unopened(rt: &HostRuntime, path: &str) -> SessionFault {
+    if is_plain(rt, path) && File::open(rt, path).is_ok() {
+        unwritten()
+    } else {
+        unread()
+    }
+}
+
 /// Opens the file of a log, which is made if it is missing. Its name is on the disk before a line is answered: another session may have given
 /// it the name just now, and been killed.
 fn log_at(rt: &HostRuntime, path: &str, head: &[u8]) -> Result<File, SessionFault> {
@@ -139,7 +151,7 @@ fn log_at(rt: &HostRuntime, path: &str, head: &[u8]) -> Result<File, SessionFaul
     sync_folder(rt, path)?;
     match File::options().read(true).write(true).open(rt, path) {
         Ok(file) => Ok(file),
-        Err(_) => Err(unread()),
+        Err(_) => Err(unopened(rt, path)),
     }
 }
 
@@ -153,82 +165,96 @@ fn trace_at(rt: &HostRuntime, path: &str) -> Result<Indexed, SessionFault> {
 }
 
 /// Answers standard input in a session.
-fn answer_lines<D: Device + Drop>(
+fn answer_lines<D: Device + Drop, K: Sink>(
     rt: &HostRuntime,
     session: &mut Session<D>,
     client: Option<u32>,
+    writer: &mut K,
 ) -> Result<(), SessionFault>
-    requires { IsInStep D.seen D.may_leave session.old.bench.trace session.old.log session.old.bench.log }
+    requires in_step { IsInStep D.seen D.may_leave session.old.bench.trace session.old.log session.old.bench.log }
+    requires writer { K.has_failed writer.old ≡ false }
 {
     let mut reader = FromRead::new(rt.reader());
-    let mut writer = FromWrite::new(io::writer(rt));
-    run_session(rt.alloc(), session, client, &mut reader, &mut writer)
+    run_session(rt.alloc(), session, client, &mut reader, writer)
 }
 
 /// Answers standard input on a trace and the log in this file, which begins with this head.
-fn answer_on_file(
+fn answer_on_file<K: Sink>(
     rt: &HostRuntime,
     indexed: Indexed,
     head: &[u8],
     file: File,
     client: Option<u32>,
-) -> Result<(), SessionFault> {
+    writer: &mut K,
+) -> Result<(), SessionFault>
+    requires { K.has_failed writer.old ≡ false }
+{
     match Session::open(rt.alloc(), indexed, head, Host::new(file)) {
-        Ok(mut session) => answer_lines(rt, &mut session, client),
+        Ok(mut session) => answer_lines(rt, &mut session, client, writer),
         Err((fault, _)) => Err(fault),
     }
 }
 
 /// Answers standard input on a trace and the log at this path, which begins with this head.
-fn answer_behind(
+fn answer_behind<K: Sink>(
     rt: &HostRuntime,
     indexed: Indexed,
     head: &[u8],
     log: &str,
     client: Option<u32>,
-) -> Result<(), SessionFault> {
+    writer: &mut K,
+) -> Result<(), SessionFault>
+    requires { K.has_failed writer.old ≡ false }
+{
     match log_at(rt, log, head) {
-        Ok(file) => answer_on_file(rt, indexed, head, file, client),
+        Ok(file) => answer_on_file(rt, indexed, head, file, client, writer),
         Err(fault) => Err(fault),
     }
 }
 
 /// Answers standard input on a trace and the log at this path.
-fn answer_on_trace(
+fn answer_on_trace<K: Sink>(
     rt: &HostRuntime,
     indexed: Indexed,
     log: &str,
     client: Option<u32>,
-) -> Result<(), SessionFault> {
+    writer: &mut K,
+) -> Result<(), SessionFault>
+    requires { K.has_failed writer.old ≡ false }
+{
     match head_of(rt.alloc(), &indexed) {
-        Ok(head) => answer_behind(rt, indexed, &head, log, client),
+        Ok(head) => answer_behind(rt, indexed, &head, log, client, writer),
         Err(fault) => Err(SessionFault::from(fault)),
     }
 }
 
 /// Answers standard input on the trace in a file and the log in another.
-fn answer_input(
+fn answer_input<K: Sink>(
     rt: &HostRuntime,
     trace: &str,
     log: &str,
     client: Option<u32>,
-) -> Result<(), SessionFault> {
+    writer: &mut K,
+) -> Result<(), SessionFault>
+    requires { K.has_failed writer.old ≡ false }
+{
     match trace_at(rt, trace) {
-        Ok(indexed) => answer_on_trace(rt, indexed, log, client),
+        Ok(indexed) => answer_on_trace(rt, indexed, log, client, writer),
         Err(fault) => Err(fault),
     }
 }
 
-/// Answers the lines on standard input, as they come.
+/// Answers the lines on standard input, as they come. A failed write is told of standard output or of the log.
 pub(crate) fn session_on_files(
     rt: &HostRuntime,
     trace: &str,
     log: &str,
     client: Option<u32>,
 ) -> ExitCode {
-    match answer_input(rt, trace, log, client) {
+    let mut writer = Output::new(FromWrite::new(io::writer(rt)));
+    match answer_input(rt, trace, log, client, &mut writer) {
         Ok(()) => ExitCode::SUCCESS,
-        Err(fault) => tell_session(rt, fault, trace, log),
+        Err(fault) => tell_session(rt, fault, trace, log, writer.unwritten(log)),
     }
 }
 

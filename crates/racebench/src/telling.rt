@@ -1,6 +1,8 @@
 //! What the program says where it stops short of what the words ask for, and the status that it ends with then.
 
-use crate::notes::{append_file_notes, append_joint_notes, are_wanted};
+use crate::notes::{
+    STANDARD_OUTPUT, append_file_notes, append_joint_notes, append_write_note, are_wanted,
+};
 use crate::pair_notes::append_pair_note;
 use crate::quoted::append_name;
 use client_scripts::{FromWrite, ReplayFault, write_all};
@@ -162,14 +164,32 @@ pub(crate) fn tell_pair(rt: &HostRuntime, fault: PairFault, pair: &PairTask<'_>)
     }
 }
 
-/// Tells a fault of a session on the trace and the log at these paths.
+/// Appends the line that tells a failed write, and the note that names what was not written.
+fn append_unwritten(rt: &HostRuntime, out: &mut Vec<u8>, name: &str) -> Result<(), OutOfMemory> {
+    append_fault(out, &Fault::Bench(BenchFault::from(ReplayFault::Write)))?;
+    if are_wanted(rt) {
+        append_write_note(out, name)?;
+    }
+    Ok(())
+}
+
+/// Tells that what has this name was not written.
+fn tell_unwritten(rt: &HostRuntime, name: &str) -> ExitCode {
+    let mut lines = Vec::new(rt.alloc());
+    let made = append_unwritten(rt, &mut lines, name);
+    end(rt, &lines, made, ExitCode::FAILURE)
+}
+
+/// Tells a fault of a session on the trace and the log at these paths. If it is a failed write, what has the last name was not written.
 pub(crate) fn tell_session(
     rt: &HostRuntime,
     fault: SessionFault,
     trace: &str,
     log: &str,
+    unwritten: &str,
 ) -> ExitCode {
     match fault {
+        SessionFault::Replay(ReplayFault::Write) => tell_unwritten(rt, unwritten),
         SessionFault::Replay(ReplayFault::Read { input: 3, why }) => {
             tell_joint(rt, ReplayFault::Read { input: 1, why }, &[], true)
         }
@@ -180,7 +200,7 @@ pub(crate) fn tell_session(
 
 /// Tells a fault of the log at this path, which is input 2.
 pub(crate) fn tell_log(rt: &HostRuntime, fault: SessionFault, log: &str) -> ExitCode {
-    tell_session(rt, fault, log, log)
+    tell_session(rt, fault, log, log, STANDARD_OUTPUT)
 }
 
 /// Tells a fault of `triage` on the trace and the known races at these paths.

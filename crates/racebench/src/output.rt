@@ -1,0 +1,42 @@
+//! Standard output of a session, which can say that it failed: its log is written too, and the fault of both is one.
+ghost use Rattle.std.specs.Prelude.{◌≡◌, false};
+
+use crate::notes::STANDARD_OUTPUT;
+use client_scripts::{Failed, Sink};
+
+/// A writer, and whether a write to it has failed.
+#[derive(Drop)]
+pub(crate) struct Output<K: Sink> {
+    writer: K,
+    failed: bool,
+}
+
+impl<K: Sink> Output<K> {
+    /// A writer that has not failed.
+    pub(crate) fn new(writer: K) -> Output<K>
+        requires { K.has_failed writer ≡ false }
+        ensures { result.failed ≡ false }
+    {
+        Output {
+            writer,
+            failed: false,
+        }
+    }
+
+    /// What was not written at fault 95 of a session on this log.
+    pub(crate) fn unwritten<'a>(&self, log: &'a str) -> &'a str {
+        if self.failed { STANDARD_OUTPUT } else { log }
+    }
+}
+
+impl<K: Sink> Sink for Output<K> {
+    ghost taken = { λ s. K.taken s.writer };
+
+    ghost has_failed = { λ s. s.failed };
+
+    fn write(&mut self, bytes: &[u8]) -> Result<usize, Failed> {
+        let written = self.writer.write(bytes);
+        self.failed = self.failed || written.is_err();
+        written
+    }
+}
