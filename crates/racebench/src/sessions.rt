@@ -135,18 +135,21 @@ fn is_missing(rt: &HostRuntime, path: &str) -> bool {
 
 /// The log's file was not opened to be read and written: if it can be read, it was not written.
 fn unopened(rt: &HostRuntime, path: &str) -> SessionFault {
-    if is_plain(rt, path) && File::open(rt, path).is_ok() {
+    if File::open(rt, path).is_ok() {
         unwritten()
     } else {
         unread()
     }
 }
 
-/// Opens the file of a log, which is made if it is missing. Its name is on the disk before a line is answered: another session may have given
-/// it the name just now, and been killed.
+/// Opens the file of a log, which is made if it is missing. Another kind of file may have no end, so it is not read. The log's name is on the disk
+/// before a line is answered: another session may have given it the name just now, and been killed.
 fn log_at(rt: &HostRuntime, path: &str, head: &[u8]) -> Result<File, SessionFault> {
     if is_missing(rt, path) {
         make_file(rt, path, head)?;
+    }
+    if !is_plain(rt, path) {
+        return Err(unread());
     }
     sync_folder(rt, path)?;
     match File::options().read(true).write(true).open(rt, path) {
