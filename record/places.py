@@ -3,8 +3,8 @@ at an address.
 
 A location is `PLACE < FUNCTION < FUNCTION PLACE < FUNCTION PLACE ..`: the line and the function of the access, then
 those of the calls, from the inside to the outside. A place is `FILE:LINE`, with as much of the path as no other file
-of the program ends in; code without lines has `PROGRAM+0xOFFSET`. Calls inside of the C++ standard library stand
-last, so that the first place is one of the program.
+of the program ends in; code without lines has `PROGRAM+0xOFFSET`. Calls inside of the C++ standard library are left
+out if there is a line of the program.
 """
 import bisect
 import re
@@ -148,11 +148,11 @@ class Modules:
         return frames
 
     def ordered_stack(self, pc, number):
-        """The frames that are written: those of the program's own code first."""
+        """The frames that are written: those of the program's own code, or all if there is none."""
         if (pc, number) not in self.known_stacks:
             frames = self.stack(pc, number)
             own = [frame for frame in frames if not frame[2]]
-            self.known_stacks[pc, number] = (own + [frame for frame in frames if frame[2]])[:MOST_FRAMES]
+            self.known_stacks[pc, number] = (own or frames)[:MOST_FRAMES]
         return self.known_stacks[pc, number]
 
     def place(self, pc, number):

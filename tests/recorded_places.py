@@ -103,6 +103,11 @@ def lines_of(name):
     return None
 
 
+def is_within(calls):
+    """Whether the calls behind the function of the access are those of each_kind.cpp."""
+    return all(call.split(" ")[-1].startswith("each_kind.cpp:") for call in calls[1:])
+
+
 def judge_lines(cxx):
     """Each line of a location is in its file; what the program does to its own variables is in its own file, and
     not in the library's."""
@@ -123,6 +128,9 @@ def judge_lines(cxx):
                 f"the library of C++ makes the call of {word}, and its places are {sorted(threads)} "
                 f"in place of {sorted(wanted)}"
             )
+    outside = [calls for _, place, calls in found if place.startswith("each_kind.cpp:") and not is_within(calls)]
+    if outside:
+        raise WrongPlace(f"calls of the library stand beside the program's: {outside[0]}")
     places = {place.split(" ")[-1] for _, place, calls in found for place in [place, *calls[1:]]}
     for place in sorted(places):
         parted = PLACE.match(place)

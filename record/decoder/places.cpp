@@ -123,12 +123,14 @@ Frames Modules::stack(u64 pc, u32 number) {
     return found;
 }
 
-// The frames that are written: those of the program's own code first.
+// The frames that are written: those of the program's own code, or all if there is none.
 const Frames &Modules::ordered_stack(u64 pc, u32 call) {
     auto known = known_stacks.find({pc, call});
     if (known != known_stacks.end()) return known->second;
     Frames found = stack(pc, call);
-    std::stable_partition(found.begin(), found.end(), [](const Frame &frame) { return !frame.in_library; });
+    auto is_own = [](const Frame &frame) { return !frame.in_library; };
+    auto end = std::stable_partition(found.begin(), found.end(), is_own);
+    if (end != found.begin()) found.erase(end, found.end());
     if (found.size() > MOST_FRAMES) found.resize(MOST_FRAMES);
     return known_stacks[{pc, call}] = std::move(found);
 }
