@@ -27,7 +27,7 @@ class Causes:
         if "help" in answer:
             helper = self.trace.thread[answer["help"]]
             answer["helper"] = helper
-            answer["steps"] = self.trace.index[answer["help"]] - self.sheet.counts[helper] + 1
+            answer["steps"] = self.trace.index(answer["help"]) - self.sheet.counts[helper] + 1
         return answer
 
     def _not_forked(self, event: int, said: str) -> Told:

@@ -8,7 +8,7 @@ import os
 import shutil
 import signal
 import sys
-from typing import TYPE_CHECKING
+from typing import TYPE_CHECKING, Any
 
 from .bench import Bench
 from .session import Gone
@@ -66,10 +66,18 @@ def listen_to_terminal(server: Server) -> None:
         loop.add_reader(sys.stdin, another)
 
 
+def tell_faults(loop: asyncio.AbstractEventLoop, context: dict[str, Any]) -> None:
+    """A pipe to a session that was killed breaks, and the page says that it ended; all else is told as ever."""
+    if not isinstance(context.get("exception"), (BrokenPipeError, ConnectionResetError)):
+        loop.default_exception_handler(context)
+
+
 async def run(given: argparse.Namespace) -> None:
+    asyncio.get_running_loop().set_exception_handler(tell_faults)
     trace = Trace(given.trace)
     bench = Bench(given.program, trace, given.log, given.client)
     server = server_of(bench, given)
+    reading = asyncio.ensure_future(server.read_trace())  # meanwhile the program reads it too
     try:
         await bench.open()
         await server.start(given.port)
@@ -77,10 +85,15 @@ async def run(given: argparse.Namespace) -> None:
         sys.exit(f"screen: {why}")
     except Gone as why:
         sys.exit(str(why))
+    finally:
+        if not server.guard.port:  # what the program refuses need not be readable
+            reading.add_done_callback(lambda task: task.cancelled() or task.exception())
+            reading.cancel()
     listen_to_terminal(server)
     print(server.guard.link(), flush=True)
     print("The link opens once. Enter prints another; control-C ends.", file=sys.stderr, flush=True)
-    await server.read()
+    await reading
+    await server.follow()
     await server.stopping.wait()
     await server.stop()
 

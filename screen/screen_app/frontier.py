@@ -6,6 +6,7 @@ from typing import NamedTuple
 from .bench import Bench
 from .causes import JOIN_EARLY, LOCK_HELD, NOT_FORKED, WRONG_WRITER, Causes
 from .checked import Mistake
+from .session import Gone
 from .sheet import Sheet
 from .text import Told
 
@@ -24,10 +25,17 @@ class Next(NamedTuple):
 
 
 async def frontier(bench: Bench, name: str, aim: tuple[int, ...]) -> Told:
+    has_died = False
     for _ in range(TRIES):
         version = bench.row(name).version
         sheet = bench.sheet(name)
-        asked = await (by_question(bench, name) if bench.questions else by_batches(bench, name, sheet))
+        try:
+            asked = await (by_question(bench, name) if bench.questions else by_batches(bench, name, sheet))
+        except Gone:  # a question may be asked again: the session is started anew
+            if has_died:
+                raise
+            has_died = True
+            continue
         if name in bench.mirror.rows and bench.row(name).version == version:
             break
     events, pairs = asked
@@ -106,7 +114,7 @@ def needed(bench: Bench, aim: tuple[int, ...]) -> dict[int, int]:
     trace = bench.trace
     witness = bench.witnesses.get((aim[0], aim[1])) if len(aim) == 2 else None
     if witness is None:
-        return {trace.thread[event]: trace.index[event] for event in aim}
+        return {trace.thread[event]: trace.index(event) for event in aim}
     if aim not in bench.needs:
         counts = Counter(map(trace.thread.__getitem__, witness))
         bench.needs[aim] = {**{trace.thread[event]: 0 for event in aim}, **counts}

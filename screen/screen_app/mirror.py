@@ -34,6 +34,7 @@ class Mirror:
         self.entries: list[Entry] = []
         self.rows: dict[str, Row] = {}
         self.proposals: list[array[int]] = []
+        self.proposed: list[int] = []  # their entries
         self.changed: dict[str, bool] = {}  # names since the last look
         self.version = 0
         self.digest = ""  # of the trace, as the log's first line has it
@@ -90,6 +91,7 @@ class Mirror:
             undone.steps = None
         elif entry.kind == "propose":
             entry.proposal = len(self.proposals)
+            self.proposed.append(entry.number)
             self.proposals.append(array("I", map(int, words[4:])))
         else:
             entry.steps = [self._do(entry, place, *part) for place, part in enumerate(entry.parts())]

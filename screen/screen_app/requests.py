@@ -14,6 +14,8 @@ from .text import Told
 
 # The most rows of a window, entries of the feed, races, entries taken back, and lines of news.
 ROWS, ENTRIES, BLOCKS, UNDONE, NEWS = 400, 300, 200, 4096, 40
+# So many of the latest proposals are told at first.
+PROPOSALS = 6
 # The farthest that an event is moved at once, as many commands as a batch has.
 FARTHEST = 64
 # A schedule of more rows has a map at its side.
@@ -27,7 +29,7 @@ class Requests:
         self.fault: str | None = None  # why what is drawn cannot be gone by
         self.link: Callable[[], str] = str
         self.names = Names(bench.mirror.path)
-        self.is_ready = asyncio.Event()
+        self.is_ready, self.is_greeted = asyncio.Event(), asyncio.Event()
 
     async def answer(self, request: Told) -> Told:
         do: Callable[[Told], Awaitable[Told]] | None = getattr(self, f"do_{request.get('do')}", None)
@@ -40,6 +42,7 @@ class Requests:
     # What stands where.
 
     async def do_hello(self, request: Told) -> Told:
+        self.is_greeted.set()
         trace, mirror = self.bench.trace, self.bench.mirror
         first = max(0, len(mirror.entries) - 200)
         return {
@@ -47,6 +50,7 @@ class Requests:
             "threads": [[trace.threads.text(number), len(own)] for number, own in enumerate(trace.events_of)],
             "variables": len(trace.variables.raw), "locks": len(trace.locks.raw), "n": len(mirror.entries),
             "seen": self.seen.read(mirror.digest), "rows": mirror.told_rows(), "feed": mirror.told(first, 200),
+            "proposals": [told for number in mirror.proposed[-PROPOSALS:] for told in mirror.told(number, 1)],
             "fault": self.fault, "source": bool(self.source.folder), "names": self.names.names,
         }
 

@@ -22,6 +22,8 @@ from .text import Told, clean
 from .trace import CONNECTED
 
 STATIC = os.path.join(os.path.dirname(os.path.dirname(os.path.abspath(__file__))), "static")
+# So long the first page is left alone after its first request, in seconds.
+FIRST_PAGE = 0.5
 # How often the log is looked at, in seconds.
 POLL = 0.05
 # The longest message, the most sockets, the most that have not named their key, and how long they have for it.
@@ -159,7 +161,12 @@ class Server:
         self.push("fault", {"why": mirror.fault})
 
     async def compare_traces(self) -> None:
-        """Whether the screen reads the trace as the program does: the log's first line has the program's digest."""
+        """Whether the screen reads the trace as the program does: the log's first line has the program's digest.
+
+        The first page is drawn before this takes the processor.
+        """
+        await self.requests.is_greeted.wait()
+        await asyncio.sleep(FIRST_PAGE)
         if not self.bench.trace.is_connected:
             await in_turn(self.bench.trace.connect())
         digest = ""
@@ -191,11 +198,14 @@ class Server:
         self.guard.port = self.runner.addresses[0][1]
         self.beside(self.look_for_races())
 
-    async def read(self) -> None:
-        """Reads the trace, while the page is served already; the log is followed from here on."""
+    async def read_trace(self) -> None:
+        """Reads the trace, in turns with all else."""
         await in_turn(self.bench.trace.read())
         if len(self.bench.trace) <= CONNECTED:
             await in_turn(self.bench.trace.connect())
+
+    async def follow(self) -> None:
+        """Answers what the page asks; the trace was read. The log is followed from here on."""
         self.bench.mirror.sync()
         self.bench.mirror.take_changes()
         self.told_to = len(self.bench.mirror.entries)

@@ -58,7 +58,7 @@ class Run:
     async def to(self, thread: int, until: int | None) -> Told:
         events = self.bench.trace.events_of[thread]
         at = self.bench.sheet(self.name).counts[thread]
-        end = min(len(events) if until is None else self.bench.trace.index[until] + 1, at + MOST)
+        end = min(len(events) if until is None else self.bench.trace.index(until) + 1, at + MOST)
         while at < end:
             parts = cut(events[at : min(end, at + BATCH * CHUNK)])
             answers = await self.bench.say(*[adds(self.name, part) for part in parts])

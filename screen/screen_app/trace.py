@@ -7,99 +7,17 @@ from __future__ import annotations
 
 import hashlib
 from array import array
+from bisect import bisect_left
 from collections.abc import Iterator
 
-from .text import Told, clean
+from .reader import WORDS, Numbers, Reader
+from .text import Told
 
-WORDS = (b"r", b"w", b"acq", b"rel", b"fork", b"join")
 READ, WRITE, ACQUIRE, RELEASE, FORK, JOIN = range(6)
 OPERATIONS = ("r", "w", "acq", "rel", "fork", "join")
-BLANKS = b" \t\r\n"
 NONE = -1
-# So many bytes of lines are read before others get a turn.
-PORTION = 1 << 19
 # So many events are connected before others get a turn.
 CONNECTED = 20_000
-# A thread, a word and a name in one number. A trace has at most 256 threads.
-THREADS, KIND_AT, KINDS, NAME_AT = 255, 8, 7, 11
-SKIPPED = -1
-
-
-class Numbers(dict[bytes, int]):
-    """Numbers by first use. A spelling with blanks round it has the number of the one without."""
-
-    def __init__(self) -> None:
-        super().__init__()
-        self.raw: list[bytes] = []
-
-    def __missing__(self, spelling: bytes) -> int:
-        name = spelling.strip(BLANKS)
-        if name == spelling:
-            number = len(self.raw)
-            self.raw.append(name)
-        else:
-            number = self[name]
-        self[spelling] = number
-        return number
-
-    def text(self, number: int) -> str:
-        return clean(self.raw[number])
-
-
-class Reader:
-    """Fills the columns of a trace. What stands before the location is parsed once and looked up from then on, and
-    the columns are filled one after another, so that a million events take about a second."""
-
-    def __init__(self, trace: Trace) -> None:
-        self.trace = trace
-        self.known: dict[bytes, int] = {b"": SKIPPED}  # of `thread|operation` its numbers in one
-        self.skips = False
-
-    def take(self, lines: list[bytes]) -> None:
-        known = self.known
-        fields = [line.rsplit(b"|", 1) for line in lines]
-        for at in [at for at, field in enumerate(fields) if field[0] not in known]:
-            fields[at] = self._meet(lines[at])
-        if self.skips:
-            fields = [field for field in fields if known[field[0]] != SKIPPED]
-        self._columns([known[field[0]] for field in fields], [field[1] for field in fields])
-
-    def _meet(self, line: bytes) -> list[bytes]:
-        """The two parts of a line whose first part is new, or that has no bar, one bar or more than two."""
-        thread, *rest = line.split(b"|", 2)
-        if not rest:
-            self.skips = True
-            return [b"", b""]
-        head = thread + b"|" + rest[0]
-        if head not in self.known:
-            self.known[head] = self._numbers(thread, rest[0])
-        return [head, rest[1] if len(rest) > 1 else b""]
-
-    def _numbers(self, thread: bytes, operation: bytes) -> int:
-        """Numbers a thread and then the name of its operation, as the trace format says; the three in one."""
-        word, bracket, rest = operation.strip(BLANKS).partition(b"(")
-        if not bracket or word.strip(BLANKS) not in WORDS:
-            self.skips = True
-            return SKIPPED
-        number = self.trace.threads[thread]
-        kind = WORDS.index(word.strip(BLANKS))
-        name = self.trace.names_of(kind)[rest[: rest.rfind(b")")].strip(BLANKS)]
-        return name << NAME_AT | kind << KIND_AT | number
-
-    def _columns(self, numbers: list[int], locations: list[bytes]) -> None:
-        trace, places = self.trace, self.trace.places
-        start = len(trace.thread)
-        trace.thread.extend([number & THREADS for number in numbers])
-        trace.word.extend([number >> KIND_AT & KINDS for number in numbers])
-        trace.name.extend([number >> NAME_AT for number in numbers])
-        trace.place.extend([places[location] for location in locations])
-        while len(trace.events_of) < len(trace.threads.raw):
-            trace.events_of.append(array("I"))
-        events_of, index = trace.events_of, trace.index
-        for event, thread in enumerate(trace.thread[start:], start):
-            own = events_of[thread]
-            index.append(len(own))
-            own.append(event)
 
 
 class Trace:
@@ -108,8 +26,7 @@ class Trace:
     def __init__(self, path: str) -> None:
         self.path = path
         self.threads, self.variables, self.locks, self.places = Numbers(), Numbers(), Numbers(), Numbers()
-        self.thread, self.word, self.name, self.place = array("H"), array("B"), array("I"), array("I")
-        self.index = array("I")  # its place in its thread
+        self.thread, self.word, self.name, self.place = array("B"), array("B"), array("I"), array("I")
         self.events_of: list[array[int]] = []  # by thread
         self.fork_of: dict[int, int] = {}  # by thread
         self.writer = array("i")  # of a read the write that it saw, or NONE
@@ -121,12 +38,26 @@ class Trace:
 
     def read(self) -> Iterator[None]:
         """Reads the file in portions, so that others get a turn in between."""
-        reader = Reader(self)
         with open(self.path, "rb") as file:
-            while lines := file.readlines(PORTION):
-                reader.take(lines)
-                yield
+            yield from Reader(self).read(file)
         self.fork_of = {self.name[event]: event for event, kind in enumerate(self.word) if kind == FORK}
+
+    def add(self, threads: bytes, words: bytes, names: list[int], places: list[int]) -> None:
+        """Adds events, each given by its numbers."""
+        start = len(self.thread)
+        self.thread.frombytes(threads)
+        self.word.frombytes(words)
+        self.name.extend(names)
+        self.place.extend(places)
+        while len(self.events_of) < len(self.threads.raw):
+            self.events_of.append(array("I"))
+        appends = [own.append for own in self.events_of]
+        for event, thread in enumerate(threads, start):
+            appends[thread](event)
+
+    def index(self, event: int) -> int:
+        """The event's place in its thread."""
+        return bisect_left(self.events_of[self.thread[event]], event)
 
     def connect(self) -> Iterator[None]:
         """Finds who reads whom, in portions. Nothing but the lines from writes to reads needs it."""

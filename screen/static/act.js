@@ -4,6 +4,7 @@ import { ask } from "./net.js";
 import { who, said, isRefused } from "./words.js";
 import * as feed from "./feed.js";
 import * as frontier from "./frontier.js";
+import * as queue from "./queue.js";
 
 let sayings = 0;
 
@@ -56,12 +57,8 @@ function moved(told) {
   return [told.moved ? `moved by ${told.moved}` : "not moved", why ? [" · ", bad(why)] : null];
 }
 
-// Keys that are pressed quickly are done one after another, each on what the one before it left.
-let queue = Promise.resolve();
-
-export function later(step) {
-  queue = queue.then(step).then(frontier.settled).catch((why) => {
-    console.error(why);
-    say(bad(String(why)));
-  });
-}
+queue.events.settled = frontier.settled;
+queue.events.failed = (why) => {
+  console.error(why);
+  say(bad(String(why)));
+};

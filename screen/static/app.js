@@ -5,6 +5,7 @@ import { state } from "./words.js";
 import { act, bad, say } from "./act.js";
 import { showKeys, showLink } from "./dialogs.js";
 import { isNarrow, pane } from "./frame.js";
+import { later, now } from "./queue.js";
 import "./keys.js";
 import * as sheet from "./sheet.js";
 import * as frontier from "./frontier.js";
@@ -16,19 +17,20 @@ import * as pair from "./pair.js";
 
 for (const part of [sheet, frontier, feed, pair]) part.events.act = act;
 frontier.events.say = say;
-feed.events.open = schedules.events.open = views.open;
+feed.events.open = schedules.events.open = (view) => now(() => views.open(view));
+schedules.events.go = views.open;
 schedules.events.adopt = views.adopt;
-races.events.open = (block) => views.openPair(block.accesses.map((access) => access.event));
+races.events.open = (block) => now(() => views.openPair(block.accesses.map((access) => access.event)));
 $("keys").addEventListener("click", showKeys);
 $("link").addEventListener("click", showLink);
 $("new").addEventListener("click", views.fresh);
-$("undo").addEventListener("click", () => act("undo", {}));
+$("undo").addEventListener("click", () => later(() => act("undo", {})));
 
 function learn(told) {
   for (const key of ["threads", "client", "title", "n", "source"]) state[key] = told[key];
   state.names = told.names ?? {};
   state.rows = new Map(told.rows.map((row) => [row.name, row]));
-  state.entries = new Map(told.feed.map((entry) => [entry.i, entry]));
+  state.entries = new Map([...told.proposals, ...told.feed].map((entry) => [entry.i, entry]));
   document.title = `${told.title} · client ${told.client}`;
   $("title").textContent = told.title;
   const facts = [many(told.events, "event"), many(told.threads.length, "thread"), many(told.variables, "variable"),

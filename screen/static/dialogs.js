@@ -4,15 +4,17 @@ import { ask } from "./net.js";
 
 // The name that was given, or null.
 export function asked(label, value, note = "") {
+  const dialog = $("ask");
+  if (dialog.open) return Promise.resolve(null);
   return new Promise((done) => {
-    const dialog = $("ask");
     const field = $("ask-input");
     $("ask-label").textContent = label;
     $("ask-note").textContent = note;
     field.value = value;
-    dialog.returnValue = "no";
-    $("ask-no").onclick = () => dialog.close("no");
-    dialog.onclose = () => done((dialog.returnValue === "yes" && field.value.trim()) || null);
+    $("ask-no").onclick = () => dialog.close();
+    // What is typed next comes after what the name is for, so that begins at once.
+    dialog.querySelector("form").onsubmit = () => done(field.value.trim() || null);
+    dialog.onclose = () => done(null);
     dialog.showModal();
     field.select();
   });

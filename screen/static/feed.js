@@ -3,6 +3,7 @@ import { $, el, fill, button, count, many } from "./make.js";
 import { ask } from "./net.js";
 import { part } from "./morph.js";
 import { does } from "./press.js";
+import { later } from "./queue.js";
 import { state, tag, who, short } from "./words.js";
 import * as schedules from "./schedules.js";
 
@@ -163,7 +164,7 @@ function drawn(group, first, last, isFlashed, isFresh) {
   const numbers = first === last ? String(first) : `${first}–${last}`;
   const made = el("div", `entry${classes}`, el("span", "num dim at", numbers),
     who(group.c), el("span", "did", sentence(group)),
-    isMine ? button("undo", "", () => events.act("undo", { entries }), "quiet") : null);
+    isMine ? button("undo", "", () => later(() => events.act("undo", { entries })), "quiet") : null);
   made.setAttribute("role", "listitem");
   const taken = group.dead ? `\ntaken back by entry ${group.entries[0].u}` : "";
   made.title = entries.length === 1 ? group.entries[0].w + taken : many(entries.length, "entry", "entries");

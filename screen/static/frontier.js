@@ -2,6 +2,7 @@
 import { $, el, fill, button, count, many, option, nameChosen } from "./make.js";
 import { part } from "./morph.js";
 import { does } from "./press.js";
+import { later, isBusy } from "./queue.js";
 import { ask } from "./net.js";
 import { state, tag, operation, place, reason, help, threadName, spoken } from "./words.js";
 import { showPair } from "./pair.js";
@@ -25,6 +26,9 @@ export const current = () => told;
 export const load = () => (pending = fetchNext());
 const name = () => state.view?.schedule;
 const chosenOne = () => told?.next.find((one) => one.t === chosen) ?? null;
+// The list, unless it is that of the schedule that was open before.
+const here = () => (told && told.name === name() ? told : null);
+const step = (what, given) => (here() ? events.act(what, { name: name(), ...given }) : null);
 
 // Waits for the latest list: an older one that is overtaken is thrown away.
 export async function settled() {
@@ -98,9 +102,15 @@ function distance(one) {
 function buttons(one) {
   if (one.t !== chosen) return null;
   const does = help(one.why);
-  if (one.why) return does ? button(does.text, "f", () => follow(one)) : null;
-  return [button("add", "↵", () => add(one)), button("run", "r", () => run(one)),
-    one.to === undefined ? null : button("to aim", "t", () => toAim(one))];
+  if (one.why) return does ? button(does.text, "f", () => later(() => follow(one))) : null;
+  return [button("add", "↵", () => addLater(one)), button("run", "r", () => later(() => run(one))),
+    one.to === undefined ? null : button("to aim", "t", () => later(() => toAim(one)))];
+}
+
+// What is pressed while steps are under way is meant to come after them.
+function addLater(one) {
+  const isAhead = isBusy();
+  later(() => add(isAhead ? here()?.next.find((other) => other.t === one.t) : one));
 }
 
 function line(one, lit) {
@@ -115,8 +125,9 @@ function drawn(one, lit) {
   const why = one.why ? reason(one.why, one) : null;
   const more = button(open === one.t ? "▾" : `${count(one.left)} ›`, "", () => {
     choose(one.t);
-    unfold();
+    later(unfold);
   }, "more plain");
+  more.dataset.does = "more";
   more.title = `${many(one.left, "event")} of ${threadName(one.t)} to come (→)`;
   const made = el("div", `next${why ? " no" : " yes"}${one.t === chosen ? " on" : ""}${lit.has(one.e) ? " lit" : ""}`,
     el("kbd", "digit", one.t < 9 ? String(one.t + 1) : ""), tag(one.t), el("span", "dot", why ? "○" : "●"),
@@ -128,7 +139,7 @@ function drawn(one, lit) {
   does(made, ({ target }) => {
     if (state.source && target.closest(".place")) return;
     choose(one.t);
-    if (!one.why) add(one);
+    if (!one.why) addLater(one);
   });
   const label = `${spoken(one)}, ${why ? `may not come next: ${why.textContent}` : "may come next"}`;
   return option(made, label, one.t === chosen);
@@ -141,7 +152,7 @@ function ahead(one) {
       el("span", "num", String(event.e)), el("span", "", operation(event)), place(event.l, true),
       el("code", "", told.ahead.source?.[event.l] ?? ""),
       el("span", "dim until", at ? `run to here (${at + 1})` : "add"));
-    return does(made, () => events.act("run", { name: name(), until: event.e }));
+    return does(made, () => later(() => step("run", { until: event.e })));
   });
   const left = told.ahead.left - rows.length;
   return el("div", "ahead", rows, left > 0 ? untilField(one, told.ahead.left) : null);
@@ -154,7 +165,8 @@ function untilField(one, left) {
   field.addEventListener("keydown", (key) => {
     if (key.key !== "Enter" || !/^\d+$/.test(field.value)) return;
     key.stopPropagation();
-    events.act("run", { name: name(), until: Number(field.value) });
+    const until = Number(field.value);
+    later(() => step("run", { until }));
   });
   return field;
 }
@@ -176,7 +188,7 @@ export function choose(thread) {
   render();
 }
 
-export function step(by) {
+export function move(by) {
   if (!told?.next.length) return;
   const order = sorted();
   const at = order.findIndex((one) => one.t === chosen);
@@ -184,11 +196,11 @@ export function step(by) {
   if (one) choose(one.t);
 }
 
-export const add = (one = chosenOne()) => one && !one.fixed && events.act("add", { name: name(), event: one.e });
-export const run = (one = chosenOne()) => one && !one.fixed && events.act("run", { name: name(), thread: one.t });
+export const add = (one = chosenOne()) => one && !one.fixed && step("add", { event: one.e });
+export const run = (one = chosenOne()) => one && !one.fixed && step("run", { thread: one.t });
 
 export function toAim(one = chosenOne()) {
-  if (one?.to !== undefined) return events.act("run", { name: name(), until: one.to });
+  if (one?.to !== undefined) return step("run", { until: one.to });
   if (one && !state.aim) events.say("open a race first: it is the aim");
   else if (one) events.say(`${threadName(one.t)} has come as far as the aim needs`);
   return null;
@@ -196,15 +208,15 @@ export function toAim(one = chosenOne()) {
 
 export function follow(one = chosenOne()) {
   const does = help(one?.why);
-  if (does) return events.act("run", { name: name(), until: does.until });
+  if (does) return step("run", { until: does.until });
   if (one) events.say(one.why ? "no run of one thread helps here" : `${threadName(one.t)} waits for nothing`);
   return null;
 }
 
 // A digit is the number of a thread, so it does not move when another thread ends.
 export function digit(thread) {
-  const one = told?.next.find((other) => other.t === thread);
-  if (!one) return null;
+  const one = here()?.next.find((other) => other.t === thread);
+  if (!one || one.fixed) return null;
   choose(one.t);
   return one.why ? null : add(one);
 }

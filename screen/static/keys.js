@@ -1,7 +1,8 @@
 // The keys. What a key does depends on the pane that has the focus; without one it is what may come next.
 import { $ } from "./make.js";
 import { state } from "./words.js";
-import { act, later } from "./act.js";
+import { act } from "./act.js";
+import { later, isBusy } from "./queue.js";
 import { showKeys } from "./dialogs.js";
 import { nextPane, pane, paneOf, isNarrow } from "./frame.js";
 import { hidePeek } from "./peek.js";
@@ -27,8 +28,12 @@ function propose() {
   return null;
 }
 
-// Each waits for the one before it.
-const inTurn = (keys) => Object.fromEntries(Object.entries(keys).map(([key, does]) => [key, () => later(does)]));
+// Each waits for the one before it; the race on which the cursor rests is opened first.
+function inOrder(step) {
+  races.settle();
+  later(step);
+}
+const inTurn = (keys) => Object.fromEntries(Object.entries(keys).map(([key, does]) => [key, () => inOrder(does)]));
 const down = (move) => ({ ArrowDown: () => move(1), j: () => move(1), ArrowUp: () => move(-1), k: () => move(-1) });
 
 // By pane.
@@ -37,10 +42,10 @@ const IN = {
     ...down(sheet.step), Enter: sheet.enter, Home: () => sheet.jump(0), End: () => sheet.jump(last()),
     "Alt+ArrowUp": () => swap(-1), "Alt+ArrowDown": () => swap(1),
   }),
-  "race-list": { ...down(races.step), Enter: views.take },
-  "row-list": { ...down(neighbour) },
+  "race-list": { ...down(races.step), Enter: () => inOrder(views.take) },
+  "row-list": inTurn({ ...down(neighbour) }),
   "next-list": inTurn({
-    ...down(frontier.step), Enter: () => frontier.add(), ArrowRight: frontier.unfold, ArrowLeft: frontier.unfold,
+    ...down(frontier.move), Enter: () => frontier.add(), ArrowRight: frontier.unfold, ArrowLeft: frontier.unfold,
   }),
 };
 
@@ -51,13 +56,14 @@ function filterRaces() {
 
 // Everywhere.
 const ANYWHERE = {
-  "?": showKeys, "/": filterRaces, u: () => later(() => act("undo", {})),
-  "Ctrl+z": () => later(() => act("undo", {})), F6: () => nextPane(1), "Shift+F6": () => nextPane(-1),
-  Backspace: () => schedule() && later(() => act("back", { name: schedule() })),
-  r: () => later(() => frontier.run()), t: () => later(() => frontier.toAim()),
-  f: () => later(() => frontier.follow()), p: () => later(propose), b: () => later(() => void views.branch()),
-  n: views.fresh, x: views.why, s: feed.caughtUp, e: views.startEmpty,
-  w: () => (state.view?.witness ? views.take() : views.witness()), "[": () => neighbour(-1), "]": () => neighbour(1),
+  "?": showKeys, "/": filterRaces, F6: () => nextPane(1), "Shift+F6": () => nextPane(-1), n: views.fresh,
+  s: feed.caughtUp,
+  ...inTurn({
+    u: () => act("undo", {}), "Ctrl+z": () => act("undo", {}), p: propose, b: () => void views.branch(),
+    Backspace: () => schedule() && act("back", { name: schedule() }),
+    r: () => frontier.run(), t: () => frontier.toAim(), f: () => frontier.follow(), x: views.why, e: views.startEmpty,
+    w: () => (state.view?.witness ? views.take() : views.witness()), "[": () => neighbour(-1), "]": () => neighbour(1),
+  }),
 };
 
 function named(event) {
@@ -69,7 +75,7 @@ function meant(event) {
   const name = named(event);
   const isButton = event.target.closest("button, a") && (event.key === "Enter" || event.key === " ");
   if (isButton) return null;
-  if (/^[1-9]$/.test(name) && schedule()) return () => later(() => frontier.digit(Number(name) - 1));
+  if (/^[1-9]$/.test(name)) return () => inOrder(() => frontier.digit(Number(name) - 1));
   return IN[paneOf(document.activeElement) ?? "next-list"]?.[name] ?? ANYWHERE[name];
 }
 
@@ -77,6 +83,8 @@ addEventListener("keydown", (event) => {
   const isField = event.target.closest("input, textarea, dialog");
   if (event.key === "Escape") {
     hidePeek();
+    sheet.letGo();
+    if (event.target.closest(".until-event")) $("next-list").focus();
     if (!isField && state.view) views.hideNote();
     return;
   }
@@ -84,5 +92,6 @@ addEventListener("keydown", (event) => {
   const does = meant(event);
   if (!does) return;
   event.preventDefault();
+  if (event.repeat && isBusy()) return; // a key that is held goes on no longer than it is held
   does();
 });

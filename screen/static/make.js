@@ -35,6 +35,7 @@ export function replace(into, ...inner) {
 export function button(text, key, act, classes = "") {
   const made = el("button", classes, text);
   made.type = "button";
+  made.dataset.does = key || text;
   if (key) {
     const sign = el("kbd", "", key);
     sign.setAttribute("aria-hidden", "true");

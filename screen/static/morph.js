@@ -48,7 +48,8 @@ function shown(one, byKey, at) {
   const old = key === null ? null : byKey.get(key) ?? null;
   if (isPart(one)) return nodeOf(one, old);
   if (old) return old === one ? one : become(old, one);
-  const isAlike = key === null && at && at.nodeName === one.nodeName && idOf(at) === null;
+  const isAlike = key === null && at && at.nodeName === one.nodeName && idOf(at) === null &&
+    at.dataset?.does === one.dataset?.does; // a button stays as long as it does the same
   return isAlike ? become(at, one) : one;
 }
 

@@ -1,10 +1,13 @@
 // The pair that stands side by side: both accesses may come next.
 import { $, el, fill, button, many } from "./make.js";
+import { later } from "./queue.js";
 import { state, tag, operation, place, reason } from "./words.js";
 
 export const events = { act: null };
 
 export const best = (pairs) => pairs.find((pair) => pair.join() === state.aim?.join()) ?? pairs[0];
+
+const propose = (view, pair) => later(() => events.act("propose", { view, pair }));
 
 function side(told, shown, event) {
   const one = told.next.find((other) => other.e === event);
@@ -32,5 +35,5 @@ export function showPair(told) {
   fill(box, el("span", "pair-title", title),
     el("span", "accesses", side(told, shown, shown[0]), side(told, shown, shown[1])),
     el("span", "do", pairs.length > 1 ? el("span", "dim", `and ${many(pairs.length - 1, "pair")} more`) : null,
-      told.witness ? null : button("Propose", "p", () => events.act("propose", { view: state.view, pair: shown }))));
+      told.witness ? null : button("Propose", "p", () => propose(state.view, shown))));
 }

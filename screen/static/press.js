@@ -3,11 +3,14 @@
 
 // A hand that presses stays within so many pixels.
 const NEAR = 6;
-// A click comes so soon after the button went up, in milliseconds.
+// A click comes so soon after the button went up, and the second press of a double click so soon after the first, in
+// milliseconds.
 const SOON = 600;
+const DOUBLE = 400;
 
 const acts = new WeakMap();
 let pressed = null;
+let before = null; // what was clicked last
 
 // Says what a click on a node does; the nearest such node is meant.
 export function does(node, act) {
@@ -30,8 +33,15 @@ function meant(target) {
 
 const isNear = (event, from) => Math.hypot(event.clientX - from.x, event.clientY - from.y) <= NEAR;
 
+// The second press of a double click means what the first one meant: if something else stands there by now, nothing.
+const isStray = (found, event) =>
+  before && before.node !== found?.node && isNear(event, before) && event.timeStamp - before.at < DOUBLE;
+
 addEventListener("pointerdown", (event) => {
-  pressed = event.button ? null : { x: event.clientX, y: event.clientY, ...meant(event.target) };
+  const found = meant(event.target);
+  if (event.button) pressed = null;
+  else if (isStray(found, event)) pressed = { x: event.clientX, y: event.clientY };
+  else pressed = { x: event.clientX, y: event.clientY, at: event.timeStamp, ...found };
 }, true);
 addEventListener("pointerup", () => {
   const mine = pressed;
@@ -46,6 +56,7 @@ addEventListener("pointercancel", () => {
 // A key on a button has no press before it. Who presses one thing and lets go over another has thought better of it.
 addEventListener("click", (event) => {
   const mine = event.detail ? pressed : null;
+  if (mine?.act) before = mine;
   pressed = null;
   const here = meant(event.target);
   if (!mine) here?.act(here);

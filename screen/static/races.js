@@ -2,6 +2,7 @@
 import { $, el, fill, button, count, many, option, nameChosen } from "./make.js";
 import { part } from "./morph.js";
 import { does } from "./press.js";
+import * as sight from "./sight.js";
 import { ask } from "./net.js";
 import { place } from "./words.js";
 
@@ -9,8 +10,6 @@ const HEIGHT = 58;
 // So many races are fetched at once; a new window begins so many before what is to be seen.
 const WINDOW = 80;
 const BEFORE = 30;
-// So many races beyond the sight are drawn on both sides.
-const SIDES = 6;
 // Who walks down the list by keys looks at the race on which he rests.
 const REST = 90;
 const KINDS = [["race", "races"], ["undecided", "undecided"], ["apart", "apart"]];
@@ -23,9 +22,7 @@ let got = null;
 let chosen = null;
 let asked = 0;
 let soon = null;
-const space = el("div", "race-space");
-space.id = "race-space";
-space.setAttribute("role", "presentation");
+const space = sight.space("race-space");
 
 const keyOf = (block) => block.accesses.map((access) => access.event).join("-");
 
@@ -44,6 +41,7 @@ function chip([kind, plural]) {
     if (!kinds.delete(kind)) kinds.add(kind);
     load();
   }, "chip");
+  made.dataset.does = kind;
   made.setAttribute("aria-pressed", kinds.has(kind));
   return made;
 }
@@ -67,11 +65,10 @@ function render() {
   nameChosen(list);
 }
 
-// Of the races that were fetched those in sight, and some on both sides; each with its place in the list.
+// Of the races that were fetched those in sight; each with its place in the list.
 function inSight() {
-  const top = Math.floor(list.scrollTop / HEIGHT) - SIDES;
-  const bottom = top + Math.ceil(list.clientHeight / HEIGHT) + 2 * SIDES;
-  return got.blocks.map((block, at) => [block, got.from + at]).filter(([, at]) => top <= at && at < bottom);
+  const [from, to] = sight.inSight(list, HEIGHT);
+  return got.blocks.map((block, at) => [block, got.from + at]).filter(([, at]) => from <= at && at < to);
 }
 
 // A long name is cut in its middle: its end tells most.
@@ -129,18 +126,26 @@ function ended(block) {
 function pick(block, wait = 0) {
   chosen = keyOf(block);
   render();
-  clearTimeout(soon);
-  if (wait) soon = setTimeout(() => events.open(block), wait);
-  else events.open(block);
+  clearTimeout(soon?.timer);
+  soon = { block, timer: setTimeout(settle, wait) };
+  if (!wait) settle();
+}
+
+// Opens the race on which the cursor rests, without waiting longer.
+export function settle() {
+  if (!soon) return;
+  const { block, timer } = soon;
+  soon = null;
+  clearTimeout(timer);
+  events.open(block);
 }
 
 export function step(by) {
   if (!got?.blocks?.length) return;
   const at = got.blocks.findIndex((block) => keyOf(block) === chosen);
-  const next = Math.max(0, Math.min(got.blocks.length - 1, at + by));
-  const top = (got.from + next) * HEIGHT;
-  if (top < list.scrollTop) list.scrollTop = top;
-  else if (top + HEIGHT > list.scrollTop + list.clientHeight) list.scrollTop = top + HEIGHT - list.clientHeight;
+  const seen = Math.ceil(list.scrollTop / HEIGHT) - got.from; // the first in sight, if the chosen one is far away
+  const next = Math.max(0, Math.min(got.blocks.length - 1, at < 0 ? seen : at + by));
+  sight.reveal(list, HEIGHT, got.from + next);
   pick(got.blocks[next], REST);
 }
 
@@ -157,10 +162,10 @@ filter.addEventListener("keydown", (key) => {
   }
 });
 
-list.addEventListener("scroll", () => {
+sight.watch(list, () => {
   if (!got?.blocks) return;
   const top = Math.floor(list.scrollTop / HEIGHT);
   const bottom = Math.min(got.total, top + Math.ceil(list.clientHeight / HEIGHT) + 1);
   if (top < got.from || bottom > got.from + got.blocks.length) load(Math.max(0, top - BEFORE));
   else render();
-}, { passive: true });
+});

@@ -2,32 +2,37 @@
 import { $, el, fill, button, count, many, option, nameChosen } from "./make.js";
 import { part } from "./morph.js";
 import { does } from "./press.js";
+import * as sight from "./sight.js";
 import { state, who, clientName } from "./words.js";
 
+const HEIGHT = 24;
 // So many of the latest proposals are shown.
 const PROPOSALS = 6;
 const list = $("row-list");
-export const events = { open: null, adopt: null };
+const space = sight.space("row-space");
+export const events = { open: null, go: null, adopt: null };
 
 let shown = null; // which schedule was scrolled to
 
 const byBirth = (one, other) => one.birth[0] - other.birth[0] || one.birth[1] - other.birth[1];
 export const inOrder = () => [...state.rows.values()].sort(byBirth);
 
-function line(row) {
+function line(row, at) {
   const isFresh = row.touched >= state.marked && row.by !== state.client;
   const isOn = state.view?.schedule === row.name;
-  const sign = JSON.stringify([row, isFresh, isOn, clientName(row.owner), clientName(row.by)]);
-  return part(`schedule-${row.name}`, sign, () => drawn(row, isFresh, isOn));
+  const sign = JSON.stringify([row, at, isFresh, isOn, clientName(row.owner), clientName(row.by)]);
+  return part(`schedule-${row.name}`, sign, () => drawn(row, at, isFresh, isOn));
 }
 
-function drawn(row, isFresh, isOn) {
+function drawn(row, at, isFresh, isOn) {
   const made = el("div", `sched${isOn ? " on" : ""}`, el("span", `fresh${isFresh ? " is" : ""}`, "●"),
     el("span", "sched-name", row.name), el("span", "gap"), el("span", "num dim", count(row.length)), who(row.owner));
   const born = `made by ${clientName(row.owner)} in entry ${row.birth[0]}`;
   const changed = `last changed by ${clientName(row.by)} in entry ${row.touched}`;
   const text = `${row.name}: ${many(row.length, "event")}, ${born}, ${changed}`;
   made.title = text;
+  made.style.top = `${at * HEIGHT}px`;
+  made.setAttribute("aria-posinset", at + 1);
   does(made, () => events.open({ schedule: row.name }));
   return option(made, isFresh ? `${text}, since you last looked` : text, isOn);
 }
@@ -41,13 +46,22 @@ function proposal(entry) {
   return made;
 }
 
-export function render() {
+function renderList() {
   const all = inOrder();
-  $("row-count").textContent = all.length ? String(all.length) : "";
-  fill(list, all.length ? all.map(line) : el("p", "empty", "None yet."));
-  nameChosen(list);
-  if (shown !== state.view?.schedule) list.querySelector(".on")?.scrollIntoView({ block: "nearest" });
+  const at = all.findIndex((row) => row.name === state.view?.schedule);
+  $("row-count").textContent = all.length ? count(all.length) : "";
+  space.style.height = `${all.length * HEIGHT}px`;
+  fill(list, all.length ? space : el("p", "empty", "None yet."));
+  if (shown !== state.view?.schedule && at >= 0) sight.reveal(list, HEIGHT, at);
   shown = state.view?.schedule;
+  const [from, to] = sight.inSight(list, HEIGHT);
+  fill(space, all.slice(from, to).map((row, number) => line(row, from + number)));
+  nameChosen(list);
+}
+sight.watch(list, renderList);
+
+export function render() {
+  renderList();
   const proposals = [...state.entries.values()].filter((entry) => entry.k === "propose").slice(-PROPOSALS).reverse();
   const made = proposals.length ? [el("div", "subhead", "Proposals"), proposals.map(proposal)] : null;
   fill($("proposals"), made);
@@ -57,5 +71,5 @@ export function neighbour(by) {
   const names = inOrder().map((row) => row.name);
   const at = names.indexOf(state.view?.schedule);
   const next = (Math.max(at, by > 0 ? -1 : 0) + by + names.length) % names.length;
-  if (names.length) events.open({ schedule: names[next] });
+  return names.length ? events.go({ schedule: names[next] }) : null;
 }

@@ -9,6 +9,8 @@ import * as map from "./map.js";
 
 // So many rows beyond the sight are drawn on both sides.
 const AHEAD = 24;
+// The height of the words that stand where there is no event.
+const NOTHING = 36;
 // The farthest that an event is moved at once.
 const FARTHEST = 64;
 const stage = $("stage");
@@ -74,7 +76,7 @@ function draw() {
 
 // A short schedule stands at the foot, where what comes next is.
 function settle() {
-  const all = win.total * HEIGHT + 6;
+  const all = win.total ? win.total * HEIGHT + 6 : NOTHING;
   space.style.height = `${all}px`;
   space.style.setProperty("--base", `${Math.max(0, height - all)}px`);
 }
@@ -82,7 +84,16 @@ function settle() {
 // After a step of anyone: the end stays in sight where it was in sight.
 export async function refresh(isMine) {
   stop = null;
-  return load({ end: isMine || follow });
+  const end = isMine || follow;
+  const [top, scrolled] = [end ? null : win?.rows[topRow() - win.from], stage.scrollTop];
+  await load({ end });
+  if (top && stage.scrollTop === scrolled) stay(top);
+}
+
+// Keeps the row at the top where it is, if rows above it came or went.
+function stay(row) {
+  const at = win?.rows.findIndex((one) => one.p === row.p) ?? -1;
+  if (at >= 0 && win.from + at !== topRow()) stage.scrollTop += (win.from + at - topRow()) * HEIGHT;
 }
 
 function render() {
@@ -187,7 +198,8 @@ stage.addEventListener("pointermove", (event) => {
   drag.row.classList.toggle("dragged", by !== 0);
   drag.row.style.transform = `translateY(${by * HEIGHT}px)`;
 });
-function letGo() {
+// The row that is dragged goes back.
+export function letGo() {
   const mine = drag;
   drag = null;
   mine?.row.classList.remove("dragged");

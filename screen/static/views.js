@@ -5,6 +5,7 @@ import { state, who, short, isDone, isRefused } from "./words.js";
 import { act, bad } from "./act.js";
 import { asked } from "./dialogs.js";
 import { pane, isNarrow } from "./frame.js";
+import { later } from "./queue.js";
 import * as sheet from "./sheet.js";
 import * as frontier from "./frontier.js";
 import * as schedules from "./schedules.js";
@@ -20,7 +21,11 @@ export const hideNote = () => {
   note.hidden = true;
 };
 
+// Grows with each look at something else, so an answer that comes late is known to be overtaken.
+let looks = 0;
+
 export async function open(view, { end = true } = {}) {
+  looks++;
   state.view = view;
   hideNote();
   sheet.reset();
@@ -45,6 +50,7 @@ async function openSchedule(name, end) {
 
 // Nothing is open.
 export function close() {
+  looks++;
   state.view = null;
   sheet.reset();
   frontier.load();
@@ -64,6 +70,7 @@ export async function aimAt(pair) {
   state.aimTold = [];
   if (pair) {
     const told = await ask("pair", { pair });
+    if (state.aim !== pair) return;
     if (told.mistake) state.aim = null;
     else state.aimTold = told.told;
   }
@@ -78,15 +85,16 @@ export async function clearAim() {
 
 // A race of the list: its witness, or the explanation why it has none.
 export async function openPair(pair) {
+  const mine = ++looks;
   await aimAt(pair);
   const told = await ask("witness", { pair });
-  if (state.aim !== pair) return;
+  if (mine !== looks) return;
   if (!told.none && !told.mistake && !told.gone) {
-    open({ witness: told.pair, pair: told });
+    await open({ witness: told.pair, pair: told });
     return;
   }
   const text = await ask("explain", { pair });
-  if (state.aim !== pair) return;
+  if (mine !== looks) return;
   close();
   say(el("pre", "explained", (text.lines ?? [told.none ?? told.mistake ?? told.gone]).join("\n")));
 }
@@ -120,11 +128,24 @@ function titled() {
   return [el("h2", "title", "No schedule"), el("span", "dim", "open a race at the left, or make an empty schedule")];
 }
 
+let isMaking = false;
+
+// A button whose step waits for those before it, and is made once by a double click.
+function inTurn(text, key, step, classes) {
+  return button(text, key, () => {
+    if (isMaking) return;
+    isMaking = true;
+    later(step).then(() => {
+      isMaking = false;
+    });
+  }, classes);
+}
+
 function viewButtons() {
   if (state.view?.witness) {
-    return [button("Work on it", "w", take, "main"), button("Start empty", "e", startEmpty), button("Why", "x", why)];
+    return [inTurn("Work on it", "w", take, "main"), inTurn("Start empty", "e", startEmpty), inTurn("Why", "x", why)];
   }
-  return state.view?.schedule ? [button("Branch", "b", branch), button("Drop", "", drop)] : null;
+  return state.view?.schedule ? [button("Branch", "b", branch), inTurn("Drop", "", drop)] : null;
 }
 
 function aimLine() {
@@ -132,8 +153,8 @@ function aimLine() {
   clear.title = "Drop the aim";
   clear.setAttribute("aria-label", "Drop the aim");
   const pair = state.aimTold.map((event, at) => [at ? " ↔ " : " ", short(event)]);
-  const empty = () => button("Start empty", "e", startEmpty);
-  const does = state.view?.schedule ? [button("Witness", "w", witness), empty(), button("Why", "x", why)]
+  const empty = () => inTurn("Start empty", "e", startEmpty);
+  const does = state.view?.schedule ? [inTurn("Witness", "w", witness), empty(), inTurn("Why", "x", why)]
     : state.view ? null : empty();
   return el("div", "line", el("span", "aim", el("span", "word", "aim"), pair), clear, el("span", "gap"), does);
 }
@@ -155,18 +176,22 @@ export async function take() {
   if (!view?.witness) return;
   const name = freeName(`r${view.witness.join("-")}`);
   const told = await act("enter", { view, name });
-  if (told.answer && !isRefused(told)) open({ schedule: name });
+  if (told.answer && !isRefused(told)) await open({ schedule: name });
 }
 
 export async function startEmpty() {
   if (!state.aim) return;
-  const name = freeName(`r${state.aim.join("-")}`);
-  if (isDone(await act("new", { name }))) open({ schedule: name });
+  await make("new", { name: freeName(`r${state.aim.join("-")}`) });
+}
+
+// Makes a schedule and opens it.
+async function make(what, given) {
+  if (isDone(await act(what, given))) await open({ schedule: given.to ?? given.name });
 }
 
 export async function fresh() {
   const name = await asked("Name of the new schedule", freeName("A"), "letters, digits, _ - .");
-  if (name && isDone(await act("new", { name }))) open({ schedule: name });
+  if (name) later(() => make("new", { name }));
 }
 
 export async function branch() {
@@ -177,7 +202,7 @@ export async function branch() {
   const length = event ? event.p + 1 : row.length;
   const to = await asked(`Branch ${name} after its first ${many(length, "event")}`, freeName(`${name}.b`),
     event ? `up to and with event ${event.e}, where the cursor is` : "all of it; move the cursor to branch earlier");
-  if (to && isDone(await act("branch", { name, length, to }))) open({ schedule: to });
+  if (to) later(() => make("branch", { name, length, to }));
 }
 
 export async function drop() {
@@ -188,9 +213,12 @@ export async function drop() {
 export async function adopt(entry) {
   const base = state.view?.schedule ?? freeName(`r${entry.pair.join("-")}`);
   const name = await asked(`Adopt proposal p${entry.p} into`, base, "a new name makes a new schedule");
-  if (!name) return;
+  if (name) later(() => adoptInto(name, entry));
+}
+
+async function adoptInto(name, entry) {
   if (!state.rows.has(name) && !isDone(await act("new", { name }))) return;
   if (!isDone(await act("adopt", { name, proposal: entry.p }))) return;
   await aimAt(entry.pair);
-  open({ schedule: name });
+  await open({ schedule: name });
 }

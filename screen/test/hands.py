@@ -4,7 +4,7 @@ import traces
 from browser import Browser
 from judged import same
 from live import session
-from stage import LENGTH, ROWS, SAID, Screen, focus, is_clean, logged, new, press
+from stage import LENGTH, ROWS, SAID, Screen, comes, focus, is_clean, logged, new, press
 
 SCHEDULES = "document.querySelectorAll('.sched').length"
 NEXT_LENGTH = "document.getElementById('next-list').dataset.length"
@@ -113,4 +113,54 @@ async def test_a_press_that_is_taken_back(program):
         await press(page, "1")
         same(logged(), ["1 new A", "1 add A 0"])
         same(await page.run(f"{SAID}.includes('refused')"), False)
+        is_clean(page, screen)
+
+
+async def test_keys_typed_ahead(program):
+    """From the race to the proposal in one go, with no wait between the keys."""
+    traces.write("trace", traces.COUNT)
+    async with Screen(program, "trace", "log") as screen, Browser() as browser:
+        page = await browser.page(screen.link)
+        await page.until("document.querySelectorAll('.race').length === 1")
+        for key in ("F6", "ArrowDown", "e", "t", "2", "t", "3", "t", "p"):
+            await page.key(key)
+        await comes(lambda: logged()[-1:] and logged()[-1].startswith("1 propose"))
+        same(logged(), [
+            "1 new r7-12", "1 batch add r7-12 0 ; add r7-12 1", "1 add r7-12 2",
+            "1 batch add r7-12 3 ; add r7-12 4 ; add r7-12 5 ; add r7-12 6", "1 add r7-12 8",
+            "1 batch add r7-12 9 ; add r7-12 10 ; add r7-12 11", "1 propose 7 12 0 1 2 3 4 5 6 8 9 10 11"])
+        is_clean(page, screen)
+
+
+async def test_keys_are_for_the_schedule_that_they_see(program):
+    traces.write("trace", traces.COUNT)
+    async with Screen(program, "trace", "log") as screen, Browser() as browser:
+        page = await browser.page(screen.link)
+        await new(page, 3)
+        for key in ("n", "Enter", "1", "[", "1", "1", "]", "1"):
+            await page.key(key)
+        await comes(lambda: len(logged()) == 6)
+        same(logged(), ["1 new A", "1 new A.2", "1 add A.2 0", "1 add A 0", "1 add A 1", "1 add A.2 1"])
+        await page.until(f"{OPEN} === 'A.2' && {ROWS} === 2")
+        is_clean(page, screen)
+
+
+async def test_double_clicks(program):
+    """The second click hits what came under the hand meanwhile, and does not do that."""
+    traces.write("trace", traces.COUNT)
+    async with Screen(program, "trace", "log") as screen, Browser() as browser:
+        page = await browser.page(screen.link)
+        await page.until("document.querySelectorAll('.race').length === 1")
+        await page.click(".race", times=2)
+        await page.until(f"{OPEN} === 'Witness'")
+        await page.click("#bar button", 1, times=2)  # start empty; then the two buttons of a schedule stand there
+        await page.until(f"{OPEN} === 'r7-12' && {NEXT_LENGTH} === '0'")
+        await page.click(".next", times=2)
+        await page.until(f"{ROWS} === 2 && {NEXT_LENGTH} === '2'")
+        same(logged(), ["1 new r7-12", "1 add r7-12 0", "1 add r7-12 1"])
+        await page.click("#new", times=2)
+        await page.until("document.getElementById('ask').open")
+        await page.click("#ask-yes", times=2)
+        await page.until(f"{OPEN} === 'A'")
+        same(logged()[3:], ["1 new A"])
         is_clean(page, screen)

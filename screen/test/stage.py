@@ -33,7 +33,11 @@ class Screen:
         pipe = asyncio.subprocess.PIPE
         self.process = await asyncio.create_subprocess_exec(
             *self.words, stdin=asyncio.subprocess.DEVNULL, stdout=pipe, stderr=pipe)
-        self.link = (await asyncio.wait_for(self.process.stdout.readline(), 120)).decode().strip()
+        try:
+            self.link = (await asyncio.wait_for(self.process.stdout.readline(), 300)).decode().strip()
+        except asyncio.TimeoutError:
+            self.process.kill()
+            raise
         if not self.link:
             raise AssertionError((await self.process.stderr.read()).decode())
         self.base, self.ticket = self.link.split("/#")
