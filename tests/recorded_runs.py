@@ -120,6 +120,19 @@ def judge_hooks(c):
         raise WrongRun(f"a program without hooks: {told}{out}")
 
 
+def judge_language(_):
+    """A link of C++ by the compiler of C fails, and the other compiler is named. A fault of a program in C names none."""
+    text = "#include <thread>\nint main() { std::thread([] {}).join(); return 0; }\n"
+    with open("source.cpp", "w", encoding="ascii") as source:
+        source.write(text)
+    _, told = ran([os.path.join(RECORD, "cc"), "source.cpp", "-o", "program"], wanted=1)
+    if told.splitlines()[-1] != "record: for C++ use record/c++":
+        raise WrongRun(f"C++ by record/cc: {told}")
+    _, told = compiled("int main(void) { return other(); }\n", wanted=1)
+    if "record: for C++" in told:
+        raise WrongRun(f"a fault in C: {told}")
+
+
 FULL_DISK = """mount -t tmpfs -o size=%s none small 2>/dev/null || exit 99
 TMPDIR=$PWD/small exec %s ./program"""
 
@@ -192,7 +205,8 @@ def judge_once(c):
 
 
 JUDGES = [("ten recordings of one seed", judge_same_runs), ("how programs end", judge_ends), ("hooks", judge_hooks),
-          ("a full disk", judge_full_disk), ("a killed run", judge_killed), ("a group that is ended", judge_group), ("the recorder is compiled once", judge_once)]
+          ("a full disk", judge_full_disk), ("a killed run", judge_killed), ("a group that is ended", judge_group), ("the recorder is compiled once", judge_once),
+          ("C++ by the compiler of C", judge_language)]
 
 
 def cases(c):
