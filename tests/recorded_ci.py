@@ -7,6 +7,7 @@ import os
 import re
 import shutil
 import stat
+import subprocess
 
 from recorded_places import RECORD, TOP, WrongPlace, ran
 
@@ -61,9 +62,17 @@ def judge_service(racebench, name):
     environment = lay_out(racebench)
     build, judge = (["sh", "-c", words] for words in commands(name))
     ran(build, env=environment)
-    said = ran(judge, wanted=3, env=environment)
+    done = subprocess.run(judge, capture_output=True, text=True, env=environment, check=False)
+    if done.returncode != 3 or done.stderr:
+        raise WrongPlace(f"an empty file of known races: {done}")
+    said = done.stdout
     if "seed 2: a new race\nrace " not in said or not os.path.exists("races/2.html"):
         raise WrongPlace(f"a new race is not shown: {said!r}")
+    with open("ci/known.txt", "w", encoding="ascii") as known:
+        known.write("none\n")
+    said = subprocess.run(judge, capture_output=True, text=True, env=environment, check=False).stdout
+    if said.count("has no block `race`") != 1:
+        raise WrongPlace(f"a file of known races without one is told once: {said!r}")
     with open("races/1.txt", encoding="ascii") as old, open("ci/known.txt", "w", encoding="ascii") as known:
         known.write(old.read())
     if ran(judge, env=environment) != "seed 1: no new race\nseed 2: no new race\n":
@@ -86,6 +95,11 @@ def judge_no_green(racebench):
     environment = lay_out(racebench)
     judge = ["sh", "-c", commands("github.yml")[1]]
     ran(judge, wanted=1, env=environment)
+    os.rename("ci/known.txt", "known.txt")
+    done = subprocess.run(judge, capture_output=True, text=True, env=environment, check=False)
+    if done.returncode != 1 or not done.stderr.startswith("ci/known.txt, "):
+        raise WrongPlace(f"a file of known races that is not there is not said: {done}")
+    os.rename("known.txt", "ci/known.txt")
     with open("tests.c", "w", encoding="ascii") as file:
         file.write(QUIET)
     ran(["gcc", "tests.c", "-o", "tests"])

@@ -15,6 +15,10 @@ racebench=${RACEBENCH:-racebench}
 record=${RECORD:-racebench-record}
 known=$1
 shift
+if [ ! -r "$known" ]; then
+    echo "$known, the file of the races that you know, is not there: begin with an empty one" >&2
+    exit 1
+fi
 mkdir -p races || exit 1
 worst=0
 seed=1
@@ -25,15 +29,17 @@ while [ "$seed" -le "${SEEDS:-20}" ]; do
         echo "seed $seed: not recorded"
         exit 1
     fi
-    "$racebench" triage "$trace" --known "$known" --fail > "races/$seed.txt" 2> "races/$seed.err"
+    RACEBENCH_NOTES=1 "$racebench" triage "$trace" --known "$known" --fail > "races/$seed.txt" 2> "races/$seed.err"
     status=$?
+    # A file with texts and no race is told once: it may be the wrong one.
+    if [ "$seed" -eq 1 ] && [ "$status" -ne 1 ] && [ -s "$known" ]; then grep 'has no block' "races/$seed.err"; fi
     case $status in
         0) echo "seed $seed: no new race" ;;
         3)
             worst=3
             echo "seed $seed: a new race"
             awk '/^[^ ]/ { shown = /^race / } shown' "races/$seed.txt"
-            "$racebench" triage "$trace" --known "$known" --page > "races/$seed.html" || exit 1
+            "$racebench" triage "$trace" --known "$known" --page > "races/$seed.html" 2> /dev/null || exit 1
             ;;
         *)
             cat "races/$seed.err"
