@@ -120,6 +120,23 @@ def judge_hooks(c):
         raise WrongRun(f"a program without hooks: {told}{out}")
 
 
+# Each command, how its usage ends, and what it lacks if it is called without words.
+USAGES = [
+    ("run", " [--only FILE].. [--raw FILE] [--status] [--clock FILE] PROGRAM ARGS..", "PROGRAM"),
+    ("follow", " CLOCK A B [PROGRAM ARGS..]", "CLOCK, A, B"),
+    ("confirm", " TRACE CLOCK [PROGRAM ARGS..]", "TRACE, CLOCK"),
+    ("reported", " REPORT TRACE", "REPORT, TRACE"),
+]
+
+
+def judge_usages(_):
+    """The usage of a command is whole, and an error names the arguments of the usage."""
+    for name, usage, lacking in USAGES:
+        _, told = ran([os.path.join(RECORD, name)], wanted=2)
+        if not told.endswith(f"{usage}\nrecord/{name}: error: the following arguments are required: {lacking}\n"):
+            raise WrongRun(f"record/{name} without words: {told}")
+
+
 def judge_language(_):
     """A link of C++ by the compiler of C fails, and the other compiler is named. A fault of a program in C names none."""
     text = "#include <thread>\nint main() { std::thread([] {}).join(); return 0; }\n"
@@ -206,7 +223,7 @@ def judge_once(c):
 
 JUDGES = [("ten recordings of one seed", judge_same_runs), ("how programs end", judge_ends), ("hooks", judge_hooks),
           ("a full disk", judge_full_disk), ("a killed run", judge_killed), ("a group that is ended", judge_group), ("the recorder is compiled once", judge_once),
-          ("C++ by the compiler of C", judge_language)]
+          ("C++ by the compiler of C", judge_language), ("usages", judge_usages)]
 
 
 def cases(c):
