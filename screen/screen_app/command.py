@@ -37,6 +37,8 @@ def words() -> argparse.Namespace:
     given = parser.parse_args()
     if not given.program:
         parser.error("racebench is not on the path; name it with --program")
+    if not shutil.which(given.program):
+        parser.error(f"{given.program} is no program; name one with --program")
     if given.source and not os.path.isdir(given.source):
         parser.error(f"{given.source} is no folder")
     return given
@@ -91,7 +93,8 @@ async def run(given: argparse.Namespace) -> None:
             reading.cancel()
     listen_to_terminal(server)
     print(server.guard.link(), flush=True)
-    print("The link opens once. Enter prints another; control-C ends.", file=sys.stderr, flush=True)
+    enter = "Enter prints another; " if sys.stdin and sys.stdin.isatty() else ""
+    print(f"The link opens once. {enter}control-C ends.", file=sys.stderr, flush=True)
     await reading
     await server.follow()
     await server.stopping.wait()

@@ -45,7 +45,7 @@ async def frontier(bench: Bench, name: str, aim: tuple[int, ...]) -> Told:
              **({"why": causes.told(one.event, one.cause)} if one.cause else {})} for one in events]
     return {
         "name": name, "version": version, "length": len(sheet), "next": told, "pairs": pairs,
-        "ended": len(bench.trace.threads.raw) - len(told),
+        "ended": len(bench.trace.threads.raw) - len(told), "witnessed": aim in bench.witnesses,
     }
 
 

@@ -92,12 +92,12 @@ on("log", async (told) => {
   const isTouched = name && name in told.rows;
   const drawn = isTouched && told.rows[name] ? [sheet.refresh(isMine), frontier.load()] : [];
   feed.render();
+  if (isTouched) views.bar();
   if (isTouched && !told.rows[name]) {
     sheet.reset();
     frontier.load();
   }
   await Promise.all(drawn);
-  if (isTouched) views.bar();
 });
 
 connect();

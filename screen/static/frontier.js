@@ -202,6 +202,7 @@ export const run = (one = chosenOne()) => one && !one.fixed && step("run", { thr
 export function toAim(one = chosenOne()) {
   if (one?.to !== undefined) return step("run", { until: one.to });
   if (one && !state.aim) events.say("open a race first: it is the aim");
+  else if (one && !one.own && !told.witnessed) events.say("the witness of the aim is not known yet");
   else if (one) events.say(`${threadName(one.t)} has come as far as the aim needs`);
   return null;
 }

@@ -23,6 +23,7 @@ export const hideNote = () => {
 
 // Grows with each look at something else, so an answer that comes late is known to be overtaken.
 let looks = 0;
+let sought = null; // the pair whose witness is looked for
 
 export async function open(view, { end = true } = {}) {
   looks++;
@@ -87,7 +88,14 @@ export async function clearAim() {
 export async function openPair(pair) {
   const mine = ++looks;
   await aimAt(pair);
+  if (mine === looks) await look(pair, mine);
+}
+
+async function look(pair, mine) {
+  sought = pair;
+  bar();
   const told = await ask("witness", { pair });
+  if (sought === pair) sought = null;
   if (mine !== looks) return;
   if (!told.none && !told.mistake && !told.gone) {
     await open({ witness: told.pair, pair: told });
@@ -124,6 +132,7 @@ function titled() {
     const size = `${many(view.pair.length, "event")} · proved, and not in the log`;
     return [el("h2", "title", "Witness"), el("span", "dim", size)];
   }
+  if (state.aim && sought) return [el("h2", "title", "Looking for the witness …")];
   if (state.aim) return [el("h2", "title", "No schedule shows this pair")];
   return [el("h2", "title", "No schedule"), el("span", "dim", "open a race at the left, or make an empty schedule")];
 }
