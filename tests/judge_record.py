@@ -38,6 +38,7 @@ PROGRAMS = [
     ("tests/recorded/freed.c", [], {("freed.c:11", "freed.c:6")}),
     ("tests/recorded/signals.c", [], {"RACE"}),
     ("tests/recorded/sockets.c", [], {"RACE"}),
+    ("tests/recorded/openmp.c", [], {"RACE"}),
 ]
 
 
@@ -92,7 +93,7 @@ def compiled(source, c, cxx):
     """Compiles a source, in one call or in two, to `program`."""
     environment = dict(os.environ, RECORD_CC=c, RECORD_CXX=cxx or "")
     path, language = os.path.join(TOP, source), os.path.join(RECORD, "c++" if source.endswith(".cpp") else "cc")
-    words = ["-std=c++17"] if source.endswith(".cpp") else []
+    words = ["-std=c++17"] if source.endswith(".cpp") else ["-fopenmp"] if source.endswith("openmp.c") else []
     if c == "gcc":
         done([language, "-O1", *words, path, "-o", "program"], env=environment)
     else:
@@ -178,6 +179,8 @@ def main():
         if place == 0:
             cases += recorded_options.cases(c) + recorded_runs.cases(c) + recorded_follow.cases(racebench) + recorded_ci.cases(racebench)
         for source, words, races in PROGRAMS:
+            if source.endswith("openmp.c") and c != "gcc":
+                continue
             if source.endswith(".cpp") and cxx is None:
                 print(f"record/: {source} is not tested with {c}, since its C++ compiler is not here")
                 continue

@@ -84,7 +84,7 @@ def judge_same_runs(c):
         if not first or any(other != first for other in others):
             raise WrongRun(f"{kind}: {sum(other != first for other in others)} of {RUNS - 1} recordings differ from the first, of one seed")
         differ += raw_records(["./kinds", kind], 2) != first
-    if len(kinds) < 15 or differ < len(kinds) // 2:
+    if len(kinds) < 22 or differ < len(kinds) // 2:
         raise WrongRun(f"of {len(kinds)} kinds {differ} differ by another seed")
 
 

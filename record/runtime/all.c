@@ -22,6 +22,7 @@
 #include "futex.c"
 #define syscall raw_syscall
 #include "openmp.c"
+#include "tasks.c"
 #include "threads.c"
 #include "c11.c"
 #include "start.c"

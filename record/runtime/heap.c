@@ -4,8 +4,13 @@ extern void *__libc_malloc(size_t), *__libc_calloc(size_t, size_t), *__libc_real
     *__libc_memalign(size_t, size_t);
 extern void __libc_free(void *);
 
+/* A library that the thread is in without its turn, as one that waits, goes on without it. */
+static int is_outside(void) { return !IDLE && !following && me < MOST_THREADS && holder != me; }
+
 static void *got(void *block, size_t n, u64 pc) {
+    int outside = is_outside();
     if (block) put(ALLOCATED, (u64)block, n, pc);
+    if (outside) give();
     return block;
 }
 
@@ -22,7 +27,9 @@ int posix_memalign(void **block, size_t align, size_t n) {
 
 /* Recorded before it is done: from then on another thread may be given the block. */
 static inline void give_back(void *block, u64 pc) {
+    int outside = is_outside();
     if (block) put(FREED, (u64)block, 0, pc);
+    if (outside) give();
     __libc_free(block);
 }
 void free(void *block) { give_back(block, PC); }

@@ -21,6 +21,7 @@ static pthread_cond_t news = PTHREAD_COND_INITIALIZER;
 static pthread_spinlock_t spin;
 static pthread_rwlock_t shared = PTHREAD_RWLOCK_INITIALIZER;
 static pthread_barrier_t barrier;
+static once_flag c11_once[ROUNDS] = {ONCE_FLAG_INIT, ONCE_FLAG_INIT, ONCE_FLAG_INIT, ONCE_FLAG_INIT};
 static pthread_once_t once[ROUNDS] = {PTHREAD_ONCE_INIT, PTHREAD_ONCE_INIT, PTHREAD_ONCE_INIT, PTHREAD_ONCE_INIT};
 static sem_t sent;
 static atomic_int flag, spun;
@@ -50,6 +51,17 @@ static void by_readers(int self) {
     pthread_rwlock_rdlock(&shared);
     int seen = value;
     pthread_rwlock_unlock(&shared), pthread_rwlock_wrlock(&shared), value = seen + self, pthread_rwlock_unlock(&shared);
+}
+static void by_try_readers(int self) {
+    while (pthread_rwlock_tryrdlock(&shared)) sched_yield();
+    int seen = value;
+    pthread_rwlock_unlock(&shared);
+    while (pthread_rwlock_trywrlock(&shared)) sched_yield();
+    value = seen + self, pthread_rwlock_unlock(&shared);
+}
+static void by_try_semaphore(int self) {
+    while (sem_trywait(&sent)) sched_yield();
+    value += self, sem_post(&sent);
 }
 static void by_barrier(int self) {
     if (pthread_barrier_wait(&barrier) == PTHREAD_BARRIER_SERIAL_THREAD) value += self;
@@ -84,6 +96,11 @@ static void by_flag(int self) {
     if (self == 0) value++, atomic_store_explicit(&flag, 1, memory_order_release);
     else while (!atomic_load_explicit(&flag, memory_order_acquire)) sched_yield();
 }
+static void by_fences(int self) {
+    if (self == 0) value++, atomic_thread_fence(memory_order_release), atomic_store_explicit(&flag, 1, memory_order_relaxed);
+    else while (!atomic_load_explicit(&flag, memory_order_relaxed)) sched_yield();
+    atomic_thread_fence(memory_order_acquire), atomic_fetch_add_explicit(&spun, value, memory_order_acq_rel);
+}
 static void by_pipe(int self) {
     char mark;
     if (read(two[0], &mark, 1) != 1) abort();
@@ -114,11 +131,18 @@ static void by_c11(int self) {
     turn++, cnd_broadcast(&c11_news), mtx_unlock(&c11_mutex);
 }
 
+static void by_c11_try(int self) {
+    call_once(&c11_once[self % ROUNDS], make_once);
+    while (mtx_trylock(&c11_mutex) != thrd_success) thrd_yield();
+    value += self, mtx_unlock(&c11_mutex);
+}
+
 static const struct kind { const char *name; void (*work)(int); } kinds[] = {
     {"mutex", by_mutex}, {"try", by_try}, {"timed", by_timed}, {"spin", by_spin}, {"readers", by_readers}, {"barrier", by_barrier},
     {"semaphore", by_semaphore}, {"condition", by_condition}, {"signal", by_signal}, {"once", by_once}, {"atomics", by_atomics},
     {"flag", by_flag}, {"pipe", by_pipe}, {"socket-pair", by_socket_pair}, {"eventfd", by_eventfd}, {"descriptor", by_descriptor},
-    {"chance", by_chance}, {"c11", by_c11},
+    {"chance", by_chance}, {"c11", by_c11}, {"try-readers", by_try_readers}, {"try-semaphore", by_try_semaphore}, {"fences", by_fences},
+    {"c11-try", by_c11_try},
 };
 static const struct kind *kind;
 
@@ -145,7 +169,7 @@ int main(int count, char **words) {
     prepare();
     pthread_t ids[THREADS];
     thrd_t c11_ids[THREADS];
-    int is_c11 = !strcmp(kind->name, "c11");
+    int is_c11 = !strncmp(kind->name, "c11", 3);
     for (long k = 0; k < THREADS; k++) {
         if (is_c11 ? thrd_create(&c11_ids[k], c11_work, (void *)k) : pthread_create(&ids[k], NULL, posix_work, (void *)k)) abort();
     }

@@ -1,0 +1,161 @@
+/* Tasks of OpenMP (libgomp). A task comes after its maker made it. Its end comes before its maker's next taskwait is over,
+ * before the end of its task group, and before the end of the next barrier of its team. */
+
+#define DEPENDS 8
+#define DEPENDS_AT_MOST 16
+
+/* What a task carries before its own data; libgomp copies it by copy_task(). */
+struct task {
+    void (*body)(void *);
+    void (*copy)(void *, void *);
+    void *data;
+    u64 size, offset, number, waits, wait_round, team, round, group, pc;
+    u32 depends;
+    void *depend[DEPENDS_AT_MOST];
+};
+struct group { u64 number; struct group *outer; };
+/* What this thread's task waits for at taskwait, the how many-th time, and its task group. */
+static __thread u64 my_waits, my_wait_round, my_group;
+static __thread struct group *my_groups;
+
+/* The first tasks are left to other threads of the team for a moment: else their maker may do all. */
+#define LEFT_TO_OTHERS 1000
+
+static u64 new_number(void) { return __atomic_add_fetch(&teams, 1, SC); }
+
+static void copy_task(void *to, void *from) {
+    struct task *t = from;
+    u8 was = inside;
+    inside = 1;
+    __real_memcpy(to, t, sizeof *t);
+    inside = was;
+    if (t->copy) t->copy((char *)to + t->offset, t->data);
+    else __real_memcpy((char *)to + t->offset, t->data, t->size);
+}
+
+static void meet_depends(struct task *t, int kind) {
+    for (u32 k = 0; k < t->depends; k++) meet(kind, OF_MEMORY, (u64)t->depend[k], 0, t->pc);
+}
+
+static void end_task(struct task *t) {
+    meet_depends(t, ARRIVED);
+    meet(ARRIVED, OF_TEAM, t->waits, t->wait_round, t->pc);
+    if (t->group) meet(ARRIVED, OF_TEAM, t->group, 1, t->pc);
+    meet_team(ARRIVED, t->team, t->round, t->pc);
+    meet_team(ARRIVED, t->team, LAST_ROUND, t->pc);
+}
+
+static void in_task(void *p) {
+    struct task *t = p;
+    u64 waits = my_waits, wait_round = my_wait_round, group = my_group, team = my_team, round = my_round;
+    struct group *groups = my_groups;
+    int had = IDLE || holder == me;
+    if (!had) take();
+    my_waits = 0, my_wait_round = 1, my_group = t->group, my_groups = NULL, my_team = t->team, my_round = t->round;
+    meet(WENT_ON, OF_TEAM, t->number, 1, t->pc);
+    meet_depends(t, WENT_ON);
+    t->body((char *)p + t->offset);
+    end_task(t);
+    my_waits = waits, my_wait_round = wait_round, my_group = group, my_groups = groups, my_team = team, my_round = round;
+    if (!had) give();
+}
+
+/* The addresses of a task's depend clauses, in the two forms that libgomp has. */
+static void read_depends(struct task *t, void **depend) {
+    u64 first = (u64)depend[0], count = first ? first : (u64)depend[1], from = first ? 2 : 5;
+    for (u64 k = 0; k < count && k < DEPENDS_AT_MOST; k++) t->depend[t->depends++] = depend[from + k];
+}
+
+void GOMP_task(void (*body)(void *), void *data, void (*copy)(void *, void *), long size, long align, _Bool deferred,
+               unsigned flags, void **depend, int priority, void *detach) {
+    REAL(GOMP_task, void, void (*)(void *), void *, void (*)(void *, void *), long, long, _Bool, unsigned, void **, int, void *);
+    if (IDLE || align > 64) {
+        real(body, data, copy, size, align, deferred, flags, depend, priority, detach);
+        return;
+    }
+    maybe_give();
+    if (!my_waits) my_waits = new_number(), my_wait_round = 1;
+    u64 wide = align < 16 ? 16 : (u64)align;
+    struct task t = {body, copy, data, (u64)size, (sizeof(struct task) + wide - 1) / wide * wide, new_number(), my_waits,
+                     my_wait_round, my_team, my_round, my_group, PC, 0, {0}};
+    if (flags & DEPENDS) read_depends(&t, depend);
+    meet(ARRIVED, OF_TEAM, t.number, 1, PC);
+    int waits = (flags & DEPENDS) && !deferred;
+    if (waits) give();
+    real(in_task, &t, copy_task, (long)t.offset + size, (long)wide, deferred, flags, depend, priority, detach);
+    take();
+    if (deferred && t.number < LEFT_TO_OTHERS) let_others();
+}
+
+void GOMP_taskwait(void) {
+    REAL(GOMP_taskwait, void, void);
+    if (!IDLE) maybe_give(), give();
+    real();
+    if (IDLE) return;
+    take();
+    if (my_waits) meet(WENT_ON, OF_TEAM, my_waits, my_wait_round++, PC);
+}
+
+void GOMP_taskgroup_start(void) {
+    REAL(GOMP_taskgroup_start, void, void);
+    struct group *g = __libc_malloc(sizeof *g);
+    if (!g) abort();
+    *g = (struct group){my_group, my_groups};
+    my_groups = g, my_group = new_number();
+    real();
+}
+
+void GOMP_taskgroup_end(void) {
+    REAL(GOMP_taskgroup_end, void, void);
+    struct group *g = my_groups;
+    u64 number = my_group;
+    if (!IDLE) maybe_give(), give();
+    real();
+    if (!IDLE) take(), meet(WENT_ON, OF_TEAM, number, 1, PC);
+    if (!g) return;
+    my_group = g->number, my_groups = g->outer;
+    __libc_free(g);
+}
+
+/* ---- parts of loops that come in the order of their turns ---- */
+
+void GOMP_ordered_start(void) {
+    REAL(GOMP_ordered_start, void, void);
+    if (!IDLE) maybe_give(), give();
+    real();
+    if (!IDLE) take(), put_of(OF_TEAM, PASS, my_team, PC);
+}
+
+void GOMP_ordered_end(void) {
+    REAL(GOMP_ordered_end, void, void);
+    if (!IDLE) put_of(OF_TEAM, PASS, my_team, PC);
+    real();
+}
+
+/* The next turns of such a loop: the call waits for those before. */
+#define NEXT_ORDERED(kind) \
+    _Bool GOMP_loop_ordered_##kind##_next(long *from, long *to) { \
+        REAL(GOMP_loop_ordered_##kind##_next, _Bool, long *, long *); \
+        return OUTSIDE(real(from, to)); \
+    }
+NEXT_ORDERED(static)
+NEXT_ORDERED(dynamic)
+NEXT_ORDERED(guided)
+NEXT_ORDERED(runtime)
+
+/* What one thread makes and gives to all: the others wait for it as at a barrier. */
+void *GOMP_single_copy_start(void) {
+    REAL(GOMP_single_copy_start, void *, void);
+    if (!IDLE) maybe_give(), meet_team(ARRIVED, my_team, my_round, PC), give();
+    void *made = real();
+    if (!IDLE) take();
+    if (!IDLE && made) meet_team(WENT_ON, my_team, my_round++, PC);
+    return made;
+}
+
+void GOMP_single_copy_end(void *made) {
+    REAL(GOMP_single_copy_end, void, void *);
+    if (!IDLE) meet_team(ARRIVED, my_team, my_round, PC), give();
+    real(made);
+    if (!IDLE) take(), meet_team(WENT_ON, my_team, my_round++, PC);
+}
