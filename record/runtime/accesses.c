@@ -3,17 +3,21 @@
 /* A turn ends after so many accesses, which are drawn below twice `--yield`. Where a turn brought no place of code
  * that is new for its thread, the thread's next one is twice as long, up to so many times. */
 #define LONGEST_TURN 16
+/* Accesses of a turn where nothing is recorded any more. */
+#define UNRECORDED_TURN 65536
 #define SEEN_PLACES 65536
 static u8 seen_places[SEEN_PLACES];
 static __thread u32 longer;
 static __thread u8 news;
-/* Where this thread's last two accesses were: one that reads the same again and again waits for another thread. */
+/* Where this thread's last two reads were since it wrote: one that reads the same again and again, and writes nothing,
+ * waits for another thread. */
 static __thread struct { u64 pc, at; } last_read[2];
 
 static void begin_turn(int waits) {
     longer = news || waits || !longer ? 1 : longer < LONGEST_TURN ? 2 * longer : longer;
     left_of_turn = 1 + draw(2 * one_in - 1);
     left_of_turn *= longer;
+    if (is_full && !waits) left_of_turn = UNRECORDED_TURN;
     news = 0;
 }
 
@@ -46,7 +50,12 @@ static inline void access_(int kind, const volatile void *at, u64 size, u64 pc) 
     if (IDLE || !size) return;
     if (following) about_to(kind, (u64)at, size, pc);
     if (kind == READ) look_for_waiting((u64)at, pc);
+    else last_read[0].pc = last_read[1].pc = 0;
     maybe_give();
+    if (is_full && !following) {
+        __atomic_store_n(&head->used, head->used + 1, __ATOMIC_RELAXED);
+        return;
+    }
     see_place(pc);
     put(kind, (u64)at, size, pc);
 }

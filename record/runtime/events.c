@@ -120,6 +120,9 @@ static u64 next_pos(int kind, u64 at, u64 size, u64 pc) {
     return pos;
 }
 
+/* Whether there is no room for more records. */
+static volatile u8 is_full;
+
 /* Makes a record, in the thread's turn; its place, or NO_PLACE where there is no room. */
 static u64 put_record(struct record r) {
     if (IDLE) return NO_PLACE;
@@ -128,7 +131,10 @@ static u64 put_record(struct record r) {
     count_record();
     if (me >= MOST_THREADS) return NO_PLACE;
     u64 place = __atomic_fetch_add(&head->used, 1, __ATOMIC_RELAXED);
-    if (place >= head->room || (place >= records_there && !more_records(place))) return NO_PLACE;
+    if (place >= head->room || (place >= records_there && !more_records(place))) {
+        is_full = 1;
+        return NO_PLACE;
+    }
     r.stack = stack_now();
     r.thread = (u16)me;
     r.done = 0;
