@@ -1,6 +1,7 @@
 """Running a program that was compiled for recording: its raw file, its environment, its end."""
 import ctypes
 import os
+import shutil
 import signal
 import subprocess
 import sys
@@ -11,6 +12,7 @@ import raw as raw_file
 NO_RANDOM_ADDRESSES = 0x0040000
 SIGNAL_AT_PARENTS_DEATH = 1
 C_LIBRARY = ctypes.CDLL(None)
+BUILT = os.path.join(os.path.dirname(os.path.dirname(os.path.realpath(__file__))), "crates/racebench/out/racebench")
 
 
 # The signals that asked this script to end while its program ran.
@@ -99,6 +101,12 @@ def look_at(file, program):
     if not head.units:
         raise Unrunnable("nothing was recorded: no part of the program has hooks, so compile its sources with record/cc "
                          "or record/c++")
+
+
+def racebench_of(given):
+    """The program racebench: the one that is given, the one of $RACEBENCH, the one that was built beside this folder, or the
+    one in PATH; None if there is none."""
+    return given or os.environ.get("RACEBENCH") or (BUILT if os.access(BUILT, os.X_OK) else shutil.which("racebench"))
 
 
 def say(command, text):

@@ -142,6 +142,17 @@ def judge_outputs(racebench):
             raise WrongFollow(f"outputs that show {shown}, {tries} tries: {said}")
 
 
+def judge_program(racebench):
+    """racebench is named by either option or by the variable."""
+    recorded(os.path.join(SOURCES, "lost.c"), [])
+    confirm = [os.path.join(RECORD, "confirm"), "program.std", "program.clock"]
+    ways = [("--racebench", racebench), ("--program", racebench), ()]
+    env = dict(os.environ, RACEBENCH="/nowhere")
+    told = [ran([confirm[0], *way, *confirm[1:]], env=env if way else dict(env, RACEBENCH=racebench))[0] for way in ways]
+    if "stand 1" not in told[0] or told != [told[0]] * 3:
+        raise WrongFollow(f"three ways to name racebench: {told}")
+
+
 def judge_departs(racebench):
     """A run whose addresses are others goes another way: that is told, with the places of both ways."""
     recorded(os.path.join(SOURCES, "departs.c"), [])
@@ -175,7 +186,8 @@ def judge_refusals(racebench):
 
 
 JUDGES = [
-    ("races stand", judge_races), ("both orders", judge_orders), ("outputs", judge_outputs), ("a departure", judge_departs),
+    ("races stand", judge_races), ("both orders", judge_orders), ("outputs", judge_outputs), ("the program's name", judge_program),
+    ("a departure", judge_departs),
     ("refusals", judge_refusals),
 ]
 

@@ -20,7 +20,7 @@ RACE = re.compile(rb"Possible data race|Conflicting (load|store)|<kind>(Race|Con
 
 def reported(racebench, report, trace="count.std"):
     done = subprocess.run(
-        [os.path.join(RECORD, "reported"), "--program", racebench, report, trace],
+        [os.path.join(RECORD, "reported"), "--racebench", racebench, report, trace],
         capture_output=True,
         timeout=PATIENCE,
         check=False,
