@@ -9,3 +9,4 @@ pub mod ReplayLemmas
 pub mod RunLemmas
 pub mod SplitLemmas
 pub mod WholeLemmas
+mod PrintLemmas

@@ -2,8 +2,8 @@
 ghost use Rattle.std.specs.Io.KnownBytes.{Appends};
 ghost use Rattle.std.specs.Prelude.{◌≡◌, ◌≢◌, ◌++◌, true, false, flat_map, ℕ, List, Err, IfErr, IfSome, OnOk};
 ghost use Rattle.client_scripts.specs.Joint.{ended};
-ghost use Rattle.client_scripts.specs.Replay.{AppendsPart};
-ghost use Rattle.client_scripts.specs.declared.fault.ReadCause.TheVariants.{Device as DeviceFailed};
+ghost use Rattle.client_scripts.specs.Replay.{AppendsPart, IsUnreadable};
+ghost use Rattle.client_scripts.specs.declared.fault.ReadCause.TheVariants.{Device as DeviceFailed, TooLong};
 ghost use Rattle.client_scripts.specs.declared.fault.ReplayFault.TheVariants.{Read, Write};
 ghost use Rattle.kept_log.specs.Lines.{kept_lines};
 ghost use Rattle.kept_session.specs.Faults.{IsPrintFault};
@@ -56,6 +56,9 @@ pub fn print_log<S: Source, K: Sink>(
     ensures write { result ≡ Err (Replay Write) → K.has_failed writer.new ≡ true }
     ensures write_failed { K.has_failed writer.new ≡ true → result ≡ Err (Replay Write) }
     ensures fault { IfErr result IsPrintFault }
+
+    // An input is told to be too long only if it is.
+    ensures too_long { result ≡ Err (Replay (Read 2 TooLong)) → IfSome (S.rest reader.old) (λ bytes. IsUnreadable bytes TooLong) }
 {
     let bytes = read_input(alloc, reader, LOG_INPUT)?;
     let Some(text) = behind_head(&bytes) else {
