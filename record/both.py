@@ -64,7 +64,8 @@ def is_told_apart(first, second):
     """Whether a word, or how many there are, is always one in an order and always another in the other order. If other
     words vary, there have to be enough seeds that this is not theirs by chance (as if each had two values)."""
     differ = vary = 0
-    for one, other in [*zip(first.words[:-1], second.words[:-1]), (first.words[-1], second.words[-1])]:
+    ours, theirs = first.words, second.words
+    for one, other in [*zip(ours[:-1], theirs[:-1]), (ours[-1], theirs[-1])]:
         vary += max(len(one), len(other)) > 1
         differ += len(one) == len(other) == 1 and one != other
     seeds = min(len({run.seed for run in tried.runs}) for tried in (first, second))
