@@ -2,8 +2,8 @@
 """Compares all that `triage` prints of traces drawn by chance with a plain program that goes over all pairs of events, by tests/plain.py.
 
 Takes the program's path, how many traces to draw, and the first seed. Each trace is listed with what is apart and a drawn number of tries; again with its own
-output as what is known, which leaves no race; with texts that blocks need or must not have; with a status that tells of races; and by workers and as JSON,
-which has to tell the same.
+output as what is known, which leaves no race; with texts that blocks need or must not have; with a status that tells of races; and by workers, as JSON and
+as lines for editors (tests/compiled.py), which have to tell the same.
 Says what is wrong, if something is, and ends with status 1 then, also where something that has to be seen was never met.
 """
 
@@ -17,16 +17,19 @@ import tempfile
 
 sys.dont_write_bytecode = True
 import by_chance
+import compiled
 import plain
 import running
 
 TRACES = 3_000
 MOST_EVENTS = [8, 16, 28, 40]
 TRIES = [0, 1, 2, 16, 16, 16]
+# The calls of locations: most have none.
+CALLS = [""] * 6 + [" < f", " < f < main m.c:3 < m.c:9", " < operator< <int> p.cc:7 < main m+0x1 < x.c:", " < f < g :7 <  h.c:1"]
 # What JSON tells by number, in the order of the text.
 COUNTS = "events threads pairs candidates open guarded forced places races undecided apart".split()
 NUMBERS = "pairs variables events threads tried".split()
-REACHED = ["candidate", "beyond", "turned", "undecided", "apart", "untried", "known", "hidden", "failed", "holds", "one place", "more variables"]
+REACHED = ["candidate", "beyond", "turned", "undecided", "apart", "untried", "known", "hidden", "failed", "holds", "one place", "more variables", "called"]
 
 
 class Wrong(Exception):
@@ -38,7 +41,7 @@ class Located:
 
     def __init__(self, trace, chance):
         self.trace = trace
-        places = [f"p{number}.c:{number}" for number in range(chance.randint(1, 6))]
+        places = [f"p{number}.c:{number}" + chance.choice(CALLS) for number in range(chance.randint(1, 6))]
         self.places = [chance.choice(places) for _ in trace.events]
 
     def line(self, event):
@@ -185,10 +188,16 @@ class Judge:
 
     def judge_json(self, out, *words):
         """Compares the objects that are printed with the text for the same words."""
-        told = text_of(running.printed(self.program, ["triage", "trace", "--json", *words]).decode("utf-8").splitlines())
+        printed = running.printed(self.program, ["triage", "trace", "--json", *words]).decode("utf-8").splitlines()
+        told = text_of(printed)
         if told != out.decode("utf-8").splitlines():
             raise Wrong(f"JSON tells {told}, and the text {out!r}")
         self.tally["objects"] += len(told)
+        lines = running.printed(self.program, ["triage", "trace", "--lines", *words]).decode("utf-8").splitlines()
+        wanted = compiled.lines_of(json.loads(line) for line in printed)
+        if lines != wanted:
+            raise Wrong(f"lines for editors tell {lines}, and not {wanted}")
+        self.tally["called"] += sum(" note: in " in line for line in lines)
 
     def judge_filters(self, counts, rest, flag, chance):
         text = chance.choice(["p0.c", "|w(", "|r(x)", "T1|", "p1.c:1"])

@@ -286,8 +286,13 @@ locations may race.",
             help: Some("Print JSON, one object a line"),
         },
         Word {
-            name: "page",
+            name: "lines",
             kind: Kind::Flag(&["json"]),
+            help: Some("Print lines as compilers do, for editors and build logs"),
+        },
+        Word {
+            name: "page",
+            kind: Kind::Flag(&["json", "lines"]),
             help: Some("Write a self-contained HTML report, with a picture of each race"),
         },
         Word {

@@ -167,6 +167,8 @@ fn races_form(given: &ArgMatches<'_>) -> RacesForm {
         RacesForm::Page
     } else if given.get_flag("json") {
         RacesForm::Json
+    } else if given.get_flag("lines") {
+        RacesForm::Lines
     } else {
         RacesForm::Text
     }

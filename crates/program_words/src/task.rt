@@ -44,6 +44,8 @@ pub enum RacesForm {
     Text,
     /// An object a line.
     Json,
+    /// Lines as compilers write them.
+    Lines,
     /// A page.
     Page,
 }

@@ -33,6 +33,7 @@ fn asked_of<'a>(task: &'a TriageTask<'_>) -> Asked<'a> {
         form: match task.form {
             RacesForm::Text => Form::Text,
             RacesForm::Json => Form::Json,
+            RacesForm::Lines => Form::Lines,
             RacesForm::Page => Form::Page {
                 name: task.trace.as_bytes(),
             },

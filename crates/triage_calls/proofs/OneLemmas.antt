@@ -4,6 +4,7 @@ use Rattle.std.specs.Prelude.{codes, slice_index}
 use Rattle.std.specs.declared.alloc.Global.{Global}
 use Rattle.rapid_text.specs.Recording.{Recording}
 use Rattle.race_json.specs.Lines.{json_line, left_out_line, verdict_lines, IsTriageJson}
+use Rattle.race_lines.specs.Lines.{all_lines, IsLinesText}
 use Rattle.race_json.specs.Objects.{counts_object}
 use Rattle.race_triage.specs.Chosen.{is_known, AreChosen}
 use Rattle.race_triage.specs.Places.{texts_of}
@@ -18,7 +19,7 @@ use Rattle.triage_calls.specs.Answers.{hide_of, only_of, AreVerdicts, IsGiven, I
 use Rattle.triage_calls.specs.Laws.{IsLines, ListingsAreOne}
 use Rattle.triage_calls.specs.declared.listing.Asked.{Asked}
 use Rattle.triage_calls.specs.declared.listing.Form.{Form}
-use Rattle.triage_calls.specs.declared.listing.Form.TheVariants.{Text, Json, Page}
+use Rattle.triage_calls.specs.declared.listing.Form.TheVariants.{Text, Json, Lines, Page}
 
 -- what is printed as JSON, from what is printed of it
 abbrev json_printed : Recording → Totals → List Verdict → Option ℕ → Option ℕ → List ℕ
@@ -39,6 +40,9 @@ module _ (r : Recording) (place : ℕ → ℕ) (tries : ℕ) (apart : Bool) (leg
       ∙ ap (λ (o : Option ℕ). json_printed r another.totals d.verdicts.items o c.hidden) same_choice.known
       ∙ ap (λ (o : Option ℕ). json_printed r another.totals d.verdicts.items d.known o) same_choice.hidden
       ∙ sym another.printed
+
+  lines_same : (text words : List ℕ) → IsLinesText r c text → IsLinesText r d words → text ≡ words
+  lines_same text words told another = told ∙ ap (λ (l : List Verdict). all_lines r l) same_choice.verdicts ∙ sym another
 
   text_same : (text words : List ℕ) → IsTriageText r vs c text → IsTriageText r ws d words → text ≡ words
   text_same text words told another = texts_law r place tries apart known only hide vs ws c d text words legal one other chosen also told another
@@ -75,6 +79,10 @@ module _ (r : Recording) (place : ℕ → ℕ) (legal : IsLegal r) (asked : Aske
   )
   told_same Json lines (c, chosen, told, mine) (d, also, another, its) = (
     json_same r place asked.tries asked.apart legal vs ws one two known (only_of asked) (hide_of asked) c d chosen (chosen_by d also) text words told another,
+    races_same c d chosen also mine its,
+  )
+  told_same Lines lines (c, chosen, told, mine) (d, also, another, its) = (
+    lines_same r place asked.tries asked.apart legal vs ws one two known (only_of asked) (hide_of asked) c d chosen (chosen_by d also) text words told another,
     races_same c d chosen also mine its,
   )
   told_same (Page name) lines told another = absurd lines

@@ -5,6 +5,7 @@ use Rattle.std.specs.Io.KnownBytes.{Appends}
 use Rattle.rapid_text.specs.Recording.{Recording}
 use Rattle.race_groups.specs.Found.{AreTooMany}
 use Rattle.race_json.specs.Lines.{IsTriageJson}
+use Rattle.race_lines.specs.Lines.{IsLinesText}
 use Rattle.race_page.specs.Pages.{IsPage}
 use Rattle.race_page.specs.Rows.{all_rows}
 use Rattle.race_triage.specs.Chosen.{AreChosen}
@@ -26,7 +27,7 @@ use Rattle.triage_calls.specs.declared.fault.TriageFault.{TriageFault}
 use Rattle.triage_calls.specs.declared.fault.TriageFault.TheVariants.{Replay, TooMany}
 use Rattle.triage_calls.specs.declared.listing.Asked.{Asked}
 use Rattle.triage_calls.specs.declared.listing.Form.{Form}
-use Rattle.triage_calls.specs.declared.listing.Form.TheVariants.{Text, Json, Page}
+use Rattle.triage_calls.specs.declared.listing.Form.TheVariants.{Text, Json, Lines, Page}
 
 -- The verdicts on a trace, whose events have these numbers of places, where so many open pairs of two places are tried: one for each two places of
 -- a conflicting pair. What is counted of them is counted of the trace.
@@ -52,6 +53,8 @@ IsToldIn Text r known asked vs races text =
     (c : Chosen) × AreChosen r known (only_of asked) (hide_of asked) asked.apart vs c × IsTriageText r vs c text × (races ≡ c.races)
 IsToldIn Json r known asked vs races text =
     (c : Chosen) × AreChosen r known (only_of asked) (hide_of asked) asked.apart vs c × IsTriageJson r vs c text × (races ≡ c.races)
+IsToldIn Lines r known asked vs races text =
+    (c : Chosen) × AreChosen r known (only_of asked) (hide_of asked) asked.apart vs c × IsLinesText r c text × (races ≡ c.races)
 IsToldIn (Page name) r known asked vs races text =
     (c : Chosen) × AreChosen r known (only_of asked) (hide_of asked) asked.apart vs c × IsPage r text (all_rows asked.apart c.verdicts.items) × (races ≡ c.races)
 

@@ -14,6 +14,7 @@ use client_scripts::{ReplayFault, Sink, Source, read_input, read_trace};
 use event_index::Indexed;
 use must_order::Must;
 use race_json::triage_json;
+use race_lines::triage_lines;
 use race_page::page_text;
 use race_triage::{
     Chosen, Filters, Known, Places, TriageRefusal, Verdicts, Watch, chosen_of, has_block, known_of,
@@ -46,6 +47,8 @@ pub enum Form<'a> {
     Text,
     /// An object a line.
     Json,
+    /// Lines as compilers write them.
+    Lines,
     /// A page (HTML), which calls the trace by this name.
     Page {
         /// The name.
@@ -300,6 +303,11 @@ fn append_told(
         Form::Json => {
             let chosen = chosen(indexed, found, known, asked, out)?;
             triage_json(indexed, must, found, &chosen, out)?;
+            Ok(chosen.races)
+        }
+        Form::Lines => {
+            let chosen = chosen(indexed, found, known, asked, out)?;
+            triage_lines(indexed, must, &chosen, out)?;
             Ok(chosen.races)
         }
         Form::Page { name } => page_text(

@@ -25,6 +25,16 @@ returns-in_ok-triage_json-in-Json c =
           (told, c.in_ok-chosen-in-Json.ensures, made.1, refl),
     )
 
+pub returns-in_ok-triage_lines-in-Lines : goal.returns-in_ok-triage_lines-in-Lines
+returns-in_ok-triage_lines-in-Lines c =
+    let made = c.in_ok-triage_lines-in-Lines.ensures.ok in
+    let told = c.in_ok-chosen-in-Lines.chosen in (
+      made.0,
+      made.2,
+      subst (λ (f : Form). IsToldIn f c.args.indexed.now (known_places c.args.known.now) c.args.asked c.args.found.now.verdicts.items told.races made.0) (sym c.in-Lines.is)
+          (told, c.in_ok-chosen-in-Lines.ensures, made.1, refl),
+    )
+
 pub returns-in-Page : goal.returns-in-Page
 returns-in-Page c =
     IfOk-weaker c.page_text.result _ _

@@ -1,0 +1,288 @@
+//! The lines of a pair.
+ghost use Rattle.std.specs.Prelude.{◌≡◌, ◌<◌, ◌++◌, OnOk, length};
+ghost use Rattle.rapid_text.specs.Canonical.{name_at};
+ghost use Rattle.race_triage.specs.Texts.{held_locks};
+ghost use Rattle.race_lines.specs.Accesses.{spot_at};
+ghost use Rattle.race_lines.specs.Lines.{about_line, access_lines, earlier_words, head_line, how_words, later_words, lock_line, lock_lines, outcome_words, reason_line, reason_words, rule_words, verdict_lines};
+
+use crate::accesses::{spot_of, thread_of, variable_of, verb_of};
+use crate::calls::append_calls;
+use event_index::Indexed;
+use must_order::Must;
+use race_triage::{Outcome, Verdict};
+use rapid_text::OutOfMemory;
+use report::{Piece, append_pieces};
+use source_places::location_of;
+
+/// Appends the lines of a pair, its later access first.
+pub(crate) fn append_verdict(
+    out: &mut Vec<u8>,
+    indexed: &Indexed,
+    must: &Must,
+    verdict: &Verdict,
+) -> Result<(), OutOfMemory>
+    requires must { must.now ≡ indexed.now }
+    ensures { OnOk result (out.new.items ≡ out.old.items ++ verdict_lines indexed.now verdict.now) }
+{
+    append_head(out, indexed, verdict)?;
+    append_access(out, indexed, must, verdict.second)?;
+    append_access(out, indexed, must, verdict.first)?;
+    append_reason(out, indexed, verdict)?;
+    Ok(())
+}
+
+/// The kind of a line, and what it says.
+fn outcome_words(outcome: Outcome) -> &'static [u8]
+    ensures { result.now ≡ outcome_words outcome }
+{
+    match outcome {
+        Outcome::Race {
+            how: _,
+            events: _,
+            threads: _,
+        } => b"warning: data race",
+        Outcome::Undecided { tried: _ } => b"warning: undecided pair",
+        Outcome::Apart => b"note: apart",
+    }
+}
+
+/// The name of the rule, at the end of a first line. With it no line ends in a place, which Emacs would take for the line's own.
+fn rule_words(outcome: Outcome) -> &'static [u8]
+    ensures { result.now ≡ rule_words outcome }
+{
+    match outcome {
+        Outcome::Race {
+            how: _,
+            events: _,
+            threads: _,
+        } => b"data-race",
+        Outcome::Undecided { tried: _ } => b"undecided-pair",
+        Outcome::Apart => b"apart",
+    }
+}
+
+/// Appends the first line of a pair.
+fn append_head(out: &mut Vec<u8>, indexed: &Indexed, verdict: &Verdict) -> Result<(), OutOfMemory>
+    ensures { OnOk result (out.new.items ≡ out.old.items ++ head_line indexed.now verdict.now) }
+{
+    append_later(out, indexed, verdict)?;
+    append_earlier(out, indexed, verdict)?;
+    Ok(())
+}
+
+/// Appends what the first line of a pair says of its later access.
+fn append_later(out: &mut Vec<u8>, indexed: &Indexed, verdict: &Verdict) -> Result<(), OutOfMemory>
+    ensures { OnOk result (out.new.items ≡ out.old.items ++ later_words indexed.now verdict.now) }
+{
+    let second = verdict.second;
+    append_pieces(
+        out,
+        &[
+            Piece::Words(spot_of(indexed, second)),
+            Piece::Words(b": "),
+            Piece::Words(outcome_words(verdict.outcome)),
+            Piece::Words(b" on "),
+            Piece::Words(variable_of(indexed, second)),
+            Piece::Words(b": "),
+            Piece::Words(thread_of(indexed, second)),
+            Piece::Words(b" "),
+            Piece::Words(verb_of(indexed, second)),
+        ],
+    )
+}
+
+/// Appends what it says of its earlier access.
+fn append_earlier(
+    out: &mut Vec<u8>,
+    indexed: &Indexed,
+    verdict: &Verdict,
+) -> Result<(), OutOfMemory>
+    ensures { OnOk result (out.new.items ≡ out.old.items ++ earlier_words indexed.now verdict.now) }
+{
+    let first = verdict.first;
+    append_pieces(
+        out,
+        &[
+            Piece::Words(b", "),
+            Piece::Words(thread_of(indexed, first)),
+            Piece::Words(b" "),
+            Piece::Words(verb_of(indexed, first)),
+            Piece::Words(b" at "),
+            Piece::Words(spot_of(indexed, first)),
+            Piece::Words(b" ["),
+            Piece::Words(rule_words(verdict.outcome)),
+            Piece::Words(b"]\n"),
+        ],
+    )
+}
+
+/// Appends the lines of an access, if the trace has it.
+fn append_access(
+    out: &mut Vec<u8>,
+    indexed: &Indexed,
+    must: &Must,
+    event: u32,
+) -> Result<(), OutOfMemory>
+    requires must { must.now ≡ indexed.now }
+    ensures { OnOk result (out.new.items ≡ out.old.items ++ access_lines indexed.now event) }
+{
+    if event >= indexed.len() {
+        return Ok(());
+    }
+    let place = spot_of(indexed, event);
+    append_about(out, indexed, event)?;
+    append_held(out, indexed, must, place, event)?;
+    append_calls(out, place, location_of(indexed, event))?;
+    Ok(())
+}
+
+/// Appends the line of an access.
+fn append_about(out: &mut Vec<u8>, indexed: &Indexed, event: u32) -> Result<(), OutOfMemory>
+    ensures { OnOk result (out.new.items ≡ out.old.items ++ about_line indexed.now event) }
+{
+    append_pieces(
+        out,
+        &[
+            Piece::Words(spot_of(indexed, event)),
+            Piece::Words(b": note: event "),
+            Piece::Number(u64::from(event)),
+            Piece::Words(b": "),
+            Piece::Words(thread_of(indexed, event)),
+            Piece::Words(b" "),
+            Piece::Words(verb_of(indexed, event)),
+            Piece::Words(b" "),
+            Piece::Words(variable_of(indexed, event)),
+            Piece::Words(b"\n"),
+        ],
+    )
+}
+
+/// Appends a line for each lock that the event's thread holds before it.
+fn append_held(
+    out: &mut Vec<u8>,
+    indexed: &Indexed,
+    must: &Must,
+    place: &[u8],
+    event: u32,
+) -> Result<(), OutOfMemory>
+    requires must { must.now ≡ indexed.now }
+    requires event { event < length indexed.now.events }
+    ensures { OnOk result (out.new.items ≡ out.old.items ++ lock_lines indexed.now place.now (held_locks indexed.now event)) }
+{
+    let locks = must.locks_held(*out.allocator(), indexed, event)?;
+    append_locks(out, indexed, place, locks.as_slice())?;
+    Ok(())
+}
+
+/// Appends a line for each of the locks.
+fn append_locks(
+    out: &mut Vec<u8>,
+    indexed: &Indexed,
+    place: &[u8],
+    locks: &[u32],
+) -> Result<(), OutOfMemory>
+    ensures { OnOk result (out.new.items ≡ out.old.items ++ lock_lines indexed.now place.now locks.now) }
+{
+    for lock in locks {
+        append_lock(out, indexed, place, *lock)?;
+    }
+    Ok(())
+}
+
+/// Appends the line of a lock.
+fn append_lock<'a>(
+    out: &mut Vec<u8>,
+    indexed: &'a Indexed,
+    place: &'a [u8],
+    lock: u32,
+) -> Result<(), OutOfMemory>
+    ensures { OnOk result (out.new.items ≡ out.old.items ++ lock_line indexed.now place.now lock) }
+{
+    append_pieces(
+        out,
+        &[
+            Piece::Words(place),
+            Piece::Words(b": note: holds "),
+            Piece::Words(lock_name(indexed, lock)),
+            Piece::Words(b"\n"),
+        ],
+    )
+}
+
+/// The name of a lock; nothing if the trace has no such lock.
+fn lock_name(indexed: &Indexed, lock: u32) -> &[u8]
+    ensures { result.now ≡ name_at indexed.now.locks lock }
+{
+    let raw = indexed.trace().raw();
+    if lock < raw.locks() {
+        raw.lock_name(lock)
+    } else {
+        b""
+    }
+}
+
+/// Appends the last line of a pair.
+fn append_reason(out: &mut Vec<u8>, indexed: &Indexed, verdict: &Verdict) -> Result<(), OutOfMemory>
+    ensures { OnOk result (out.new.items ≡ out.old.items ++ reason_line indexed.now verdict.now) }
+{
+    append_pieces(
+        out,
+        &[
+            Piece::Words(spot_of(indexed, verdict.second)),
+            Piece::Words(b": note: "),
+        ],
+    )?;
+    append_why(out, verdict.outcome)?;
+    append_how(out, verdict)?;
+    Ok(())
+}
+
+/// Appends how to see it.
+fn append_how(out: &mut Vec<u8>, verdict: &Verdict) -> Result<(), OutOfMemory>
+    ensures { OnOk result (out.new.items ≡ out.old.items ++ how_words verdict.now) }
+{
+    append_pieces(
+        out,
+        &[
+            Piece::Words(b": racebench explain TRACE "),
+            Piece::Number(u64::from(verdict.first)),
+            Piece::Words(b" "),
+            Piece::Number(u64::from(verdict.second)),
+            Piece::Words(b"\n"),
+        ],
+    )
+}
+
+/// Appends why it is said.
+fn append_why(out: &mut Vec<u8>, outcome: Outcome) -> Result<(), OutOfMemory>
+    ensures { OnOk result (out.new.items ≡ out.old.items ++ reason_words outcome) }
+{
+    match outcome {
+        Outcome::Race {
+            how: _,
+            events,
+            threads,
+        } => append_pieces(
+            out,
+            &[
+                Piece::Words(b"a schedule of "),
+                Piece::Number(u64::from(events)),
+                Piece::Words(b" events of "),
+                Piece::Number(u64::from(threads)),
+                Piece::Words(b" threads shows it"),
+            ],
+        ),
+        Outcome::Undecided { tried } => append_pieces(
+            out,
+            &[
+                Piece::Words(b"no schedule was found for "),
+                Piece::Number(u64::from(tried)),
+                Piece::Words(b" pairs of events"),
+            ],
+        ),
+        Outcome::Apart => append_pieces(
+            out,
+            &[Piece::Words(b"every correct reordering of this trace keeps the two apart")],
+        ),
+    }
+}

@@ -1,0 +1,9 @@
+//! What was found of a trace's pairs of places as lines that editors and build logs take for a compiler's.
+#![tactic(auto)]
+
+mod accesses;
+mod blocks;
+mod calls;
+mod lines;
+
+pub use lines::triage_lines;

@@ -1,0 +1,2 @@
+mod ArrowLemmas
+mod CutLemmas

@@ -1,0 +1,57 @@
+"""The lines of `triage --lines`, made of the objects of `triage --json` by docs/FORMATS.md."""
+
+import re
+
+HEADS = {"race": "warning: data race", "undecided": "warning: undecided pair", "apart": "note: apart"}
+RULES = {"race": "data-race", "undecided": "undecided-pair", "apart": "apart"}
+VERBS = {"r": "reads", "w": "writes"}
+MOST_CALLS = 64
+
+
+def place_of(access):
+    return access["location"].split(" < ")[0] or "?"
+
+
+def said(access):
+    return f"{access['thread']} {VERBS[access['operation']]}"
+
+
+def call_line(place, call):
+    own = re.fullmatch(r"(?s)(?:(.*) )?([^ ]+:[0-9]+)", call)
+    function = (own[1] or "") if own else call
+    return f"{own[2] if own else place}: note: " + (f"in {function}" if function else "called from here")
+
+
+def access_lines(access):
+    place = place_of(access)
+    calls = access["location"].split(" < ")[1 : MOST_CALLS + 1]
+    return [
+        f"{place}: note: event {access['event']}: {said(access)} {access['variable']}",
+        *(f"{place}: note: holds {lock}" for lock in access["holds"]),
+        *(call_line(place, call) for call in calls),
+    ]
+
+
+def why(told):
+    if told["kind"] == "race":
+        return f"a schedule of {told['events']} events of {told['threads']} threads shows it"
+    if told["kind"] == "undecided":
+        return f"no schedule was found for {told['tried']} pairs of events"
+    return "every correct reordering of this trace keeps the two apart"
+
+
+def lines_of(objects):
+    """The lines that stand for these objects."""
+    lines = []
+    for told in objects:
+        if told["kind"] not in HEADS:
+            continue
+        first, second = told["accesses"]
+        lines.append(
+            f"{place_of(second)}: {HEADS[told['kind']]} on {second['variable']}: {said(second)}, {said(first)}"
+            f" at {place_of(first)} [{RULES[told['kind']]}]"
+        )
+        lines += access_lines(second) + access_lines(first)
+        events = f"{first['event']} {second['event']}"
+        lines.append(f"{place_of(second)}: note: {why(told)}: racebench explain TRACE {events}")
+    return lines
