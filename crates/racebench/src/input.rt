@@ -161,6 +161,10 @@ impl<R: io::Read + Drop> Watched<R> {
         ensures { self.new.reader ≡ self.old.reader }
     {
         self.keep(bytes);
+        // (behind a divider nothing more is asked)
+        if self.is_divided {
+            return;
+        }
         for byte in bytes {
             self.is_divided = self.is_divided || (*byte == b'\n' && self.line == Line::Divider);
             self.line = with_byte(self.line, *byte);
