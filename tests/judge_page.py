@@ -2,7 +2,7 @@
 """Compares the page that `triage --page` writes with the text that `triage` prints, and judges it as HTML by Python's html.parser.
 
 Takes the program's path, how many traces to draw, and the first seed. Each page is read as a browser's parser would read it: every tag is closed in
-its order, nothing runs and nothing is fetched, and the policy in its head forbids both. Its counts, its rows with their accesses and locks, and
+its order, nothing runs and nothing is fetched, and the policy in its head forbids both. Its first line, its counts, its rows with their titles, accesses and locks, and
 its runs are those of the texts that `triage` and `explain` print, neither more nor fewer. Each picture is judged by pictured.py: it draws the schedule that `witness`
 prints, which by plain.py is a correct reordering that shows the row's pair. The traces are those of examples/, traces whose names look like markup, and such
 that are drawn by chance. Says what is wrong, if something is, and ends with status 1 then, also where something that has to be seen was never met.
@@ -26,7 +26,7 @@ from explained import Wrong
 
 TRACES = 40
 MOST_EVENTS = [8, 16, 28]
-REACHED = ["race", "undecided", "untried", "apart", "picture", "locks", "replaced", "known", "hidden", "left out", "undrawn", "pictures", "arrows", "schedules", "raced"]
+REACHED = ["race", "undecided", "untried", "apart", "picture", "locks", "replaced", "known", "hidden", "left out", "undrawn", "pictures", "arrows", "schedules", "raced", "functions", "callers", "freed", "more variables", "pictures with earlier runs", "pictures with a shared column"]
 # A trace with so many events at most is small enough for a plain program to go over its schedules.
 SMALL = 60
 POLICY = "default-src 'none'; style-src 'unsafe-inline'; base-uri 'none'; form-action 'none'"
@@ -186,6 +186,34 @@ def facts_of(block):
     return begin + f"{block.facts[0]}, {of}, a schedule of {counted(facts['events'], 'event')} of {counted(facts['threads'], 'thread')}"
 
 
+def access_title(line, tally):
+    """What the title says of an access: what it does, in which function, and where. Behind ` < ` stands the function, or the place of a call."""
+    _, what, location = line.split("|", 2)
+    place, _, callers = location.partition(" < ")
+    caller = callers.partition(" < ")[0]
+    word = {"r(": "read", "w(": "write"}[what[:2]]
+    if word == "write" and caller.startswith("free in "):
+        word, caller = "freed", caller[len("free in ") :]
+        tally["freed"] += 1
+    at = f" at {place}" if place else ""
+    if re.search(r":(\d+|\?)$", caller, re.ASCII):
+        tally["callers"] += 1
+        return f"{word}{at} from {caller}"
+    tally["functions"] += caller != ""
+    return word + (f" in {caller}" if caller else "") + at
+
+
+def title_of(block, tally):
+    """The title of the row of a block."""
+    lines = [line for line, _ in block.accesses]
+    variable = re.fullmatch(r"[^|]*\|[rw]\((.*?)\)\|.*", lines[0], re.DOTALL)[1]
+    facts = dict(zip(block.facts[block.sort == "race" :: 2], block.facts[1 + (block.sort == "race") :: 2]))
+    more = int(facts.get("variables", "1")) - 1
+    tally["more variables"] += more > 0
+    others = f" and {counted(str(more), 'more variable')}" if more > 0 else ""
+    return f"{variable}{others}: {access_title(lines[0], tally)}, {access_title(lines[1], tally)}"
+
+
 def access_of(line):
     event, code, locks = line.children
     found = [lock.text() for lock in locks.all("bdi")]
@@ -250,7 +278,7 @@ class Judge:
         self.trace = None
 
     def explained(self, name, block):
-        out = running.printed(self.program, ["explain", name, str(block.first), str(block.second)])
+        out = running.printed(self.program, ["explain", name, str(block.first), str(block.second), "--all"])
         return [shown(line) for line in out.split(b"\n")[:-1]]
 
     def judge_picture(self, name, block):
@@ -281,6 +309,8 @@ class Judge:
         wanted = [[facts_of(block), reason] for reason in reasons] if block.sort != "race" else [[facts_of(block)]]
         if facts not in wanted:
             raise Wrong(f"{facts}, and none of {wanted}")
+        if row.one("h3").text() != title_of(block, self.tally):
+            raise Wrong(f"the title is {row.one('h3').text()!r}, and plainly {title_of(block, self.tally)!r}")
         self.tally["raced"] += block.sort == "apart" and reasons != explained[:1]
         lines = [access_of(line) for line in row.one("table").one("tbody").all("tr")]
         accesses = [(event, *access) for event, access in zip((block.first, block.second), block.accesses)]
@@ -312,17 +342,20 @@ class Judge:
         root = read(page)
         self.pictures = pictures_of(page)
         self.trace = plain_trace(name)
-        if root.one("h1").text() != f"Races of {name}" or root.one("head").one("title").text() != f"Races of {name}":
-            raise Wrong("another name")
+        blocks = blocks_of(lines[11:])
+        races = sum(block.sort == "race" for block in blocks)
+        first = f"{counted(str(races), 'race') if races else 'No races'} in {shown(os.path.basename(name).encode())}"
+        if root.one("h1").text() != first or root.one("head").one("title").text() != first:
+            raise Wrong(f"the first line is {root.one('h1').text()!r}, and plainly {first!r}")
         sections = list(root.one("main").all("section"))
-        counts = [f"{line.one('th').text()} {line.one('td').text()}" for line in sections[0].one("tbody").all("tr")]
+        counts = [f"{line.one('th').text()} {next(line.all('td')).text()}" for line in sections[-2].one("tbody").all("tr")]
         if counts != [line.decode("ascii") for line in lines[:11]]:
             raise Wrong(f"the counts are {counts}")
         sorts = ["race", "undecided"] + ["apart"] * ("--apart" in words)
-        if [section.one("h2").text() for section in sections] != ["Counts", "Races", "Undecided", "Apart"][: 1 + len(sorts)]:
+        headings = ["Races", "Undecided", "Apart"][: len(sorts)] + ["Counts", "What the words mean"]
+        if [section.one("h2").text() for section in sections] != headings:
             raise Wrong("other sections")
-        blocks = blocks_of(lines[11:])
-        for sort, section in zip(sorts, sections[1:]):
+        for sort, section in zip(sorts, sections):
             self.judge_section(section, [block for block in blocks if block.sort == sort], name)
         told = "".join(paragraph.text() for paragraph in root.one("main").all("p"))
         for line in lines[11:]:
@@ -372,6 +405,18 @@ def many(races):
     return b"".join(b"%s|w(x%d)|%s%d\n" % (thread, number, thread, number) for thread in (b"A", b"B") for number in range(races))
 
 
+# Locations as the recorder writes them, with functions, with the places of calls, and with a block that is given back.
+FRAMED = b"""T0|w(t)|a.c:1 < make < main a.c:9
+T0|w(u)|a.c:1 < make < main a.c:9
+T1|r(t)|b.c:2 < look
+T1|r(u)|b.c:2 < look
+T1|w(t)|c.c:3 < b.c:7
+T0|w(t)|d.c:4 < free in drop < main d.c:8
+T1|w(v)|e.c:? < ns::f(int)
+T0|w(v)|
+T1|w(v)|g.c < g
+"""
+
 # An open pair, which stays undecided where none is tried.
 UNDECIDED = b"A|w(x)|1\nA|acq(l)|2\nA|rel(l)|3\nB|acq(l)|4\nB|rel(l)|5\nB|w(x)|6\n"
 
@@ -398,6 +443,11 @@ def judge_made(judge, here):
     judge.judge("many", ["--only", "|A12|", "--only", "A7"])
     write("undecided", UNDECIDED)
     judge.judge("undecided", ["--tries", "0"])
+    write("framed", FRAMED)
+    judge.judge("framed", ["--apart"])
+    os.mkdir("folder")
+    shutil.copy("framed", os.path.join("folder", "copy.std"))
+    judge.judge(os.path.join("folder", "copy.std"), [])
     write("raced", b"T1|w(x)|1\nT1|w(y)|2\nT2|r(y)|3\nT2|r(x)|4\n")
     judge.judge("raced", ["--apart"])
     write("empty", b"")

@@ -13,9 +13,20 @@ SVG = "{http://www.w3.org/2000/svg}"
 # A line of text has at most so many bytes, and takes so many pixels for each character.
 MOST_BYTES = 46
 CHARACTER = 6
-# So many runs are drawn one by one, and so many locks of an access are named.
-MOST_RUNS = 60
+# So many runs are drawn one by one; of more so many of the last, and of those that they waited for as many as are left.
+MOST_RUNS = 40
+LAST_RUNS = 20
+# Of more threads all but the two of the pair share a column; no picture is shown wider than this.
+MOST_COLUMNS = 4
+WIDEST = 1600
+# How far a column is from the next, and where their names stand.
+COLUMN = 320
+NAMES = 48
+# So many locks of an access are named.
 MOST_LOCKS = 8
+# A picture is shown a fifth larger than it is drawn; so many pixels are seen of it where the page is 400 wide.
+SHOWN = 1.2
+NARROW = 376
 # The tags of a picture with what each may have.
 TAGS = {
     "svg": {"viewBox", "width", "height"},
@@ -90,38 +101,83 @@ def judge_waiter(trace, listed, last, line):
     return waiter
 
 
+def waiters_of(trace, listed):
+    """Of each event for which one of another thread waits the first that does."""
+    waiters, forks, lasts, writes, reads, releases = {}, {}, {}, {}, {}, {}
+    for event in listed:
+        thread, word, name = trace.events[event]
+        needs = [] if thread in lasts else [forks.get(thread)]
+        if word in ("r", "w"):
+            needs += [*(reads.pop(name, []) if word == "w" else []), writes.get(name)]
+        if word == "acq":
+            needs.append(releases.get(name))
+        if word == "join":
+            needs.append(lasts.get(name, forks.get(name)))
+        for need in needs:
+            if need is not None and trace.thread(need) != thread:
+                waiters.setdefault(need, event)
+        if word == "r":
+            reads.setdefault(name, []).append(event)
+        lasts[thread] = event
+        {"w": writes, "rel": releases, "fork": forks}.get(word, {})[name] = event
+    return waiters
+
+
+def drawn_of(trace, listed, runs):
+    """The numbers, from 0, of the runs that are drawn one by one: all of a few; else the last, and the last of those for which one of these waited."""
+    if len(runs) <= MOST_RUNS:
+        return list(range(len(runs)))
+    waiters = waiters_of(trace, listed)
+    last = list(range(len(runs) - LAST_RUNS, len(runs)))
+    late = {event for number in last for event in runs[number]}
+    waited = [number for number, run in enumerate(runs[: last[0]]) if any(waiters.get(event) in late for event in run)]
+    return waited[LAST_RUNS - MOST_RUNS :] + last
+
+
 def judge_run(trace, listed, number, run, lines):
     """Judges the lines of a run's box. Which event waits for it, if that is told."""
-    wanted = [f"run {number}, {count(len(run), 'event')}", *[label(trace, run[0])] * (len(run) > 1), label(trace, run[-1])]
+    wanted = [cut(f"run {number}, {count(len(run), 'event')} of {trace.thread(run[0])}"), *[label(trace, run[0])] * (len(run) > 1), label(trace, run[-1])]
     if lines[: len(wanted)] != wanted or len(lines) > len(wanted) + 1:
         raise Wrong(f"the box of run {number} has {lines}, and plainly {wanted}")
     return judge_waiter(trace, listed, run[-1], lines[-1]) if len(lines) > len(wanted) else None
 
 
 def judge_earlier(trace, picture, boxes, runs):
-    """Judges the boxes of the runs that are not drawn one by one."""
-    found = sorted(picture.lines_in(box) for box in boxes)
-    own = collections.defaultdict(list)
-    for run in runs:
-        own[trace.thread(run[0])] += run
-    wanted = sorted([cut(f"{count(len(events), 'event')} in earlier runs, up to"), label(trace, events[-1])] for events in own.values())
+    """Judges the box of the runs that are not drawn one by one."""
+    found = [picture.lines_in(box) for box in boxes]
+    threads = {trace.thread(run[0]) for run in runs}
+    told = f"{count(len(runs), 'earlier run')} of {count(len(threads), 'thread')}"
+    wanted = [[told, count(sum(map(len, runs)), "event")]] if runs else []
     if found != wanted:
-        raise Wrong(f"the boxes of earlier runs have {found}, and plainly {wanted}")
+        raise Wrong(f"the box of earlier runs has {found}, and plainly {wanted}")
 
 
-def judge_places(trace, picture, boxes, runs):
-    """Judges that the boxes stand in columns, one a thread, downwards, and within the picture."""
+def judge_places(trace, picture, boxes, runs, pair):
+    """Judges that the boxes stand in columns, those of the pair first, downwards, and within the picture, which is not too wide."""
     columns = {}
     for box, run in zip(boxes, runs):
         if columns.setdefault(trace.thread(run[0]), box.left) != box.left:
             raise Wrong(f"the thread of {run[0]} has two columns")
-    if len(set(columns.values())) != len(columns):
-        raise Wrong(f"two threads share a column: {columns}")
+    own = [trace.thread(event) for event in pair]
+    threads = list(dict.fromkeys([*own, *(trace.thread(run[0]) for run in runs)]))
+    is_shared = len(threads) > MOST_COLUMNS
+    lefts = sorted({box.left for box in [*boxes, *picture.boxes["race"]]})
+    wide = {thread: 2 if is_shared and thread not in own else threads.index(thread) for thread in threads}
+    step = COLUMN
+    if any(columns[thread] != lefts[0] + wide[thread] * step for thread in columns):
+        raise Wrong(f"the columns are {columns}, and plainly {wide}")
+    names = sorted((int(line.get("x")), line.text or "") for line in picture.all("text", "name") if int(line.get("y")) == NAMES)
+    heads = [(lefts[0] + wide[thread] * step, cut(thread)) for thread in threads if not is_shared or thread in own]
+    if names != sorted(heads + [(lefts[0] + 2 * step, "other threads")] * is_shared):
+        raise Wrong(f"over the columns stand {names}")
     if any(below.top < above.bottom for above, below in zip(boxes, boxes[1:])):
         raise Wrong("a run does not stand below the one before")
     for box in [*picture.boxes["box"], *picture.boxes["race"]]:
         if box.left < 0 or box.top < 0 or box.right > picture.width or box.bottom > picture.height:
             raise Wrong(f"{box} lies beyond the picture")
+    if int(picture.root.get("width")) > WIDEST or int(picture.root.get("width")) < picture.width:
+        raise Wrong(f"the picture is {picture.root.get('width')} wide")
+    return is_shared
 
 
 def judge_arrows(trace, picture, boxes, runs, waiters):
@@ -142,15 +198,21 @@ def judge_arrows(trace, picture, boxes, runs, waiters):
 
 
 def judge_accesses(trace, picture, pair):
-    """Judges the boxes of the two accesses."""
-    found = sorted(picture.lines_in(box) for box in picture.boxes["race"])
+    """Judges the boxes of the two accesses: they stand one below the other, under all runs, and at the left edge."""
+    boxes = sorted(picture.boxes["race"], key=lambda box: box.top)
+    found = [picture.lines_in(box) for box in boxes]
     wanted = []
     for event in pair:
         locks = trace.locks_before(event)
         more = [f"and {count(len(locks) - MOST_LOCKS, 'lock')} more"] * (len(locks) > MOST_LOCKS)
-        wanted.append([label(trace, event), *[cut(f"holds {lock}") for lock in locks[:MOST_LOCKS]], *more])
-    if found != sorted(wanted):
-        raise Wrong(f"the boxes of the accesses have {found}, and plainly {sorted(wanted)}")
+        wanted.append([cut(trace.thread(event)), label(trace, event), *[cut(f"holds {lock}") for lock in locks[:MOST_LOCKS]], *more])
+    if found != wanted:
+        raise Wrong(f"the boxes of the accesses have {found}, and plainly {wanted}")
+    above = max((box.bottom for box in picture.boxes["box"]), default=0)
+    if len(boxes) != 2 or not above < boxes[0].top < boxes[0].bottom < boxes[1].top or boxes[0].left != boxes[1].left:
+        raise Wrong(f"the boxes of the accesses stand at {boxes}")
+    if max(box.right for box in boxes) * SHOWN > NARROW:
+        raise Wrong(f"the boxes of the accesses are not both seen on a narrow page: {boxes}")
 
 
 def judge_picture(trace, tally, text, pair, listed):
@@ -161,17 +223,17 @@ def judge_picture(trace, tally, text, pair, listed):
         raise Wrong(f"the title is {picture.one('title')!r}")
     if picture.one("desc") != " ".join(["Its events:", *map(str, listed)]):
         raise Wrong(f"the description is {picture.one('desc')!r}")
-    drawn = runs[max(0, len(runs) - MOST_RUNS) :]
-    earlier = runs[: len(runs) - len(drawn)]
+    numbers = drawn_of(trace, listed, runs)
+    drawn = [runs[number] for number in numbers]
+    earlier = [run for number, run in enumerate(runs) if number not in numbers]
     boxes = sorted(picture.boxes["box"], key=lambda box: box.top)
     split = len(boxes) - len(drawn)
     if split < 0:
         raise Wrong(f"{len(boxes)} boxes are drawn of {len(runs)} runs")
     judge_earlier(trace, picture, boxes[:split], earlier)
     boxes = boxes[split:]
-    first = len(earlier) + 1
-    waiters = [judge_run(trace, listed, number, run, picture.lines_in(box)) for number, (box, run) in enumerate(zip(boxes, drawn), start=first)]
-    judge_places(trace, picture, boxes, drawn)
+    waiters = [judge_run(trace, listed, number + 1, run, picture.lines_in(box)) for number, box, run in zip(numbers, boxes, drawn)]
+    tally["pictures with a shared column"] += judge_places(trace, picture, boxes, drawn, pair)
     judge_arrows(trace, picture, boxes, drawn, waiters)
     judge_accesses(trace, picture, pair)
     tally["pictures"] += 1

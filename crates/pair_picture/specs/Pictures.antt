@@ -1,5 +1,5 @@
 -- What a picture is, and what its words say. All notions here are this project's own.
-use Rattle.std.specs.Prelude.{◌≡◌, ℕ, List, ◌++◌, flat_map, codes, decimal}
+use Rattle.std.specs.Prelude.{◌≡◌, ℕ, List, [], ◌++◌, flat_map, codes, decimal}
 use Rattle.pair_picture.specs.Shapes.{AreShapes, attribute_text, point_text}
 use Rattle.pair_picture.specs.declared.style.TheConstants.{STYLE}
 
@@ -33,23 +33,21 @@ described P a b = title a b ++ listed P
 abbrev pub drawn_text : List ℕ → List ℕ
 drawn_text shapes = codes "<rect class=\"paper\" width=\"100%\" height=\"100%\"/>\n" ++ shapes ++ codes "</svg>\n"
 
--- The text is a picture of the schedule P, which shows the pair: it has this title, this description, the style of pictures, and shapes. Which shapes, and
+-- The text is a picture of the schedule P, which shows the pair: it has this title, this description, this style, and shapes. Which shapes, and
 -- where they stand, is presentation.
-pub record IsPicture (P : List ℕ) (a b : ℕ) (text : List ℕ) : Type 0 where
+pub record IsStyled (style P : List ℕ) (a b : ℕ) (text : List ℕ) : Type 0 where
   pub width : ℕ
   pub height : ℕ
   pub shown_width : ℕ
   pub shown_height : ℕ
   pub shapes : List ℕ
-  pub printed : text ≡ root_text width height shown_width shown_height ++ described P a b ++ STYLE.now ++ drawn_text shapes
+  pub printed : text ≡ root_text width height shown_width shown_height ++ described P a b ++ style ++ drawn_text shapes
   pub drawn : AreShapes shapes
 
--- The text is the same picture without its style, for a page that has the style of pictures itself: it has this title, this description, and shapes.
-pub record IsFigure (P : List ℕ) (a b : ℕ) (text : List ℕ) : Type 0 where
-  pub width : ℕ
-  pub height : ℕ
-  pub shown_width : ℕ
-  pub shown_height : ℕ
-  pub shapes : List ℕ
-  pub printed : text ≡ root_text width height shown_width shown_height ++ described P a b ++ drawn_text shapes
-  pub drawn : AreShapes shapes
+-- a picture that is a file of its own, with the style of pictures
+abbrev pub IsPicture : List ℕ → ℕ → ℕ → List ℕ → Type 0
+IsPicture P a b text = IsStyled STYLE.now P a b text
+
+-- the same without a style, for a page that has the style of pictures itself
+abbrev pub IsFigure : List ℕ → ℕ → ℕ → List ℕ → Type 0
+IsFigure P a b text = IsStyled [] P a b text

@@ -1,8 +1,8 @@
-//! The two accesses, side by side under all.
+//! The two accesses under all, one below the other: so both are seen on a narrow page too.
 use crate::canvas::Canvas;
 use crate::class::Class;
-use crate::columns::Columns;
-use crate::labels::{lock_name, op_of, thread_of};
+use crate::columns::MARGIN;
+use crate::labels::{lock_name, op_of, thread_name, thread_of};
 use crate::layout::height_of;
 use crate::pieces::{Piece, plural_of};
 use crate::rows::{draw_box, draw_label, draw_pieces};
@@ -59,33 +59,28 @@ fn note(depths: &mut Vec<u32>, op: Option<Op>) {
     }
 }
 
-/// How many lines the box of an access with these locks has.
-fn lines_of(locks: &[u32]) -> u64 {
-    (locks.len().min(MOST_LOCKS.saturating_add(1)) as u64).saturating_add(1)
+/// How high the box of an access with these locks is.
+pub(crate) fn access_height(locks: &[u32]) -> u64 {
+    let lines = locks.len().min(MOST_LOCKS.saturating_add(1)) as u64;
+    height_of(lines.saturating_add(2))
 }
 
-/// How high the boxes of the two accesses are.
-pub(crate) fn accesses_height(first: &[u32], second: &[u32]) -> u64 {
-    height_of(lines_of(first).max(lines_of(second)))
-}
-
-/// Draws the box of an access: the event, and the locks that its thread holds before it.
+/// Draws the box of an access at the left edge: the thread, the event, and the locks that the thread holds before it.
 pub(crate) fn draw_access(
     canvas: &mut Canvas,
     indexed: &Indexed,
-    columns: &Columns,
     event: u32,
     locks: &[u32],
     top: u64,
-    height: u64,
 ) -> Result<(), OutOfMemory> {
     let Some(thread) = thread_of(indexed, event) else {
         return Ok(());
     };
-    let left = columns.left(thread);
-    draw_box(canvas, Class::Race, left, top, height)?;
-    draw_label(canvas, Class::Access, indexed, event, left, top, 0)?;
-    draw_locks(canvas, indexed, locks, left, top)
+    let name = [Piece::Words(thread_name(indexed, thread))];
+    draw_box(canvas, Class::Race, MARGIN, top, access_height(locks))?;
+    draw_pieces(canvas, Class::Name, MARGIN, top, 0, &name)?;
+    draw_label(canvas, Class::Access, indexed, event, MARGIN, top, 1)?;
+    draw_locks(canvas, indexed, locks, MARGIN, top)
 }
 
 /// Draws a line for each of the locks, and one for those that are too many.
@@ -96,7 +91,7 @@ fn draw_locks(
     left: u64,
     top: u64,
 ) -> Result<(), OutOfMemory> {
-    let mut line = 1u64;
+    let mut line = 2u64;
     for lock in locks.iter().take(MOST_LOCKS) {
         draw_held(canvas, indexed, *lock, left, top, line)?;
         line = line.saturating_add(1);

@@ -1,15 +1,16 @@
 //! Draws the schedule that shows a pair.
 ghost use Rattle.std.specs.Prelude.{◌≡◌, ◌++◌, List, ℕ, OnOk, OnErr};
-ghost use Rattle.pair_picture.specs.Pictures.{IsFigure, IsPicture};
+ghost use Rattle.pair_picture.specs.Pictures.{IsFigure, IsPicture, IsStyled};
 
-use crate::accesses::{accesses_height, draw_access, note_locks};
+use crate::accesses::{access_height, draw_access, note_locks};
 use crate::arrows::draw_arrows;
 use crate::canvas::Canvas;
+use crate::choosing::{MOST_RUNS, choose_runs};
 use crate::class::Class;
-use crate::columns::{Columns, MARGIN};
+use crate::columns::{Columns, MARGIN, SHARED, left_of};
 use crate::head::{Size, append_description, append_drawn, append_root};
 use crate::labels::{draw_line, thread_name};
-use crate::layout::{GAP, Placed, TOP, end_of, folded_of, place_runs};
+use crate::layout::{GAP, Placed, TOP, end_of, place_runs};
 use crate::pieces::{Piece, append_pieces, append_words, plural_of};
 use crate::rows::{draw_earlier, draw_run, earlier_height};
 use crate::shades::note_held;
@@ -24,6 +25,7 @@ use std::alloc::Global;
 struct Drawing {
     columns: Columns,
     runs: Vec<Run>,
+    shown: Vec<bool>,
     placed: Vec<Placed>,
     held: Vec<bool>,
     first_locks: Vec<u32>,
@@ -37,6 +39,7 @@ impl Drawing {
         Drawing {
             columns: Columns::new(alloc),
             runs: Vec::new(alloc),
+            shown: Vec::new(alloc),
             placed: Vec::new(alloc),
             held: Vec::new(alloc),
             first_locks: Vec::new(alloc),
@@ -55,41 +58,56 @@ impl Drawing {
     ) -> Result<(), OutOfMemory> {
         self.runs = runs_of(*self.runs.allocator(), indexed, events)?;
         self.place(indexed, events)?;
-        self.columns.fill(indexed, &self.runs, first, second)?;
+        self.columns.fill(indexed, &self.placed, first, second)?;
         note_held(&mut self.held, indexed, events)?;
         note_locks(&mut self.first_locks, indexed, first)?;
         note_locks(&mut self.second_locks, indexed, second)
     }
 
-    /// Finds where the boxes of the runs stand.
+    /// Finds which runs are drawn, and where their boxes stand.
     fn place(&mut self, indexed: &Indexed, events: &[u32]) -> Result<(), OutOfMemory> {
         match waiters_of(*self.placed.allocator(), indexed, events) {
-            Ok(waiters) => self.place_with(&waiters),
+            Ok(waiters) => self.place_with(indexed, events, &waiters),
             Err(refused) => Err(refused),
         }
     }
 
     /// The same, with those that wait for the events.
-    fn place_with(&mut self, waiters: &[Option<u32>]) -> Result<(), OutOfMemory> {
+    fn place_with(
+        &mut self,
+        indexed: &Indexed,
+        events: &[u32],
+        waiters: &[Option<u32>],
+    ) -> Result<(), OutOfMemory> {
+        choose_runs(&mut self.shown, indexed, events, &self.runs, waiters)?;
         let mut top = TOP;
-        if folded_of(self.runs.len()) > 0 {
+        if self.runs.len() > MOST_RUNS {
             top = top.saturating_add(earlier_height());
         }
-        place_runs(&mut self.placed, &self.runs, waiters, top)?;
+        place_runs(&mut self.placed, &self.runs, &self.shown, waiters, top)?;
         self.end = end_of(&self.placed, top);
         Ok(())
     }
 
+    /// Where the box of the second access begins, below that of the first.
+    fn below_first(&self) -> u64 {
+        let top = self.end.saturating_add(GAP);
+        top.saturating_add(access_height(&self.first_locks))
+            .saturating_add(MARGIN)
+    }
+
     /// How large it is.
     fn size(&self) -> Size {
-        let high = accesses_height(&self.first_locks, &self.second_locks);
-        let bottom = self.end.saturating_add(GAP).saturating_add(high);
+        let bottom = self
+            .below_first()
+            .saturating_add(access_height(&self.second_locks));
         Size::new(self.columns.width(), bottom.saturating_add(MARGIN))
     }
 }
 
 /// Appends a picture (SVG) of the schedule of these events, which shows the pair: a column for each thread, a box for each run below the one before, and
-/// the two accesses under all. Of more than 60 runs the first are one box for each thread. Where memory is refused `out` stays as it was.
+/// the two accesses under all, one below the other. Of more than 40 runs the last 20 are drawn, and the last 20 of those that they waited for; the
+/// rest is one box. Of more than four threads all but the two of the pair share a column. Where memory is refused `out` stays as it was.
 pub fn picture_text(
     indexed: &Indexed,
     events: &[u32],
@@ -101,45 +119,7 @@ pub fn picture_text(
     ensures ok { OnOk result ((text : List ℕ) × (out.new.items ≡ out.old.items ++ text) × IsPicture events.now first second text) }
     ensures err { OnErr result (out.new.items ≡ out.old.items) }
 {
-    let mut text = Vec::new(*out.allocator());
-    append_picture(&mut text, indexed, events, first, second)?;
-    out.extend_from_slice(text.as_slice())?;
-    Ok(())
-}
-
-/// Appends the picture. Where memory is refused a beginning of it may stand.
-fn append_picture(
-    out: &mut Vec<u8>,
-    indexed: &Indexed,
-    events: &[u32],
-    first: u32,
-    second: u32,
-) -> Result<(), OutOfMemory>
-    ensures { OnOk result ((text : List ℕ) × (out.new.items ≡ out.old.items ++ text) × IsPicture events.now first second text) }
-{
-    let mut canvas = Canvas::new(*out.allocator());
-    match draw(&mut canvas, indexed, events, first, second) {
-        Ok(size) => append_picture_of(out, size, &canvas, events, first, second),
-        Err(refused) => Err(refused),
-    }
-}
-
-/// Appends the picture that has what was drawn.
-fn append_picture_of(
-    out: &mut Vec<u8>,
-    size: Size,
-    canvas: &Canvas,
-    events: &[u32],
-    first: u32,
-    second: u32,
-) -> Result<(), OutOfMemory>
-    ensures { OnOk result ((text : List ℕ) × (out.new.items ≡ out.old.items ++ text) × IsPicture events.now first second text) }
-{
-    append_root(out, size)?;
-    append_description(out, events, first, second)?;
-    append_words(out, STYLE)?;
-    append_drawn(out, canvas.bytes())?;
-    Ok(())
+    styled_text(indexed, events, (first, second), STYLE, out)
 }
 
 /// Appends the same picture without its style: for a page that has the style of its pictures itself. Where memory is refused `out` stays as it was.
@@ -154,42 +134,57 @@ pub fn figure_text(
     ensures ok { OnOk result ((text : List ℕ) × (out.new.items ≡ out.old.items ++ text) × IsFigure events.now first second text) }
     ensures err { OnErr result (out.new.items ≡ out.old.items) }
 {
+    styled_text(indexed, events, (first, second), b"", out)
+}
+
+/// Appends the picture with this style, whole or not at all.
+fn styled_text(
+    indexed: &Indexed,
+    events: &[u32],
+    pair: (u32, u32),
+    style: &[u8],
+    out: &mut Vec<u8>,
+) -> Result<(), OutOfMemory>
+    ensures ok { OnOk result ((text : List ℕ) × (out.new.items ≡ out.old.items ++ text) × IsStyled style.now events.now pair.0 pair.1 text) }
+    ensures err { OnErr result (out.new.items ≡ out.old.items) }
+{
     let mut text = Vec::new(*out.allocator());
-    append_figure(&mut text, indexed, events, first, second)?;
+    append_styled(&mut text, indexed, events, pair, style)?;
     out.extend_from_slice(text.as_slice())?;
     Ok(())
 }
 
-/// Appends the figure. Where memory is refused a beginning of it may stand.
-fn append_figure(
+/// Appends the picture. Where memory is refused a beginning of it may stand.
+fn append_styled(
     out: &mut Vec<u8>,
     indexed: &Indexed,
     events: &[u32],
-    first: u32,
-    second: u32,
+    pair: (u32, u32),
+    style: &[u8],
 ) -> Result<(), OutOfMemory>
-    ensures { OnOk result ((text : List ℕ) × (out.new.items ≡ out.old.items ++ text) × IsFigure events.now first second text) }
+    ensures { OnOk result ((text : List ℕ) × (out.new.items ≡ out.old.items ++ text) × IsStyled style.now events.now pair.0 pair.1 text) }
 {
     let mut canvas = Canvas::new(*out.allocator());
-    match draw(&mut canvas, indexed, events, first, second) {
-        Ok(size) => append_figure_of(out, size, &canvas, events, first, second),
+    match draw(&mut canvas, indexed, events, pair.0, pair.1) {
+        Ok(size) => append_drawing(out, size, &canvas, events, pair, style),
         Err(refused) => Err(refused),
     }
 }
 
-/// Appends the figure that has what was drawn.
-fn append_figure_of(
+/// Appends the picture that has what was drawn.
+fn append_drawing(
     out: &mut Vec<u8>,
     size: Size,
     canvas: &Canvas,
     events: &[u32],
-    first: u32,
-    second: u32,
+    pair: (u32, u32),
+    style: &[u8],
 ) -> Result<(), OutOfMemory>
-    ensures { OnOk result ((text : List ℕ) × (out.new.items ≡ out.old.items ++ text) × IsFigure events.now first second text) }
+    ensures { OnOk result ((text : List ℕ) × (out.new.items ≡ out.old.items ++ text) × IsStyled style.now events.now pair.0 pair.1 text) }
 {
     append_root(out, size)?;
-    append_description(out, events, first, second)?;
+    append_description(out, events, pair.0, pair.1)?;
+    append_words(out, style)?;
     append_drawn(out, canvas.bytes())?;
     Ok(())
 }
@@ -256,15 +251,18 @@ fn draw_top_line(
     canvas.line(Class::Name, MARGIN, 20, &text)
 }
 
-/// Draws the name of each thread over its column.
+/// Draws over each column the name of its thread, or that it has several.
 fn draw_names(
     canvas: &mut Canvas,
     indexed: &Indexed,
     columns: &Columns,
 ) -> Result<(), OutOfMemory> {
-    for thread in columns.threads() {
+    for thread in columns.own() {
         let name = thread_name(indexed, *thread);
         draw_line(canvas, Class::Name, columns.left(*thread), 48, name)?;
+    }
+    if columns.is_shared() {
+        draw_line(canvas, Class::Name, left_of(SHARED), 48, b"other threads")?;
     }
     Ok(())
 }
@@ -276,10 +274,8 @@ fn draw_runs(
     drawing: &Drawing,
     events: &[u32],
 ) -> Result<(), OutOfMemory> {
-    let folded = folded_of(drawing.runs.len()).min(drawing.runs.len());
-    let earlier = &drawing.runs[..folded];
-    if folded > 0 {
-        draw_earlier(canvas, indexed, &drawing.columns, events, earlier, TOP)?;
+    if drawing.runs.len() > MOST_RUNS {
+        draw_earlier(canvas, indexed, &drawing.runs, &drawing.shown)?;
     }
     for placed in drawing.placed.iter() {
         draw_run(
@@ -302,17 +298,16 @@ fn draw_pair(
     first: u32,
     second: u32,
 ) -> Result<(), OutOfMemory> {
-    let high = accesses_height(&drawing.first_locks, &drawing.second_locks);
-    let top = drawing.end.saturating_add(GAP);
+    let end = drawing.end;
     draw_line(
         canvas,
         Class::Name,
         MARGIN,
-        drawing.end.saturating_add(10),
+        end.saturating_add(10),
         b"then both are next:",
     )?;
     let locks = drawing.first_locks.as_slice();
-    draw_access(canvas, indexed, &drawing.columns, first, locks, top, high)?;
+    draw_access(canvas, indexed, first, locks, end.saturating_add(GAP))?;
     let locks = drawing.second_locks.as_slice();
-    draw_access(canvas, indexed, &drawing.columns, second, locks, top, high)
+    draw_access(canvas, indexed, second, locks, drawing.below_first())
 }

@@ -20,9 +20,6 @@ pub(crate) const GAP: u64 = 22;
 /// Where the first box begins.
 pub(crate) const TOP: u64 = 62;
 
-/// The most runs that are drawn one by one; of more the first are drawn as one.
-pub(crate) const MOST_RUNS: usize = 60;
-
 /// How high a box with so many lines is.
 pub(crate) fn height_of(lines: u64) -> u64 {
     lines.saturating_mul(LINE).saturating_add(FREE)
@@ -48,24 +45,20 @@ pub(crate) struct Placed {
     pub(crate) height: u64,
 }
 
-/// How many of the first runs are drawn as one.
-pub(crate) fn folded_of(runs: usize) -> usize {
-    runs.saturating_sub(MOST_RUNS)
-}
-
 /// Appends the boxes of the runs that are drawn one by one, each below the one before; the first begins at `top`.
 pub(crate) fn place_runs(
     all: &mut Vec<Placed>,
     runs: &[Run],
+    shown: &[bool],
     waiters: &[Option<u32>],
     top: u64,
 ) -> Result<(), OutOfMemory> {
-    let folded = folded_of(runs.len());
     let mut next = top;
     let mut number = 0u64;
     for run in runs {
+        let is_shown = shown.get(number as usize).copied().unwrap_or(false);
         number = number.saturating_add(1);
-        if number > folded as u64 {
+        if is_shown {
             let placed = placed_at(*run, number, waiters, next);
             next = next.saturating_add(placed.height).saturating_add(GAP);
             all.push(placed)?;

@@ -4,6 +4,7 @@
 mod accesses;
 mod arrows;
 mod canvas;
+mod choosing;
 mod class;
 mod columns;
 mod drawing;

@@ -1,9 +1,9 @@
 //! The boxes of runs.
 use crate::canvas::Canvas;
 use crate::class::Class;
-use crate::columns::Columns;
-use crate::labels::{draw_line, name_in, word_of};
-use crate::layout::{BOX, GAP, INDENT, Placed, base_of, height_of};
+use crate::columns::{Columns, MARGIN};
+use crate::labels::{draw_line, name_in, thread_name, word_of};
+use crate::layout::{BOX, GAP, INDENT, Placed, TOP, base_of, height_of};
 use crate::pieces::{Piece, append_pieces, plural_of};
 use crate::shades::draw_bar;
 use event_index::Indexed;
@@ -66,12 +66,17 @@ pub(crate) fn draw_run(
     let top = placed.top;
     draw_box(canvas, Class::Run, left, top, placed.height)?;
     draw_bar(canvas, left, placed, held)?;
-    draw_count(canvas, placed, left)?;
+    draw_count(canvas, indexed, placed, left)?;
     draw_ends(canvas, indexed, list, placed, left)
 }
 
-/// Draws the line that tells which run it is, and how many events it has.
-fn draw_count(canvas: &mut Canvas, placed: &Placed, left: u64) -> Result<(), OutOfMemory> {
+/// Draws the line that tells which run it is, how many events it has, and of which thread.
+fn draw_count(
+    canvas: &mut Canvas,
+    indexed: &Indexed,
+    placed: &Placed,
+    left: u64,
+) -> Result<(), OutOfMemory> {
     let count = u64::from(count_of(&placed.run));
     draw_pieces(
         canvas,
@@ -86,6 +91,8 @@ fn draw_count(canvas: &mut Canvas, placed: &Placed, left: u64) -> Result<(), Out
             Piece::Number(count),
             Piece::Words(b" event"),
             Piece::Words(plural_of(count)),
+            Piece::Words(b" of "),
+            Piece::Words(thread_name(indexed, placed.run.thread)),
         ],
     )
 }
@@ -193,78 +200,91 @@ fn draw_waiter(
     )
 }
 
-/// Draws a box for each thread that has events in these runs, the first of many, side by side. Below them the next begins at what is
-/// answered.
+/// Draws one box for the runs that are not drawn one by one: how many they are, of how many threads, and how many events they have.
 pub(crate) fn draw_earlier(
     canvas: &mut Canvas,
     indexed: &Indexed,
-    columns: &Columns,
-    list: &[u32],
     runs: &[Run],
-    top: u64,
+    shown: &[bool],
 ) -> Result<(), OutOfMemory> {
-    for thread in columns.threads() {
-        draw_earlier_of(canvas, indexed, columns, list, runs, *thread, top)?;
-    }
-    Ok(())
-}
-
-/// How high the boxes of earlier runs are, with what stands free below them.
-pub(crate) fn earlier_height() -> u64 {
-    height_of(2).saturating_add(GAP)
-}
-
-/// Draws the box of a thread's earlier runs: how many events they have, and the last.
-fn draw_earlier_of(
-    canvas: &mut Canvas,
-    indexed: &Indexed,
-    columns: &Columns,
-    list: &[u32],
-    runs: &[Run],
-    thread: u32,
-    top: u64,
-) -> Result<(), OutOfMemory> {
-    let (count, last) = earlier_of(runs, thread);
-    if count == 0 {
-        return Ok(());
-    }
-    let left = columns.left(thread);
-    draw_box(canvas, Class::Run, left, top, height_of(2))?;
-    draw_earlier_count(canvas, count, left, top)?;
-    draw_event(canvas, indexed, list, last, left, top, 1)
-}
-
-/// Draws the line that tells how many events earlier runs have.
-fn draw_earlier_count(
-    canvas: &mut Canvas,
-    count: u64,
-    left: u64,
-    top: u64,
-) -> Result<(), OutOfMemory> {
-    draw_pieces(
+    let alloc = canvas.allocator();
+    let mut seen = vec![in alloc; false; indexed.trace().raw().threads() as usize]?;
+    let earlier = earlier_of(runs, shown, &mut seen);
+    draw_box(canvas, Class::Run, MARGIN, TOP, height_of(2))?;
+    draw_counted(
         canvas,
-        Class::Note,
-        left,
-        top,
         0,
         &[
-            Piece::Number(count),
+            Piece::Number(earlier.runs),
+            Piece::Words(b" earlier run"),
+            Piece::Words(plural_of(earlier.runs)),
+            Piece::Words(b" of "),
+            Piece::Number(earlier.threads),
+            Piece::Words(b" thread"),
+            Piece::Words(plural_of(earlier.threads)),
+        ],
+    )?;
+    draw_counted(
+        canvas,
+        1,
+        &[
+            Piece::Number(earlier.events),
             Piece::Words(b" event"),
-            Piece::Words(plural_of(count)),
-            Piece::Words(b" in earlier runs, up to"),
+            Piece::Words(plural_of(earlier.events)),
         ],
     )
 }
 
-/// How many events the thread has in these runs, and the place of the last.
-fn earlier_of(runs: &[Run], thread: u32) -> (u64, u32) {
-    let mut count = 0u64;
-    let mut last = 0u32;
+/// How high the box of earlier runs is, with what stands free below it.
+pub(crate) fn earlier_height() -> u64 {
+    height_of(2).saturating_add(GAP)
+}
+
+/// Draws a line of that box.
+fn draw_counted(canvas: &mut Canvas, line: u64, pieces: &[Piece<'_>]) -> Result<(), OutOfMemory> {
+    draw_pieces(canvas, Class::Note, MARGIN, TOP, line, pieces)
+}
+
+/// How many runs are not drawn one by one, of how many threads, and how many events they have.
+#[derive(Clone, Copy)]
+struct Earlier {
+    runs: u64,
+    threads: u64,
+    events: u64,
+}
+
+/// Counts the runs that are not shown. In `seen` no thread is noted yet.
+fn earlier_of(runs: &[Run], shown: &[bool], seen: &mut Vec<bool>) -> Earlier {
+    let mut earlier = Earlier {
+        runs: 0,
+        threads: 0,
+        events: 0,
+    };
+    let mut at = 0usize;
     for run in runs {
-        if run.thread == thread {
-            count = count.saturating_add(u64::from(count_of(run)));
-            last = run.end.saturating_sub(1);
+        if !shown.get(at).copied().unwrap_or(true) {
+            earlier = with_run(earlier, run, is_first(seen, run.thread));
         }
+        at = at.saturating_add(1);
     }
-    (count, last)
+    earlier
+}
+
+/// Counts a run more, and its thread where it is the first of it.
+fn with_run(earlier: Earlier, run: &Run, is_new: bool) -> Earlier {
+    Earlier {
+        runs: earlier.runs.saturating_add(1),
+        threads: earlier.threads.saturating_add(if is_new { 1 } else { 0 }),
+        events: earlier.events.saturating_add(u64::from(count_of(run))),
+    }
+}
+
+/// Whether the thread was not noted before. It is noted.
+fn is_first(seen: &mut Vec<bool>, thread: u32) -> bool {
+    let Some(is_seen) = seen.get_mut(thread as usize) else {
+        return false;
+    };
+    let is_new = !*is_seen;
+    *is_seen = true;
+    is_new
 }

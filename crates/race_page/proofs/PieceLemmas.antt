@@ -1,22 +1,25 @@
 -- Each thing that is written keeps what a piece is, and what a page is.
-use Rattle.std.proofs.Common.{◌≡◌, ℕ, List, [], ◌∷◌, ◌++◌, decimal, ap, ◌∙◌}
+use Rattle.std.proofs.Common.{◌≡◌, ℕ, List, [], ◌∷◌, ◌++◌, decimal, append_assoc, ap, ◌∙◌}
 use Rattle.markup.specs.Escaped.{escaped}
 use Rattle.rapid_text.specs.Recording.{Recording}
 use Rattle.schedule.specs.Reordering.{IsCorrectReordering}
 use Rattle.schedule.specs.Shows.{Shows}
 use Rattle.pair_picture.specs.Pictures.{IsFigure}
 use Rattle.race_page.specs.Own.{begin_text, end_text, part_text, row_text}
-use Rattle.race_page.specs.Pages.{IsDrawn, IsPage, IsPiece}
+use Rattle.race_page.specs.Pages.{IsDrawn, AreParts, IsPiece}
 use Rattle.race_page.specs.declared.own.Part.{Part}
 use Rattle.race_page.specs.declared.own.Tag.{Tag}
 use Rattle.race_page.specs.declared.shown.Shown.{Shown}
-use Rattle.race_page.specs.declared.style.TheConstants.{TOP}
 
 pub no_piece : (text : List ℕ) → text ≡ [] → IsPiece text
 no_piece text e = rw e IsPiece.empty
 
-pub top_page : (r : Recording) (none text : List ℕ) (rows : List Shown) → none ≡ [] → text ≡ none ++ TOP.now → rows ≡ [] → IsPage r text rows
-top_page r none text rows e f g = rw f (rw e (rw g IsPage.top))
+pub no_parts : (r : Recording) (text : List ℕ) (rows : List Shown) → text ≡ [] → rows ≡ [] → AreParts r text rows
+no_parts r text rows e f = rw e (rw f AreParts.none)
+
+-- two texts that are appended one after the other are appended as one
+pub both_as_one : (old new first second : List ℕ) → new ≡ old ++ first ++ second → new ≡ old ++ (first ++ second)
+both_as_one old new first second e = e ∙ append_assoc old first second
 
 -- what is appended to nothing stands alone
 pub alone : (empty text words bytes : List ℕ) → empty ≡ [] → text ≡ empty ++ words → bytes ≡ text → bytes ≡ words
@@ -38,20 +41,20 @@ module _ (old new piece : List ℕ) (is : IsPiece old) (e : new ≡ old ++ piece
   pub with_text : (bytes : List ℕ) → piece ≡ escaped bytes → IsPiece new
   with_text bytes f = rw e (rw f (IsPiece.text bytes old is))
 
-module _ (r : Recording) (old new added : List ℕ) (rows : List Shown) (is : IsPage r old rows) (e : new ≡ old ++ added) where
-  pub with_piece : (piece : List ℕ) → IsPiece piece → added ≡ piece → IsPage r new rows
-  with_piece piece whole f = rw e (rw f (IsPage.piece piece old rows whole is))
+module _ (r : Recording) (old new added : List ℕ) (rows : List Shown) (is : AreParts r old rows) (e : new ≡ old ++ added) where
+  pub with_piece : (piece : List ℕ) → IsPiece piece → added ≡ piece → AreParts r new rows
+  with_piece piece whole f = rw e (rw f (AreParts.piece piece old rows whole is))
 
   pub with_row :
       (shown : Shown) (piece : List ℕ) (after last : List Shown) → IsPiece piece → added ≡ row_text shown.sort shown.first shown.second piece → after ≡ rows
-      → last ≡ after ++ shown ∷ [] → IsPage r new last
-  with_row shown piece after last whole f g h = rw e (rw f (rw h (rw g (IsPage.row shown piece old rows whole is))))
+      → last ≡ after ++ shown ∷ [] → AreParts r new last
+  with_row shown piece after last whole f g h = rw e (rw f (rw h (rw g (AreParts.row shown piece old rows whole is))))
 
   pub with_drawn :
       (shown : Shown) (before figure behind : List ℕ) (after last : List Shown) → IsPiece before → IsDrawn r shown.first shown.second figure → IsPiece behind
-      → added ≡ row_text shown.sort shown.first shown.second (before ++ figure ++ behind) → after ≡ rows → last ≡ after ++ shown ∷ [] → IsPage r new last
+      → added ≡ row_text shown.sort shown.first shown.second (before ++ figure ++ behind) → after ≡ rows → last ≡ after ++ shown ∷ [] → AreParts r new last
   with_drawn shown before figure behind after last whole drawn end f g h =
-      rw e (rw f (rw h (rw g (IsPage.drawn shown before figure behind old rows whole drawn end is))))
+      rw e (rw f (rw h (rw g (AreParts.drawn shown before figure behind old rows whole drawn end is))))
 
 -- a picture of a schedule that shows the pair
 pub drawn_of :

@@ -1,20 +1,16 @@
 -- The page's own markup: a closed list. Nothing else stands on a page unescaped but digits and pictures.
 use Rattle.std.specs.Prelude.{ℕ, List, ◌++◌, codes, decimal}
 use Rattle.race_page.specs.declared.own.Part.{Part}
-use Rattle.race_page.specs.declared.own.Part.TheVariants.{Body, Foot, LineEnd}
+use Rattle.race_page.specs.declared.own.Part.TheVariants.{Foot, LineEnd}
 use Rattle.race_page.specs.declared.own.Tag.{Tag}
-use Rattle.race_page.specs.declared.own.Tag.TheVariants.{Title, Header, Main, Section, PageHeading, SectionHeading, RowHeading, PartHeading, Paragraph, Isolated, Table, TableHead, TableBody, Line, ColumnHead, LineHead, Cell, NumberCell, Summary, Facts, Lines, Code, Figure, Caption, Wide}
+use Rattle.race_page.specs.declared.own.Tag.TheVariants.{Section, SectionHeading, RowHeading, PartHeading, Paragraph, Isolated, Table, TableHead, TableBody, Line, ColumnHead, LineHead, Cell, NumberCell, Summary, Facts, Lines, Code, Figure, Caption, Wide}
 use Rattle.race_page.specs.declared.shown.Sort.{Sort}
 use Rattle.race_page.specs.declared.shown.Sort.TheVariants.{Race, Undecided, Apart}
-use Rattle.race_page.specs.declared.style.TheConstants.{BODY, FOOT}
+use Rattle.race_page.specs.declared.style.TheConstants.{FOOT}
 
 -- how an element begins
 abbrev pub begin_text : Tag → List ℕ
-begin_text Title = codes "<title>"
-begin_text Header = codes "<header>\n"
-begin_text Main = codes "<main>\n"
 begin_text Section = codes "<section>\n"
-begin_text PageHeading = codes "<h1>"
 begin_text SectionHeading = codes "<h2>"
 begin_text RowHeading = codes "<h3>"
 begin_text PartHeading = codes "<h4>"
@@ -38,11 +34,7 @@ begin_text Wide = codes "<div class=\"wide\" tabindex=\"0\">\n"
 
 -- how it ends
 abbrev pub end_text : Tag → List ℕ
-end_text Title = codes "</title>\n"
-end_text Header = codes "</header>\n"
-end_text Main = codes "</main>\n"
 end_text Section = codes "</section>\n"
-end_text PageHeading = codes "</h1>\n"
 end_text SectionHeading = codes "</h2>\n"
 end_text RowHeading = codes "</h3>"
 end_text PartHeading = codes "</h4>\n"
@@ -66,7 +58,6 @@ end_text Wide = codes "</div>\n"
 
 -- a part that is always the same
 abbrev pub part_text : Part → List ℕ
-part_text Body = BODY.now
 part_text Foot = FOOT.now
 part_text LineEnd = codes "\n"
 

@@ -1,15 +1,15 @@
 -- What a page is made of. `r` is the recording of its trace.
-use Rattle.std.specs.Prelude.{ℕ, List, [], ◌∷◌, ◌++◌, decimal}
+use Rattle.std.specs.Prelude.{◌≡◌, ℕ, List, [], ◌∷◌, ◌++◌, decimal}
 use Rattle.markup.specs.Escaped.{escaped}
 use Rattle.rapid_text.specs.Recording.{Recording}
 use Rattle.schedule.specs.Reordering.{IsCorrectReordering}
 use Rattle.schedule.specs.Shows.{Shows}
 use Rattle.pair_picture.specs.Pictures.{IsFigure}
+use Rattle.race_page.specs.Heads.{IsFileOf, page_begin}
 use Rattle.race_page.specs.Own.{begin_text, end_text, part_text, row_text}
 use Rattle.race_page.specs.declared.own.Part.{Part}
 use Rattle.race_page.specs.declared.own.Tag.{Tag}
 use Rattle.race_page.specs.declared.shown.Shown.{Shown}
-use Rattle.race_page.specs.declared.style.TheConstants.{TOP}
 
 -- The text is a piece of a page: own markup of the closed list, numbers, and texts that are escaped.
 pub data IsPiece : List ℕ → Type 0 where
@@ -27,17 +27,26 @@ pub record IsDrawn (r : Recording) (a b : ℕ) (text : List ℕ) : Type 0 where
   pub shows : Shows r.events events a b
   pub figure : IsFigure events a b text
 
--- The text is a page with these rows, or a beginning of one. It begins with the head, which has the policy. Then there are pieces, rows in which a
--- piece stands, and rows in which a schedule that shows the row's pair is drawn between two pieces.
-pub data IsPage (r : Recording) : List ℕ → List Shown → Type 0 where
-  top : IsPage r TOP.now []
-  piece : (p m : List ℕ) (rows : List Shown) → IsPiece p → IsPage r m rows → IsPage r (m ++ p) rows
+-- The text stands under the first line of a page with these rows: pieces, rows in which a piece stands, and rows in which a schedule that shows
+-- the row's pair is drawn between two pieces.
+pub data AreParts (r : Recording) : List ℕ → List Shown → Type 0 where
+  none : AreParts r [] []
+  piece : (p m : List ℕ) (rows : List Shown) → IsPiece p → AreParts r m rows → AreParts r (m ++ p) rows
   row :
-      (shown : Shown) (p m : List ℕ) (rows : List Shown) → IsPiece p → IsPage r m rows
-      → IsPage r (m ++ row_text shown.sort shown.first shown.second p) (rows ++ shown ∷ [])
+      (shown : Shown) (p m : List ℕ) (rows : List Shown) → IsPiece p → AreParts r m rows
+      → AreParts r (m ++ row_text shown.sort shown.first shown.second p) (rows ++ shown ∷ [])
   drawn :
       (shown : Shown) (before figure after m : List ℕ) (rows : List Shown) → IsPiece before → IsDrawn r shown.first shown.second figure → IsPiece after
-      → IsPage r m rows → IsPage r (m ++ row_text shown.sort shown.first shown.second (before ++ figure ++ after)) (rows ++ shown ∷ [])
+      → AreParts r m rows → AreParts r (m ++ row_text shown.sort shown.first shown.second (before ++ figure ++ after)) (rows ++ shown ∷ [])
+
+-- The text is a page of the trace at this path with these rows. It begins with the head, which has the policy, and with its first line, which says
+-- how many races are told and of which file.
+pub record IsPage (r : Recording) (races : ℕ) (path text : List ℕ) (rows : List Shown) : Type 0 where
+  pub file : List ℕ
+  pub named : IsFileOf path file
+  pub parts : List ℕ
+  pub printed : text ≡ page_begin races file ++ parts
+  pub made : AreParts r parts rows
 
 -- what contracts see of a page that is being written
 pub record Made : Type 0 where

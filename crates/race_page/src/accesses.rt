@@ -6,7 +6,7 @@ use crate::piece::{Item, Piece};
 use event_index::Indexed;
 use must_order::Must;
 use race_triage::append_event;
-use rapid_text::{Op, OutOfMemory};
+use rapid_text::OutOfMemory;
 
 /// Writes a table of the two, under its heading.
 pub(crate) fn write_accesses(
@@ -122,29 +122,4 @@ fn write_lock<'a>(
         Item::Text(between),
         Item::Element(Tag::Isolated, raw.lock_name(lock)),
     ])
-}
-
-/// Writes where the access is and what it does, as the heading of a row tells it.
-pub(crate) fn write_place(
-    piece: &mut Piece,
-    indexed: &Indexed,
-    event: u32,
-) -> Result<(), OutOfMemory> {
-    if event >= indexed.len() {
-        return Ok(());
-    }
-    let raw = indexed.trace().raw();
-    piece.write(&[
-        Item::Element(Tag::Isolated, raw.location(event)),
-        Item::Text(access_words(raw.event(event).op)),
-    ])
-}
-
-/// What an access does.
-fn access_words(op: Op) -> &'static [u8] {
-    match op {
-        Op::Read(_) => b" reads",
-        Op::Write(_) => b" writes",
-        _ => b"",
-    }
 }

@@ -1,36 +1,97 @@
-//! What stands over the rows: the trace's name, and what the verdicts mean.
-use crate::own::{Part, Tag};
-use crate::piece::{Item, Piece};
+//! With what a page begins. Its first line says how many races are told, and of which file.
+ghost use Rattle.std.specs.Prelude.{◌≡◌, ◌++◌, ◌∷◌, None, IfSome, OnOk, decimal};
+ghost use Rattle.race_page.specs.Heads.{HasNoSlash, IsFileOf, heading_text, page_begin, race_word, races_words, title_text};
+
+use crate::style::{BODY, TOP};
+use itoa::Buffer;
+use markup::escape;
+use memchr::memrchr;
 use rapid_text::OutOfMemory;
 
-const PLACES: &[u8] =
-    b"A place is the location of an access in the source. A pair of places is a race if a schedule was found: the \
-events of this trace in another order that its program could have taken too, after which an access at each of the two places is next in its \
-thread. It is apart if no such order shows two accesses there so, and undecided if neither was found.";
+/// The file of a path: what stands behind its last slash.
+pub(crate) fn file_of(path: &[u8]) -> &[u8]
+    ensures { IsFileOf path.now result.now }
+{
+    match cut_last_slash(path) {
+        Some(parts) => parts.1,
+        None => path,
+    }
+}
 
-const NEXT: &[u8] =
-    b"An access is next in its thread if all that comes before it there has happened, and it has not. Two accesses of one \
-variable that are both next, one of them a write, are a data race: nothing keeps the two threads from making them at once.";
+/// What stands before the last slash, and what stands behind it.
+fn cut_last_slash(path: &[u8]) -> Option<(&[u8], &[u8])>
+    ensures some { IfSome result (λ parts. (path.now ≡ parts.0.now ++ 47 ∷ parts.1.now) × HasNoSlash parts.1.now) }
+    ensures none { result ≡ None → HasNoSlash path.now }
+{
+    let at = memrchr(b'/', path)?;
+    Some((&path[..at], &path[at + 1..]))
+}
 
-const LIMIT: &[u8] =
-    b"Apart is said of this trace alone: a read keeps the write that it saw, so places that are apart here may race in another run.";
+/// Appends with what a page begins.
+pub(crate) fn append_begin(out: &mut Vec<u8>, races: u64, file: &[u8]) -> Result<(), OutOfMemory>
+    ensures { OnOk result (out.new.items ≡ out.old.items ++ page_begin races file.now) }
+{
+    out.extend_from_slice(TOP)?;
+    append_title(out, races, file)?;
+    out.extend_from_slice(BODY)?;
+    append_heading(out, races, file)
+}
 
-/// Writes the title, the heading of the page, and what the verdicts mean.
-pub(crate) fn write_heading(piece: &mut Piece, name: &[u8]) -> Result<(), OutOfMemory> {
-    piece.write(&[
-        Item::Begin(Tag::Title),
-        Item::Text(b"Races of "),
-        Item::Text(name),
-        Item::End(Tag::Title),
-        Item::Part(Part::Body),
-        Item::Begin(Tag::Header),
-        Item::Begin(Tag::PageHeading),
-        Item::Text(b"Races of "),
-        Item::Element(Tag::Isolated, name),
-        Item::End(Tag::PageHeading),
-        Item::Element(Tag::Paragraph, PLACES),
-        Item::Element(Tag::Paragraph, NEXT),
-        Item::Element(Tag::Paragraph, LIMIT),
-        Item::End(Tag::Header),
-    ])
+/// Appends the title of the window.
+fn append_title(out: &mut Vec<u8>, races: u64, file: &[u8]) -> Result<(), OutOfMemory>
+    ensures { OnOk result (out.new.items ≡ out.old.items ++ title_text races file.now) }
+{
+    out.extend_from_slice(b"<title>")?;
+    append_races(out, races)?;
+    out.extend_from_slice(b" in ")?;
+    escape(file, out)?;
+    out.extend_from_slice(b"</title>\n")?;
+    Ok(())
+}
+
+/// Appends the first line of the page.
+fn append_heading(out: &mut Vec<u8>, races: u64, file: &[u8]) -> Result<(), OutOfMemory>
+    ensures { OnOk result (out.new.items ≡ out.old.items ++ heading_text races file.now) }
+{
+    out.extend_from_slice(b"<header>\n<h1>")?;
+    append_races(out, races)?;
+    out.extend_from_slice(b" in <bdi>")?;
+    escape(file, out)?;
+    out.extend_from_slice(b"</bdi></h1>\n</header>\n<main>\n")?;
+    Ok(())
+}
+
+/// Appends how many races there are, in words.
+fn append_races(out: &mut Vec<u8>, races: u64) -> Result<(), OutOfMemory>
+    ensures { OnOk result (out.new.items ≡ out.old.items ++ races_words races) }
+{
+    if races == 0 {
+        append_bytes(out, b"No races")
+    } else {
+        append_some(out, races)
+    }
+}
+
+/// Appends how many races there are, where there are some.
+fn append_some(out: &mut Vec<u8>, races: u64) -> Result<(), OutOfMemory>
+    ensures { OnOk result (out.new.items ≡ out.old.items ++ decimal races ++ race_word races) }
+{
+    let mut digits = Buffer::new();
+    out.extend_from_slice(digits.format(races).as_bytes())?;
+    append_bytes(out, word_of(races))
+}
+
+/// The word behind a number of races.
+fn word_of(races: u64) -> &'static [u8]
+    ensures { result.now ≡ race_word races }
+{
+    if races == 1 { b" race" } else { b" races" }
+}
+
+/// Appends these bytes.
+fn append_bytes(out: &mut Vec<u8>, bytes: &[u8]) -> Result<(), OutOfMemory>
+    ensures { OnOk result (out.new.items ≡ out.old.items ++ bytes.now) }
+{
+    out.extend_from_slice(bytes)?;
+    Ok(())
 }

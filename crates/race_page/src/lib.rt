@@ -6,6 +6,7 @@ mod commands;
 mod counting;
 mod heading;
 mod leftovers;
+mod meanings;
 mod own;
 mod page;
 mod piece;
@@ -15,6 +16,7 @@ mod schedules;
 mod selecting;
 mod shown;
 mod style;
+mod titles;
 mod whole;
 mod words;
 

@@ -2,21 +2,13 @@
 ghost use Rattle.std.specs.Prelude.{◌≡◌};
 ghost use Rattle.race_page.specs.Own.{begin_text, end_text, part_text};
 
-use crate::style::{BODY, FOOT};
+use crate::style::FOOT;
 
 /// An element of the page.
 #[derive(Clone, Copy, PartialEq, Eq, Debug)]
 pub enum Tag {
-    /// The title of the window.
-    Title,
-    /// What stands over all sections.
-    Header,
-    /// The sections.
-    Main,
     /// A part of the page under a heading.
     Section,
-    /// The heading of the page.
-    PageHeading,
     /// The heading of a section.
     SectionHeading,
     /// The heading of a row.
@@ -62,9 +54,7 @@ pub enum Tag {
 /// A part of the page that is always the same.
 #[derive(Clone, Copy, PartialEq, Eq, Debug)]
 pub enum Part {
-    /// What stands between the title and the first heading: how the page looks, and how its pictures look.
-    Body,
-    /// What stands at the end.
+    /// What stands at the end of the page.
     Foot,
     /// The end of a line of text.
     LineEnd,
@@ -75,11 +65,7 @@ pub(crate) fn begin_of(tag: Tag) -> &'static [u8]
     ensures { result.now ≡ begin_text tag }
 {
     match tag {
-        Tag::Title => b"<title>",
-        Tag::Header => b"<header>\n",
-        Tag::Main => b"<main>\n",
         Tag::Section => b"<section>\n",
-        Tag::PageHeading => b"<h1>",
         Tag::SectionHeading => b"<h2>",
         Tag::RowHeading => b"<h3>",
         Tag::PartHeading => b"<h4>",
@@ -108,11 +94,7 @@ pub(crate) fn end_of(tag: Tag) -> &'static [u8]
     ensures { result.now ≡ end_text tag }
 {
     match tag {
-        Tag::Title => b"</title>\n",
-        Tag::Header => b"</header>\n",
-        Tag::Main => b"</main>\n",
         Tag::Section => b"</section>\n",
-        Tag::PageHeading => b"</h1>\n",
         Tag::SectionHeading => b"</h2>\n",
         Tag::RowHeading => b"</h3>",
         Tag::PartHeading => b"</h4>\n",
@@ -141,7 +123,6 @@ pub(crate) fn bytes_of(part: Part) -> &'static [u8]
     ensures { result.now ≡ part_text part }
 {
     match part {
-        Part::Body => BODY,
         Part::Foot => FOOT,
         Part::LineEnd => b"\n",
     }

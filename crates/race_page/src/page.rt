@@ -1,13 +1,12 @@
-//! A page: its head, pieces, and rows.
-ghost use Rattle.std.specs.Prelude.{◌≡◌, ◌++◌, ◌∷◌, [], IfOk, OnOk, List, ℕ, decimal};
+//! What stands under the first line of a page: pieces, and rows.
+ghost use Rattle.std.specs.Prelude.{◌≡◌, ◌++◌, ◌∷◌, [], OnOk, List, ℕ, decimal};
 ghost use Rattle.schedule.specs.Reordering.{IsCorrectReordering};
 ghost use Rattle.schedule.specs.Shows.{Shows};
 ghost use Rattle.race_page.specs.Own.{row_text};
-ghost use Rattle.race_page.specs.Pages.{IsDrawn, IsPage, IsPiece};
+ghost use Rattle.race_page.specs.Pages.{IsDrawn, AreParts, IsPiece};
 
 use crate::piece::Piece;
 use crate::shown::{Shown, row_begin_of};
-use crate::style::TOP;
 use event_index::Indexed;
 use itoa::Buffer;
 use pair_picture::figure_text;
@@ -16,7 +15,7 @@ use std::alloc::Global;
 use std::marker::Model;
 use std::snapshot::Snapshot;
 
-/// A page that is being written. Contracts see its trace, its text so far and its rows.
+/// What stands under the first line of a page, as it is being written. Contracts see its trace, its text so far and its rows.
 #[derive(Drop)]
 pub(crate) struct Page {
     of: Snapshot<Indexed>,
@@ -25,28 +24,26 @@ pub(crate) struct Page {
 }
 
 impl Model for Page {
-    ghost use Rattle.race_page.specs.Pages.{IsPage, Made};
+    ghost use Rattle.race_page.specs.Pages.{AreParts, Made};
 
     ghost Value = { Made };
 
     ghost view = { λ p. record { trace = p.of.value; text = p.text.items; rows = p.rows.items } };
 
-    ghost invariant = { λ p. IsPage p.of.value p.text.items p.rows.items };
+    ghost invariant = { λ p. AreParts p.of.value p.text.items p.rows.items };
 }
 
 impl Page {
-    /// A page of this trace with its head alone, which has the policy.
-    pub(crate) fn new(alloc: Global, indexed: &Indexed) -> Result<Page, OutOfMemory>
-        ensures trace { IfOk result (λ page. page.trace ≡ indexed.now) }
-        ensures rows { IfOk result (λ page. page.rows ≡ []) }
+    /// A page of this trace on which nothing stands yet.
+    pub(crate) fn new(alloc: Global, indexed: &Indexed) -> Page
+        ensures trace { result.trace ≡ indexed.now }
+        ensures rows { result.rows ≡ [] }
     {
-        let mut text = Vec::new(alloc);
-        text.extend_from_slice(TOP)?;
-        Ok(Page {
+        Page {
             of: Snapshot::of(indexed),
-            text,
+            text: Vec::new(alloc),
             rows: Vec::new(alloc),
-        })
+        }
     }
 
     /// The allocator.
@@ -57,7 +54,7 @@ impl Page {
     /// What was written.
     pub(crate) fn bytes(&self) -> &[u8]
         ensures text { result.now ≡ self.now.text }
-        ensures page { IsPage self.now.trace self.now.text self.now.rows }
+        ensures parts { AreParts self.now.trace self.now.text self.now.rows }
     {
         self.text.as_slice()
     }

@@ -2,7 +2,7 @@
 ghost use Rattle.std.specs.Prelude.{◌≡◌, ◌++◌, ◌∷◌, [], OnOk};
 ghost use Rattle.race_page.specs.Rows.{row_of, rows_of};
 
-use crate::accesses::{write_accesses, write_place};
+use crate::accesses::write_accesses;
 use crate::own::Tag;
 use crate::page::Page;
 use crate::piece::{Item, Piece};
@@ -10,6 +10,7 @@ use crate::reasons::write_reason;
 use crate::schedules::{write_plain, write_with_schedule};
 use crate::selecting::shown_of;
 use crate::shown::{Shown, Sort};
+use crate::titles::write_title;
 use event_index::Indexed;
 use explain_report::How;
 use must_order::Must;
@@ -87,9 +88,7 @@ fn write_summary(
     requires must { must.now ≡ indexed.now }
 {
     piece.write(&[Item::Begin(Tag::Summary), Item::Begin(Tag::RowHeading)])?;
-    write_place(piece, indexed, shown.first)?;
-    piece.write(&[Item::Text(b", ")])?;
-    write_place(piece, indexed, shown.second)?;
+    write_title(piece, indexed, verdict)?;
     write_facts(piece, verdict)?;
     if shown.sort != Sort::Race {
         write_reason(piece, indexed, clocks, must, verdict)?;

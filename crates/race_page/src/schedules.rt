@@ -11,11 +11,24 @@ use crate::piece::{Item, Piece};
 use crate::shown::Shown;
 use crate::words::lines;
 use event_index::Indexed;
-use explain_report::{How, Verdict, explain_text};
+use explain_report::{How, Verdict, explain_text, runs_of};
 use must_order::Must;
 use pair_findings::{Finding, find};
 use rapid_text::OutOfMemory;
 use shb_clocks::Clocks;
+use std::alloc::Global;
+
+/// The most runs that are told in words; of more the last ones are.
+const MOST_TOLD: usize = 2_000;
+
+const PICTURE: &[u8] =
+    b". A column is a thread, a box is a run of its events, and time goes downwards. Of a long schedule the picture has \
+the last runs, and the last of those that they waited for.";
+
+const ALL_TOLD: &[u8] = b" All runs stand in words below.";
+
+const LAST_TOLD: &[u8] =
+    b" The last runs stand in words below, and the command under them prints all.";
 
 /// Writes the row, the beginning of which stands in the piece: with the schedule that shows its pair, where there is one.
 pub(crate) fn write_with_schedule(
@@ -119,19 +132,29 @@ fn write_race(
     ensures trace { page.new.trace ≡ page.old.trace }
     ensures rows { OnOk result (page.new.rows ≡ page.old.rows ++ shown ∷ []) }
 {
-    write_caption(piece, events.len() as u64, shown)?;
+    let all = is_told(page.allocator(), indexed, events)?;
+    write_caption(piece, events.len() as u64, all, shown)?;
     let mut after = Piece::new(page.allocator());
-    let verdict = Verdict::Race {
-        how,
-        events,
-        all: false,
-    };
+    let verdict = Verdict::Race { how, events, all };
     write_after(&mut after, indexed, clocks, must, word, &verdict, shown)?;
     page.drawn_row(indexed, events, shown, piece, &after)
 }
 
+/// Whether all runs of the schedule are told in words.
+fn is_told(alloc: Global, indexed: &Indexed, events: &[u32]) -> Result<bool, OutOfMemory> {
+    match runs_of(alloc, indexed, events) {
+        Ok(runs) => Ok(runs.len() <= MOST_TOLD),
+        Err(refused) => Err(refused),
+    }
+}
+
 /// Writes what stands over the picture, with a text that says what it shows.
-fn write_caption(piece: &mut Piece, events: u64, shown: Shown) -> Result<(), OutOfMemory> {
+fn write_caption(
+    piece: &mut Piece,
+    events: u64,
+    all: bool,
+    shown: Shown,
+) -> Result<(), OutOfMemory> {
     piece.write(&[
         Item::Element(Tag::PartHeading, b"A schedule that shows them"),
         Item::Begin(Tag::Figure),
@@ -142,9 +165,8 @@ fn write_caption(piece: &mut Piece, events: u64, shown: Shown) -> Result<(), Out
         Item::Number(u64::from(shown.first)),
         Item::Text(b" and "),
         Item::Number(u64::from(shown.second)),
-        Item::Text(
-            b". A column is a thread, a box is a run of its events, and time goes downwards; the same stands in words below.",
-        ),
+        Item::Text(PICTURE),
+        Item::Text(if all { ALL_TOLD } else { LAST_TOLD }),
         Item::End(Tag::Caption),
         Item::Begin(Tag::Wide),
     ])

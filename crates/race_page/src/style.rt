@@ -26,6 +26,7 @@ th,td{border:1px solid var(--edge);padding:.25rem .5rem;text-align:left;vertical
 th{background:var(--tint)}
 .number{text-align:right;font-variant-numeric:tabular-nums}
 code,pre{font-family:monospace}
+pre{max-height:40rem;overflow-y:auto}
 pre,.wide{overflow-x:auto;margin:.25rem 0;padding:.5rem;border:1px solid var(--edge);background:var(--tint)}
 figure{margin:.5rem 0}
 svg{display:block}
@@ -34,8 +35,8 @@ summary{cursor:pointer}
 .facts{display:block;color:var(--soft)}
 :focus-visible{outline:3px solid var(--mark);outline-offset:1px}
 @media (max-width:40rem){
-body{padding:.5rem}
-th,td{padding:.25rem}
+body,details,th,td{padding:.25rem}
+.wide{padding:0}
 }
 @media (prefers-color-scheme:dark){
 :root{--paper:#14181c;--ink:#e6e6e6;--soft:#a9b7c4;--edge:#5a7184;--tint:#1e252c;--mark:#ffb27d}
@@ -44,7 +45,7 @@ th,td{padding:.25rem}
 :root{--paper:#ffffff;--ink:#000000;--soft:#333333;--edge:#777777;--tint:#ffffff}
 body{max-width:none;padding:0}
 details::details-content{display:block;content-visibility:visible}
-pre{white-space:pre-wrap;overflow-wrap:anywhere}
+pre{max-height:none;white-space:pre-wrap;overflow-wrap:anywhere}
 .wide{overflow:visible}
 svg{max-width:100%;height:auto}
 }
@@ -78,6 +79,7 @@ text{fill:#e6e6e6}
 ";
 
 /// What stands at the end.
-pub(crate) const FOOT: &[u8] = b"</body>
+pub(crate) const FOOT: &[u8] = b"</main>
+</body>
 </html>
 ";

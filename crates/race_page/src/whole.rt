@@ -7,8 +7,9 @@ ghost use Rattle.race_page.specs.Rows.{all_rows, rows_of, sort_rows};
 
 use crate::commands::shell_word;
 use crate::counting::write_counts;
-use crate::heading::write_heading;
+use crate::heading::{append_begin, file_of};
 use crate::leftovers::{write_left_out, write_unlisted};
+use crate::meanings::write_meanings;
 use crate::own::{Part, Tag};
 use crate::page::Page;
 use crate::piece::{Item, Piece};
@@ -21,10 +22,11 @@ use race_triage::{Chosen, Filters, Known, Verdict, Verdicts, chosen_of};
 use rapid_text::OutOfMemory;
 use shb_clocks::Clocks;
 
-/// Appends a page (HTML) of the verdicts: the counts, and a row for each race, each pair of places that is undecided, and where `apart` is true
-/// each that is apart; of each sort the first 2,000, and a picture for each of the first 200 races. Races of known places are left out, and rows
-/// that the filters do not keep; where there are such, the page tells how many. `name` is the trace's, as it stands in commands. Answers how many
-/// races there are among those that were not left out, also where there are more than rows. Where memory is refused `out` stays as it was.
+/// Appends a page (HTML) of the verdicts. Its first line is `6 races in pdsh.std`: how many are told, and `name` without folders. Then there is a row for
+/// each race, each pair of places that is undecided, and where `apart` is true each that is apart; of each sort the first 2,000, and a picture
+/// for each of the first 200 races. Then come the eleven counts of the whole trace, and what the words mean. Races of known places are left out, and rows that the
+/// filters do not keep; where there are such, the page tells how many. `name` is the trace's, as it stands in commands. Answers how many races
+/// there are among those that were not left out, also where there are more than rows. Where memory is refused `out` stays as it was.
 pub fn page_text(
     indexed: &Indexed,
     clocks: &Clocks,
@@ -39,11 +41,11 @@ pub fn page_text(
     requires clocks { clocks.now ≡ indexed.now }
     requires must { must.now ≡ indexed.now }
     // The verdicts that are told are chosen as for a text. What is appended is a page with a row for each of them, of each sort the first 2,000, and no
-    // others. Answered is how many races are told, with those that have no row.
+    // others. Answered is how many races are told, with those that have no row. The first line says the same number, and the file's name.
     ensures ok { IfOk result (λ races. (chosen : Choice)
         × AreChosen indexed.now (known_places known.now) (map (λ t. t.now) filters.entry.only.now) (map (λ t. t.now) filters.entry.hide.now) apart
         verdicts.now.verdicts.items chosen
-        × (text : List ℕ) × (out.new.items ≡ out.old.items ++ text) × IsPage indexed.now text (all_rows apart chosen.verdicts.items) × (races ≡ chosen.races)) }
+        × (text : List ℕ) × (out.new.items ≡ out.old.items ++ text) × IsPage indexed.now chosen.races name.now text (all_rows apart chosen.verdicts.items) × (races ≡ chosen.races)) }
     ensures err { OnErr result (out.new.items ≡ out.old.items) }
 {
     match chosen_of(*out.allocator(), indexed, verdicts, known, filters, apart) {
@@ -68,38 +70,42 @@ fn append_page(
 ) -> Result<(), OutOfMemory>
     requires clocks { clocks.now ≡ indexed.now }
     requires must { must.now ≡ indexed.now }
-    ensures ok { OnOk result ((text : List ℕ) × (out.new.items ≡ out.old.items ++ text) × IsPage indexed.now text (all_rows apart chosen.now.verdicts.items)) }
+    ensures ok { OnOk result ((text : List ℕ) × (out.new.items ≡ out.old.items ++ text)
+        × IsPage indexed.now chosen.now.races name.now text (all_rows apart chosen.now.verdicts.items)) }
     ensures err { OnErr result (out.new.items ≡ out.old.items) }
 {
-    match Page::new(*out.allocator(), indexed) {
-        Ok(mut page) => append_written(
-            &mut page, indexed, clocks, must, verdicts, chosen, apart, name, out,
-        ),
-        Err(refused) => Err(refused),
-    }
+    let mut page = Page::new(*out.allocator(), indexed);
+    write_page(
+        &mut page, indexed, clocks, must, verdicts, chosen, apart, name,
+    )?;
+    append_written(&page, chosen.races, name, out)
 }
 
-/// Writes the page, which is empty, and appends it.
+/// Appends the page, whose parts are written. Its beginning is made first, so that all is appended, or nothing.
 fn append_written(
-    page: &mut Page,
-    indexed: &Indexed,
-    clocks: &Clocks,
-    must: &Must,
-    verdicts: &Verdicts,
-    chosen: &Chosen,
-    apart: bool,
+    page: &Page,
+    races: u64,
     name: &[u8],
     out: &mut Vec<u8>,
 ) -> Result<(), OutOfMemory>
-    requires empty { page.now.rows ≡ [] }
-    requires trace { page.old.trace ≡ indexed.now }
-    requires clocks { clocks.now ≡ indexed.now }
-    requires must { must.now ≡ indexed.now }
-    ensures ok { OnOk result ((text : List ℕ) × (out.new.items ≡ out.old.items ++ text) × IsPage indexed.now text (all_rows apart chosen.now.verdicts.items)) }
+    ensures ok { OnOk result ((text : List ℕ) × (out.new.items ≡ out.old.items ++ text)
+        × IsPage page.now.trace races name.now text page.now.rows) }
     ensures err { OnErr result (out.new.items ≡ out.old.items) }
 {
-    write_page(page, indexed, clocks, must, verdicts, chosen, apart, name)?;
-    out.extend_from_slice(page.bytes())?;
+    let mut begin = Vec::new(*out.allocator());
+    append_begin(&mut begin, races, file_of(name))?;
+    append_both(out, begin.as_slice(), page.bytes())?;
+    Ok(())
+}
+
+/// Appends two texts, or nothing.
+fn append_both(out: &mut Vec<u8>, first: &[u8], second: &[u8]) -> Result<(), OutOfMemory>
+    ensures ok { OnOk result (out.new.items ≡ out.old.items ++ first.now ++ second.now) }
+    ensures err { OnErr result (out.new.items ≡ out.old.items) }
+{
+    out.reserve(first.len() + second.len())?;
+    out.extend_from_slice(first)?;
+    out.extend_from_slice(second)?;
     Ok(())
 }
 
@@ -126,7 +132,7 @@ fn write_page(
     )
 }
 
-/// Writes what stands over the rows, the rows, and what stands under them.
+/// Writes the rows, and what stands under them.
 fn write_parts(
     page: &mut Page,
     piece: &mut Piece,
@@ -144,7 +150,6 @@ fn write_parts(
     ensures trace { page.new.trace ≡ page.old.trace }
     ensures rows { OnOk result (page.new.rows ≡ page.old.rows ++ all_rows apart chosen.now.verdicts.items) }
 {
-    begin_page(page, piece, indexed, verdicts, name)?;
     write_told(
         page,
         piece,
@@ -155,31 +160,15 @@ fn write_parts(
         apart,
         name,
     )?;
-    end_page(page, piece, chosen, apart)
+    end_page(page, piece, indexed, verdicts, chosen, apart)
 }
 
-/// Writes what stands over the rows.
-fn begin_page(
+/// Writes what stands under the rows: what is left out, the counts, and what the words mean.
+fn end_page(
     page: &mut Page,
     piece: &mut Piece,
     indexed: &Indexed,
     verdicts: &Verdicts,
-    name: &[u8],
-) -> Result<(), OutOfMemory>
-    ensures trace { page.new.trace ≡ page.old.trace }
-    ensures rows { page.new.rows ≡ page.old.rows }
-{
-    piece.clear();
-    write_heading(piece, name)?;
-    piece.write(&[Item::Begin(Tag::Main)])?;
-    write_counts(piece, indexed, verdicts)?;
-    page.write(piece)
-}
-
-/// Writes what stands under them.
-fn end_page(
-    page: &mut Page,
-    piece: &mut Piece,
     chosen: &Chosen,
     apart: bool,
 ) -> Result<(), OutOfMemory>
@@ -188,7 +177,9 @@ fn end_page(
 {
     piece.clear();
     write_unlisted(piece, chosen, apart)?;
-    piece.write(&[Item::End(Tag::Main), Item::Part(Part::Foot)])?;
+    write_counts(piece, indexed, verdicts)?;
+    write_meanings(piece)?;
+    piece.write(&[Item::Part(Part::Foot)])?;
     page.write(piece)
 }
 

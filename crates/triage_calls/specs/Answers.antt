@@ -56,7 +56,7 @@ IsToldIn Json r known asked vs races text =
 IsToldIn Lines r known asked vs races text =
     (c : Chosen) × AreChosen r known (only_of asked) (hide_of asked) asked.apart vs c × IsLinesText r c text × (races ≡ c.races)
 IsToldIn (Page name) r known asked vs races text =
-    (c : Chosen) × AreChosen r known (only_of asked) (hide_of asked) asked.apart vs c × IsPage r text (all_rows asked.apart c.verdicts.items) × (races ≡ c.races)
+    (c : Chosen) × AreChosen r known (only_of asked) (hide_of asked) asked.apart vs c × IsPage r c.races name.now text (all_rows asked.apart c.verdicts.items) × (races ≡ c.races)
 
 -- Which pairs of places are known: those whose two locations the text names, where one is given. `keys` are the locations by their numbers.
 abbrev pub IsGiven : List (Vec ℕ Global) → Option (List ℕ) → Option (List (ℕ × ℕ)) → Type 0

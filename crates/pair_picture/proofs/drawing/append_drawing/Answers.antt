@@ -1,10 +1,11 @@
 use Rattle.std.proofs.Common.{refl}
-use Rattle.pair_picture.proofs.PieceLemmas.{three_pieces}
-use Rattle.pair_picture.proofs.drawing.append_figure_of.Goals as goal
+use Rattle.pair_picture.proofs.PieceLemmas.{four_pieces}
+use Rattle.pair_picture.proofs.drawing.append_drawing.Goals as goal
 
 pub returns : goal.returns
 returns c =
-    let whole = three_pieces _ _ _ _ _ _ c.in_ok-append_root.ensures c.in_ok-append_description.ensures _ c.in_ok-append_drawn.ensures in (
+    let whole =
+    four_pieces _ _ _ _ _ _ c.in_ok-append_root.ensures c.in_ok-append_description.ensures _ _ _ c.in_ok-append_words.ensures c.in_ok-append_drawn.ensures in (
       _,
       whole,
       record {
