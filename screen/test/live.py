@@ -84,6 +84,8 @@ async def test_both_type_at_once(program):
 def looked_at():
     """How many entries the analyst has looked at, as his own folder keeps it."""
     for path in glob.glob(os.path.join(os.environ["XDG_STATE_HOME"], "racebench-screen", "*")):
+        if path.endswith(".new"):  # it is being written
+            continue
         with open(path, encoding="ascii") as file:
             return int(file.read().split()[1])
     return None
