@@ -4,13 +4,16 @@ from __future__ import annotations
 
 import argparse
 import asyncio
+import errno
 import os
 import shutil
 import signal
 import sys
+from collections.abc import Callable
 from typing import TYPE_CHECKING, Any
 
 from .bench import Bench
+from .readers import Readers
 from .session import Gone
 from .source import Source
 from .trace import Trace
@@ -18,7 +21,16 @@ from .trace import Trace
 if TYPE_CHECKING:
     from .server import Server
 
-CLIENTS = 32
+CLIENTS, PORTS = 32, 65_535
+
+
+def number_to(least: int, most: int) -> Callable[[str], int]:
+    """Reads a number from one to another; else a line says which."""
+    def read(text: str) -> int:
+        if not (text.isascii() and text.isdigit() and len(text) < 10 and least <= int(text) <= most):
+            raise argparse.ArgumentTypeError(f"{text!r} is no number from {least} to {most}")
+        return int(text)
+    return read
 
 
 def words() -> argparse.Namespace:
@@ -27,9 +39,9 @@ def words() -> argparse.Namespace:
         description="Shows a trace, its races and the schedules of a log in a browser.")
     parser.add_argument("trace", metavar="TRACE")
     parser.add_argument("log", metavar="LOG")
-    parser.add_argument("--client", type=int, default=1, choices=range(1, CLIENTS + 1), metavar="N",
+    parser.add_argument("--client", type=number_to(1, CLIENTS), default=1, metavar="N",
                         help="who you are, 1 to 32 (default: 1)")
-    parser.add_argument("--port", type=int, default=0, choices=range(65536), metavar="P",
+    parser.add_argument("--port", type=number_to(0, PORTS), default=0, metavar="P",
                         help="port on 127.0.0.1 (default: any free port)")
     parser.add_argument("--source", metavar="DIR", help="folder with the program's source files")
     parser.add_argument("--program", metavar="FILE", default=os.environ.get("RACEBENCH") or shutil.which("racebench"),
@@ -74,23 +86,25 @@ def tell_faults(loop: asyncio.AbstractEventLoop, context: dict[str, Any]) -> Non
         loop.default_exception_handler(context)
 
 
-async def run(given: argparse.Namespace) -> None:
+async def run(given: argparse.Namespace, readers: Readers) -> None:
     asyncio.get_running_loop().set_exception_handler(tell_faults)
     trace = Trace(given.trace)
     bench = Bench(given.program, trace, given.log, given.client)
     server = server_of(bench, given)
-    reading = asyncio.ensure_future(server.read_trace())  # meanwhile the program reads it too
+    reading = asyncio.ensure_future(server.read_trace(readers))  # meanwhile the program reads it too
     try:
         await bench.open()
         await server.start(given.port)
     except OSError as why:
-        sys.exit(f"screen: {why}")
+        taken = f"port {given.port} is taken" if why.errno == errno.EADDRINUSE else why
+        sys.exit(f"screen: {taken}")
     except Gone as why:
         sys.exit(str(why))
     finally:
         if not server.guard.port:  # what the program refuses need not be readable
             reading.add_done_callback(lambda task: task.cancelled() or task.exception())
             reading.cancel()
+            readers.stop()
     listen_to_terminal(server)
     print(server.guard.link(), flush=True)
     enter = "Enter prints another; " if sys.stdin and sys.stdin.isatty() else ""
@@ -102,4 +116,5 @@ async def run(given: argparse.Namespace) -> None:
 
 
 def main() -> None:
-    asyncio.run(run(words()))
+    given = words()
+    asyncio.run(run(given, Readers(given.trace)))

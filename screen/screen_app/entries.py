@@ -72,17 +72,3 @@ def told(entry: Entry, trace: Trace) -> Told:
     if entry.undone is not None:
         answer["u"] = entry.undone
     return answer
-
-
-def news(entries: list[Entry], client: int) -> list[Told]:
-    """What others did in these entries: for each of them and each schedule what came of it, the latest first."""
-    found: dict[tuple[int, str | None], Told] = {}
-    for entry in entries:
-        if entry.client == client:
-            continue
-        steps: list[tuple[str, str | None]] = [(part[0], schedule_of(part)) for part in entry.parts()]
-        for word, name in steps or [(entry.kind, None)]:
-            one = found.setdefault((entry.client, name), {"c": entry.client, "name": name, "last": 0})
-            one[word] = one.get(word, 0) + 1
-            one["last"] = entry.number
-    return sorted(found.values(), key=lambda one: -int(one["last"]))

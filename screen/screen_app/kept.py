@@ -3,6 +3,8 @@
 import hashlib
 import json
 import os
+import stat
+from typing import Any
 
 from .text import Told, clean
 
@@ -11,6 +13,17 @@ BYTES, LONGEST = 16_384, 40
 CLIENTS = 32
 # A file of endings is read up to so many bytes.
 MOST = 16 << 20
+MATTERS: dict[object, str] = {True: "the order matters", False: "the order makes no difference"}
+
+
+def bytes_of(path: str, most: int, flags: int = 0) -> bytes:
+    """So many bytes of a file at most. What is no plain file is not read: a pipe would wait for its writer."""
+    number = os.open(path, os.O_RDONLY | os.O_NONBLOCK | os.O_CLOEXEC | flags)
+    if not stat.S_ISREG(os.fstat(number).st_mode):
+        os.close(number)
+        raise OSError("no plain file")
+    with open(number, "rb") as file:
+        return file.read(most)
 
 
 class Seen:
@@ -65,8 +78,7 @@ class Names:
 
     def _read(self) -> dict[int, str]:
         try:
-            with open(self.path, "rb") as file:
-                lines = file.read(BYTES).splitlines()
+            lines = bytes_of(self.path, BYTES).splitlines()
         except OSError:
             return {}
         pairs = [line.split(None, 1) for line in lines]
@@ -84,8 +96,7 @@ class Confirmed:
 
     def read(self) -> dict[tuple[int, int], Told]:
         try:
-            with open(self.path, "rb") as file:
-                lines = file.read(MOST).splitlines()
+            lines = bytes_of(self.path, MOST).splitlines()
         except OSError:
             return {}
         return dict(filter(None, map(ending, lines)))
@@ -96,13 +107,25 @@ def ending(line: bytes) -> tuple[tuple[int, int], Told] | None:
     try:
         told = json.loads(line)
         first, second = sorted(int(event) for event in told["events"])
-        word = str(told["ended"])
-        lines = [str(told.get("text", word))]
-        if "first" in told and "second" in told:
-            known = {True: "the order matters", False: "the order makes no difference"}
-            matters = known.get(told.get("matters"), "it is not known whether the order matters")
-            one, other = told["events"]
-            lines += [f"{one} first: {told['first']}", f"{other} first: {told['second']}", matters]
-        return (first, second), {"word": clean(word), "text": "\n".join(map(clean, lines))}
-    except (ValueError, KeyError, TypeError):
+        places = dict(zip(map(int, told["events"]), map(readable, told.get("locations", []))))
+        word = readable(told["ended"])
+        text = "\n".join(map(clean, [readable(told.get("text", word)), *outcome(told)]))
+        return (first, second), {"word": clean(word), "text": text, "places": places}
+    except (ValueError, KeyError, TypeError, AttributeError):
         return None
+
+
+def readable(text: Any) -> str:
+    """A text without the signs that stand for bytes that are no UTF-8; the program writes them so too."""
+    return str(text).encode("utf-8", "surrogateescape").decode("utf-8", "replace")
+
+
+def outcome(told: Told) -> list[str]:
+    """What came of each order of the two accesses."""
+    lines = [] if told.get("same_memory", True) else ["the two accesses do not overlap"]
+    if "first" in told and "second" in told:
+        one, other = told["events"]
+        why = f": {readable(told['why'])}" if told.get("why") else ""
+        lines += [f"{one} first: {readable(told['first'])}", f"{other} first: {readable(told['second'])}",
+                  MATTERS.get(told.get("matters"), "it is not known whether the order matters") + why]
+    return lines + [f"a run by itself may not: {readable(liberty)}" for liberty in told.get("liberties", [])]

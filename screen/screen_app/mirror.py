@@ -179,9 +179,6 @@ class Mirror:
     def told(self, first: int, count: int) -> list[Told]:
         return [entries.told(entry, self.trace) for entry in self.entries[first : first + count]]
 
-    def news(self, first: int, client: int) -> list[Told]:
-        return entries.news(self.entries[first:], client)
-
 
 def exchange(row: Row, at: int) -> None:
     for listed in (row.events, row.since):

@@ -3,7 +3,10 @@
 from __future__ import annotations
 
 import asyncio
+import json
+import sys
 from array import array
+from collections.abc import Callable
 from typing import Any
 
 from .bench import Bench
@@ -16,6 +19,8 @@ from .text import Told, clean
 LINES = 400
 # So many witnesses are kept; each has four bytes an event.
 WITNESSES = 16
+# How far the look for races is, is told so often, in seconds.
+OFTEN = 0.5
 
 
 class Pairs:
@@ -93,8 +98,10 @@ class Pairs:
         if pair not in self.explained:
             status, out, error = await output(
                 self.bench.program, "explain", self.bench.trace.path, *map(str, pair))
-            text = error.encode() if status else out
-            self.explained[pair] = [clean(line) for line in text.split(b"\n")[:LINES]]
+            lines = (error.encode() if status else out).split(b"\n")
+            more = len(lines) - LINES
+            rest = [f"and {more} lines more: racebench explain TRACE {pair[0]} {pair[1]}"] if more > 0 else []
+            self.explained[pair] = [clean(line) for line in lines[:LINES]] + rest
         return {"pair": list(pair), "lines": self.explained[pair]}
 
     async def stop(self) -> None:
@@ -109,35 +116,53 @@ class Races:
 
     def __init__(self) -> None:
         self.state: Told = {"state": "searching"}
-        self.blocks: list[dict[str, Any]] = []
-        self.hays: list[str] = []  # of each block, made when something is sought for the first time
+        self.kinds: list[str] = []  # of each block
+        self.blocks: list[str] = []  # as JSON, which takes a third of the memory that its parts would
+        self.hays: list[str] = []  # what a filter looks in
 
-    async def look(self, bench: Bench) -> None:
+    async def look(self, bench: Bench, changed: Callable[[], None]) -> None:
+        """Looks for the races; says when there is something new of how far that is."""
+        loop = asyncio.get_running_loop()
+        told_at = loop.time()
+
+        def hear(progress: str) -> None:
+            nonlocal told_at
+            self.state["progress"] = progress
+            if loop.time() > told_at + OFTEN:
+                told_at = loop.time()
+                changed()
+
+        confirmed = Confirmed(bench.trace.path).read()
         try:
-            counts, self.blocks = await triage(bench.program, bench.trace.path)
+            counts, more = await triage(
+                bench.program, bench.trace.path, hear, lambda block: self._take(block, confirmed))
         except Gone as why:
             self.state = {"state": "failed", "why": clean(str(why))}
             return
-        for block in self.blocks:
-            for access in block["accesses"]:
-                access.update({key: clean(access[key]) for key in ("thread", "variable", "location")})
-                access["holds"] = [clean(lock) for lock in access["holds"]]
-        confirmed = Confirmed(bench.trace.path).read()
-        for block in self.blocks:
-            first, second = sorted(access["event"] for access in block["accesses"])
-            if (first, second) in confirmed:
-                block["ended"] = confirmed[first, second]
-        self.state = {"state": "found", "counts": counts}
+        self.state = {"state": "found", "counts": counts, "kept": len(self.blocks), "more": more}
+
+    def _take(self, block: dict[str, Any], confirmed: dict[tuple[int, int], Told]) -> None:
+        first, second = sorted(access["event"] for access in block["accesses"])
+        ended = confirmed.get((first, second))
+        if ended and all(ended["places"].get(one["event"], one["location"]) == one["location"]
+                         for one in block["accesses"]):  # else that file is of another trace
+            block["ended"] = {"word": ended["word"], "text": ended["text"]}
+        for access in block["accesses"]:
+            access.update({key: clean(access[key]) for key in ("thread", "variable", "location")})
+            access["holds"] = [clean(lock) for lock in access["holds"]]
+        self.kinds.append(sys.intern(block["kind"]))
+        self.blocks.append(json.dumps(block, separators=(",", ":")))
+        self.hays.append(hay(block))
 
     def window(self, text: str, kinds: list[str], first: int, count: int) -> Told:
+        if self.state["state"] != "found":
+            return {**self.state, "total": 0, "from": 0, "blocks": []}
         words = text.lower().split()
-        if words and len(self.hays) < len(self.blocks):
-            self.hays = [hay(block) for block in self.blocks]
         found = [
-            block for at, block in enumerate(self.blocks)
-            if block["kind"] in kinds and all(word in self.hays[at] for word in words)
+            at for at, kind in enumerate(self.kinds) if kind in kinds and all(word in self.hays[at] for word in words)
         ]
-        return {**self.state, "total": len(found), "from": first, "blocks": found[first : first + count]}
+        blocks = [json.loads(self.blocks[at]) for at in found[first : first + count]]
+        return {**self.state, "total": len(found), "from": first, "blocks": blocks}
 
 
 def hay(block: dict[str, Any]) -> str:

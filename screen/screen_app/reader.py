@@ -2,6 +2,7 @@
 
 from __future__ import annotations
 
+import sys
 from collections.abc import Iterator
 from typing import TYPE_CHECKING, BinaryIO
 
@@ -84,9 +85,10 @@ class Reader:
         self.places = Places(trace.places)
         self.lines = Lines(trace)
 
-    def read(self, file: BinaryIO) -> Iterator[None]:
-        rest = b""
-        while text := file.read(PORTION):
+    def read(self, file: BinaryIO, length: int | None = None) -> Iterator[None]:
+        """Reads so many bytes, or all."""
+        rest, end = b"", sys.maxsize if length is None else file.tell() + length
+        while text := file.read(max(0, min(PORTION, end - file.tell()))):
             kept, feed, rest = (rest + text).rpartition(b"\n")
             if feed:
                 self._take(kept)

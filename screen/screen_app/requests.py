@@ -8,6 +8,7 @@ from .bench import Bench
 from .checked import Mistake, counted, named, paired
 from .kept import Names, Seen
 from .mirror import Row
+from .news import News
 from .pairs import Pairs, Races
 from .source import Source
 from .text import Told
@@ -29,6 +30,7 @@ class Requests:
         self.fault: str | None = None  # why what is drawn cannot be gone by
         self.link: Callable[[], str] = str
         self.names = Names(bench.mirror.path)
+        self.news = News(bench.client)
         self.is_ready, self.is_greeted = asyncio.Event(), asyncio.Event()
 
     async def answer(self, request: Told) -> Told:
@@ -182,10 +184,10 @@ class Requests:
         return {"entries": self.bench.mirror.told(first, count)}
 
     async def do_since(self, request: Told) -> Told:
-        return {"news": self.bench.mirror.news(counted(request["from"]), self.bench.client)[:NEWS]}
+        return {"news": (await self.news.since(counted(request["from"]), self.bench.mirror.entries))[:NEWS]}
 
     async def do_races(self, request: Told) -> Told:
-        kinds = [kind for kind in request.get("kinds") or ["race", "undecided"] if isinstance(kind, str)]
+        kinds = [kind for kind in request["kinds"] if isinstance(kind, str)]
         first, count = counted(request["from"]), min(counted(request["count"]), BLOCKS)
         return self.races.window(str(request.get("text") or ""), kinds, first, count)
 

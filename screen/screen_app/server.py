@@ -15,6 +15,7 @@ from .guard import Guard, guarded, put_headers
 from .kept import Names, Seen
 from .outlet import Outlet
 from .pairs import Pairs, Races
+from .readers import Readers
 from .requests import Requests
 from .session import Gone
 from .source import Source
@@ -22,12 +23,18 @@ from .text import Told, clean
 from .trace import CONNECTED
 
 STATIC = os.path.join(os.path.dirname(os.path.dirname(os.path.abspath(__file__))), "static")
+# The page's files, and what a browser is told of each.
+TYPES = {".html": "text/html", ".js": "text/javascript", ".css": "text/css", ".svg": "image/svg+xml"}
 # So long the first page is left alone after its first request, in seconds.
 FIRST_PAGE = 0.5
+# So long after a request the page is in use, and so long portions of other work are apart then, in seconds.
+USED, BREATH = 0.5, 0.02
 # How often the log is looked at, in seconds.
 POLL = 0.05
 # The longest message, the most sockets, the most that have not named their key, and how long they have for it.
 MESSAGE, SOCKETS, WAITING, PATIENCE = 1 << 16, 16, 16, 5
+# Why a socket is closed: its key is wrong; or no key came in time, or there is no room, and it may try again.
+WRONG, LATE = 4403, 4408
 # How long a browser has to answer that the socket ends.
 GRACE = 0.5
 # The most requests of one socket that are at work.
@@ -36,6 +43,12 @@ AT_WORK = 64
 PUSHED = 300
 # What comes of a request that is no dictionary, or lacks something, or has another type.
 BAD = (KeyError, TypeError, ValueError, AttributeError, IndexError, OverflowError, RecursionError)
+
+
+def file_of(name: str) -> tuple[str, bytes]:
+    """The type and the bytes of a file of the page. They are few, so they are read once."""
+    with open(os.path.join(STATIC, name), "rb") as file:
+        return TYPES[os.path.splitext(name)[1]], file.read()
 
 
 async def in_turn(work: Iterator[Any]) -> None:
@@ -49,25 +62,30 @@ class Server:
         self.bench, self.races = bench, Races()
         self.guard, self.pairs = Guard(), Pairs(bench)
         seen, self.names = Seen(bench.mirror.path, bench.client), Names(bench.mirror.path)
-        self.requests = Requests(bench, self.races, self.pairs, source, seen, title)
+        self.requests = Requests(bench, self.races, self.pairs, source, seen, clean(title))
         self.requests.link, self.requests.names = self.guard.link, self.names
-        self.files = {name for name in os.listdir(STATIC) if name.endswith((".js", ".css", ".svg"))}
+        self.files = {name: file_of(name) for name in os.listdir(STATIC) if name.endswith(tuple(TYPES))}
         self.outlets: set[Outlet] = set()
         self.waiting = 0
         self.told_to = 0
+        self.used_until = 0.0
         self.stopping = asyncio.Event()
         self.tasks: list[asyncio.Task[None]] = []
 
     # HTTP.
 
     async def page(self, request: web.Request) -> web.StreamResponse:
-        return web.FileResponse(os.path.join(STATIC, "index.html"))
+        return self._file("index.html")
 
     async def file(self, request: web.Request) -> web.StreamResponse:
         name = request.match_info["name"]
-        if name not in self.files:
+        if name not in self.files or name == "index.html":
             raise web.HTTPNotFound
-        return web.FileResponse(os.path.join(STATIC, name))
+        return self._file(name)
+
+    def _file(self, name: str) -> web.StreamResponse:
+        kind, body = self.files[name]
+        return web.Response(body=body, content_type=kind, charset="utf-8")
 
     async def enter(self, request: web.Request) -> web.StreamResponse:
         """Gives the key for a ticket, once."""
@@ -84,21 +102,23 @@ class Server:
         self.waiting += 1
         try:
             await socket.prepare(request)
-            is_let_in = await self._is_let_in(socket)
+            refused = await self._refused(socket)
         finally:
             self.waiting -= 1
-        if is_let_in and len(self.outlets) < SOCKETS:
+        if refused is None and len(self.outlets) >= SOCKETS:
+            refused = LATE
+        if refused is None:
             await self._serve(socket, Outlet(socket, request.transport))
         else:
-            await socket.close(code=4403)
+            await socket.close(code=refused)
         return socket
 
-    async def _is_let_in(self, socket: web.WebSocketResponse) -> bool:
+    async def _refused(self, socket: web.WebSocketResponse) -> int | None:
         try:
             first = await socket.receive(timeout=PATIENCE)
         except asyncio.TimeoutError:
-            return False
-        return first.type == WSMsgType.TEXT and self.guard.is_key(first.data)
+            return LATE
+        return None if first.type == WSMsgType.TEXT and self.guard.is_key(first.data) else WRONG
 
     async def _serve(self, socket: web.WebSocketResponse, outlet: Outlet) -> None:
         self.outlets.add(outlet)
@@ -117,6 +137,7 @@ class Server:
 
     async def _answer(self, outlet: Outlet, text: str, room: asyncio.Semaphore) -> None:
         number, answer = None, None
+        self.used_until = asyncio.get_running_loop().time() + USED
         try:
             request = json.loads(text)
             number = request.get("id")
@@ -168,16 +189,23 @@ class Server:
         await self.requests.is_greeted.wait()
         await asyncio.sleep(FIRST_PAGE)
         if not self.bench.trace.is_connected:
-            await in_turn(self.bench.trace.connect())
+            for _ in self.bench.trace.connect():
+                await self._give_way()
+            self.push("connected", {})
         digest = ""
         for digest in self.bench.trace.digests():
-            await asyncio.sleep(0)
+            await self._give_way()
         if digest != self.bench.mirror.digest:
             self.requests.fault = "this screen reads the trace otherwise than the program"
             self.push("fault", {"why": self.requests.fault})
 
+    async def _give_way(self) -> None:
+        """Ends a portion of work that nobody waits for: while the page asks for something, portions are seldom."""
+        is_used = asyncio.get_running_loop().time() < self.used_until
+        await asyncio.sleep(BREATH if is_used else 0)
+
     async def look_for_races(self) -> None:
-        await self.races.look(self.bench)
+        await self.races.look(self.bench, lambda: self.push("races", {}))
         self.push("races", {})
 
     def beside(self, work: Coroutine[Any, Any, None]) -> None:
@@ -198,9 +226,11 @@ class Server:
         self.guard.port = self.runner.addresses[0][1]
         self.beside(self.look_for_races())
 
-    async def read_trace(self) -> None:
+    async def read_trace(self, readers: Readers) -> None:
         """Reads the trace, in turns with all else."""
-        await in_turn(self.bench.trace.read())
+        trace = self.bench.trace
+        parts = await readers.parts()
+        await in_turn(trace.join(parts) if parts else trace.read())
         if len(self.bench.trace) <= CONNECTED:
             await in_turn(self.bench.trace.connect())
 

@@ -3,13 +3,20 @@
 import asyncio
 import json
 import os
-from collections.abc import AsyncIterator
+import re
+from collections import deque
+from collections.abc import AsyncIterator, Callable
 from typing import Any
 
 # The longest line that is read from the program: `show` of a million events.
 LINE_LIMIT = 1 << 28
 # A list of races is kept up to so many blocks.
 MOST_BLOCKS = 200_000
+# How far the program is, as it says it; and so many of its last lines are told if it fails.
+PROGRESS = re.compile(r"events \d+|pairs of places \d+ of \d+")
+LAST_LINES = 20
+Hear = Callable[[str], None]
+Take = Callable[[dict[str, Any]], None]
 PIPE = asyncio.subprocess.PIPE
 
 
@@ -105,22 +112,41 @@ async def output(*words: str) -> tuple[int, bytes, str]:
     return process.returncode or 0, out, error.decode("utf-8", "replace").strip()
 
 
-async def triage(program: str, trace: str) -> tuple[dict[str, Any], list[dict[str, Any]]]:
-    """What `triage --json --apart` says: the counts, and a list of races, undecided and apart pairs of places."""
+async def triage(program: str, trace: str, hear: Hear, take: Take) -> tuple[dict[str, Any], int]:
+    """What `triage --json --apart` says: the counts; races, undecided and apart pairs of places are given to `take`.
+
+    Also how many more of these there are than are taken.
+    """
     counts: dict[str, Any] = {}
-    blocks: list[dict[str, Any]] = []
-    async for told in told_by(program, "triage", trace, "--json", "--apart"):
+    number = 0
+    async for told in told_by(hear, program, "triage", trace, "--json", "--apart", "--progress"):
         if told["kind"] == "counts":
             counts = told
-        elif told["kind"] in ("race", "undecided", "apart") and len(blocks) < MOST_BLOCKS:
-            blocks.append(told)
-    return counts, blocks
+        elif told["kind"] in ("race", "undecided", "apart"):
+            if number < MOST_BLOCKS:
+                take(told)
+            number += 1
+    return counts, max(0, number - MOST_BLOCKS)
 
 
-async def told_by(*words: str) -> AsyncIterator[dict[str, Any]]:
+async def heard(process: asyncio.subprocess.Process, hear: Hear) -> str:
+    """Hears how far the process is, and gives its last lines that say something else."""
+    assert process.stderr
+    said: deque[str] = deque(maxlen=LAST_LINES)
+    async for line in process.stderr:
+        text = line.decode("utf-8", "replace").strip()
+        if PROGRESS.fullmatch(text):
+            hear(text)
+        else:
+            said.append(text)
+    return "\n".join(said)
+
+
+async def told_by(hear: Hear, *words: str) -> AsyncIterator[dict[str, Any]]:
     """The JSON lines of a process, as they come."""
     process = await asyncio.create_subprocess_exec(
         *words, stdin=asyncio.subprocess.DEVNULL, stdout=PIPE, stderr=PIPE, limit=LINE_LIMIT, preexec_fn=work_behind)
+    saying = asyncio.ensure_future(heard(process, hear))
     try:
         number = 0
         async for line in stdout(process):
@@ -128,10 +154,11 @@ async def told_by(*words: str) -> AsyncIterator[dict[str, Any]]:
             number += 1
             if number % 256 == 0:
                 await asyncio.sleep(0)
-        error = await last_words(process)
-        if process.returncode:
+        error = await saying
+        if await process.wait():
             raise Gone(error or f"{words[1]} ended with status {process.returncode}")
     finally:
+        saying.cancel()
         if process.returncode is None:
             process.kill()
             await process.wait()

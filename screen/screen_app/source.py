@@ -3,6 +3,7 @@
 import os
 import re
 
+from .kept import bytes_of
 from .text import Told, clean
 
 PLACE = re.compile(r"\s*(.+?):(\d+)")
@@ -56,8 +57,7 @@ class Source:
             if len(self.lines) >= KEPT:
                 self.lines.pop(next(iter(self.lines)))
             try:
-                with open(os.open(path, os.O_RDONLY | os.O_NOFOLLOW), "rb") as file:
-                    self.lines[path] = file.read(BYTES).split(b"\n")
+                self.lines[path] = bytes_of(path, BYTES, os.O_NOFOLLOW).split(b"\n")
             except OSError:
                 self.lines[path] = []
         return self.lines[path]

@@ -58,7 +58,8 @@ class Run:
     async def to(self, thread: int, until: int | None) -> Told:
         events = self.bench.trace.events_of[thread]
         at = self.bench.sheet(self.name).counts[thread]
-        end = min(len(events) if until is None else self.bench.trace.index(until) + 1, at + MOST)
+        wanted = len(events) if until is None else self.bench.trace.index(until) + 1
+        end = min(wanted, at + MOST)
         while at < end:
             parts = cut(events[at : min(end, at + BATCH * CHUNK)])
             answers = await self.bench.say(*[adds(self.name, part) for part in parts])
@@ -67,7 +68,8 @@ class Run:
                     return await self._stopped(part, answer)
                 self._count(part, answer)
                 at += len(part)
-        return self._told(f"{self.entries[-1]}: done" if self.entries else "nothing to add")
+        told = self._told(f"{self.entries[-1]}: done" if self.entries else "nothing to add")
+        return {**told, "more": wanted - end} if end < wanted else told
 
     def _count(self, part: Sequence[int], answer: str) -> None:
         self.added += len(part)

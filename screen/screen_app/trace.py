@@ -9,6 +9,7 @@ import hashlib
 from array import array
 from bisect import bisect_left
 from collections.abc import Iterator
+from typing import NamedTuple
 
 from .reader import WORDS, Numbers, Reader
 from .text import Told
@@ -16,8 +17,23 @@ from .text import Told
 READ, WRITE, ACQUIRE, RELEASE, FORK, JOIN = range(6)
 OPERATIONS = ("r", "w", "acq", "rel", "fork", "join")
 NONE = -1
-# So many events are connected before others get a turn.
-CONNECTED = 20_000
+# A trace of so many events is connected before the first page; so many are taken before others get a turn.
+CONNECTED, PORTION = 20_000, 5_000
+
+
+class Part(NamedTuple):
+    """What a section of the trace's file has: names in the order of their first use there, and columns of numbers."""
+
+    before: int  # so many events stand before it, if each line is one
+    threads: list[bytes]
+    variables: list[bytes]
+    locks: list[bytes]
+    places: list[bytes]
+    thread: bytes
+    word: bytes
+    name: bytes
+    place: bytes
+    events_of: list[bytes]
 
 
 class Trace:
@@ -25,6 +41,7 @@ class Trace:
 
     def __init__(self, path: str) -> None:
         self.path = path
+        self.before = 0  # the first event's number; in a section of a trace more than 0
         self.threads, self.variables, self.locks, self.places = Numbers(), Numbers(), Numbers(), Numbers()
         self.thread, self.word, self.name, self.place = array("B"), array("B"), array("I"), array("I")
         self.events_of: list[array[int]] = []  # by thread
@@ -40,11 +57,59 @@ class Trace:
         """Reads the file in portions, so that others get a turn in between."""
         with open(self.path, "rb") as file:
             yield from Reader(self).read(file)
-        self.fork_of = {self.name[event]: event for event, kind in enumerate(self.word) if kind == FORK}
+        self._find_forks()
+
+    def _find_forks(self) -> None:
+        words, at = self.word.tobytes(), NONE
+        while (at := words.find(FORK, at + 1)) >= 0:
+            self.fork_of[self.name[at]] = at
+
+    def as_part(self) -> Part:
+        return Part(
+            self.before, self.threads.raw, self.variables.raw, self.locks.raw, self.places.raw,
+            self.thread.tobytes(), self.word.tobytes(), self.name.tobytes(), self.place.tobytes(),
+            [own.tobytes() for own in self.events_of])
+
+    def join(self, parts: list[Part]) -> Iterator[None]:
+        """Takes the sections of the file one after another, in portions."""
+        for part in parts:
+            yield from self._take(part)
+        self._find_forks()
+
+    def _take(self, part: Part) -> Iterator[None]:
+        is_first = not self.threads.raw and not self.places.raw  # then its numbers are those of the trace
+        threads, variables, locks, places = (
+            [numbers[name] for name in names] for numbers, names in (
+                (self.threads, part.threads), (self.variables, part.variables), (self.locks, part.locks),
+                (self.places, part.places)))
+        start = len(self.thread)
+        self._take_events(part, threads, start - part.before)
+        self.thread.frombytes(part.thread.translate(bytes(threads + [0] * (256 - len(threads)))))
+        self.word.frombytes(part.word)
+        yield
+        if is_first:
+            self.name.frombytes(part.name)
+            self.place.frombytes(part.place)
+            return
+        by_kind = (variables, variables, locks, locks, threads, threads)
+        names, found = array("I", part.name), array("I", part.place)
+        for at in range(0, len(names), PORTION):
+            kinds = part.word[at : at + PORTION]
+            self.name.extend([by_kind[kind][name] for kind, name in zip(kinds, names[at : at + PORTION])])
+            self.place.extend(map(places.__getitem__, found[at : at + PORTION]))
+            yield
+
+    def _take_events(self, part: Part, threads: list[int], shift: int) -> None:
+        """Adds to each thread its events of the section, whose numbers are less by the shift there."""
+        while len(self.events_of) < len(self.threads.raw):
+            self.events_of.append(array("I"))
+        for thread, text in zip(threads, part.events_of):
+            events = array("I", text)
+            self.events_of[thread].extend(array("I", map(shift.__add__, events)) if shift else events)
 
     def add(self, threads: bytes, words: bytes, names: list[int], places: list[int]) -> None:
         """Adds events, each given by its numbers."""
-        start = len(self.thread)
+        start = self.before + len(self.thread)
         self.thread.frombytes(threads)
         self.word.frombytes(words)
         self.name.extend(names)
@@ -64,8 +129,8 @@ class Trace:
         self.writer, self.following = array("i", [NONE]) * len(self), array("i", [NONE]) * len(self)
         last_write: dict[int, int] = {}
         last_access: dict[int, int] = {}
-        for start in range(0, len(self), CONNECTED):
-            words, names = self.word[start : start + CONNECTED], self.name[start : start + CONNECTED]
+        for start in range(0, len(self), PORTION):
+            words, names = self.word[start : start + PORTION], self.name[start : start + PORTION]
             for event, (kind, name) in enumerate(zip(words, names), start):
                 if kind <= WRITE:
                     if name in last_access:
@@ -114,7 +179,7 @@ class Trace:
             and self.thread[first] != self.thread[second] and self.name[first] == self.name[second]
         )
 
-    def digests(self, most: int = 5_000) -> Iterator[str]:
+    def digests(self, most: int = 2_000) -> Iterator[str]:
         """The SHA-256 digest of the canonical text, in steps; the last is of all of it.
 
         The head of a log has the program's own, so it tells whether both read the same.

@@ -1,5 +1,5 @@
 // Steps: one request each, one after another, and a line that says what came of it.
-import { $, el, fill, many } from "./make.js";
+import { $, count, el, fill, many } from "./make.js";
 import { ask } from "./net.js";
 import { who, said, isRefused } from "./words.js";
 import * as feed from "./feed.js";
@@ -45,6 +45,7 @@ function ran(told) {
   const parts = [`added ${many(told.added, "event")}`];
   if (told.stop) parts.push(el("span", "dim", ` · stopped before ${told.stop.e}`));
   else if (isRefused(told)) parts.push(bad(` · ${said(told.answer)}`));
+  if (told.more) parts.push(el("span", "dim", ` · ${count(told.more)} more to come: run again`));
   const [first, last] = [told.entries?.[0], told.entries?.at(-1)];
   if (first !== undefined) {
     parts.push(el("span", "dim", first === last ? ` · entry ${first}` : ` · entries ${first}–${last}`));

@@ -4,7 +4,7 @@ import { connect, on, ask } from "./net.js";
 import { state } from "./words.js";
 import { act, bad, say } from "./act.js";
 import { showKeys, showLink } from "./dialogs.js";
-import { isNarrow, pane } from "./frame.js";
+import { reveal } from "./frame.js";
 import { later, now } from "./queue.js";
 import "./keys.js";
 import * as sheet from "./sheet.js";
@@ -71,11 +71,12 @@ on("open", async () => {
   else if (row) views.open({ schedule: row.name });
   else {
     views.close();
-    if (isNarrow()) pane("races");
+    reveal("races");
   }
 });
 on("closed", (text) => fill($("live"), bad(text)));
 on("races", () => races.load());
+on("connected", () => state.view && sheet.refresh(false));
 on("fault", (told) => fault(told.why));
 on("names", (told) => {
   state.names = told.names;

@@ -5,6 +5,7 @@ import { part } from "./morph.js";
 import { does } from "./press.js";
 import { later } from "./queue.js";
 import { state, tag, who, short } from "./words.js";
+import { reveal } from "./frame.js";
 import * as schedules from "./schedules.js";
 
 // The latest entries that are shown at first, how many more a click shows, and the most that are shown and kept.
@@ -105,7 +106,12 @@ const SENTENCES = {
 
 const sentence = (group) => (group.adds ? added(group) : SENTENCES[group.entries[0].k](group.entries[0]));
 
-export const link = (number) => does(el("a", "num", String(number)), () => jump(number));
+export function link(number) {
+  return does(el("a", "num", String(number)), () => {
+    reveal("side");
+    jump(number);
+  });
+}
 
 // Shows an entry and lets it flash.
 export async function jump(number) {

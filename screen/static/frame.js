@@ -1,9 +1,6 @@
 // The frame: panes, light and dark, and the splitter between the lanes and what may come next.
 import { $ } from "./make.js";
 
-const narrow = matchMedia("(max-width: 820px)");
-export const isNarrow = () => narrow.matches;
-
 export const PANES = ["race-list", "stage", "next-list", "row-list", "feed"];
 export const paneOf = (element) => PANES.find((id) => $(id).contains(element));
 
@@ -12,10 +9,16 @@ export function pane(name) {
   for (const tab of $("tabs").children) tab.setAttribute("aria-current", tab.dataset.pane === name);
 }
 
+// Shows a part that a narrow window hides.
+export function reveal(name) {
+  if (!$(name).offsetHeight) pane(name);
+}
+
 export function nextPane(by) {
   const at = PANES.indexOf(paneOf(document.activeElement));
   for (let tries = 1; tries <= PANES.length; tries++) {
     const box = $(PANES[(at + by * tries + PANES.length * 2) % PANES.length]);
+    reveal(box.closest("section").id);
     if (box.offsetParent) {
       box.focus();
       return;

@@ -42,7 +42,7 @@ async function fetchNext() {
   const mine = ++asked;
   const schedule = name();
   if (!schedule) {
-    told = null;
+    told = chosen = open = null;
     render();
     return;
   }
@@ -80,6 +80,8 @@ function render() {
   $("next-count").textContent = `${free} of ${told.next.length} threads may go on${ended}`;
   filter.hidden = told.next.length <= FEW;
   const lit = new Set(told.pairs.flat());
+  const longest = Math.max(0, ...told.next.map((one) => threadName(one.t).length));
+  list.style.setProperty("--thread", `${Math.max(4, Math.min(16, longest)) + 1}ch`);
   list.dataset.length = told.length;
   const empty = told.next.length ? "Nothing matches." : "All events of the trace stand in this schedule.";
   const lines = sorted().map((one) => line(one, lit));
@@ -149,7 +151,7 @@ function drawn(one, lit) {
 function ahead(one) {
   const rows = told.ahead.events.map((event, at) => {
     const made = el("button", `coming${state.aim?.includes(event.e) ? " aimed" : ""}`,
-      el("span", "num", String(event.e)), el("span", "", operation(event)), place(event.l, true),
+      el("span", "num", String(event.e)), el("span", "what", operation(event)), place(event.l, true),
       el("code", "", told.ahead.source?.[event.l] ?? ""),
       el("span", "dim until", at ? `run to here (${at + 1})` : "add"));
     return does(made, () => later(() => step("run", { until: event.e })));
@@ -177,6 +179,7 @@ async function more() {
 }
 
 export async function unfold() {
+  if (!here() || told.witness) return;
   open = open === chosen ? null : chosen;
   if (open !== null) await more();
   render();

@@ -1,10 +1,10 @@
 // The keys. What a key does depends on the pane that has the focus; without one it is what may come next.
 import { $ } from "./make.js";
 import { state } from "./words.js";
-import { act } from "./act.js";
+import { act, say } from "./act.js";
 import { later, isBusy } from "./queue.js";
 import { showKeys } from "./dialogs.js";
-import { nextPane, pane, paneOf, isNarrow } from "./frame.js";
+import { nextPane, paneOf, reveal } from "./frame.js";
 import { hidePeek } from "./peek.js";
 import { best } from "./pair.js";
 import * as sheet from "./sheet.js";
@@ -12,7 +12,7 @@ import * as frontier from "./frontier.js";
 import * as races from "./races.js";
 import * as feed from "./feed.js";
 import * as views from "./views.js";
-import { neighbour } from "./schedules.js";
+import { edge, neighbour } from "./schedules.js";
 
 const schedule = () => state.view?.schedule;
 const last = () => (sheet.current()?.length ?? 1) - 1;
@@ -24,9 +24,17 @@ function swap(by) {
 
 function propose() {
   const told = frontier.current();
-  if (schedule() && told?.pairs.length) return act("propose", { view: state.view, pair: best(told.pairs) });
-  return null;
+  if (told?.pairs.length) return act("propose", { view: state.view, pair: best(told.pairs) });
+  return say("no pair stands side by side in this schedule");
 }
+
+// Keys that have nothing to work on say so.
+const ofAim = (step) => () => (state.aim ? step() : say("open a race first: it is the aim"));
+const ofSchedule = (step) => () => {
+  if (state.rows.has(schedule())) return step();
+  if (schedule()) return say(`${schedule()} was dropped: n makes a schedule`);
+  return say(state.view ? "a witness is looked at: w works on it, e starts empty" : "no schedule is open: n makes one");
+};
 
 // Each waits for the one before it; the race on which the cursor rests is opened first.
 function inOrder(step) {
@@ -40,17 +48,20 @@ const down = (move) => ({ ArrowDown: () => move(1), j: () => move(1), ArrowUp: (
 const IN = {
   stage: inTurn({
     ...down(sheet.step), Enter: sheet.enter, Home: () => sheet.jump(0), End: () => sheet.jump(last()),
-    "Alt+ArrowUp": () => swap(-1), "Alt+ArrowDown": () => swap(1),
+    "Alt+ArrowUp": ofSchedule(() => swap(-1)), "Alt+ArrowDown": ofSchedule(() => swap(1)),
   }),
-  "race-list": { ...down(races.step), Enter: () => inOrder(views.take) },
-  "row-list": inTurn({ ...down(neighbour) }),
+  "race-list": {
+    ...down(races.step), Home: () => races.jump(0), End: () => races.jump(Infinity), Enter: () => inOrder(views.take),
+  },
+  "row-list": inTurn({ ...down(neighbour), Home: () => edge(0), End: () => edge(-1) }),
   "next-list": inTurn({
-    ...down(frontier.move), Enter: () => frontier.add(), ArrowRight: frontier.unfold, ArrowLeft: frontier.unfold,
+    ...down(frontier.move), Home: () => frontier.move(-Infinity), End: () => frontier.move(Infinity),
+    Enter: ofSchedule(() => frontier.add()), ArrowRight: frontier.unfold, ArrowLeft: frontier.unfold,
   }),
 };
 
 function filterRaces() {
-  if (isNarrow()) pane("races");
+  reveal("races");
   $("race-filter").focus();
 }
 
@@ -59,16 +70,24 @@ const ANYWHERE = {
   "?": showKeys, "/": filterRaces, F6: () => nextPane(1), "Shift+F6": () => nextPane(-1), n: views.fresh,
   s: feed.caughtUp,
   ...inTurn({
-    u: () => act("undo", {}), "Ctrl+z": () => act("undo", {}), p: propose, b: () => void views.branch(),
-    Backspace: () => schedule() && act("back", { name: schedule() }),
-    r: () => frontier.run(), t: () => frontier.toAim(), f: () => frontier.follow(), x: views.why, e: views.startEmpty,
-    w: () => (state.view?.witness ? views.take() : views.witness()), "[": () => neighbour(-1), "]": () => neighbour(1),
+    u: () => act("undo", {}), "Ctrl+z": () => act("undo", {}), p: ofSchedule(propose),
+    b: ofSchedule(() => void views.branch()), Backspace: ofSchedule(() => act("back", { name: schedule() })),
+    r: ofSchedule(() => frontier.run()), t: ofSchedule(() => frontier.toAim()),
+    f: ofSchedule(() => frontier.follow()), x: ofAim(views.why), e: ofAim(views.startEmpty),
+    w: () => (state.view?.witness ? views.take() : ofAim(views.witness)()),
+    "[": () => neighbour(-1), "]": () => neighbour(1),
   }),
 };
 
+// Signs that some keyboards have with Alt alone.
+const SIGNS = "[]/?";
+
 function named(event) {
-  const shift = event.shiftKey && event.key.length > 1 ? "Shift+" : "";
-  return `${event.ctrlKey ? "Ctrl+" : ""}${event.altKey ? "Alt+" : ""}${shift}${event.key}`;
+  const isSign = event.key.length === 1;
+  if (SIGNS.includes(event.key)) return event.key;
+  const key = isSign && !event.shiftKey ? event.key.toLowerCase() : event.key; // the caps lock changes no key
+  const shift = event.shiftKey && !isSign ? "Shift+" : "";
+  return `${event.ctrlKey ? "Ctrl+" : ""}${event.altKey ? "Alt+" : ""}${shift}${key}`;
 }
 
 function meant(event) {

@@ -1,6 +1,7 @@
 // Where lanes stand: one a thread, close together, since each row has one event, whose text may run over the lanes
 // to its right.
 import { $, el, fill, hue, count } from "./make.js";
+import { part } from "./morph.js";
 import { state, threadName } from "./words.js";
 
 // The height of a row; where the first lane begins; where the axis of a lane is in it.
@@ -32,16 +33,21 @@ export function lay(win, breadth) {
   head(win, number, name, all);
 }
 
+function named(thread, own, at, size) {
+  const whole = state.threads[thread][1];
+  const cell = el("span", `lane-name ${hue(thread)}${width < 40 ? " tight" : ""}`,
+    el("bdi", "", threadName(thread)), width < 88 ? null : el("span", "dim num", ` ${own}/${whole}`));
+  cell.title = `${threadName(thread)}: ${count(own)} of ${count(whole)} events`;
+  cell.style.left = `${GUTTER + at * width}px`;
+  cell.style.width = `${size}px`;
+  return cell;
+}
+
 function head(win, number, room, all) {
   const made = new Map(win.counts);
   const names = win.lanes.map((thread, at) => {
-    const [own, whole] = [made.get(thread) ?? 0, state.threads[thread][1]];
-    const cell = el("span", `lane-name ${hue(thread)}${width < 40 ? " tight" : ""}`,
-      el("bdi", "", threadName(thread)), width < 88 ? null : el("span", "dim num", ` ${own}/${whole}`));
-    cell.title = `${threadName(thread)}: ${count(own)} of ${count(whole)} events`;
-    cell.style.left = `${GUTTER + at * width}px`;
-    cell.style.width = `${at < number - 1 ? width : room}px`;
-    return cell;
+    const [own, size] = [made.get(thread) ?? 0, at < number - 1 ? width : room];
+    return part(`lane-${thread}`, `${own} ${at} ${width} ${size}`, () => named(thread, own, at, size));
   });
   if (hasOthers) {
     const cell = el("span", "lane-name", "others");
@@ -54,12 +60,25 @@ function head(win, number, room, all) {
     names, code);
 }
 
+function railOf(at) {
+  const line = el("div", "rail-line");
+  line.style.left = `${GUTTER + at * width + AXIS}px`;
+  return line;
+}
+
 export function rails() {
-  return Array.from({ length: lanes.size + (hasOthers ? 1 : 0) }, (_, at) => {
-    const line = el("div", "rail-line");
-    line.style.left = `${GUTTER + at * width + AXIS}px`;
-    return line;
-  });
+  const number = lanes.size + (hasOthers ? 1 : 0);
+  return Array.from({ length: number }, (_, at) => part(`rail-${at}`, `${width}`, () => railOf(at)));
+}
+
+function bar(held, slot) {
+  const made = el("div", `lock${held.open ? " open" : ""}${held.above ? " above" : ""} k${held.lock % 4}`);
+  made.style.left = `${left(held.t) + 1 + Math.min(slot, 2) * 4}px`;
+  made.style.top = `${held.from * HEIGHT + HEIGHT / 2}px`;
+  const beyond = held.open ? HEIGHT / 2 : 0; // one that is held still ends with the last row
+  made.style.height = `${Math.max(6, (held.to - held.from) * HEIGHT - beyond)}px`;
+  made.title = `${held.n}, held by ${threadName(held.t)} since ${held.e}`;
+  return made;
 }
 
 // The bars of locks: those that a thread holds at once stand side by side.
@@ -71,12 +90,6 @@ export function bars(locks) {
     if (slot < 0) slot = mine.length;
     mine[slot] = held.to;
     slots.set(held.t, mine);
-    const bar = el("div", `lock${held.open ? " open" : ""}${held.above ? " above" : ""} k${held.lock % 4}`);
-    bar.style.left = `${left(held.t) + 1 + Math.min(slot, 2) * 4}px`;
-    bar.style.top = `${held.from * HEIGHT + HEIGHT / 2}px`;
-    const beyond = held.open ? HEIGHT / 2 : 0; // one that is held still ends with the last row
-    bar.style.height = `${Math.max(6, (held.to - held.from) * HEIGHT - beyond)}px`;
-    bar.title = `${held.n}, held by ${threadName(held.t)} since ${held.e}`;
-    return bar;
+    return part(`lock-${held.e}`, JSON.stringify([held, slot, left(held.t)]), () => bar(held, slot));
   });
 }

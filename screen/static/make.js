@@ -65,6 +65,7 @@ export function nameChosen(list) {
   else list.removeAttribute("aria-activedescendant");
 }
 
-export const count = (number) => number.toLocaleString("en");
+const NUMBERS = new Intl.NumberFormat("en");
+export const count = (number) => NUMBERS.format(number);
 export const many = (number, one, more = `${one}s`) => `${count(number)} ${number === 1 ? one : more}`;
 export const hue = (thread) => `h${thread % 8}`;

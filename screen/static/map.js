@@ -1,8 +1,16 @@
 // The whole of a long schedule at its side.
 import { $, el, fill, hue } from "./make.js";
+import { part } from "./morph.js";
 
 const map = $("map");
 const stage = $("stage");
+
+function stripe(from, to, number, thread) {
+  const made = el("i", hue(thread));
+  made.style.top = `${(100 * from) / number}%`;
+  made.style.height = `${(100 * (to - from)) / number}%`;
+  return made;
+}
 
 export function draw(win, visible) {
   map.hidden = !win?.map || win.total < 4 * visible;
@@ -12,10 +20,8 @@ export function draw(win, visible) {
   for (let at = 0; at < number; ) {
     let end = at;
     while (end < number && win.map[end] === win.map[at]) end++;
-    const part = el("i", hue(win.map[at]));
-    part.style.top = `${(100 * at) / number}%`;
-    part.style.height = `${(100 * (end - at)) / number}%`;
-    parts.push(part);
+    const [from, to, thread] = [at, end, win.map[at]];
+    parts.push(part(`map-${from}`, `${thread} ${to} ${number}`, () => stripe(from, to, number, thread)));
     at = end;
   }
   const aimed = (win.aimed ?? []).map((row) => {

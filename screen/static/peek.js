@@ -22,7 +22,7 @@ function stand(box) {
 }
 
 document.addEventListener("click", async (event) => {
-  const at = event.target.closest("#stage .place, #next .code .place, #pair .place");
+  const at = event.target.closest("#stage .row:not(.block) .place, #next .code .place, #pair .place");
   if (!at || !state.source) {
     if (!event.target.closest("#peek")) hidePeek();
     return;

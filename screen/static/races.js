@@ -4,7 +4,7 @@ import { part } from "./morph.js";
 import { does } from "./press.js";
 import * as sight from "./sight.js";
 import { ask } from "./net.js";
-import { place } from "./words.js";
+import { nameOf, place } from "./words.js";
 
 const HEIGHT = 58;
 // So many races are fetched at once; a new window begins so many before what is to be seen.
@@ -12,6 +12,8 @@ const WINDOW = 80;
 const BEFORE = 30;
 // Who walks down the list by keys looks at the race on which he rests.
 const REST = 90;
+// A window that is fetched may be overtaken by that of a scroll.
+const TRIES = 3;
 const KINDS = [["race", "races"], ["undecided", "undecided"], ["apart", "apart"]];
 const list = $("race-list");
 const filter = $("race-filter");
@@ -49,7 +51,8 @@ function chip([kind, plural]) {
 function render() {
   fill($("race-kinds"), KINDS.map(chip));
   if (got?.state === "searching") {
-    fill(list, el("p", "empty", "Looking for the races of the trace. You can make schedules meanwhile."));
+    const far = got.progress ? `: ${got.progress}` : "";
+    fill(list, el("p", "empty", `Looking for the races of the trace${far}. You can make schedules meanwhile.`));
     $("race-count").textContent = "";
     return;
   }
@@ -57,7 +60,8 @@ function render() {
     fill(list, el("p", "empty bad", got.why));
     return;
   }
-  $("race-count").textContent = filter.value ? `${count(got.total)} match` : "";
+  const cut = got.more ? `the first ${count(got.kept)} pairs` : "";
+  $("race-count").textContent = filter.value ? `${count(got.total)} match${cut && ` of ${cut}`}` : cut;
   space.style.height = `${got.total * HEIGHT}px`;
   const empty = el("p", "empty", filter.value ? "Nothing matches." : "No pair of this kind.");
   fill(list, space);
@@ -71,17 +75,9 @@ function inSight() {
   return got.blocks.map((block, at) => [block, got.from + at]).filter(([, at]) => from <= at && at < to);
 }
 
-// A long name is cut in its middle: its end tells most.
-function variable(name) {
-  const signs = [...name];
-  const cut = signs.length > 16 ? signs.length - 9 : signs.length;
-  const [front, end] = [signs.slice(0, cut).join(""), signs.slice(cut).join("")];
-  return el("bdi", "variable", el("span", "front", front), el("span", "", end));
-}
-
 function side(access) {
   return el("span", "side", el("span", `op op-${access.operation}`, access.operation), " ",
-    place(access.location.split(" < ")[0]), el("bdi", "dim", access.thread));
+    place(access.location, true), nameOf(access.thread, "dim by"));
 }
 
 function title(block) {
@@ -102,7 +98,7 @@ function drawn(block, at, isChosen) {
   const [one, other] = block.accesses;
   const verdict = block.kind === "race" ? block.how : block.kind;
   const made = el("div", `race v-${block.kind}${isChosen ? " on" : ""}`,
-    el("span", "race-top", variable(one.variable), el("span", "gap"), ended(block),
+    el("span", "race-top", nameOf(one.variable, "variable"), el("span", "gap"), ended(block),
       el("span", `verdict v-${verdict}`, verdict), el("span", "num count", `×${count(block.pairs)}`)),
     side(one), side(other));
   made.style.top = `${at * HEIGHT}px`;
@@ -138,6 +134,16 @@ export function settle() {
   soon = null;
   clearTimeout(timer);
   events.open(block);
+}
+
+// Goes to the first race, or to the last one.
+export async function jump(at) {
+  if (!got?.blocks) return;
+  const wanted = Math.max(0, Math.min(got.total - 1, at));
+  const found = () => got.blocks?.[wanted - got.from];
+  sight.reveal(list, HEIGHT, wanted);
+  for (let tries = 0; tries < TRIES && !found(); tries++) await load(Math.max(0, wanted - WINDOW + 1));
+  if (found()) pick(found(), REST);
 }
 
 export function step(by) {

@@ -16,9 +16,7 @@ function cell(row, ...inner) {
 
 function code(row, source) {
   const line = source?.[row.l];
-  const at = place(row.l, Boolean(line));
-  at.title = row.l;
-  return [at, line ? el("code", "", line) : null];
+  return [place(row.l, Boolean(line)), line ? el("code", "", line) : null];
 }
 
 const isNew = (row) => row.by !== undefined && row.by !== state.client && row.a >= state.marked;
@@ -39,16 +37,29 @@ function label(row) {
   return `${at}${spoken(row)}${reads}${state.aim?.includes(row.e) ? ", of the aim" : ""}${news}`;
 }
 
-function finish(made, row, at, total, isOn) {
-  made.style.top = `${at * HEIGHT}px`;
+function finish(made, row, isOn) {
   made.dataset.p = row.p;
   does(made, () => events.click(row));
   made.setAttribute("role", "option");
   made.setAttribute("aria-label", label(row));
-  made.setAttribute("aria-posinset", at + 1);
-  made.setAttribute("aria-setsize", total);
   made.setAttribute("aria-selected", isOn);
   return made;
+}
+
+function put(node, name, value) {
+  if (node.getAttribute(name) !== value) node.setAttribute(name, value);
+}
+
+// Puts rows in their places. A step often moves rows and changes nothing in them, so they are not drawn anew for that.
+export function stand(win) {
+  const total = String(win.total);
+  win.rows.forEach((row, number) => {
+    const [node, at] = [$(`at-${row.p}`), win.from + number];
+    const top = `${at * HEIGHT}px`;
+    if (node.style.top !== top) node.style.top = top;
+    put(node, "aria-posinset", String(at + 1));
+    put(node, "aria-setsize", total);
+  });
 }
 
 function single(row, source, isFirst, classes) {
@@ -71,7 +82,7 @@ function block(row, classes) {
   const made = el("div", `row block${classes}`, position(row), el("span", "event num", "⋯"),
     el("span", "lanes", cell(row, box)),
     el("span", "info",
-      el("span", "span", row.first.l.split(" < ")[0], " … ", row.last.l.split(" < ")[0]),
+      el("span", "span", place(row.first.l, true), " … ", place(row.last.l, true)),
       el("span", "dim counts", words.join(" · "))));
   made.dataset.block = row.b;
   const last = row.p + row.b - 1;
@@ -83,14 +94,14 @@ function block(row, classes) {
 export function rows(win, cursor) {
   let before = null;
   const base = JSON.stringify([win.lanes, space.style.getPropertyValue("--lanes"), state.aim]);
-  return win.rows.map((row, at) => {
+  return win.rows.map((row) => {
     const [isOn, isFirst] = [row.p === cursor, before !== row.t];
     const classes = isOn ? " on" : "";
     before = row.t;
-    const about = [row, win.from + at, isOn, isFirst, isNew(row), state.names[row.by], win.source?.[row.l]];
+    const about = [row, isOn, isFirst, isNew(row), state.names[row.by], win.source?.[row.l]];
     const sign = JSON.stringify(about) + base;
     return part(`at-${row.p}`, sign, () => finish(
-      row.b ? block(row, classes) : single(row, win.source, isFirst, classes), row, win.from + at, win.total, isOn));
+      row.b ? block(row, classes) : single(row, win.source, isFirst, classes), row, isOn));
   });
 }
 

@@ -67,6 +67,12 @@ export function render() {
   fill($("proposals"), made);
 }
 
+// Opens the first schedule, or the last one.
+export function edge(at) {
+  const row = inOrder().at(at);
+  return row ? events.go({ schedule: row.name }) : null;
+}
+
 export function neighbour(by) {
   const names = inOrder().map((row) => row.name);
   const at = names.indexOf(state.view?.schedule);

@@ -100,7 +100,7 @@ function render() {
   edges.clear();
   map.draw(win, visible());
   fill(space, $("edges"), win ? inside() : null);
-  if (win) for (const row of space.querySelectorAll(".row")) row.setAttribute("aria-setsize", win.total);
+  if (win) drawn.stand(win);
   nameChosen(stage);
   if (win) edges.show(win, hovered ?? cursor);
 }

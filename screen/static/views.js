@@ -4,7 +4,7 @@ import { ask } from "./net.js";
 import { state, who, short, isDone, isRefused } from "./words.js";
 import { act, bad } from "./act.js";
 import { asked } from "./dialogs.js";
-import { pane, isNarrow } from "./frame.js";
+import { reveal } from "./frame.js";
 import { later } from "./queue.js";
 import * as sheet from "./sheet.js";
 import * as frontier from "./frontier.js";
@@ -24,14 +24,16 @@ export const hideNote = () => {
 // Grows with each look at something else, so an answer that comes late is known to be overtaken.
 let looks = 0;
 let sought = null; // the pair whose witness is looked for
+let none = null; // why the pair that was looked at last has no witness
 
 export async function open(view, { end = true } = {}) {
   looks++;
+  none = null;
   state.view = view;
   hideNote();
   sheet.reset();
   bar();
-  if (isNarrow()) pane("centre");
+  reveal("centre");
   if (view.schedule) await openSchedule(view.schedule, end);
   else {
     await sheet.load({ end });
@@ -52,6 +54,7 @@ async function openSchedule(name, end) {
 // Nothing is open.
 export function close() {
   looks++;
+  none = null;
   state.view = null;
   sheet.reset();
   frontier.load();
@@ -79,6 +82,8 @@ export async function aimAt(pair) {
 }
 
 export async function clearAim() {
+  if (none) hideNote();
+  none = null;
   await aimAt(null);
   frontier.load();
   sheet.load();
@@ -93,6 +98,7 @@ export async function openPair(pair) {
 
 async function look(pair, mine) {
   sought = pair;
+  reveal("centre");
   bar();
   const told = await ask("witness", { pair });
   if (sought === pair) sought = null;
@@ -104,7 +110,9 @@ async function look(pair, mine) {
   const text = await ask("explain", { pair });
   if (mine !== looks) return;
   close();
-  say(el("pre", "explained", (text.lines ?? [told.none ?? told.mistake ?? told.gone]).join("\n")));
+  none = told.none ?? told.mistake ?? told.gone;
+  bar();
+  say(el("pre", "explained", (text.lines ?? [none]).join("\n")));
 }
 
 export const witness = () => state.aim && openPair([...state.aim]);
@@ -133,8 +141,16 @@ function titled() {
     return [el("h2", "title", "Witness"), el("span", "dim", size)];
   }
   if (state.aim && sought) return [el("h2", "title", "Looking for the witness …")];
-  if (state.aim) return [el("h2", "title", "No schedule shows this pair")];
+  if (state.aim && none) return withoutWitness();
   return [el("h2", "title", "No schedule"), el("span", "dim", "open a race at the left, or make an empty schedule")];
+}
+
+// What the program said of a pair: a proof that no schedule shows it, or that none is known, or a fault.
+function withoutWitness() {
+  const [, kind] = /not shown: (\w+)/.exec(none) ?? [];
+  if (kind === "open") return [el("h2", "title", "No schedule of this pair is known"), el("span", "dim", "undecided")];
+  if (kind) return [el("h2", "title", "No schedule shows this pair"), el("span", "dim", `proved: ${kind}`)];
+  return [el("h2", "title", "No witness"), el("span", "bad", none)];
 }
 
 let isMaking = false;
@@ -163,14 +179,14 @@ function aimLine() {
   clear.setAttribute("aria-label", "Drop the aim");
   const pair = state.aimTold.map((event, at) => [at ? " ↔ " : " ", short(event)]);
   const empty = () => inTurn("Start empty", "e", startEmpty);
-  const does = state.view?.schedule ? [inTurn("Witness", "w", witness), empty(), inTurn("Why", "x", why)]
-    : state.view ? null : empty();
+  const does = state.view?.witness ? null : none ? empty()
+    : [inTurn("Witness", "w", witness), empty(), inTurn("Why", "x", why)];
   return el("div", "line", el("span", "aim", el("span", "word", "aim"), pair), clear, el("span", "gap"), does);
 }
 
 export function bar() {
   fill($("bar"), el("div", "line", titled(), el("span", "gap"), viewButtons()), state.aim ? aimLine() : null);
-  $("centre").classList.toggle("none", !state.view && Boolean(state.aim));
+  $("centre").classList.toggle("none", !state.view && Boolean(none));
 }
 
 // Schedules are made.

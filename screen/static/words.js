@@ -7,9 +7,28 @@ export const state = {
   rows: new Map(), entries: new Map(), n: 0, marked: 0,
 };
 
+// So many signs at the end of a name are the last to be cut.
+const END = 9;
+
+// A text in parts: where there is no room for all of it, the folder is cut first, then the front, and the end last.
+function inParts(kind, text, folder = 0, calls = null) {
+  const signs = [...text.slice(folder)];
+  const front = signs.length > END + 7 ? signs.slice(0, -END).join("").length : 0;
+  if (!folder && !front && !calls) return el("bdi", `${kind} whole`, text);
+  const cut = [[text.slice(0, folder), "folder"], [text.slice(folder, folder + front), "front"],
+    [text.slice(folder + front), "end"]];
+  return el("bdi", kind, cut.map(([part, which]) => (part ? el("span", which, part) : null)), calls);
+}
+
+export const nameOf = (text, kind = "name") => inParts(kind, text);
+
 export const threadName = (thread) => state.threads[thread]?.[0] ?? String(thread);
 export const clientName = (client) => (client === state.client ? "you" : state.names[client] ?? String(client));
-export const tag = (thread, more = "") => el("bdi", `thread ${hue(thread)} ${more}`, threadName(thread));
+export function tag(thread) {
+  const made = nameOf(threadName(thread), `thread ${hue(thread)}`);
+  made.title = threadName(thread);
+  return made;
+}
 
 export function who(client) {
   const made = el("bdi", `who${client === state.client ? " me" : ""}`, clientName(client));
@@ -17,7 +36,7 @@ export function who(client) {
   return made;
 }
 
-export const operation = (event) => [el("span", `op op-${event.o}`, event.o), " ", el("bdi", "name", event.n)];
+export const operation = (event) => [el("span", `op op-${event.o}`, event.o), " ", nameOf(event.n)];
 export const short = (event) =>
   el("span", "short", el("span", "num", String(event.e)), " ", tag(event.t), " ", operation(event));
 
@@ -26,17 +45,21 @@ const DOES = { r: "reads", w: "writes", acq: "takes lock", rel: "releases lock",
 // An event as a screen reader says it.
 export const spoken = (event) => `event ${event.e}, ${threadName(event.t)} ${DOES[event.o]} ${event.n}, ${event.l}`;
 
-// The place of an event and of the call that it stands in: "list.c:787 < list.c:730".
+// The place of an event and of the call that it stands in: "list.c:787 < list.c:730". Of a path the file and the line
+// are cut last, and the calls first.
 export function place(text, isShort = false) {
   const [first, ...rest] = text.split(" < ");
-  return el("bdi", "place", first, rest.length && !isShort ? el("span", "dim", ` < ${rest.join(" < ")}`) : null);
+  const calls = rest.length && !isShort ? el("span", "calls dim", ` < ${rest.join(" < ")}`) : null;
+  const made = inParts("place", first, first.lastIndexOf("/") + 1, calls);
+  made.title = text;
+  return made;
 }
 
 // What a refusal means, with the event that it is about. The program's words stand in the title.
 export function reason(why, event) {
   const inner = { 23: notBegun, 24: wrongWriter, 25: lockHeld, 26: joinEarly }[why.code]?.(why, event);
   const made = el("span", "reason", inner ?? why.said.replace(/^\d+ /, ""));
-  made.title = `the program: refused 46 ${why.said}`;
+  made.title = `${made.textContent}\nthe program: refused 46 ${why.said}`;
   return made;
 }
 

@@ -15,6 +15,8 @@ KEYS = {
     "F6": 117, "Home": 36, "End": 35, "Tab": 9,
 }
 ALT, CONTROL, SHIFT = 1, 2, 8
+# A letter while the caps lock is on: it comes as a capital, and no key is held.
+CAPS = 0
 # How long a condition, an answer of the browser and its start may take, in seconds: a machine may be slow and busy.
 PATIENCE, TRIES = 120, 3
 # How much slower than it could a page works, so that tests are tried as on a slow machine.

@@ -75,9 +75,102 @@ async def test_three_hundred_schedules(program):
         await page.until(f"{OPEN} === 'S50' && {ROWS} === 1")
         await page.key("]")
         await page.until(f"{OPEN} === 'S51'")
+        await focus(page, "row-list")
+        await page.key("End")
+        await page.until(f"{OPEN} === 'Z' && document.querySelector('.sched.on').id === 'schedule-Z'")
+        await page.key("Home")
+        await page.until(f"{OPEN} === 'S0' && document.querySelector('.sched.on').id === 'schedule-S0'")
+        await page.key("End")
+        await page.until(f"{OPEN} === 'Z' && document.querySelector('.sched.on')?.id === 'schedule-Z'")
+        await page.run("document.getElementById('row-list').scrollTop = 1200")
+        await page.until("!!document.getElementById('schedule-S51')")
+        await page.click("#schedule-S51")
+        await page.until(f"{OPEN} === 'S51'")
         await page.key("[")
         await page.key("[")
         await page.until(f"{OPEN} === 'S49' && document.querySelector('.sched.on').id === 'schedule-S49'")
+        is_clean(page, screen)
+
+
+async def test_reads_of_a_long_trace(program):
+    """Who reads whom is found after the first page, and shown without another step."""
+    traces.write("trace", "T1|w(x)|a:1\nT2|r(x)|a:2\n" * 12_000)
+    await session(program, 2, "new A\nadd A 0\nadd A 1\n")
+    async with Screen(program, "trace", "log") as screen, Browser() as browser:
+        page = await browser.page(screen.link)
+        await page.until(f"{ROWS} === 2")
+        await page.hover("#space .row[data-p='1'] .what")
+        await page.until("document.querySelector('.reads')?.textContent === 'reads the write at 0'")
+        is_clean(page, screen)
+
+
+SLOW = """#!/bin/sh
+if [ "$1" = triage ]; then
+    echo "events 17" >&2
+    echo "pairs of places 3 of 8" >&2
+    while [ ! -e go ]; do sleep 0.1; done
+    if [ -s go ]; then cat go >&2; exit 3; fi
+fi
+exec {program} "$@"
+"""
+
+
+async def test_how_far_the_look_for_races_is(program):
+    """It is shown while it lasts; if it fails, what the program said last."""
+    traces.write("trace", traces.COUNT)
+    traces.write("slow", SLOW.format(program=program))
+    os.chmod("slow", 0o755)
+    for told, shown in (("", "1 race"), ("racebench: 95 no memory\n", "racebench: 95 no memory")):
+        async with Screen(os.path.abspath("slow"), "trace", "log") as screen, Browser() as browser:
+            page = await browser.page(screen.link)
+            await page.until(f"{EMPTY.format('race-list')}?.includes('pairs of places 3 of 8. You can')")
+            traces.write("go", told)
+            await page.until(f"document.getElementById('races').textContent.includes('{shown}')")
+            is_clean(page, screen)
+        os.remove("go")
+
+
+async def test_files_that_are_none(program):
+    """Pipes in place of the small files beside the log and the trace are passed over: nobody waits for a writer."""
+    for name in ("x\u202ey.std", "z" * 200):
+        traces.write(name, traces.COUNT)
+        for path in ("log.names", name + ".confirmed"):
+            os.mkfifo(path)
+        async with Screen(program, name, "log") as screen, Browser() as browser:
+            page = await browser.page(screen.link, 760, 500)
+            await page.until("document.getElementById('title').textContent.length > 5")
+            await new(page, 3)
+            title = await page.run("document.getElementById('title').textContent + document.title")
+            assert "\u202e" not in title, title
+            await page.until("document.getElementById('keys').getBoundingClientRect().right <= innerWidth")
+            os.truncate("log", 90)
+            await page.until("document.getElementById('live').textContent.includes('shorter than it was')")
+            said = "(() => { const b = document.querySelector('#live .bad').getBoundingClientRect(); " \
+                "return b.right <= document.getElementById('link').getBoundingClientRect().left && b.height > 20; })()"
+            same(await page.run(said), True)  # all of it is in sight
+            is_clean(page, screen)
+        for path in ("log.names", "log"):
+            os.remove(path)
+
+
+async def test_the_ends_of_a_long_list_of_races(program):
+    """The list is fetched in windows; Home and End reach both ends, and the wheel any place."""
+    lines = [f"T{thread}|w(v{at})|{thread}.c:{at}\n" for thread in (1, 2) for at in range(400)]
+    traces.write("trace", "".join(lines))
+    async with Screen(program, "trace", "log") as screen, Browser() as browser:
+        page = await browser.page(screen.link)
+        await page.until("document.querySelector('.chip')?.textContent === '400 races'")
+        chosen = "document.querySelector('.race.on')?.getAttribute('aria-posinset')"
+        opened = "[...document.querySelectorAll('#bar .aim .short .num')].map((e) => e.textContent).join()"
+        await focus(page, "race-list")
+        keys = (("End", 400), ("ArrowUp", 399), ("Home", 1), ("ArrowDown", 2), ("End", 400), ("ArrowDown", 400))
+        for key, at in keys:
+            await page.key(key)
+            await page.until(f"{chosen} === '{at}' && {OPEN} === 'Witness' && {opened} === '{at - 1},{at + 399}'")
+        await page.run("document.getElementById('race-list').scrollTop = 200 * 58")
+        await page.until("!!document.querySelector('.race[aria-posinset=\"201\"]')")
+        await page.click(".race[aria-posinset='203']")
+        await page.until(f"{opened} === '202,602'")
         is_clean(page, screen)
 
 
@@ -137,6 +230,7 @@ async def test_escape_everywhere(program):
         await page.until("document.getElementById('peek').hidden")
         await focus(page, "next-list")
         await press(page, "1")
+        await page.until(f"{ROWS} === 1")
         await focus(page, "stage")
         await page.key("Home")
         x, y = await page.press("#space .row .lanes")

@@ -173,6 +173,23 @@ async def test_a_trace_that_is_refused(program):
     raise AssertionError("the screen began on a trace that the program refuses")
 
 
+# On a machine that is very busy a page may name its key too late.
+LATE = "const send = WebSocket.prototype.send; let first = null; " \
+    "WebSocket.prototype.send = function (text) { first ??= this; if (this !== first) send.call(this, text); };"
+
+
+async def test_a_key_that_comes_too_late(program):
+    """The page tries again, and keeps its key."""
+    traces.write("trace", traces.COUNT)
+    async with Screen(program, "trace", "log") as screen, Browser() as browser:
+        page = await browser.page("about:blank")
+        await page.call("Page.addScriptToEvaluateOnNewDocument", source=LATE)
+        await page.open(screen.link)
+        await page.until("document.getElementById('live').textContent.includes('trying again')")
+        await new(page, 3)
+        is_clean(page, screen)
+
+
 async def test_a_link_for_another_browser(program):
     traces.write("trace", traces.COUNT)
     async with Screen(program, "trace", "log") as screen, Browser() as browser:

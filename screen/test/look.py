@@ -152,11 +152,18 @@ async def test_how_a_race_ended(program):
     """A race that was followed in the real program shows how that ended."""
     traces.write("trace", traces.COUNT)
     ended = {"events": [7, 12], "ended": "stands", "text": "the race stands <b>", "first": "status 0",
-             "second": "signal 11 (SIGSEGV)", "matters": True}
-    traces.write("trace.confirmed", f"no json\n[]\n{json.dumps(ended)}\n")
-    async with Screen(program, "trace", "log") as screen, Browser() as browser:
-        page = await browser.page(screen.link)
-        await page.until("document.querySelector('.race .ended')?.textContent === 'stands'")
-        same(await page.run("document.querySelector('.race .ended').title"),
-             "the race stands <b>\n7 first: status 0\n12 first: signal 11 (SIGSEGV)\nthe order matters")
-        is_clean(page, screen)
+             "second": "signal 11 (SIGSEGV)", "matters": True, "why": "the endings differ", "same_memory": True,
+             "liberties": ["wait"], "locations": ["count.c:7", "count.c:13"], "places": ["count.c:7", "count.c:13"]}
+    other = {**ended, "locations": ["count.c:7", "count.c:14"]}  # of another trace
+    for lines, shown in ((["no json", "[]", json.dumps(ended)], 1), ([json.dumps(other)], 0)):
+        traces.write("trace.confirmed", "\n".join(lines) + "\n")
+        async with Screen(program, "trace", "log") as screen, Browser() as browser:
+            page = await browser.page(screen.link)
+            await page.until("document.querySelectorAll('.race').length === 1")
+            same(await page.run("document.querySelectorAll('.race .ended').length"), shown)
+            if shown:
+                same(await page.run("document.querySelector('.race .ended').textContent"), "stands")
+                same(await page.run("document.querySelector('.race .ended').title"),
+                     "the race stands <b>\n7 first: status 0\n12 first: signal 11 (SIGSEGV)\n"
+                     "the order matters: the endings differ\na run by itself may not: wait")
+            is_clean(page, screen)

@@ -23,7 +23,7 @@ CHROMIUM = ("/usr/lib/chromium/chromium", "/usr/bin/chromium")
 
 def modules():
     """The modules whose needs are here."""
-    yield "reading"
+    yield from ("reading", "opening")
     if importlib.util.find_spec("aiohttp") is None:
         print("aiohttp is not here: nothing but the reading is tested (apt-get install python3-aiohttp)")
         return
@@ -31,7 +31,7 @@ def modules():
     if not any(map(os.path.exists, CHROMIUM)):
         print("chromium is not here: what needs a browser is not tested (apt-get install chromium)")
         return
-    yield from ("framed", "table", "look", "live", "hands", "corners", "questions", "big")
+    yield from ("framed", "table", "look", "live", "hands", "corners", "narrow", "questions", "big")
 
 
 def tests(wanted):

@@ -38,6 +38,16 @@ def on_count(test):
     return run
 
 
+async def test_a_port_that_is_taken(program):
+    traces.write("trace", traces.COUNT)
+    async with Screen(program, "trace", "log") as screen:
+        try:
+            async with Screen(program, "trace", "log", "--client", "2", "--port", str(screen.port)):
+                raise RuntimeError("two screens have one port")
+        except AssertionError as why:
+            same(str(why), f"screen: port {screen.port} is taken\n")
+
+
 @on_count
 async def test_another_host_is_refused(screen):
     same(await code(screen), 200)
@@ -93,6 +103,13 @@ async def test_a_socket_needs_the_key_and_the_origin(screen):
             same(await closed_with(client, screen, wrong), 4403)
 
 
+async def answer_of(socket):
+    """The next message that is no push."""
+    while "push" in (told := json.loads((await socket.receive(timeout=60)).data)):
+        pass
+    return told
+
+
 async def let_in(client, screen):
     """A socket, as soon as there is room for one."""
     for _ in range(600):
@@ -121,14 +138,14 @@ async def test_no_more_than_sixteen_sockets(screen):
             one = await socket.client.ws_connect(screen.base.replace("http", "ws") + "/ws", origin=screen.base)
             await one.send_str(socket.key)
             await one.send_str('{"id": 7, "do": "link"}')
-            same(json.loads((await one.receive()).data)["id"], 7)
+            same((await answer_of(one))["id"], 7)
             more.append(one)
         await is_full(socket.client, screen)
         await more.pop().close()
         again = await let_in(socket.client, screen)
         await again.send_str(socket.key)
         await again.send_str('{"id": 8, "do": "link"}')
-        same(json.loads((await again.receive()).data)["id"], 8)
+        same((await answer_of(again))["id"], 8)
 
 
 @on_count
@@ -139,7 +156,7 @@ async def test_who_names_no_key_shuts_nobody_out(screen):
         await is_full(client, screen)
         for one in waiting:
             await one.receive(timeout=60)
-            same(one.close_code, 4403)
+            same(one.close_code, 4408)
         await (await let_in(client, screen)).close()
         async with Socket(screen) as socket:
             same((await socket.call(do="hello"))["events"], 17)
@@ -150,7 +167,7 @@ async def test_long_and_broken_messages(screen):
     async with Socket(screen) as socket:
         for text in ("[" * 40_000, "not json", "[]", "7", "null", '{"do": 7}', '{"id": {}, "do": "__init__"}', "{}"):
             await socket.socket.send_str(text)
-            answer = json.loads((await socket.socket.receive(timeout=60)).data)
+            answer = await answer_of(socket.socket)
             assert "mistake" in answer, answer
         same((await socket.call(do="hello"))["events"], 17)
         await socket.socket.send_str(json.dumps({"id": 1, "do": "hello", "more": "x" * (1 << 16)}))

@@ -44,8 +44,15 @@ async def test_races_filter_kinds_and_a_witness(program):
         await page.until("document.querySelectorAll('.race').length === 1")
         await page.click(".race")  # the pair that is apart: the explanation stands there
         await page.until("document.querySelector('#note .explained')?.textContent.includes('apart')")
-        same(await page.run("document.querySelector('#bar h2').textContent"), "No schedule shows this pair")
-        await page.click(".chip", 0)
+        title = await page.run("document.querySelector('#bar .line').textContent")
+        assert title.startswith("No schedule shows this pairproved: "), title
+        await page.click("#bar .line:last-child button")  # the aim is dropped, and its explanation with it
+        await page.until("document.getElementById('note').hidden && !document.querySelector('#centre.none')")
+        for chip in (1, 2):
+            await page.click(".chip", chip)
+        await page.until("document.querySelector('#race-list .empty')?.textContent === 'No pair of this kind.'")
+        for chip in (0, 1, 2):
+            await page.click(".chip", chip)
         await page.until("document.querySelectorAll('.race').length === 3")
         await page.click(".race")
         await page.until("document.querySelector('.pair-title')?.textContent === 'Both may come next'")
@@ -108,6 +115,10 @@ async def test_work_on_a_witness(program):
         await page.click("#bar button", 1)  # drop
         await page.until("document.querySelectorAll('.sched').length === 1")
         same(logged()[-1], "1 drop copy")
+        await page.until("document.querySelector('#bar h2').textContent === 'No schedule'")  # no more than that
+        same(await page.run("document.querySelectorAll('#bar .line:last-child button').length"), 4)
+        await page.key("w")
+        await page.until("document.querySelector('#bar h2').textContent === 'Witness'")
         is_clean(page, screen)
 
 
@@ -138,7 +149,7 @@ async def test_refusals_in_words(program):
         held = "'lock l held by T2 since 3'"
         await page.until(f"document.querySelector('#next-list .reason').textContent === {held}")
         same(await page.run("document.querySelector('#next-list .reason').title"),
-             "the program: refused 46 25 lock held by T2")
+             "lock l held by T2 since 3\nthe program: refused 46 25 lock held by T2")
         await focus(page, "next-list")
         await page.key("ArrowUp")
         await page.key("ArrowUp")

@@ -1,7 +1,8 @@
 #!/usr/bin/python3
 """Times of the screen, as a browser sees them: times.py PROGRAM [BIG]. BIG is a trace of 1,048,576 events.
 
-It is no test: it prints figures, with the load of the machine, and the goal beside each.
+It is no test: it prints figures, with the load of the machine, and the goal beside each. On a busy machine the
+processor time that is printed too tells more: that of screen, of the session, and of the page's main thread.
 """
 
 import asyncio
@@ -16,6 +17,7 @@ sys.path.insert(0, os.path.dirname(os.path.abspath(__file__)))
 import traces  # noqa: E402
 from big import batches  # noqa: E402
 from browser import Browser  # noqa: E402
+from live import children  # noqa: E402
 from stage import LENGTH, NEXT, TITLE, Screen, focus, new  # noqa: E402
 
 # Notes each time that rows are drawn, and each key.
@@ -24,6 +26,43 @@ new MutationObserver(() => window.drawn.push([performance.now(), Date.now()])).o
   document.getElementById('space'), {childList: true});
 addEventListener('keydown', () => window.pressed.push([performance.now(), Date.now()]), true); 1"""
 FREE = "[...document.querySelectorAll('.next.yes')].find((n) => n.dataset.t < 9)?.dataset.t"
+
+
+class Spent:
+    """Processor time that screen, its sessions and a page spend from here on."""
+
+    def __init__(self, screen, page):
+        self.screen, self.page = screen, page
+
+    async def __aenter__(self):
+        await self.page.call("Performance.setTimeDomain", timeDomain="threadTicks")
+        await self.page.call("Performance.enable")
+        self.before = await self._now()
+        return self
+
+    async def __aexit__(self, *_):
+        self.after = await self._now()
+        await self.page.call("Performance.disable")
+
+    async def _now(self):
+        told = (await self.page.call("Performance.getMetrics"))["metrics"]
+        tasks = sum(one["value"] for one in told if one["name"] == "TaskDuration")
+        return own(self.screen.process.pid), sum(map(own, children(self.screen.process))), tasks
+
+    def a_key(self, count):
+        screen, program, page = (1000 * (new - old) / count for old, new in zip(self.before, self.after))
+        return f"processor time a key: screen {screen:.1f} ms, session {program:.1f} ms, page {page:.1f} ms"
+
+
+def fields(process):
+    """Seconds of processor time of a process, and of its children that have ended."""
+    with open(f"/proc/{process}/stat", encoding="ascii", errors="replace") as file:
+        ticks = [int(word) for word in file.read().rpartition(")")[2].split()[11:15]]
+    return [sum(pair) / os.sysconf("SC_CLK_TCK") for pair in (ticks[:2], ticks[2:])]
+
+
+def own(process):
+    return fields(process)[0]
 
 
 def say(what, value, goal):
@@ -36,7 +75,7 @@ def of(times):
 
 async def pressed(page, count, others=()):
     """Presses keys that add; of each the times until it is drawn here, and at the others'."""
-    own, away = [], []
+    mine, away = [], []
     for _ in range(count):
         for each in (page, *others):
             await each.run("window.drawn.length = window.pressed.length = 0")
@@ -45,10 +84,10 @@ async def pressed(page, count, others=()):
         for each in (page, *others):
             await each.until("window.drawn.length > 0")
         key = (await page.run("window.pressed"))[0]
-        own.append((await page.run("window.drawn"))[0][0] - key[0])
+        mine.append((await page.run("window.drawn"))[0][0] - key[0])
         away += [(await each.run("window.drawn"))[0][1] - key[1] for each in others]
         await asyncio.sleep(0.15)
-    return own, away
+    return mine, away
 
 
 async def of_few_events(program):
@@ -64,8 +103,10 @@ async def of_few_events(program):
         await other.until(f"{NEXT} === 5", 90)
         for each in (page, other):
             await each.run(WATCH)
-        own, away = await pressed(page, 25, [other])
-        say("4,000 events: key to drawn", of(own), "20 ms")
+        async with Spent(one, page) as spent:
+            mine, away = await pressed(page, 25, [other])
+        say("4,000 events: key to drawn", of(mine), "20 ms")
+        print("  ", spent.a_key(25))
         say("4,000 events: key to drawn in another's browser", of(away), "100 ms")
 
 
@@ -76,20 +117,25 @@ async def of_a_million(program, trace):
         os.symlink(trace, "trace")
     began = time.monotonic()
     async with Screen(program, "trace", "log") as screen, Browser() as browser:
-        say("1,048,576 events: start to link", f"{time.monotonic() - began:.1f} s", "1 s")
+        say("1,048,576 events: start to link", f"{time.monotonic() - began:.2f} s", "1 s")
         began = time.monotonic()
         page = await browser.page(screen.link)
         await page.until("document.getElementById('facts').textContent.startsWith('1,048,576')", 60)
-        say("1,048,576 events: link to page", f"{time.monotonic() - began:.1f} s", "0.5 s")
+        say("1,048,576 events: link to page", f"{time.monotonic() - began:.2f} s", "0.5 s")
+        mine, helpers = fields(screen.process.pid)
+        print(f"   processor time until then: screen {mine:.2f} s, its processes that read sections {helpers:.2f} s")
         await new(page, 16)
         began = time.monotonic()
         await batches(program, 100_000)
         say("100,000 events of another client", f"{time.monotonic() - began:.1f} s", "none")
         await page.until(f"{LENGTH} === '100,000 events'", 60)
+        await page.until("document.getElementById('next-list').dataset.length === '100000'", 60)
         await page.run(WATCH)
         await focus(page, "next-list")
-        own, _ = await pressed(page, 15)
-        say("100,000 events: key to drawn", of(own), "60 ms")
+        async with Spent(screen, page) as spent:
+            mine, _ = await pressed(page, 15)
+        say("100,000 events: key to drawn", of(mine), "60 ms")
+        print("  ", spent.a_key(15))
         await scrolled(page)
         await memory(screen, "memory with a schedule of 100,000 events")
         await of_a_witness(page, screen)
@@ -148,4 +194,5 @@ async def main():
         os.chdir("/")
 
 
-asyncio.run(main())
+if __name__ == "__main__":
+    asyncio.run(main())

@@ -1,0 +1,48 @@
+"""What others did since an analyst last looked."""
+
+import asyncio
+from collections import Counter
+
+from .entries import Entry, schedule_of
+from .text import Told
+
+# So many entries are counted before others get a turn, and so many counts are kept: one for each tab that looks.
+PORTION, KEPT = 200, 8
+
+
+class Count:
+    """What others did from an entry on: for each of them and each schedule, how often they did what."""
+
+    def __init__(self, first: int) -> None:
+        self.upto = first
+        self.found: dict[tuple[int, str | None], Told] = {}
+
+    def take(self, entry: Entry) -> None:
+        steps: list[tuple[str, str | None]] = [(part[0], schedule_of(part)) for part in entry.parts()]
+        for (word, name), number in Counter(steps or [(entry.kind, None)]).items():
+            one = self.found.setdefault((entry.client, name), {"c": entry.client, "name": name, "last": 0})
+            one[word] = one.get(word, 0) + number
+            one["last"] = entry.number
+
+
+class News:
+    """Counts go on from where they were, so what a step costs does not grow with what others did before."""
+
+    def __init__(self, client: int) -> None:
+        self.client = client
+        self.counts: dict[int, Count] = {}  # by their first entry
+
+    async def since(self, first: int, entries: list[Entry]) -> list[Told]:
+        """Of the entries from the first on, the latest first."""
+        count = self.counts.pop(first, None) or Count(first)
+        self.counts[first] = count  # the last one used stands last
+        if len(self.counts) > KEPT:
+            self.counts.pop(next(iter(self.counts)))
+        while count.upto < len(entries):
+            portion = entries[count.upto : count.upto + PORTION]
+            count.upto += len(portion)
+            for entry in portion:
+                if entry.client != self.client:
+                    count.take(entry)
+            await asyncio.sleep(0)
+        return sorted(count.found.values(), key=lambda one: -int(one["last"]))

@@ -1,0 +1,120 @@
+"""How a page opens, without a browser: a long trace is read in sections, and what others did is counted once."""
+
+import os
+import random
+import re
+import subprocess
+import sys
+
+sys.path.insert(0, os.path.dirname(os.path.dirname(os.path.abspath(__file__))))
+import traces  # noqa: E402
+from judged import same  # noqa: E402
+from screen_app import news, readers, session  # noqa: E402
+from screen_app.entries import Entry  # noqa: E402
+from screen_app.trace import Part, Trace  # noqa: E402
+
+SCREEN = os.path.join(os.path.dirname(os.path.dirname(os.path.abspath(__file__))), "screen")
+STATIC = os.path.join(os.path.dirname(os.path.dirname(os.path.abspath(__file__))), "static")
+LINES = [
+    "T{0}|w(x{1})|a.c:{1}", "T{0}|r(x{1})|a.c:{0} < b.c:{1}", " T{0} | acq( m{1} ) | ", "T{0}|rel(m{1})|c:1\r",
+    "T{0}|fork(U{1})|d:{0}", "T{0}|join(T{1})|d:1", "U{1}|w(x{0})", "", "no event", "T{0}|begin(x)|a",
+    "T{0}|w(\u202e{1}|)|é|{0}",
+]
+
+
+def columns(trace):
+    """All that a trace that was read consists of."""
+    names = [numbers.raw for numbers in (trace.threads, trace.variables, trace.locks)]
+    places = [trace.places.raw[place] for place in trace.place]
+    return names, places, trace.thread, trace.word, trace.name, trace.events_of, trace.fork_of
+
+
+def joined(path, number):
+    trace = Trace(path)
+    for _ in trace.join([readers.section_of(path, *section) for section in readers.sections(path, number)]):
+        pass
+    return trace
+
+
+def test_sections_make_the_whole_trace(program):
+    for seed in range(60):
+        draw = random.Random(seed)
+        lines = [draw.choice(LINES).format(draw.randrange(4), draw.randrange(6)) for _ in range(draw.randrange(60))]
+        traces.write("odd", "\n".join(lines) + draw.choice(["", "\n"]))
+        whole = columns(Trace("odd").read_at_once())
+        for number in (1, 2, 3, 7):
+            same(columns(joined("odd", number)), whole)
+
+
+def test_processes_read_sections(program):
+    traces.big("bigger", 9000, 6, 3)
+    trace, whole = Trace("bigger"), Trace("bigger").read_at_once()
+    helpers = [readers.Helper("bigger", *section) for section in readers.sections("bigger", 3)]
+    for _ in trace.join([Part(*helper.answer()) for helper in helpers]):
+        pass
+    same(columns(trace), columns(whole))
+
+
+async def test_a_helper_that_fails(program):
+    """Then the screen reads all by itself."""
+    traces.big("bigger", 9000, 6, 3)
+    read = readers.Readers("bigger")
+    same(read.helpers, [])  # a short trace is read by one process
+    read.helpers = [readers.Helper("bigger", 0, 100), readers.Helper("none", 100, 200)]
+    same(await read.parts(), [])
+    same(read.helpers, [])
+
+
+async def test_what_others_did_is_counted_once(program):
+    """A step of this analyst does not count again what others did before it."""
+    entries = [Entry(number, 2 + number % 2, ["add", "A", str(number)]) for number in range(1000)]
+    taken, take = [], news.Count.take
+    news.Count.take = lambda count, entry: (taken.append(entry.number), take(count, entry))
+    try:
+        told = news.News(2)
+        first = [{"c": 3, "name": "A", "last": 999, "add": 500}]
+        same(await told.since(0, entries), first)
+        entries += [Entry(1000, 2, ["back", "A"])]
+        same(await told.since(0, entries), first)
+        same(len(taken), 500)
+        entries += [Entry(1001, 3, ["batch", "new", "B", ";", "add", "B", "7", ";", "add", "B", "8"])]
+        other = {"c": 3, "name": "B", "last": 1001, "new": 1, "add": 2}
+        same(await told.since(0, entries), [other, *first])
+        same(await told.since(1001, entries), [other])
+    finally:
+        news.Count.take = take
+
+
+def test_the_page_asks_for_its_modules_at_once(program):
+    """Else each would be asked for as soon as the one that imports it was read."""
+    with open(os.path.join(STATIC, "index.html"), encoding="utf-8") as file:
+        asked = re.findall(r'(?:modulepreload" href|script type="module" src)="/([a-z]+\.js)"', file.read())
+    same(sorted(asked), sorted(name for name in os.listdir(STATIC) if name.endswith(".js")))
+
+
+def test_wrong_words_are_told_in_a_line(program):
+    traces.write("trace", traces.COUNT)
+    for words, why in (
+            (["--client", "33"], "'33' is no number from 1 to 32"), (["--client", "0"], "'0' is no number"),
+            (["--client", "x"], "'x' is no number"), (["--port", "65536"], "'65536' is no number from 0 to 65535"),
+            (["--port", "-1"], "'-1' is no number"), (["--source", "none"], "none is no folder"),
+            (["--program", "none"], "none is no program; name one with --program")):
+        done = subprocess.run(["/usr/bin/python3", SCREEN, "trace", "log", "--program", program, *words],
+                              capture_output=True, text=True)
+        same(done.returncode, 2)
+        assert why in done.stderr and len(done.stderr) < 400, done.stderr
+
+
+async def test_a_list_that_is_longer_than_is_kept(program):
+    """The first pairs of places are kept, and the rest is counted."""
+    lines = [f"T{thread}|w(v{at})|{thread}.c:{at}\n" for thread in (1, 2) for at in range(30)]
+    traces.write("trace", "".join(lines))
+    most, heard, blocks = session.MOST_BLOCKS, [], []
+    session.MOST_BLOCKS = 20
+    try:
+        counts, more = await session.triage(program, "trace", heard.append, blocks.append)
+    finally:
+        session.MOST_BLOCKS = most
+    same((counts["races"], len(blocks), more), (30, 20, 10))
+    same({block["kind"] for block in blocks}, {"race"})
+    assert all(session.PROGRESS.fullmatch(line) for line in heard), heard
