@@ -31,6 +31,10 @@ export const cursorEvent = () => win?.rows.find((row) => row.p === cursor && !ro
 
 const visible = () => Math.ceil((height || stage.clientHeight) / HEIGHT) + 1;
 const topRow = () => Math.floor(stage.scrollTop / HEIGHT);
+// Between a change of size and its drawing, what was in sight counts.
+const isAtEnd = () => stage.clientHeight === height
+  ? stage.scrollTop + stage.clientHeight > stage.scrollHeight - HEIGHT * 2
+  : follow;
 
 export function reset() {
   win = cursor = stop = null;
@@ -40,7 +44,7 @@ export function reset() {
   render();
 }
 
-export async function load({ end = false, at = null, toggle = undefined } = {}) {
+export async function load({ end = false, at = null, toggle = undefined, isLeft = () => false } = {}) {
   if (!state.view) {
     reset();
     return;
@@ -55,6 +59,10 @@ export async function load({ end = false, at = null, toggle = undefined } = {}) 
   if (mine !== asked || view !== state.view) return;
   if (told.mistake) {
     reset();
+    return;
+  }
+  if (end && isLeft()) {
+    await load();
     return;
   }
   win = told;
@@ -81,12 +89,12 @@ function settle() {
   space.style.setProperty("--base", `${Math.max(0, height - all)}px`);
 }
 
-// After a step of anyone: the end stays in sight where it was in sight.
+// After a step of anyone: the end stays in sight if it was in sight, and if nobody scrolled up meanwhile.
 export async function refresh(isMine) {
   stop = null;
-  const end = isMine || follow;
+  const end = isMine || isAtEnd();
   const [top, scrolled] = [end ? null : win?.rows[topRow() - win.from], stage.scrollTop];
-  await load({ end });
+  await load({ end, isLeft: () => !isMine && !isAtEnd() });
   if (top && stage.scrollTop === scrolled) stay(top);
 }
 
@@ -244,7 +252,7 @@ function wants() {
 }
 stage.addEventListener("scroll", () => {
   map.mark();
-  if (stage.clientHeight === height) follow = stage.scrollTop + stage.clientHeight > stage.scrollHeight - HEIGHT * 2;
+  follow = isAtEnd();
   if (!win || pending || !wants()) return;
   pending = true;
   requestAnimationFrame(async () => {
