@@ -49,8 +49,8 @@ class Tried:
     @property
     def words(self):
         """What all outputs have at each place: the set of words there, and last how many words there are."""
-        split = [re.split(rb"(\s+)", output) for output in self.outputs]
-        return [set(there) for there in zip(*split)] + [{len(words) for words in split}]
+        split = [re.split(rb"(\s+)", output + b"\n") for output in self.outputs]
+        return [set(there) for there in zip(*split)] + [{len(words) // 2 for words in split}]
 
     def text(self):
         """The endings, and how often each was seen if there are several."""
@@ -60,25 +60,45 @@ class Tried:
         return ", ".join("%s in %d of %d" % (one, self.endings.count(one), len(self.endings)) for one in seen)
 
 
-def is_told_apart(first, second):
-    """Whether a word, or how many there are, is always one in an order and always another in the other order. If other
-    words vary, there have to be enough seeds that this is not theirs by chance (as if each had two values)."""
-    differ = vary = 0
+# So much of a word that differs is shown.
+SHOWN = 40
+
+
+def apart(first, second):
+    """What tells the outputs of two orders apart: a word, or how many there are, that is always one in an order and always another in
+    the other; None if there is none. If other words vary, there have to be enough seeds that this is not theirs by chance (as if each
+    had two values)."""
     ours, theirs = first.words, second.words
-    for one, other in [*zip(ours[:-1], theirs[:-1]), (ours[-1], theirs[-1])]:
-        vary += max(len(one), len(other)) > 1
-        differ += len(one) == len(other) == 1 and one != other
+    pairs = [*zip(ours[:-1], theirs[:-1]), (ours[-1], theirs[-1])]
+    vary = sum(max(len(one), len(other)) > 1 for one, other in pairs)
+    differ = [(min(one), min(other)) for one, other in pairs if len(one) == len(other) == 1 and one != other]
     seeds = min(len({run.seed for run in tried.runs}) for tried in (first, second))
-    return differ and vary * 2.0 ** (1 - 2 * seeds) < CHANCE
+    if not differ or vary * 2.0 ** (1 - 2 * seeds) >= CHANCE:
+        return None
+    return next((pair for pair in differ if not isinstance(pair[0], int) and all(map(bytes.strip, pair))), differ[0])
+
+
+def shown(word):
+    """A word of an output, or how many there are, in a text."""
+    if isinstance(word, int):
+        return "%d words" % word
+    text = word.decode("utf-8", "backslashreplace")
+    text = "".join(one if one.isprintable() else repr(one)[1:-1] for one in text)
+    return text if len(text) <= SHOWN else text[:SHOWN] + ".."
 
 
 def difference(first, second):
     """Whether the order matters, or None if that is not known; and why."""
+    if telling.GONE in first.endings + second.endings:
+        return None, "a run departed after the race stood"
     if set(first.endings) != set(second.endings):
         return True, "the endings differ"
     if len(first.outputs | second.outputs) == 1:
         return False, ""
-    return (True, "the outputs differ") if is_told_apart(first, second) else (None, "the outputs vary by themselves")
+    told = apart(first, second)
+    if not told:
+        return None, "the outputs vary by themselves"
+    return True, "the outputs differ: %s with A first, %s with B first" % tuple(map(shown, told))
 
 
 def both(plan, words, options, echo=False):

@@ -42,7 +42,7 @@ def decoded(given, raw):
         "left_out": left_out,
         "too_many_threads": too_many_threads,
         "cut_short": bool(recorded.cut_short),
-        "no_sections": len(recorded.no_sections),
+        "no_sections": recorded.no_sections,
         "not_chosen": recorded.not_chosen,
         "stronger": recorded.relaxed.stronger,
     }

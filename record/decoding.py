@@ -2,19 +2,18 @@
 import bisect
 from array import array
 
+import locks
 import places
 import raw as raw_file
 import relaxed
-from ordering import locked, met, reader, state_of
 from raw import KINDS, OBJECTS, records
 
-READ, WRITE, ACQUIRE, RELEASE, FORK, JOIN = (KINDS[name] for name in "READ WRITE ACQUIRE RELEASE FORK JOIN".split())
-ALLOCATED, FREED, RESIZED, STACK, PASS, WRITER = (KINDS[name] for name in "ALLOCATED FREED RESIZED STACK PASS WRITER".split())
-TRIED, READER_IN, READER_OUT, ARRIVED, WENT_ON = (KINDS[name] for name in "TRIED READER_IN READER_OUT ARRIVED WENT_ON".split())
+READ, WRITE, FORK, JOIN = (KINDS[name] for name in "READ WRITE FORK JOIN".split())
+ALLOCATED, FREED, RESIZED, STACK = (KINDS[name] for name in "ALLOCATED FREED RESIZED STACK".split())
 ATOMIC_READ, ATOMIC_WRITE, ATOMIC_UPDATE = (KINDS[name] for name in "ATOMIC_READ ATOMIC_WRITE ATOMIC_UPDATE".split())
 ACCESSES = (READ, WRITE, ATOMIC_READ, ATOMIC_WRITE, ATOMIC_UPDATE)
 ATOMICS = (ATOMIC_READ, ATOMIC_WRITE, ATOMIC_UPDATE)
-SYNCHRONIZATION = (ACQUIRE, RELEASE, PASS, WRITER, TRIED, READER_IN, READER_OUT, ARRIVED, WENT_ON)
+SYNCHRONIZATION = tuple(KINDS[name] for name in "ACQUIRE RELEASE PASS WRITER TRIED READER_IN READER_OUT ARRIVED WENT_ON".split())
 # What an object is that is no memory, by the number in the record.
 NO_MEMORY = {OBJECTS["OF_DESCRIPTOR"]: b"fd", OBJECTS["OF_CHANNEL"]: b"channel", OBJECTS["OF_CHANCE"]: b"chance", OBJECTS["OF_TEAM"]: b"team"}
 
@@ -80,7 +79,7 @@ class Trace:
         self.find_objects()
         self.find_parts()
         self.choose()
-        self.find_passes()
+        self.find_locks()
         self.name_blocks()
         self.relaxed = relaxed.Relaxed(self)
 
@@ -162,29 +161,12 @@ class Trace:
             self.cut_short += 1
         return ends[first:min(last, first + MOST_PARTS)]
 
-    def find_passes(self):
-        """Locks whose sections are none: let go by a thread that does not hold them, or taken while another does.
-        They are written as semaphores are. Of a pass the order alone is kept, by a variable beside the lock."""
-        holder, self.no_sections, self.tried, self.readers = {}, set(), set(), {}
+    def find_locks(self):
+        self.locks = {}
         for number, record in records(self.raw, self.head):
-            thread, kind = record.thread, record.kind
-            if kind not in SYNCHRONIZATION:
-                continue
-            lock = (self.object[number], self.place[number])
-            if kind == TRIED:
-                self.tried.add(lock)
-            elif kind in (READER_IN, READER_OUT):
-                self.readers.setdefault(lock, set()).add(thread)
-            if kind not in (ACQUIRE, RELEASE, WRITER):
-                continue
-            who, times = holder.get(lock, (thread, 0))
-            if (times and who != thread) or (kind == RELEASE and not times):
-                self.no_sections.add(lock)
-                holder.pop(lock, None)
-            elif kind in (ACQUIRE, WRITER):
-                holder[lock] = (thread, times + 1)
-            elif kind == RELEASE:
-                holder[lock] = (thread, times - 1)
+            if record.kind in SYNCHRONIZATION:
+                self.locks.setdefault((self.object[number], self.place[number]), locks.Lock()).see(record)
+        self.no_sections = sum(lock.has_no_sections for lock in self.locks.values())
 
     def name_blocks(self):
         """Blocks are told apart by where they were given out, and the how many-th of that place they are."""
@@ -220,7 +202,7 @@ class Trace:
             return [(b"fork" if kind == FORK else b"join", b"T%d" % record.at)]
         thing, place = self.object[number], self.place[number]
         if kind in SYNCHRONIZATION:
-            return self.synchronization(kind, thing, place, record)
+            return self.locks[thing, place].words(self.name(thing, place), record)
         if kind == FREED:
             kind, size = WRITE, self.length[number]
         parts = [part for part in self.parts(thing, place, size) if self.is_written((thing, part))]
@@ -230,28 +212,8 @@ class Trace:
         words = {READ: (b"r",), ATOMIC_READ: (b"r",), ATOMIC_UPDATE: (b"r", b"w")}.get(kind, (b"w",))
         accesses = [(word, name) for name in names for word in words]
         if kind in ATOMICS and names:
-            return locked(b"atomic:" + names[0], accesses)
+            return locks.locked(b"atomic:" + names[0], accesses)
         return accesses
-
-    def synchronization(self, kind, thing, place, record):
-        """A lock's state is written beside it if a try was refused: who was refused comes between the acquire and the release."""
-        lock = self.name(thing, place)
-        order = [(b"r", b"sync:" + lock), (b"w", b"sync:" + lock)]
-        if kind in (ARRIVED, WENT_ON):
-            return met(lock, record.answer, kind == ARRIVED)
-        if kind == TRIED:
-            return state_of(lock, b"r")
-        if kind == PASS or (thing, place) in self.no_sections:
-            return locked(lock, order)
-        if kind == READER_IN:
-            return locked(lock, reader(lock, record.thread, b"w"))
-        if kind == READER_OUT:
-            return reader(lock, record.thread, b"w")
-        state = state_of(lock, b"w") if (thing, place) in self.tried else []
-        if kind == WRITER:
-            readers = self.readers.get((thing, place), ())
-            return [(b"acq", lock)] + [line for other in sorted(readers) for line in reader(lock, other, b"r")]
-        return [(b"acq", lock)] + state if kind == ACQUIRE else state + [(b"rel", lock)]
 
     def events(self):
         """The events of the trace, a group for each record: the line, its word and name, its thread, the thread that

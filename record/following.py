@@ -1,4 +1,5 @@
 """A followed run: the program is run by a plan, and what came of it is read."""
+import contextlib
 import os
 import struct
 import sys
@@ -29,7 +30,7 @@ class Result:
         self.plan, self.rows, self.status, self.timed_out = plan, rows, status, timed_out
         self.standing = [self.stand(data, k) for k in range(2)]
         self.at_tick = struct.unpack_from("<%dQ" % plans.TOLD, data, plans.HEAD.size + 2 * plans.STANDING.size)
-        self.stands = self.state in (STANDS, DONE) or (self.state == DEPARTED and bool(self.standing[1].pc))
+        self.stands = self.state in (STANDS, DONE) or (self.state == DEPARTED and all(one.pc for one in self.standing))
 
     @staticmethod
     def stand(data, k):
@@ -71,11 +72,12 @@ def keyboard():
         return None
 
 
-def followed(plan, then, words, seed, timeout, gdb=False, out=sys.stderr, source=None):
-    """Runs the program by the plan; the result. Nothing is left of its files."""
+def followed(plan, then, words, seed, timeout, gdb=False, out=sys.stderr, source=None, records=None):
+    """Runs the program by the plan; the result. Nothing is left of its files, unless one is given for the raw records."""
     clock = plan.clock
-    file, path = running.nameless_file()
-    with file, tempfile.TemporaryFile(prefix="record") as planned:
+    file = records or running.nameless_file()[0]
+    path = "/proc/%d/fd/%d" % (os.getpid(), file.fileno())
+    with contextlib.nullcontext() if records else file, tempfile.TemporaryFile(prefix="record") as planned:
         rows = plan.write(planned, then)
         plan_path = "/proc/%d/fd/%d" % (os.getpid(), planned.fileno())
         surroundings = running.environment(path, seed, clock.words["yield"], clock.words["room"],

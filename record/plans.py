@@ -32,17 +32,40 @@ def read_witness(file, clock):
     return events, lines
 
 
-def steps_of(clock, events, pair):
-    """Events of one record are one step, where the last of them stands; the records of the pair are none. Also how
-    many records have events of others in between."""
+def check_pair(clock, events, pair):
+    """Both events have to be next in their threads after the schedule."""
+    there = set(events)
+    threads = {clock.record(event).thread: event for event in pair}
+    next_ones = {}
+    for event in range(max(pair) + 1):
+        thread = clock.record(event).thread
+        if thread in threads and event not in there:
+            next_ones.setdefault(thread, event)
+    if len(threads) < 2 or any(next_ones.get(thread) != event for thread, event in threads.items()):
+        raise BadWitness("this is a witness of another race than %d %d" % pair)
+
+
+def places_of(clock, events, lines):
+    """For each record the place of the event where it is done: the last, and of a try that was refused the last read."""
+    last = {}
+    for place, event in enumerate(events):
+        is_read = lines[event].split("|", 2)[1].startswith("r(")
+        if is_read or clock.record_of[event] not in last or clock.record(event).kind != raw_file.KINDS["TRIED"]:
+            last[clock.record_of[event]] = place
+    return last
+
+
+def steps_of(clock, events, lines, pair):
+    """Events of one record are one step; the records of the pair are none. Also how many records have events of others
+    in between."""
     ends = {clock.record_of[event] for event in pair}
-    last = {clock.record_of[event]: place for place, event in enumerate(events)}
+    last = places_of(clock, events, lines)
     steps, split = [], 0
     for place, event in enumerate(events):
         record = clock.record_of[event]
-        if last[record] != place:
+        if last[record] > place:
             split += clock.record_of[events[place + 1]] != record
-        elif record not in ends:
+        elif last[record] == place and record not in ends:
             steps.append(event)
     return steps, split
 
@@ -88,7 +111,7 @@ class Plan:
     def __init__(self, clock, witness, pair, patience):
         self.clock, self.pair, self.patience = clock, pair, patience
         self.events, self.lines = witness
-        self.steps, self.split = steps_of(clock, self.events, pair)
+        self.steps, self.split = steps_of(clock, self.events, self.lines, pair)
         self.needs = Needs(clock, self.events, self.lines, self.steps).of
         self.threads = max([*clock.ticks, *(child for _, _, child in clock.forks), 0]) + 1
 

@@ -27,6 +27,7 @@ def number_of(text, name):
 HEADER = header()
 KINDS = names_of(HEADER, 0)
 OBJECTS = names_of(HEADER, 1)
+WAYS = names_of(HEADER, 2)
 MAGIC = number_of(HEADER, "MAGIC")
 MOST_MODULES = number_of(HEADER, "MOST_MODULES")
 WORDS = struct.Struct("<16Q")

@@ -109,5 +109,10 @@ def racebench_of(given):
     return given or os.environ.get("RACEBENCH") or (BUILT if os.access(BUILT, os.X_OK) else shutil.which("racebench"))
 
 
+def told(error):
+    """An error of the system, in words."""
+    return "%s: %s" % (error.filename, error.strerror) if error.filename and error.strerror else str(error)
+
+
 def say(command, text):
     print("%s: %s" % (command, text), file=sys.stderr)

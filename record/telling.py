@@ -10,6 +10,8 @@ KIND_WORDS = {"VOID": "hook", "ACQUIRE": "lock", "RELEASE": "unlock", "FREED": "
               "TRIED": "refused try-lock", "READER_IN": "read lock", "READER_OUT": "read unlock", "ARRIVED": "meeting",
               "WENT_ON": "end of a meeting"}
 WORDS_OF = {number: KIND_WORDS.get(name, name.lower().replace("_", " ")) for name, number in raw_file.KINDS.items()}
+# How a run ended that stood at the race and did not come to both accesses.
+GONE = "departed"
 
 
 class Telling:
@@ -27,6 +29,10 @@ class Telling:
 
     def kind(self, number):
         return WORDS_OF.get(number & 127, "hook")
+
+    def a_kind(self, number):
+        word = self.kind(number)
+        return ("an " if word[0] in "aeiou" else "a ") + word
 
     def place_of(self, standing):
         return self.line(standing.pc, *(address for frame in standing.frames for address in frame))
@@ -58,8 +64,8 @@ class Telling:
         if result.timed_out:
             return "the program did not come so far in time (--timeout)"
         expected = result.expected
-        wanted = "a %s at %s" % (self.kind(expected), self.line(expected >> 16)) if expected else "its end"
-        came = "T%d came to a %s at %s, where the recording has %s" % (result.thread, self.kind(result.kind), where, wanted)
+        wanted = "%s at %s" % (self.a_kind(expected), self.line(expected >> 16)) if expected else "its end"
+        came = "T%d came to %s at %s, where the recording has %s" % (result.thread, self.a_kind(result.kind), where, wanted)
         world = "T%d: a call at %s that waits for the world was not answered as in the recording" % (result.thread, where)
         return {
             OTHER_CODE: came,
@@ -76,7 +82,7 @@ class Telling:
         for thread, mine in sorted(self.clock.ticks.items()):
             at = 3 * result.at_tick[thread] if thread < len(result.at_tick) else len(mine)
             if result.state == DEPARTED and at < len(mine):
-                yield "  T%d stands before a %s at %s" % (thread, self.kind(mine[at]), self.line(mine[at] >> 16))
+                yield "  T%d stands before %s at %s" % (thread, self.a_kind(mine[at]), self.line(mine[at] >> 16))
 
     def departure(self, result):
         event, pair = result.event, result.plan.pair
@@ -108,6 +114,8 @@ def value_of(words, size):
 
 def ending(result):
     """How the program ended after the race."""
+    if result.state == DEPARTED:
+        return GONE
     if result.timed_out:
         return "hangs"
     if result.status >= 0:

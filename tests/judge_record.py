@@ -12,6 +12,7 @@ import subprocess
 import sys
 import tempfile
 
+import recorded_chance
 import recorded_ci
 import recorded_follow
 import recorded_options
@@ -25,7 +26,8 @@ RECORD = os.path.join(TOP, "record")
 PATIENCE = recorded_places.PATIENCE
 # Runs of each program; every further compiler makes one.
 SEEDS = (1, 2, 3)
-# Each program, the words for the recorder, and the pairs of lines that race in it.
+# Each program, the words for the recorder, and the pairs of lines that race in it: RACE are the lines that say so, and TRIAGED the
+# same where locks come between, so that no candidate but a schedule shows it.
 PROGRAMS = [
     ("examples/count.c", [], {("count.c:13", "count.c:7")}),
     ("tests/recorded/each_kind.c", [], {"RACE"}),
@@ -34,11 +36,14 @@ PROGRAMS = [
     ("tests/recorded/barrier.c", [], set()),
     ("tests/recorded/relaxed.c", [], {"RACE"}),
     ("tests/recorded/read_lock.c", [], {"RACE"}),
+    ("tests/recorded/between_writers.c", [], {"TRIAGED"}),
     ("tests/recorded/freed.c", ["--no-free"], set()),
     ("tests/recorded/freed.c", [], {("freed.c:11", "freed.c:6")}),
     ("tests/recorded/signals.c", [], {"RACE"}),
     ("tests/recorded/sockets.c", [], {"RACE"}),
     ("tests/recorded/openmp.c", [], {"RACE"}),
+    ("tests/recorded/teams.c", [], {"RACE"}),
+    ("tests/recorded/region.c", [], {"RACE"}),
 ]
 
 
@@ -89,11 +94,18 @@ def candidates(racebench, trace):
     return {tuple(sorted((places[int(first)], places[int(second)]))) for first, second in pairs}
 
 
+def shown(racebench, trace):
+    """The pairs of lines of the races of a trace, as `triage` prints them."""
+    printed, _ = done([racebench, "triage", trace])
+    places = re.findall(r"^  T\d+\|[^|]*\|(\S+)", printed, re.MULTILINE)
+    return {tuple(sorted(pair)) for pair in zip(places[::2], places[1::2])}
+
+
 def compiled(source, c, cxx):
     """Compiles a source, in one call or in two, to `program`."""
     environment = dict(os.environ, RECORD_CC=c, RECORD_CXX=cxx or "")
     path, language = os.path.join(TOP, source), os.path.join(RECORD, "c++" if source.endswith(".cpp") else "cc")
-    words = ["-std=c++17"] if source.endswith(".cpp") else ["-fopenmp"] if source.endswith("openmp.c") else []
+    words = ["-std=c++17"] if source.endswith(".cpp") else ["-fopenmp"] if source.endswith(("openmp.c", "teams.c", "region.c")) else []
     if c == "gcc":
         done([language, "-O1", *words, path, "-o", "program"], env=environment)
     else:
@@ -114,13 +126,14 @@ def recorded(words, seed):
 
 
 def judge_program(racebench, source, words, races, c, cxx, seeds):
-    wanted = {lines_at_race(source) if pair == "RACE" else pair for pair in races}
+    wanted = {lines_at_race(source) if pair in ("RACE", "TRIAGED") else pair for pair in races}
+    found_in = shown if "TRIAGED" in races else candidates
     compiled(source, c, cxx)
     for seed in seeds:
         trace = recorded(words, seed)
-        found = candidates(racebench, "trace.std")
+        found = found_in(racebench, "trace.std")
         if found != wanted:
-            raise Wrong(f"seed {seed}: the candidates are {sorted(found)}, and not {sorted(wanted)}")
+            raise Wrong(f"seed {seed}: the races are {sorted(found)}, and not {sorted(wanted)}")
         if source.endswith("barrier.c"):
             judge_barrier(racebench, trace)
     recorded_options.judge_decoders([*words, "--seed", "1"])
@@ -177,9 +190,10 @@ def main():
         cases.append((f"count.std, {c}", judge_example, (c, cxx)))
         cases += recorded_places.cases(c, cxx) + recorded_reports.cases(racebench, c)
         if place == 0:
-            cases += recorded_options.cases(c) + recorded_runs.cases(c) + recorded_follow.cases(racebench) + recorded_ci.cases(racebench)
+            cases += recorded_options.cases(c) + recorded_runs.cases(c) + recorded_follow.cases(racebench)
+            cases += recorded_chance.cases(racebench) + recorded_ci.cases(racebench)
         for source, words, races in PROGRAMS:
-            if source.endswith("openmp.c") and c != "gcc":
+            if source.endswith(("openmp.c", "teams.c", "region.c")) and c != "gcc":
                 continue
             if source.endswith(".cpp") and cxx is None:
                 print(f"record/: {source} is not tested with {c}, since its C++ compiler is not here")

@@ -32,10 +32,15 @@ PROGRAMS = {
     "bank.c": ([], [(8, 10, (ASSERTION,), (OKAY,))]),
     "ring.c": ([], [(11, 13, (ASSERTION,), ANY), (12, 12, (ASSERTION,), (ASSERTION,)), (13, 13, (ASSERTION,), (ASSERTION,))]),
     "counted_twice.cpp": ([], [(11, 11, BAD, (OKAY,))]),
+    "passed.c": ([], [(14, 22, (ASSERTION,), ANY)]),
 }
 # So many races stand at least in all programs together: ring.c waits by the time, so it has one or more.
-ALL_RACES = 16
-DIFFER, NO_DIFFERENCE = "the order matters: the outputs differ", "it makes no difference"
+ALL_RACES = 17
+DIFFER = "the order matters: the outputs differ: 1 with A first, 0 with B first"
+NO_DIFFERENCE = "it makes no difference"
+# The members of a line of JSON for a race that stands and for one that departed, as docs/FORMATS.md has them.
+BOTH = {"ended", "events", "locations", "places", "text"}
+MEMBERS = {"stands": BOTH | {"first", "liberties", "matters", "same_memory", "second", "why"}, "departed": BOTH | {"at"}}
 UNKNOWN = "whether the order matters is not known: the outputs vary by themselves"
 # What outputs.c shows, how many tries, whether the order matters, and what is told: a value that hangs on the order, alone and beside
 # others that do not; nothing; one of two values that come in both orders; values that are others in each run.
@@ -75,6 +80,12 @@ def confirmed(racebench, name="program", *words, wanted=0, **more):
         found = [json.loads(line) for line in lines]
     if not out.splitlines()[-1].startswith(f"races {len(found)}, stand "):
         raise WrongFollow(f"the last line counts other races than there are: {out}")
+    with open(name + ".std", encoding="utf-8", errors="surrogateescape") as file:
+        there = [line.rstrip("\n").split("|", 2)[2] for line in file]
+    for one in found:
+        locations = [there[event] for event in one["events"]]
+        if set(one) != MEMBERS[one["ended"]] or one["locations"] != locations or one["places"] != [each.split(" < ")[0] for each in locations]:
+            raise WrongFollow(f"a line of JSON: {one}")
     return found
 
 
@@ -165,6 +176,15 @@ def judge_departs(racebench):
         raise WrongFollow(f"a run with other addresses: {told}")
 
 
+def judge_waits(racebench):
+    """A thread that waits where its access would come next does not stand there."""
+    recorded(os.path.join(SOURCES, "waits.c"), [])
+    found = confirmed(racebench, wanted=1)
+    said = "came to an atomic read at waits.c:12, where the recording has a read at waits.c:13"
+    if [one["ended"] for one in found] != ["departed"] or said not in found[0]["text"]:
+        raise WrongFollow(f"a thread that waits for a relaxed flag: {found}")
+
+
 def judge_refusals(racebench):
     """A witness, a clock, a trace and a program of other recordings are refused with 3."""
     recorded(os.path.join(SOURCES, "lost.c"), [])
@@ -179,15 +199,20 @@ def judge_refusals(racebench):
     cases = [(follow, other), (follow, ""), (follow, "hello\n"), (follow + ["./other"], witness), (follow[:2] + ["0", "999999"], witness)]
     cases += [([follow[0], f"cut{size}.clock", *pair], witness) for size in (0, 7, 100, len(whole) // 3, len(whole) - 1)]
     cases.append(([os.path.join(RECORD, "confirm"), "--racebench", racebench, "other.std", "program.clock"], ""))
+    second = str(int(pair[1]) - 1)
+    cases.append(([*follow[:2], pair[0], second], witness))
     for words, text in cases:
         _, told = ran(words, 3, text)
         if "Traceback" in told or len(told.splitlines()) != 1:
             raise WrongFollow(f"{' '.join(words)}: {told}")
+    _, told = ran([os.path.join(RECORD, "confirm"), "--racebench", racebench, "nothing.std", "program.clock"], 1)
+    if told != "record/confirm: nothing.std: No such file or directory\n":
+        raise WrongFollow(f"a trace that is not there: {told}")
 
 
 JUDGES = [
     ("races stand", judge_races), ("both orders", judge_orders), ("outputs", judge_outputs), ("the program's name", judge_program),
-    ("a departure", judge_departs),
+    ("a departure", judge_departs), ("a thread that waits", judge_waits),
     ("refusals", judge_refusals),
 ]
 

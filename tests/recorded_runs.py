@@ -77,15 +77,28 @@ def raw_records(words, seed):
 def judge_same_runs(c):
     """The same seed gives the same records, for each kind of synchronization; and another seed can give others."""
     ran([os.path.join(RECORD, "cc"), "-O1", os.path.join(SOURCES, "kinds.c"), "-o", "kinds"], env=dict(os.environ, RECORD_CC=c))
-    kinds, differ = ran(["./kinds"])[0].split(), 0
-    for kind in kinds:
-        first = raw_records(["./kinds", kind], 1)
-        others = [raw_records(["./kinds", kind], 1) for _ in range(RUNS - 1)]
-        if not first or any(other != first for other in others):
-            raise WrongRun(f"{kind}: {sum(other != first for other in others)} of {RUNS - 1} recordings differ from the first, of one seed")
-        differ += raw_records(["./kinds", kind], 2) != first
+    kinds = ran(["./kinds"])[0].split()
+    differ = sum(is_run_of_its_seed(kind, lambda seed, words=("./kinds", kind): raw_records(words, seed)) for kind in kinds)
     if len(kinds) < 22 or differ < len(kinds) // 2:
         raise WrongRun(f"of {len(kinds)} kinds {differ} differ by another seed")
+
+
+def is_run_of_its_seed(name, record):
+    """Ten recordings of a seed are one; whether another seed gives another one."""
+    first = record(1)
+    others = sum(record(1) != first for _ in range(RUNS - 1))
+    if not first or others:
+        raise WrongRun(f"{name}: {others} of {RUNS - 1} recordings differ from the first, of one seed")
+    return record(2) != first
+
+
+def judge_same_teams(c):
+    """The same of OpenMP, by the traces: where the library's threads have their stacks is the system's choice."""
+    if c != "gcc":
+        return
+    ran([os.path.join(RECORD, "cc"), "-O1", "-fopenmp", os.path.join(SOURCES, "teams.c"), "-o", "teams"])
+    if not is_run_of_its_seed("teams.c", lambda seed: recorded("--seed", str(seed), "./teams")[0]):
+        raise WrongRun("teams.c is one recording with both seeds")
 
 
 def judge_ends(c):
@@ -148,6 +161,9 @@ def judge_language(_):
     _, told = compiled("int main(void) { return other(); }\n", wanted=1)
     if "record: for C++" in told:
         raise WrongRun(f"a fault in C: {told}")
+    _, told = ran([os.path.join(RECORD, "cc"), "source.c", "-o", "program"], wanted=1, env=dict(os.environ, RECORD_CC="no-compiler"))
+    if told != "record: no-compiler: No such file or directory\n":
+        raise WrongRun(f"a compiler that is not here: {told}")
 
 
 FULL_DISK = """mount -t tmpfs -o size=%s none small 2>/dev/null || exit 99
@@ -221,7 +237,7 @@ def judge_once(c):
         raise WrongRun(f"the recorder was not kept: {kept}")
 
 
-JUDGES = [("ten recordings of one seed", judge_same_runs), ("how programs end", judge_ends), ("hooks", judge_hooks),
+JUDGES = [("ten recordings of one seed", judge_same_runs), ("ten recordings of OpenMP", judge_same_teams), ("how programs end", judge_ends), ("hooks", judge_hooks),
           ("a full disk", judge_full_disk), ("a killed run", judge_killed), ("a group that is ended", judge_group), ("the recorder is compiled once", judge_once),
           ("C++ by the compiler of C", judge_language), ("usages", judge_usages)]
 

@@ -26,7 +26,7 @@ Trace::Trace(const raw::File &file, const Options &options)
     find_kept();
     if (!options.only.empty()) choose();
     if (relaxed.wants_parts()) find_relaxed();
-    for (auto &lock : locks) counts.no_sections += lock.second.no_sections;
+    for (auto &lock : locks) counts.no_sections += lock.second.uneven && !lock.second.passes;
 }
 
 Resolved Trace::resolve(const record &one) {
@@ -64,23 +64,8 @@ void Trace::find_shared() {
     each([this](size_t, const record &one, const Resolved &of) {
         if (!of.there()) return;
         if (is_access(one)) seen[of.thing].see(one.thread, is_write(one));
-        else if (is_synchronization(one.kind)) see_lock(one, of);
+        else if (is_synchronization(one.kind)) locks[{of.thing, of.place}].see(one);
     });
-}
-
-// Locks whose sections are none: let go by a thread that does not hold them, or taken while another does.
-void Trace::see_lock(const record &one, const Resolved &of) {
-    LockSeen &lock = locks[{of.thing, of.place}];
-    if (one.kind == TRIED) lock.tried = true;
-    if (one.kind == READER_IN || one.kind == READER_OUT) lock.readers.insert(one.thread);
-    if (one.kind != ACQUIRE && one.kind != WRITER && one.kind != RELEASE) return;
-    if ((lock.times && lock.holder != one.thread) || (one.kind == RELEASE && !lock.times)) {
-        lock.no_sections = true;
-        lock.times = 0;
-        return;
-    }
-    lock.holder = one.thread;
-    lock.times += one.kind == RELEASE ? -1 : 1;
 }
 
 // A thing that is shared is cut at both ends of each access to it.

@@ -47,19 +47,27 @@ struct LockHash {
     }
 };
 
-// What was seen of a lock: who has it how often, whether its sections are none, whether a try was refused, which
-// readers came in.
+// What was seen of a lock or semaphore: who has it how often; whether its sections are none, since it is let go by a
+// thread that does not hold it or taken while another does; whether a try was refused; which readers came in. A
+// semaphore that each thread takes and then posts, one at a time, has sections too.
 struct LockSeen {
     u16 holder = 0;
     int64_t times = 0;
-    bool no_sections = false, tried = false;
+    bool uneven = false, tried = false, passes = false, is_lock = false, is_written = false;
     std::set<u16> readers;
+    void see(const record &one);
+    // Whether each one that comes has the order that it had.
+    bool is_chain() const { return uneven || (passes && is_lock); }
 };
 
 struct Counts {
     u64 before = 0, written = 0, left_out = 0, no_sections = 0, not_chosen = 0, stronger = 0;
     bool too_many_threads = false, cut_short = false;
 };
+
+// Whether a record takes a lock or semaphore, and whether it lets it go.
+bool is_taken(const record &one);
+bool is_let_go(const record &one);
 
 // A word of the trace and what it is of: the name of a place in a thing, with a word before it and a thread behind it.
 // Names are made of what is written alone.
@@ -101,12 +109,11 @@ private:
     void choose();
     void find_relaxed();
     bool is_chosen(const record &one);
-    void see_lock(const record &one, const Resolved &of);
     void find_operations(const record &one, size_t number, const Resolved &of);
     void find_accesses(const record &one, size_t number, const Resolved &of);
     void find_synchronization(const record &one, const Resolved &of);
-    void add_state(const Resolved &of, const char *word);
-    void add_reader(const Resolved &of, u16 thread, const char *word);
+    void add_states(const Resolved &of, const std::vector<int> &threads, const char *word);
+    void add_section(const Resolved &of, bool takes, bool tried, const std::vector<int> &threads);
     void add_meeting(const Resolved &of, u64 meeting, bool comes);
     std::string name_of(const Operation &operation) const;
     const std::string &location(const record &one);

@@ -12,18 +12,46 @@ std::string Trace::name_of(const Operation &operation) const {
     return operation.thread < 0 ? name : name + ":T" + std::to_string(operation.thread);
 }
 
-// An atomic access of the state of a lock.
-void Trace::add_state(const Resolved &of, const char *word) {
-    operations.push_back({"acq", "atomic:held:", of.thing, of.place});
-    operations.push_back({word, "held:", of.thing, of.place});
-    operations.push_back({"rel", "atomic:held:", of.thing, of.place});
+bool is_taken(const record &one) {
+    return one.kind == ACQUIRE || one.kind == WRITER || (one.kind == PASS && one.order == WAITED);
 }
 
-// An atomic access of what a reader of a reader-writer lock says there.
-void Trace::add_reader(const Resolved &of, u16 thread, const char *word) {
-    operations.push_back({"acq", "", of.thing, of.place, thread});
-    operations.push_back({word, "sync:", of.thing, of.place, thread});
-    operations.push_back({"rel", "", of.thing, of.place, thread});
+bool is_let_go(const record &one) { return one.kind == RELEASE || (one.kind == PASS && one.order == POSTED); }
+
+void LockSeen::see(const record &one) {
+    bool takes = is_taken(one), lets_go = is_let_go(one), pass = one.kind == PASS;
+    tried |= one.kind == TRIED;
+    passes |= pass;
+    is_lock |= one.kind == ACQUIRE || one.kind == RELEASE || one.kind == WRITER || one.kind == READER_IN;
+    if (one.kind == READER_IN || one.kind == READER_OUT) readers.insert(one.thread);
+    bool taken_by_other = times && (holder != one.thread || (pass && takes));
+    if ((pass && !takes && !lets_go) || ((takes || lets_go) && (taken_by_other || (lets_go && !times)))) {
+        uneven = true;
+        times = 0;
+    } else if (takes) {
+        holder = one.thread;
+        times++;
+    } else if (lets_go) {
+        times--;
+    }
+}
+
+// An atomic access of the states of a lock and of the locks of readers, of all at once.
+void Trace::add_states(const Resolved &of, const std::vector<int> &threads, const char *word) {
+    for (int thread : threads) operations.push_back({"acq", "atomic:held:", of.thing, of.place, thread});
+    for (int thread : threads) operations.push_back({word, "held:", of.thing, of.place, thread});
+    for (size_t k = threads.size(); k--;)
+        operations.push_back({"rel", "atomic:held:", of.thing, of.place, threads[k]});
+}
+
+// The begin or end of a section: of a lock, and of the locks of readers. The state is that of the first.
+void Trace::add_section(const Resolved &of, bool takes, bool tried, const std::vector<int> &threads) {
+    if (!takes && tried) add_states(of, {threads.front()}, "w");
+    for (size_t k = 0; k < threads.size(); k++) {
+        int thread = takes ? threads[k] : threads[threads.size() - 1 - k];
+        operations.push_back({takes ? "acq" : "rel", "", of.thing, of.place, thread});
+    }
+    if (takes && tried) add_states(of, {threads.front()}, "w");
 }
 
 // Who comes to a meeting reads and writes, and who goes on reads.
@@ -54,28 +82,27 @@ void Trace::find_accesses(const record &one, size_t number, const Resolved &of) 
     if (atomic) operations.push_back({"rel", "atomic:", of.thing, first});
 }
 
-// A lock's state is written beside it if a try was refused: who was refused comes between the acquire and the release.
+// A reader holds a lock of its own, and a writer those of all readers. The state of a lock is written beside it if a
+// try was refused: who was refused comes between.
 void Trace::find_synchronization(const record &one, const Resolved &of) {
-    const LockSeen &known = locks[{of.thing, of.place}];
-    Operation take{"acq", "", of.thing, of.place}, let_go{"rel", "", of.thing, of.place};
+    LockSeen &known = locks[{of.thing, of.place}];
+    bool is_reader = one.kind == READER_IN || one.kind == READER_OUT;
     if (one.kind == ARRIVED || one.kind == WENT_ON) return add_meeting(of, one.answer, one.kind == ARRIVED);
-    if (one.kind == TRIED) return add_state(of, "r");
-    if (one.kind == PASS || known.no_sections) {
-        operations = {take, {"r", "sync:", of.thing, of.place}, {"w", "sync:", of.thing, of.place}, let_go};
-    } else if (one.kind == READER_IN) {
-        operations.push_back(take);
-        add_reader(of, one.thread, "w");
-        operations.push_back(let_go);
-    } else if (one.kind == READER_OUT) {
-        add_reader(of, one.thread, "w");
-    } else if (one.kind == WRITER) {
-        operations.push_back(take);
-        for (u16 other : known.readers) add_reader(of, other, "r");
-    } else {
-        if (one.kind == ACQUIRE) operations.push_back(take);
-        if (known.tried) add_state(of, "w");
-        if (one.kind == RELEASE) operations.push_back(let_go);
+    if (known.is_chain()) {
+        operations = {{"acq", "", of.thing, of.place}, {"r", "sync:", of.thing, of.place}};
+        if (one.kind != TRIED) operations.push_back({"w", "sync:", of.thing, of.place});
+        operations.push_back({"rel", "", of.thing, of.place});
+        return;
     }
+    if (is_reader) return add_section(of, one.kind == READER_IN, known.tried, {one.thread});
+    std::vector<int> threads = {-1};
+    bool all = one.kind == TRIED ? !one.size : one.kind == WRITER || known.is_written;
+    for (u16 other : known.readers) {
+        if (all && other != one.thread) threads.push_back(other);
+    }
+    if (one.kind == TRIED) return add_states(of, threads, "r");
+    known.is_written = one.kind == WRITER;
+    add_section(of, is_taken(one), known.tried, threads);
 }
 
 void Trace::find_operations(const record &one, size_t number, const Resolved &of) {

@@ -16,7 +16,8 @@ static int is_nonblocking(int f) { return !!(syscall(SYS_fcntl, f, F_GETFL, 0) &
 /* Waits in the recorder until the call on a channel will not wait; whether it is to be made in the turn. */
 static int comes_at_once(int f, u32 channel, short what, int flags) {
     if (IDLE || !channel) return 0;
-    maybe_give();
+    /* Where a plan is followed, what is sent is there when its pass is done. */
+    if (!following || what == POLLIN) maybe_give();
     if ((flags & MSG_DONTWAIT) || is_nonblocking(f)) return 1;
     while (!at_once(f, what)) {
         if (has_forked) return 0;

@@ -190,12 +190,18 @@ void __tsan_func_exit(void) {
     if (depth) depth--;
 }
 
+/* Whether a name is of OpenMP. A program that calls nothing else of libgomp than what the recorder takes is not linked
+ * with it. */
+static int is_openmp(const char *name) { return !strncmp(name, "GOMP_", 5) || !strncmp(name, "omp_", 4); }
+
 /* The real function of a name that the recorder has taken. */
 static void *next(const char *name, const char *version) {
     u8 was = inside;
     inside = 1;
     void *f = version ? dlvsym(RTLD_NEXT, name, version) : NULL;
     if (!f) f = dlsym(RTLD_NEXT, name);
+    void *library = !f && is_openmp(name) ? dlopen("libgomp.so.1", RTLD_NOW | RTLD_GLOBAL) : NULL;
+    if (library) f = dlsym(library, name);
     inside = was;
     if (!f) abort();
     return f;

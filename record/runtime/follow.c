@@ -88,8 +88,23 @@ static void both_stand(void) {
     if (at_step == plan->steps) syscall(SYS_exit_group, 0);
 }
 
+static int fits(u64 expected, int kind, u64 pc) {
+    int k = KIND_OF(expected);
+    if (!expected) return 1;
+    if (PLACE_OF(expected) != as_recorded(pc)) return 0;
+    return k == kind || (kind == ATOMIC_UPDATE && k == ATOMIC_READ) ||
+           (k == VOID && kind != ACQUIRE && kind != WRITER && kind != PASS);
+}
+
+/* Whether the thread is before the access that the recording has at this clock. */
+static int is_at_access(u64 pos) {
+    if (pos & 0xffff) return about.kind == FREED;
+    return about.kind != FREED && fits(expected_at(pos >> 16), about.kind, about.pc);
+}
+
 /* The thread stands before its access. The turns' lock is held. */
 static void stands(u64 pos) {
+    if (!is_at_access(pos)) depart(OTHER_CODE, pos, (u64)about.kind, about.pc, expected_at(pos >> 16));
     struct standing *s = &plan->standing[stood++];
     s->thread = me, s->pos = pos, s->at = about.at, s->size = about.size, s->kind = (u64)about.kind;
     s->pc = as_recorded(about.pc), s->kernel_id = (u64)kernel_ids[me];
@@ -123,7 +138,8 @@ static int may_pass(u64 pos) {
         }
         if (s->thread != me || pos < s->pos) return 1;
         if (pos > s->pos) depart(MISSED, pos, 0, about.pc, 0);
-        if (s->type == EVENT) return 1;
+        /* Before the hook says what it is, it may pass: it comes here once more. */
+        if (s->type == EVENT || !about.pc) return 1;
         stands(pos);
         return 0;
     }
@@ -154,14 +170,6 @@ static void arrive(u64 pos) {
     if (!following && holder != me) take();
 }
 
-static int fits(u64 expected, int kind, u64 pc) {
-    int k = KIND_OF(expected);
-    if (!expected) return 1;
-    if (PLACE_OF(expected) != as_recorded(pc)) return 0;
-    return k == kind || (kind == ATOMIC_UPDATE && k == ATOMIC_READ) ||
-           (k == VOID && kind != ACQUIRE && kind != WRITER && kind != PASS);
-}
-
 static void event_passed(u64 pos) {
     lock_turns();
     if (following && me < plan->threads && next_step[me] < plan->steps) {
@@ -182,6 +190,7 @@ static void passed_hook(u64 pos, int kind, u64 pc) {
         plan->last_pc = as_recorded(pc);
         if (!fits(expected, kind, pc)) depart(OTHER_CODE, pos, (u64)kind, pc, expected);
     }
+    about.pc = 0;
     event_passed(pos);
 }
 
@@ -193,6 +202,7 @@ static void pass_silently(u64 pc) {
         arrive(CLOCK(tick + 1, 0));
     }
     tick++, sub = 0;
+    about.pc = 0;
     if (me < MOST_THREADS) ticks_of[me] = tick;
     if (following) event_passed(CLOCK(tick, 0));
 }

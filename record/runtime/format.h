@@ -18,9 +18,13 @@ enum {
 /* What `at` of a record is. */
 enum { OF_MEMORY, OF_DESCRIPTOR, OF_CHANNEL, OF_CHANCE, OF_TEAM };
 
+/* What a PASS is of a semaphore, as its `order`. */
+enum { NO_WAY, WAITED, POSTED };
+
 /* A record. `at` is an address, or a thread's number for FORK and JOIN, or what `of` says. `pc` is the place in the
  * code, `stack` the number of the node of the functions that were entered. `pos` is the thread's clock: tick << 16 |
- * sub. `answer` is what came of a call, `order` the memory order of an atomic. */
+ * sub. `answer` is what came of a call, `order` the memory order of an atomic or the way of a PASS. The `size` of TRIED
+ * is 1 where a reader tried. */
 struct record {
     u64 at, pc, pos, answer;
     u32 size, stack;

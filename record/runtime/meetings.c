@@ -14,16 +14,26 @@ static void meet(int kind, int of, u64 at, u64 round, u64 pc) {
     if (!IDLE) put_record((struct record){.kind = (u8)kind, .at = at, .answer = round, .pc = pc, .of = (u8)of});
 }
 
-static int passed(int answer, void *at, u64 pc) {
-    if (!answer) pass(at, pc);
-    else if (!IDLE) put_answer(ANSWER, (u64)at, (u64)errno, pc);
+/* A semaphore is posted, or a wait for it has returned. */
+static void pass_semaphore(int way, sem_t *s, u64 pc) {
+    int error = errno;
+    if (!IDLE) put_record((struct record){.kind = PASS, .at = (u64)s, .pc = pc, .order = (u8)way});
+    errno = error;
+}
+
+/* A try that was refused comes after the wait that took the semaphore, and before the next post. */
+static int passed(int answer, sem_t *s, u64 pc) {
+    int error = errno, refused = error == EAGAIN || error == ETIMEDOUT;
+    if (!answer) pass_semaphore(WAITED, s, pc);
+    else if (!IDLE) put_answer(refused ? TRIED : ANSWER, (u64)s, (u64)error, pc);
+    errno = error;
     return answer;
 }
 
 int sem_post(sem_t *s) {
     REAL(sem_post, int, sem_t *);
     if (!IDLE) maybe_give();
-    pass(s, PC);
+    pass_semaphore(POSTED, s, PC);
     int answer = real(s);
     if (!IDLE) unpark(s);
     return answer;

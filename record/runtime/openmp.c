@@ -1,14 +1,27 @@
 /* OpenMP of GCC (libgomp): a team meets where its region begins and ends, and at its barriers; critical sections are
  * locks. The threads of the team have the token only while they are in code of the program. */
 
+/* Who comes back from the library waits for the others of the team: one that has the token brings all in line, in the
+ * order of their numbers, so that nothing hangs on whom the system wakes first. */
+struct comer { u32 thread; struct comer *next; };
+
 struct region {
     void (*body)(void *);
     void *data;
     u64 team, pc;
+    u32 master, size, in;
+    /* Whether a thread of the team makes what it will give to all. */
+    u8 is_made;
+    volatile u32 back;
+    struct comer *comers;
+    /* In a team with tasks the library runs these while it waits. */
+    volatile u8 has_tasks;
 };
 static u32 teams;
 /* The team of this thread, and the how many-th meeting of the team its next one is. */
+static __thread struct region *my_region;
 static __thread u64 my_team, my_round;
+static __thread u8 has_stack;
 #define FIRST_ROUND 1
 #define LAST_ROUND 0xffffffff
 
@@ -16,16 +29,77 @@ static void meet_team(int kind, u64 team, u64 round, u64 pc) {
     if (team) meet(kind, OF_TEAM, team, round, pc);
 }
 
+static u32 size_of_team(void) {
+    REAL(omp_get_num_threads, int, void);
+    return (u32)real();
+}
+
+/* Without the token: waits until it is brought in line, and for the turn. */
+static void come_back(struct region *r) {
+    struct comer mine = {me, NULL};
+    int error = errno;
+    u8 was = inside;
+    inside = 1;
+    lock_turns();
+    struct comer **at = &r->comers;
+    while (*at && (*at)->thread < me) at = &(*at)->next;
+    mine.next = *at, *at = &mine;
+    __atomic_store_n(&woken[me], 0, SC);
+    __atomic_fetch_add(&r->back, 1, SC);
+    unlock_turns();
+    wait_in_line();
+    inside = was;
+    errno = error;
+}
+
+/* With the token: brings all others in line when they are back. */
+static void bring_back(struct region *r) {
+    while (__atomic_load_n(&r->back, SC) + 1 < r->size) syscall(SYS_sched_yield);
+    lock_turns();
+    for (struct comer *c = r->comers; c; c = c->next) waiting[waiting_count++] = c->thread;
+    r->comers = NULL, r->back = 0;
+    unlock_turns();
+}
+
+/* A thread of the library has its stack as a variable when it first has a turn. */
+static void begin_region(struct region *r) {
+    u32 size = size_of_team();
+    if (me == NOBODY) stranger();
+    if (me >= MOST_THREADS || following) {
+        take();
+    } else if (me == r->master) {
+        take();
+        r->size = size;
+        bring_back(r);
+    } else {
+        come_back(r);
+    }
+    if (!has_stack && me != r->master) own_stack();
+    has_stack = 1;
+}
+
+/* The last one that ends gives the token to the one that began, which comes back from the library at once. */
+static void end_region(struct region *r) {
+    if (me >= MOST_THREADS || following || r->has_tasks || ++r->in < r->size) {
+        give();
+    } else if (me != r->master) {
+        lock_turns();
+        if (holder == me) hand_to(r->master);
+        unlock_turns();
+    }
+}
+
 static void in_region(void *p) {
-    struct region *r = p;
+    struct region *r = p, *region_before = my_region;
     u64 team_before = my_team, round_before = my_round;
-    my_team = r->team, my_round = FIRST_ROUND + 1;
-    if (!IDLE) take();
+    int idle = IDLE;
+    my_region = r, my_team = r->team, my_round = FIRST_ROUND + 1;
+    if (!idle) begin_region(r);
     meet_team(WENT_ON, my_team, FIRST_ROUND, r->pc);
     r->body(r->data);
     meet_team(ARRIVED, my_team, LAST_ROUND, r->pc);
-    my_team = team_before, my_round = round_before;
-    if (!IDLE) give();
+    my_region = region_before, my_team = team_before, my_round = round_before;
+    if (!idle) end_region(r);
 }
 
 /* Whether a thread belongs to libgomp, where it waits without hooks for what to do. */
@@ -42,9 +116,10 @@ static int is_of_openmp(void *(*body)(void *)) {
     void name given { \
         static void(*real) given; \
         if (!real) real = (void(*) given)next(#name, NULL); \
-        struct region r = {body, data, __atomic_add_fetch(&teams, 1, SC), PC}; \
+        struct region r = {body, data, __atomic_add_fetch(&teams, 1, SC), PC, me}; \
         int idle = IDLE; \
-        if (!idle) maybe_give(), meet_team(ARRIVED, r.team, FIRST_ROUND, PC), give(); \
+        if (!idle) maybe_give(), r.master = me, meet_team(ARRIVED, r.team, FIRST_ROUND, PC); \
+        if (following) give(); \
         real passed_on; \
         if (!idle) take(), meet_team(WENT_ON, r.team, LAST_ROUND, PC); \
     }
@@ -67,32 +142,70 @@ LOOP_BY_ITSELF(runtime)
 LOOP_BY_ITSELF(nonmonotonic_runtime)
 LOOP_BY_ITSELF(maybe_nonmonotonic_runtime)
 
+/* A team that the library alone lets go on, in any order. */
+static int is_any_order(struct region *r) { return !r || me >= MOST_THREADS || following; }
+
+/* The last one that comes keeps the token, as the library lets it through; then one of all goes on. */
+static int comes_to_barrier(u64 pc) {
+    struct region *r = my_region;
+    maybe_give();
+    meet_team(ARRIVED, my_team, my_round, pc);
+    int is_last = !is_any_order(r) && ++r->in >= r->size;
+    if (is_last) r->in = r->is_made = 0;
+    is_last = is_last && !r->has_tasks;
+    if (!is_last) give();
+    return is_last;
+}
+
+static void leaves_barrier(int was_last, u64 pc) {
+    struct region *r = my_region;
+    if (was_last) bring_back(r), give_and_take();
+    else if (is_any_order(r) || r->has_tasks) take();
+    else come_back(r);
+    meet_team(WENT_ON, my_team, my_round++, pc);
+}
+
 #define BARRIER(name) \
     void name(void) { \
         REAL(name, void, void); \
-        if (!IDLE) maybe_give(), meet_team(ARRIVED, my_team, my_round, PC), give(); \
+        int idle = IDLE, was_last = idle ? 0 : comes_to_barrier(PC); \
         real(); \
-        if (!IDLE) take(), meet_team(WENT_ON, my_team, my_round++, PC); \
+        if (!idle) leaves_barrier(was_last, PC); \
     }
 BARRIER(GOMP_barrier)
 BARRIER(GOMP_loop_end)
 BARRIER(GOMP_sections_end)
+
+/* Who waits for a lock of the library waits in the recorder. */
+static void hold(void *at) {
+    struct meeting *m = meeting_of(at);
+    while (m->who != NOBODY && m->who != me) park(at, NULL, 0);
+    m->who = me, m->inside++;
+}
+
+static void let_go(void *at) {
+    struct meeting *m = meeting_of(at);
+    if (m->inside && --m->inside) return;
+    m->who = NOBODY;
+    unpark(at);
+}
 
 static char one_for_all, one_for_atomics;
 #define BEGINS(name, at, given, passed_on) \
     void name given { \
         static void(*real) given; \
         if (!real) real = (void(*) given)next(#name, NULL); \
-        if (!IDLE) maybe_give(), give(); \
+        if (!IDLE) maybe_give(), hold(at); \
         real passed_on; \
-        if (!IDLE) take(), put(ACQUIRE, (u64)(at), 0, PC); \
+        if (!IDLE) put(ACQUIRE, (u64)(at), 0, PC); \
     }
 #define ENDS(name, at, given, passed_on) \
     void name given { \
         static void(*real) given; \
         if (!real) real = (void(*) given)next(#name, NULL); \
-        if (!IDLE) put(RELEASE, (u64)(at), 0, PC); \
+        if (!IDLE) maybe_give(), put(RELEASE, (u64)(at), 0, PC); \
         real passed_on; \
+        if (!IDLE) let_go(at); \
     }
 BEGINS(GOMP_critical_start, &one_for_all, (void), ())
 ENDS(GOMP_critical_end, &one_for_all, (void), ())
@@ -105,10 +218,14 @@ ENDS(omp_unset_lock, lock, (void *lock), (lock))
 BEGINS(omp_set_nest_lock, lock, (void *lock), (lock))
 ENDS(omp_unset_nest_lock, lock, (void *lock), (lock))
 
-int omp_test_lock(void *lock) {
-    REAL(omp_test_lock, int, void *);
-    if (!IDLE) maybe_give();
-    int got_it = real(lock);
-    took(got_it ? 0 : EBUSY, lock, PC);
-    return got_it;
-}
+#define TESTS(name) \
+    int name(void *lock) { \
+        REAL(name, int, void *); \
+        if (!IDLE) maybe_give(); \
+        int got_it = real(lock); \
+        if (got_it && !IDLE) hold(lock); \
+        took(got_it ? 0 : EBUSY, lock, PC); \
+        return got_it; \
+    }
+TESTS(omp_test_lock)
+TESTS(omp_test_nest_lock)

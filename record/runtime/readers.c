@@ -1,13 +1,19 @@
-/* Reader-writer locks. A writer holds the lock. A reader takes it for a moment where it comes in, and says in a
- * variable of its own where it comes and goes; a writer that comes in reads these. */
+/* Reader-writer locks. Each reader holds a lock of its own, and a writer all of these. */
 
 #define MOST_READ_HOLDS 64
 static __thread struct { void *lock; u32 times; } read_holds[MOST_READ_HOLDS];
 static __thread u32 read_hold_count;
 
+/* After a call that takes the lock, or is refused: then it comes while another thread has the lock. */
+static void put_taken(int kind, int answer, void *at, u64 pc) {
+    int refused = answer == EBUSY || answer == ETIMEDOUT;
+    put_record((struct record){.kind = (u8)(!answer ? kind : refused ? TRIED : ANSWER), .at = (u64)at, .pc = pc,
+                               .answer = (u64)answer, .size = kind == READER_IN});
+}
+
 static int reads(int answer, void *at, u64 pc) {
     if (IDLE) return answer;
-    put_answer(answer ? ANSWER : READER_IN, (u64)at, (u64)answer, pc);
+    put_taken(READER_IN, answer, at, pc);
     if (answer) return answer;
     for (u32 i = 0; i < read_hold_count; i++) if (read_holds[i].lock == at) return read_holds[i].times++, answer;
     if (read_hold_count < MOST_READ_HOLDS)
@@ -25,7 +31,7 @@ static int leaves_read_hold(void *at) {
 }
 
 static int writes(int answer, void *at, u64 pc) {
-    if (!IDLE) put_answer(answer ? ANSWER : WRITER, (u64)at, (u64)answer, pc);
+    if (!IDLE) put_taken(WRITER, answer, at, pc);
     return answer;
 }
 

@@ -110,6 +110,7 @@ static void *next(const char *name, const char *version);
 static void maybe_give(void);
 /* threads.c */
 static void stranger(void);
+static void own_stack(void);
 /* follow.c: where a plan is followed. */
 static volatile int following;
 static void about_to(int kind, u64 at, u64 size, u64 pc);

@@ -74,6 +74,7 @@ void GOMP_task(void (*body)(void *), void *data, void (*copy)(void *, void *), l
         return;
     }
     maybe_give();
+    if (my_region) my_region->has_tasks = 1;
     if (!my_waits) my_waits = new_number(), my_wait_round = 1;
     u64 wide = align < 16 ? 16 : (u64)align;
     struct task t = {body, copy, data, (u64)size, (sizeof(struct task) + wide - 1) / wide * wide, new_number(), my_waits,
@@ -143,19 +144,23 @@ NEXT_ORDERED(dynamic)
 NEXT_ORDERED(guided)
 NEXT_ORDERED(runtime)
 
-/* What one thread makes and gives to all: the others wait for it as at a barrier. */
+/* What one thread makes and gives to all: the others wait for it as at a barrier, and it comes there when it is made. */
 void *GOMP_single_copy_start(void) {
     REAL(GOMP_single_copy_start, void *, void);
-    if (!IDLE) maybe_give(), meet_team(ARRIVED, my_team, my_round, PC), give();
+    if (IDLE) return real();
+    maybe_give();
+    int any_order = is_any_order(my_region), makes = !any_order && !my_region->is_made, was_last = 0;
+    if (makes) my_region->is_made = 1;
+    else was_last = comes_to_barrier(PC);
     void *made = real();
-    if (!IDLE) take();
-    if (!IDLE && made) meet_team(WENT_ON, my_team, my_round++, PC);
+    if (any_order && !made) take();
+    else if (!makes) leaves_barrier(was_last, PC);
     return made;
 }
 
 void GOMP_single_copy_end(void *made) {
     REAL(GOMP_single_copy_end, void, void *);
-    if (!IDLE) meet_team(ARRIVED, my_team, my_round, PC), give();
+    int idle = IDLE, was_last = idle ? 0 : comes_to_barrier(PC);
     real(made);
-    if (!IDLE) take(), meet_team(WENT_ON, my_team, my_round++, PC);
+    if (!idle) leaves_barrier(was_last, PC);
 }

@@ -11,6 +11,8 @@ static u32 threads = 1;
 /* A thread's id while it can be joined, whether it waits for its first turn, and whether it has had its last. */
 static pthread_t ids[MOST_THREADS];
 static volatile u8 joinable[MOST_THREADS], came[MOST_THREADS], gone[MOST_THREADS];
+/* A thread of libgomp ends when the library is done with it, in nobody's turn. */
+static u8 in_library[MOST_THREADS];
 static pthread_key_t last_turn;
 
 /* The stack is a variable of the thread's own. */
@@ -44,7 +46,7 @@ static void end_of_thread(void *round) {
     u64 k = (u64)round;
     if (k < PTHREAD_DESTRUCTOR_ITERATIONS && pthread_setspecific(last_turn, (void *)(k + 1)) == 0) return;
     if (me < MOST_THREADS) {
-        if (on) take();
+        if (on && !in_library[me]) take();
         gone[me] = 1;
         unpark(&gone[me]);
         give();
@@ -63,6 +65,13 @@ static void *child_body(void *p) {
     ids[me] = pthread_self();
     kernel_ids[me] = (pid_t)syscall(SYS_gettid);
     joinable[me] = 1;
+    if (is_of_openmp(c.body)) {
+        in_library[me] = 1;
+        __atomic_store_n(&came[me], 1, SC);
+        inside = 0;
+        pthread_sigmask(SIG_SETMASK, &c.mask, NULL);
+        return c.body(c.argument);
+    }
     /* The maker goes on when this thread waits for its turn, so that the order of turns follows from the seed alone. */
     get_in_line();
     __atomic_store_n(&came[me], 1, SC);
@@ -70,10 +79,6 @@ static void *child_body(void *p) {
     inside = 0;
     own_stack();
     pthread_sigmask(SIG_SETMASK, &c.mask, NULL);
-    if (is_of_openmp(c.body)) {
-        __atomic_store_n(&came[me], 2, SC);
-        give();
-    }
     return c.body(c.argument);
 }
 
@@ -105,8 +110,6 @@ static int create(pthread_t *id, const pthread_attr_t *attributes, void *(*body)
     pthread_sigmask(SIG_SETMASK, &before, NULL);
     if (!answer) while (!__atomic_load_n(&came[number], SC)) syscall(SYS_sched_yield);
     inside = 0;
-    /* A thread of libgomp has its first turn at once: its maker may wait for it in the library. */
-    if (!answer && is_of_openmp(body)) while (__atomic_load_n(&came[number], SC) != 2) give_and_take();
     if (answer) {
         __libc_free(c);
         __atomic_fetch_sub(&living, 1, SC);
