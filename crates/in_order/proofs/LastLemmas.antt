@@ -233,7 +233,7 @@ module _ (T : List Event) (rules : IsDisciplined T) (l u t p r e : ℕ) (other :
       )
 
 -- a list with a place has an element
-an_element : {X : Type 0} (elements : List X) (i : ℕ) → i < length elements → X
+pub an_element : {X : Type 0} (elements : List X) (i : ℕ) → i < length elements → X
 an_element [] i lt = absurd (omega arith)
 an_element (x ∷ rest) i lt = x
 

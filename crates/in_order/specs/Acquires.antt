@@ -7,6 +7,7 @@ use Rattle.rapid_text.specs.declared.event.Event.{Event}
 use Rattle.event_index.specs.Events.{thread_at}
 use Rattle.event_index.specs.Lookups.{place_of}
 use Rattle.must_order.specs.Sections.{is_outer}
+use Rattle.in_order.specs.Tables.{AreReachesUpTo, AreWritesUpTo}
 use Rattle.in_order.specs.declared.acquires.Lane.{Lane}
 use Rattle.in_order.specs.declared.acquires.Acquires.TheInside.{Inside}
 
@@ -66,3 +67,5 @@ pub record AreShared (by_lock : List (Vec Lane Global)) (shared : List ℕ) : Ty
 pub record AreAcquires (s : Inside) : Type 0 where
   pub taken : AreTaken s.trace.value s.by_lock.items
   pub shared : AreShared s.by_lock.items s.shared.items
+  pub writes : AreWritesUpTo s.trace.value (length s.trace.value.events) s.writes.items
+  pub reach : AreReachesUpTo s.trace.value.events (length s.trace.value.events) s.reach.items

@@ -1,4 +1,6 @@
 pub mod Acquires
+pub mod Aims
+pub mod Counting
 pub mod InOrder
 pub mod Joining
 pub mod Laws
@@ -6,3 +8,4 @@ pub mod Layout
 pub mod Orders
 pub mod Refusals
 pub mod Sizes
+pub mod Tables

@@ -7,13 +7,16 @@ ghost use Rattle.must_order.specs.Sections.{is_outer};
 ghost use Rattle.in_order.specs.Acquires.{IsOneOf, IsTaken, IsPassed, AreLanesUpTo, AreTakenUpTo, AreTaken, AreShared};
 
 use crate::closing::lock_of;
+use crate::reaching::reaches_of;
+use crate::writing::writes_of;
 use event_index::Indexed;
 use rapid_text::OutOfMemory;
 use std::alloc::Global;
 use std::marker::Model;
 use std::snapshot::Snapshot;
 
-/// The acquires of a trace that found their lock free, by locks and threads. Memory follows the number of acquires.
+/// What lists in order are looked up in: the acquires of a trace that found their lock free, by locks and threads; its
+/// writes by variables; and how far its sections reach. Memory follows the number of events.
 #[derive(Drop)]
 pub struct Acquires {
     trace: Snapshot<Indexed>,
@@ -21,6 +24,10 @@ pub struct Acquires {
     pub(crate) by_lock: Vec<Vec<Lane>>,
     // The locks that have several.
     pub(crate) shared: Vec<u32>,
+    // For each variable its writes, rising.
+    pub(crate) writes: Vec<Vec<u32>>,
+    // For each event the last of it and of the ends of the sections that its thread began up to it.
+    pub(crate) reach: Vec<u32>,
 }
 
 /// The acquires of one lock by one thread that found it free, in the order of the trace.
@@ -49,10 +56,14 @@ impl Acquires {
     {
         let by_lock = lanes_of(alloc, indexed)?;
         let shared = shared_of(alloc, by_lock.as_slice(), indexed.locks())?;
+        let writes = writes_of(alloc, indexed)?;
+        let reach = reaches_of(alloc, indexed)?;
         Ok(Acquires {
             trace: Snapshot::of(indexed),
             by_lock,
             shared,
+            writes,
+            reach,
         })
     }
 }

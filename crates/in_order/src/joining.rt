@@ -81,8 +81,8 @@ fn joined_for(
     )
 }
 
-// For each thread how many of its events are needed, by a list in the order of the trace that has the two events.
-fn joined_row(
+/// For each thread how many of its events are needed, by a list in the order of the trace that has the two events.
+pub(crate) fn joined_row(
     alloc: Global,
     indexed: &Indexed,
     must: &Must,
@@ -131,8 +131,8 @@ fn begun(
     Ok(row)
 }
 
-// Counts the event, where there is one, and what is must-before it.
-fn raise(row: &mut Vec<u32>, indexed: &Indexed, must: &Must, event: Option<u32>)
+/// Counts the event, where there is one, and what is must-before it.
+pub(crate) fn raise(row: &mut Vec<u32>, indexed: &Indexed, must: &Must, event: Option<u32>)
     requires must { must.now ≡ indexed.now }
     requires within { IfSome event (λ e. e < length indexed.now.events) }
     requires len { length row.old.items ≡ length indexed.now.threads }

@@ -111,8 +111,8 @@ fn due_by(lane: &Lane, indexed: &Indexed, row: &[u32], lock: u32, latest: Latest
     Some(end)
 }
 
-// The last acquire of the lane that the row counts.
-fn last_in(lane: &Lane, indexed: &Indexed, row: &[u32], lock: u32) -> Option<u32>
+/// The last acquire of the lane that the row counts.
+pub(crate) fn last_in(lane: &Lane, indexed: &Indexed, row: &[u32], lock: u32) -> Option<u32>
     requires lane { IsLane indexed.now lock lane.now }
     requires len { length row.now ≡ length indexed.now.threads }
     requires within { (t : ℕ) → slice_index row.now t ≤ length (events_of indexed.now.events t) }
@@ -124,8 +124,8 @@ fn last_in(lane: &Lane, indexed: &Indexed, row: &[u32], lock: u32) -> Option<u32
     last_up_to(lane.events.as_slice(), end)
 }
 
-// The last event of the thread that the row counts.
-fn end_of(indexed: &Indexed, row: &[u32], thread: u32) -> Option<u32>
+/// The last event of the thread that the row counts.
+pub(crate) fn end_of(indexed: &Indexed, row: &[u32], thread: u32) -> Option<u32>
     requires thread { thread < length indexed.now.threads }
     requires len { length row.now ≡ length indexed.now.threads }
     requires within { (t : ℕ) → slice_index row.now t ≤ length (events_of indexed.now.events t) }

@@ -4,15 +4,22 @@
 
 mod acquires;
 mod closing;
+mod counting;
+mod enabling;
+mod holding;
 mod joining;
 mod lasting;
 mod laws;
 mod listing;
 mod needing;
+mod noting;
 mod ordering;
+mod reaching;
 mod refusal;
 mod sizing;
 mod turning;
+mod wanting;
+mod writing;
 
 pub use acquires::Acquires;
 pub use laws::{
@@ -24,4 +31,4 @@ pub use needing::needs_of;
 pub use ordering::fewer_runs;
 pub use refusal::InOrderRefusal;
 pub use sizing::in_order_size;
-pub use turning::turned;
+pub use turning::{turned, turned_size};

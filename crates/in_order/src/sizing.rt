@@ -39,8 +39,8 @@ pub fn in_order_size(
     ))
 }
 
-// How many events the row counts.
-fn events_counted(indexed: &Indexed, row: &[u32]) -> u32
+/// How many events the row counts.
+pub(crate) fn events_counted(indexed: &Indexed, row: &[u32]) -> u32
     requires len { length row.now ≡ length indexed.now.threads }
     requires within { (t : ℕ) → slice_index row.now t ≤ length (events_of indexed.now.events t) }
     ensures { IsListLength indexed.now.events (λ t. slice_index row.now t) result }
@@ -52,8 +52,8 @@ fn events_counted(indexed: &Indexed, row: &[u32]) -> u32
     count
 }
 
-// How many threads have an event that the row counts.
-fn threads_counted(indexed: &Indexed, row: &[u32]) -> u32
+/// How many threads have an event that the row counts.
+pub(crate) fn threads_counted(indexed: &Indexed, row: &[u32]) -> u32
     requires len { length row.now ≡ length indexed.now.threads }
     ensures { IsThreadCount (λ t. slice_index row.now t) (length indexed.now.threads) result }
 {

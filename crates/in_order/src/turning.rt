@@ -1,19 +1,30 @@
 //! A search beyond the order of the trace.
-ghost use Rattle.std.specs.Prelude.{◌≡◌, ◌<◌, ◌↔◌, length, IsTrue, IfOk, IfSome, true};
+ghost use Rattle.std.specs.Prelude.{◌≡◌, ◌<◌, ◌↔◌, length, nat_eq, slice_index, IsTrue, IfOk, IfSome, None, true};
+ghost use Rattle.std.specs.HashMap.{get};
 ghost use Rattle.event_index.specs.Relations.{IsConflicting};
 ghost use Rattle.schedule.specs.Reordering.{IsCorrectReordering};
 ghost use Rattle.schedule.specs.Shows.{IsReady, Shows};
 ghost use Rattle.trace_rules.specs.Rules.{IsDisciplined};
+ghost use Rattle.in_order.specs.Counting.{IsAt, IsTurnedOfSize, counted_events};
+ghost use Rattle.in_order.specs.Aims.{IsAimFor};
 ghost use Rattle.in_order.specs.InOrder.{AreNeeded};
 ghost use Rattle.in_order.specs.Laws.{IsBaseOf};
 ghost use Rattle.in_order.specs.Orders.{IsTurned};
 
+use crate::acquires::Acquires;
 use crate::closing::needed_row;
+use crate::counting::search;
+use crate::enabling::{Aim, Reached};
+use crate::joining::joined_row;
 use crate::listing::list_of;
+use crate::sizing::{events_counted, threads_counted};
+use crate::wanting::wanted_row;
 use event_index::{EventList, Indexed};
+use must_order::Must;
 use rapid_text::OutOfMemory;
 use schedule::{ListRefusal, Schedule};
 use std::alloc::Global;
+use std::collections::HashMap;
 use witness_search::greedy;
 
 /// Looks for a schedule that shows the pair, in which critical sections may stand in another order than in the trace:
@@ -41,8 +52,82 @@ pub fn turned(
     Ok(found)
 }
 
+/// Looks for such a schedule, and makes none: how many events it has, and of how many threads. It costs steps
+/// by threads, by acquires and by the events that it takes.
+pub fn turned_size(
+    alloc: Global,
+    indexed: &Indexed,
+    must: &Must,
+    acquires: &Acquires,
+    pair: (u32, u32),
+    budget: u32,
+) -> Result<Option<(u32, u32)>, OutOfMemory>
+    requires must { must.now ≡ indexed.now }
+    requires acquires { acquires.now ≡ indexed.now }
+    ensures size { IfOk result
+        (λ found. IfSome found (IsTurnedOfSize indexed.now.events pair.0 pair.1 budget)) }
+    ensures none { IfOk result (λ found. found ≡ None → IsTurned indexed.now.events pair.0 pair.1 budget None) }
+{
+    if !are_conflicting(indexed, pair.0, pair.1) {
+        return Ok(None);
+    }
+    let _len = indexed.len();
+    let aim = aim_for(alloc, indexed, must, acquires, pair)?;
+    let mut reached = reached_from(alloc, indexed, &aim)?;
+    if !search(&mut reached, indexed, acquires, &aim, budget)? {
+        return Ok(None);
+    }
+    Ok(Some((
+        events_counted(indexed, reached.row.as_slice()),
+        threads_counted(indexed, reached.row.as_slice()),
+    )))
+}
+
+// What a search for the pair starts from, and what it wants.
+fn aim_for(
+    alloc: Global,
+    indexed: &Indexed,
+    must: &Must,
+    acquires: &Acquires,
+    pair: (u32, u32),
+) -> Result<Aim, OutOfMemory>
+    requires must { must.now ≡ indexed.now }
+    requires acquires { acquires.now ≡ indexed.now }
+    requires first { pair.0 < length indexed.now.events }
+    requires second { pair.1 < length indexed.now.events }
+    ensures { IfOk result (IsAimFor indexed.now pair.0 pair.1) }
+{
+    let start = joined_row(alloc, indexed, must, acquires, indexed.base(pair.1), None)?;
+    let row = Vec::from_slice(alloc, start.as_slice())?;
+    let wanted = wanted_row(row, indexed, must, acquires, pair.0, pair.1);
+    Ok(Aim {
+        first: pair.0,
+        second: pair.1,
+        start,
+        wanted,
+    })
+}
+
+// Where the search stands before its first step.
+fn reached_from(alloc: Global, indexed: &Indexed, aim: &Aim) -> Result<Reached, OutOfMemory>
+    requires aim { IsAimFor indexed.now aim.now.first aim.now.second aim.now }
+    requires second { aim.now.second < length indexed.now.events }
+    ensures row { IfOk result (λ reached. length reached.row.items ≡ length indexed.now.threads) }
+    ensures at { IfOk result (λ reached. IsAt indexed.now.events (λ t. slice_index aim.now.start.items t)
+        (λ t. slice_index reached.row.items t)
+        (get nat_eq reached.last) (counted_events indexed.now.events (λ t. slice_index aim.now.start.items t))) }
+{
+    let _len = indexed.len();
+    let row = Vec::from_slice(alloc, aim.start.as_slice())?;
+    Ok(Reached {
+        row,
+        last: HashMap::new(alloc),
+    })
+}
+
 // Whether the two are events and conflict.
 fn are_conflicting(indexed: &Indexed, first: u32, second: u32) -> bool
+    ensures first { result ≡ true → first < length indexed.now.events }
     ensures second { result ≡ true → second < length indexed.now.events }
     ensures conflict { IsTrue result ↔ IsConflicting indexed.now.events first second }
 {

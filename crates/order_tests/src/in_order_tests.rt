@@ -54,6 +54,7 @@ const ROWS: &[(&[u8], Question)] = &[
     (ONE_LOCK, Question::InOrder((0, 5), &[3, 4])),
     (ONE_LOCK, Question::Size((0, 5), (2, 1))),
     (ONE_LOCK, Question::Turned((0, 5), &[3, 4])),
+    (ONE_LOCK, Question::TurnedSize((0, 5), (2, 1))),
     (ONE_LOCK, Question::Free(&[3, 4])),
     // All of T1 but its last event, T2 up to its write of x, and the read.
     (TWO_LOCKS, Question::Size((13, 15), (13, 3))),

@@ -3,7 +3,7 @@ ghost use Rattle.std.specs.Prelude.{◌≡◌};
 
 use crate::questions::{Question, first_wrong};
 use event_index::Indexed;
-use in_order::{Acquires, InOrderRefusal, in_order_size};
+use in_order::{Acquires, InOrderRefusal, in_order_size, turned_size};
 use must_order::{Chain, Must, Reason};
 use std::alloc::Global;
 
@@ -93,6 +93,25 @@ fn is_sized(
     }
 }
 
+// Whether the search beyond the order finds a schedule for the pair with so many events of so many threads.
+fn is_turned_sized(
+    alloc: Global,
+    must: &Must,
+    indexed: &Indexed,
+    pair: (u32, u32),
+    wanted: (u32, u32),
+) -> Option<bool>
+    requires { must.now ≡ indexed.now }
+{
+    match Acquires::new(alloc, indexed) {
+        Ok(acquires) => match turned_size(alloc, indexed, must, &acquires, pair, 9) {
+            Ok(size) => Some(size == Some(wanted)),
+            Err(_) => None,
+        },
+        Err(_) => None,
+    }
+}
+
 fn is_told_with(alloc: Global, must: &Must, indexed: &Indexed, question: Question) -> Option<bool>
     requires { must.now ≡ indexed.now }
 {
@@ -100,6 +119,9 @@ fn is_told_with(alloc: Global, must: &Must, indexed: &Indexed, question: Questio
         Question::Held(event, locks) => are_held(alloc, must, indexed, event, locks),
         Question::Reasons => is_reasoned(alloc, must, indexed),
         Question::Size(pair, wanted) => is_sized(alloc, must, indexed, pair, wanted),
+        Question::TurnedSize(pair, wanted) => {
+            is_turned_sized(alloc, must, indexed, pair, wanted)
+        }
         _ => Some(false),
     }
 }

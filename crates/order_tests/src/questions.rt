@@ -53,6 +53,8 @@ pub(crate) enum Question {
     InOrder(Pair, Numbers),
     // What a search beyond that order finds for the pair.
     Turned(Pair, Numbers),
+    // The size of what it finds.
+    TurnedSize(Pair, Pair),
     // A list of two events that wait for no other.
     Free(Numbers),
 }
@@ -74,7 +76,7 @@ fn is_answered_on(alloc: Global, indexed: &Indexed, question: Question) -> Optio
         },
         Question::List(events, fault) => is_listed(alloc, indexed, events, fault),
         Question::Schedule => is_changed_and_cut(alloc, indexed),
-        Question::Held(..) | Question::Reasons | Question::Size(..) => {
+        Question::Held(..) | Question::Reasons | Question::Size(..) | Question::TurnedSize(..) => {
             is_told_by_must(alloc, indexed, question)
         },
         Question::InOrder(pair, wanted) => is_in_order(alloc, indexed, pair, wanted),

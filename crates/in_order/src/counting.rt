@@ -1,0 +1,199 @@
+//! A search beyond the order of the trace that makes no list: where it stands is a count a thread.
+ghost use Rattle.std.specs.Prelude.{◌≡◌, ◌<◌, ◌≤◌, ◌+◌, ◌++◌, ◌∷◌, [], ℕ, List, length, slice_get, slice_index, nat_eq, IfOk, IfSome, OnOk, Ok, None, Option, Some, true, false};
+ghost use Rattle.std.specs.HashMap.{get};
+ghost use Rattle.event_index.specs.Events.{thread_at};
+ghost use Rattle.event_index.specs.Least.{IsLeastOf};
+ghost use Rattle.event_index.specs.Lookups.{events_of};
+ghost use Rattle.event_index.specs.Relations.{IsConflicting};
+ghost use Rattle.schedule.specs.Refusals.{refusal_of};
+ghost use Rattle.schedule.specs.Shows.{does_show};
+ghost use Rattle.witness_search.specs.Greedy.{next_step, first_shown};
+ghost use Rattle.witness_search.specs.Searches.{IsStepOf, lesser, marked_events};
+ghost use Rattle.in_order.specs.Counting.{IsAt, IsNoted, IsUp, counted_events, marks_of};
+
+use crate::acquires::Acquires;
+use crate::enabling::{Aim, Reached, is_ready, is_step};
+use crate::noting::note_reads;
+use crate::writing::written_by;
+use event_index::Indexed;
+use rapid_text::OutOfMemory;
+use std::collections::HashMap;
+
+/// Takes steps until the pair is shown, or there is none to take. Answers whether it is shown.
+pub(crate) fn search(
+    reached: &mut Reached,
+    indexed: &Indexed,
+    acquires: &Acquires,
+    aim: &Aim,
+    budget: u32,
+) -> Result<bool, OutOfMemory>
+    requires acquires { acquires.now ≡ indexed.now }
+    requires conflict { IsConflicting indexed.now.events aim.now.first aim.now.second }
+    requires first { aim.now.first < length indexed.now.events }
+    requires second { aim.now.second < length indexed.now.events }
+    requires start { length aim.now.start.items ≡ length indexed.now.threads }
+    requires wanted { length aim.now.wanted.items ≡ length indexed.now.threads }
+    requires row { length reached.old.row.items ≡ length indexed.now.threads }
+    requires at { IsAt indexed.now.events (λ t. slice_index aim.now.start.items t)
+        (λ t. slice_index reached.old.row.items t)
+        (get nat_eq reached.old.last) (counted_events indexed.now.events (λ t. slice_index aim.now.start.items t)) }
+    ensures row { OnOk result (length reached.new.row.items ≡ length indexed.now.threads) }
+    ensures shown { result ≡ Ok true → (P : List ℕ)
+        × IsAt indexed.now.events (λ t. slice_index aim.now.start.items t)
+        (λ t. slice_index reached.new.row.items t) (get nat_eq reached.new.last) P
+        × (first_shown indexed.now.events aim.now.first aim.now.second
+        (marked_events indexed.now.events (marks_of indexed.now.events (λ t. slice_index aim.now.wanted.items t)))
+        (counted_events indexed.now.events (λ t. slice_index aim.now.start.items t)) budget ≡ Some P) }
+    ensures none { result ≡ Ok false
+        → first_shown indexed.now.events aim.now.first aim.now.second
+        (marked_events indexed.now.events (marks_of indexed.now.events (λ t. slice_index aim.now.wanted.items t)))
+        (counted_events indexed.now.events (λ t. slice_index aim.now.start.items t)) budget ≡ None }
+{
+    for _step in 0..budget {
+        if is_shown(indexed, aim, reached.row.as_slice()) {
+            return Ok(true);
+        }
+        note_reads(
+            &mut reached.last,
+            indexed,
+            acquires,
+            aim,
+            reached.row.as_slice(),
+        )?;
+        let Some(event) = next_step(indexed, acquires, aim, reached) else {
+            return Ok(false);
+        };
+        take_step(reached, indexed, event)?;
+    }
+    Ok(is_shown(indexed, aim, reached.row.as_slice()))
+}
+
+// Whether the pair is shown.
+fn is_shown(indexed: &Indexed, aim: &Aim, row: &[u32]) -> bool
+    requires conflict { IsConflicting indexed.now.events aim.now.first aim.now.second }
+    requires first { aim.now.first < length indexed.now.events }
+    requires second { aim.now.second < length indexed.now.events }
+    requires len { length row.now ≡ length indexed.now.threads }
+    ensures { (P : List ℕ) (start : ℕ → ℕ) (last : ℕ → Option (Option ℕ))
+        → IsAt indexed.now.events start (λ t. slice_index row.now t) last P
+        → result ≡ does_show indexed.now.events P aim.now.first aim.now.second }
+{
+    if !is_ready(indexed, row, aim.first) {
+        return false;
+    }
+    is_ready(indexed, row, aim.second)
+}
+
+// Counts the event, which is the next of its thread, and notes what it writes.
+fn take_step(reached: &mut Reached, indexed: &Indexed, event: u32) -> Result<(), OutOfMemory>
+    requires event { event < length indexed.now.events }
+    requires row { length reached.old.row.items ≡ length indexed.now.threads }
+    requires within { (t : ℕ) → slice_index reached.old.row.items t ≤ length (events_of indexed.now.events t) }
+    ensures row { length reached.new.row.items ≡ length indexed.now.threads }
+    ensures at { OnOk result ((P : List ℕ) (start : ℕ → ℕ)
+        → IsAt indexed.now.events start (λ t. slice_index reached.old.row.items t) (get nat_eq reached.old.last) P
+        → refusal_of indexed.now.events P event ≡ None
+        → IsAt indexed.now.events start
+        (λ t. slice_index reached.new.row.items t) (get nat_eq reached.new.last) (P ++ event ∷ [])) }
+{
+    let _len = indexed.len();
+    note(&mut reached.last, indexed, event)?;
+    count_up(&mut reached.row, indexed, event);
+    Ok(())
+}
+
+// Notes what the event writes.
+fn note(
+    last: &mut HashMap<u32, Option<u32>>,
+    indexed: &Indexed,
+    event: u32,
+) -> Result<(), OutOfMemory>
+    requires event { event < length indexed.now.events }
+    ensures { OnOk result (IsNoted indexed.now.events event (get nat_eq last.old) (get nat_eq last.new)) }
+{
+    if let Some(variable) = written_by(indexed, event) {
+        last.insert(variable, Some(event))?;
+    }
+    Ok(())
+}
+
+// Counts the event in its thread.
+fn count_up(row: &mut Vec<u32>, indexed: &Indexed, event: u32)
+    requires event { event < length indexed.now.events }
+    requires len { length row.old.items ≡ length indexed.now.threads }
+    requires within { (t : ℕ) → slice_index row.old.items t ≤ length (events_of indexed.now.events t) }
+    ensures len { length row.new.items ≡ length indexed.now.threads }
+    ensures up { IsUp indexed.now.events event (λ t. slice_index row.old.items t) (λ t. slice_index row.new.items t) }
+{
+    let thread = indexed.event(event).thread as usize;
+    row[thread] += 1;
+}
+
+// The least event that may be taken. Only the next event of a thread may, so it looks at one of each.
+fn next_step(indexed: &Indexed, acquires: &Acquires, aim: &Aim, reached: &Reached) -> Option<u32>
+    requires acquires { acquires.now ≡ indexed.now }
+    requires start { length aim.now.start.items ≡ length indexed.now.threads }
+    requires wanted { length aim.now.wanted.items ≡ length indexed.now.threads }
+    requires row { length reached.now.row.items ≡ length indexed.now.threads }
+    requires within { (t : ℕ) → slice_index reached.now.row.items t ≤ length (events_of indexed.now.events t) }
+    ensures within { IfSome result (λ e. e < length indexed.now.events) }
+    ensures next { (P : List ℕ)
+        → IsAt indexed.now.events (λ t. slice_index aim.now.start.items t)
+        (λ t. slice_index reached.now.row.items t) (get nat_eq reached.now.last) P
+        → result ≡ next_step indexed.now.events aim.now.first aim.now.second
+        (marked_events indexed.now.events (marks_of indexed.now.events (λ t. slice_index aim.now.wanted.items t))) P }
+{
+    let mut least = None;
+    for thread in 0..indexed.threads() {
+        least = lesser(least, step_of(indexed, acquires, aim, reached, thread));
+    }
+    least
+}
+
+// The next event of the thread, where it may be taken.
+fn step_of(
+    indexed: &Indexed,
+    acquires: &Acquires,
+    aim: &Aim,
+    reached: &Reached,
+    thread: u32,
+) -> Option<u32>
+    requires acquires { acquires.now ≡ indexed.now }
+    requires thread { thread < length indexed.now.threads }
+    requires start { length aim.now.start.items ≡ length indexed.now.threads }
+    requires wanted { length aim.now.wanted.items ≡ length indexed.now.threads }
+    requires row { length reached.now.row.items ≡ length indexed.now.threads }
+    requires within { (t : ℕ) → slice_index reached.now.row.items t ≤ length (events_of indexed.now.events t) }
+    ensures within { IfSome result (λ e. e < length indexed.now.events) }
+    ensures least { (P : List ℕ)
+        → IsAt indexed.now.events (λ t. slice_index aim.now.start.items t)
+        (λ t. slice_index reached.now.row.items t) (get nat_eq reached.now.last) P
+        → IsLeastOf (IsStepOf indexed.now.events aim.now.first aim.now.second
+        (marks_of indexed.now.events (λ t. slice_index aim.now.wanted.items t)) P thread) result }
+{
+    let _len = indexed.len();
+    let events = indexed.thread_events(thread);
+    let count = reached.row[thread as usize] as usize;
+    if count >= events.len() {
+        return None;
+    }
+    let event = events[count];
+    if is_step(indexed, acquires, aim, reached, thread, event) {
+        Some(event)
+    } else {
+        None
+    }
+}
+
+// The lesser of the two, or the one that is there.
+fn lesser(left: Option<u32>, right: Option<u32>) -> Option<u32>
+    ensures { result ≡ lesser left right }
+{
+    match left {
+        None => right,
+        Some(x) => match right {
+            None => Some(x),
+            Some(y) => if y < x { Some(y) } else { Some(x) },
+        },
+    }
+}
