@@ -4,12 +4,14 @@
 Takes the program's path, how many traces to draw, and the first seed. Each page is read as a browser's parser would read it: every tag is closed in
 its order, nothing runs and nothing is fetched, and the policy in its head forbids both. Its first line, its counts, its rows with their titles, accesses and locks, and
 its runs are those of the texts that `triage` and `explain` print, neither more nor fewer. Each picture is judged by pictured.py: it draws the schedule that `witness`
-prints, which by plain.py is a correct reordering that shows the row's pair. The traces are those of examples/, traces whose names look like markup, and such
+prints, which by plain.py is a correct reordering that shows the row's pair. With a file of followed races, each race has beside it what the file's first line on its two
+locations says, and no other race's. The traces are those of examples/, traces whose names look like markup, and such
 that are drawn by chance. Says what is wrong, if something is, and ends with status 1 then, also where something that has to be seen was never met.
 """
 
 import collections
 import html.parser
+import json
 import os
 import random
 import re
@@ -26,7 +28,8 @@ from explained import Wrong
 
 TRACES = 40
 MOST_EVENTS = [8, 16, 28]
-REACHED = ["race", "undecided", "untried", "apart", "picture", "locks", "replaced", "known", "hidden", "left out", "undrawn", "pictures", "arrows", "schedules", "raced", "functions", "callers", "freed", "more variables", "pictures with earlier runs", "pictures with a shared column"]
+REACHED = ["race", "undecided", "untried", "apart", "picture", "locks", "replaced", "known", "hidden", "left out", "undrawn", "pictures", "arrows", "schedules", "raced", "functions", "callers", "freed", "more variables", "pictures with earlier runs", "pictures with a shared column",
+    "order matters", "same in both orders", "order not known", "other memory", "departed", "not followed", "of these events", "of other events", "turned round", "told twice"]
 # A trace with so many events at most is small enough for a plain program to go over its schedules.
 SMALL = 60
 POLICY = "default-src 'none'; style-src 'unsafe-inline'; base-uri 'none'; form-action 'none'"
@@ -270,19 +273,64 @@ def shell_word(name):
     return ("./" if name.startswith("-") else "") + (name if plain else "'" + name.replace("'", "'\\''") + "'")
 
 
+def locations_of(lines):
+    """The two locations of each race of a text, as bytes, by its two events."""
+    found, block = {}, []
+    for line in lines:
+        if re.match(rb"(race|undecided|apart) \d+ \d+ ", line):
+            block = []
+            if line.startswith(b"race "):
+                found[tuple(map(int, line.split(b" ")[1:3]))] = block
+        elif re.match(rb"  \S", line):
+            block.append(line.split(b"|", 2)[2])
+    return found
+
+
+def entry_on(entries, locations):
+    """The first entry that has these locations, in one order or the other."""
+    for entry in entries:
+        if [text.encode() for text in entry["locations"]] in (locations, locations[::-1]):
+            return entry
+    return None
+
+
+WHY = {
+    "not followed": "No line of the file has these two locations, so nothing is known of this race on the real program.",
+    "departed": "The run went another way than the schedule, so the race did not stand",
+    "other memory": "Both threads were at their accesses, on different memory",
+    "order matters": "The order matters",
+    "same in both orders": "The program ended the same with either access first",
+    "order not known": "Whether the order matters is not known",
+}
+ELSEWHERE = "The two locations are those of this race, and the events are not. The file is of another recording, or of another triage of this one."
+
+
+def beside(entry):
+    """What stands beside a race with this entry."""
+    if entry is None:
+        return "not followed"
+    if entry["ended"] == "departed":
+        return "departed"
+    if entry.get("same_memory") is False:
+        return "other memory"
+    return {True: "order matters", False: "same in both orders", None: "order not known"}[entry.get("matters")]
+
+
 class Judge:
     def __init__(self, program):
         self.program = program
         self.tally = collections.Counter()
         self.pictures = {}
         self.trace = None
+        self.followed = None
+        self.locations = {}
 
     def explained(self, name, block):
         out = running.printed(self.program, ["explain", name, str(block.first), str(block.second), "--all"])
         return [shown(line) for line in out.split(b"\n")[:-1]]
 
     def judge_picture(self, name, block):
-        """Judges the picture of the row of a race: it is that of the schedule which `witness` prints, and that shows the pair."""
+        """Judges the picture of the row of a race: it is that of the schedule which `witness` prints, and that shows the pair. Answers the schedule."""
         pair = (block.first, block.second)
         if pair not in self.pictures:
             raise Wrong(f"no picture of {pair}")
@@ -292,17 +340,56 @@ class Judge:
             picture = pictured.Picture(self.pictures[pair])
             if picture.one("title") != f"A schedule that shows {pair[0]} and {pair[1]}" or picture.one("desc") != " ".join(["Its events:", *map(str, listed)]):
                 raise Wrong(f"the picture of {pair} is {picture.one('title')!r}, {picture.one('desc')!r}")
-            return
+            return listed
         if len(self.trace.events) <= SMALL:
             if not self.trace.is_reordering(listed) or not self.trace.shows(listed, *pair):
                 raise Wrong(f"{listed} is no correct reordering that shows {pair}")
             self.tally["schedules"] += 1
         pictured.judge_picture(self.trace, self.tally, self.pictures[pair], pair, listed)
+        return listed
+
+    def judge_followed(self, row, block):
+        """Judges what the row of a race says of having been followed. Answers how many of its tables and texts are about that."""
+        seen = [span.text() for span in row.one("summary").all("span") if "seen" in span.attributes["class"].split()]
+        heads = [head.text() for head in row.all("h4")]
+        if self.followed is None or block.sort != "race":
+            if seen or "Seen in a run, not proved" in heads:
+                raise Wrong(f"beside {block}: {seen}")
+            return 0
+        pair = (block.first, block.second)
+        locations = self.locations[pair]
+        entry = entry_on(self.followed, locations)
+        word = beside(entry)
+        told = [paragraph.text() for paragraph in row.all("p")]
+        if seen != [word] or heads[1] != "Seen in a run, not proved":
+            raise Wrong(f"{seen} beside {pair}, and plainly {word}")
+        self.tally[word] += 1
+        if entry is None:
+            if told != [WHY[word]]:
+                raise Wrong(f"{told} beside {pair}")
+            return 0
+        why = shown(entry.get("why", "").encode())
+        wanted = [WHY[word] + (f": {why}" if why else "") + "."] + [ELSEWHERE] * (entry["events"] != list(pair))
+        if told != wanted:
+            raise Wrong(f"{told} beside {pair}, and plainly {wanted}")
+        lines = [[cell.text() for cell in line.children] for line in list(row.all("table"))[1].one("tbody").all("tr")]
+        ends = [[], []] if word == "departed" else [[shown(entry.get(name, "").encode())] for name in ("first", "second")]
+        places = [shown(text.encode().split(b" < ")[0]) for text in entry["locations"]]
+        rows = [[letter, str(event), place, *end] for letter, event, place, end in zip("AB", entry["events"], places, ends)]
+        if lines != rows:
+            raise Wrong(f"{lines} beside {pair}, and plainly {rows}")
+        if list(row.all("pre"))[0].text() != shown(entry.get("text", "").encode()) + "\n":
+            raise Wrong(f"the text beside {pair}")
+        self.tally["of other events" if entry["events"] != list(pair) else "of these events"] += 1
+        self.tally["turned round"] += [text.encode() for text in entry["locations"]] != locations
+        self.tally["told twice"] += entry_on(self.followed[self.followed.index(entry) + 1 :], locations) is not None
+        return 1
 
     def judge_row(self, row, block, name, is_drawn):
         if row.attributes != {"id": f"{block.sort}-{block.first}-{block.second}"}:
             raise Wrong(f"a row {row.attributes}, and not {block}")
-        facts = [span.text() for span in row.one("summary").all("span")]
+        facts = [span.text() for span in row.one("summary").all("span") if span.attributes["class"] == "facts"]
+        followed = self.judge_followed(row, block)
         explained = self.explained(name, block)
         is_untried = facts_of(block).endswith(" 0 tried")
         reasons = [UNTRIED] if is_untried else reasons_of(explained) if block.sort == "apart" else explained[:1]
@@ -312,17 +399,21 @@ class Judge:
         if row.one("h3").text() != title_of(block, self.tally):
             raise Wrong(f"the title is {row.one('h3').text()!r}, and plainly {title_of(block, self.tally)!r}")
         self.tally["raced"] += block.sort == "apart" and reasons != explained[:1]
-        lines = [access_of(line) for line in row.one("table").one("tbody").all("tr")]
+        lines = [access_of(line) for line in next(row.all("table")).one("tbody").all("tr")]
         accesses = [(event, *access) for event, access in zip((block.first, block.second), block.accesses)]
         if lines != accesses:
             raise Wrong(f"{lines}, and not {accesses}")
         pictures = list(row.all("svg"))
         runs, commands = [], list(row.all("pre"))[-1].text()
         if is_drawn:
-            runs = list(row.all("pre"))[0].text().split("\n")[:-1]
+            runs = list(row.all("pre"))[followed].text().split("\n")[:-1]
             if len(pictures) != 1:
                 raise Wrong(f"{len(pictures)} pictures")
-            self.judge_picture(name, block)
+            listed = self.judge_picture(name, block)
+            caption = row.one("figcaption").text()
+            begin = f"After {counted(str(len(listed)), 'event')} both are next: {block.first} and {block.second}. "
+            if not caption.startswith(begin) or not caption.endswith("All runs stand in words below."):
+                raise Wrong(f"the caption is {caption}")
             if runs != explained:
                 raise Wrong(f"{runs}, and not {explained}")
         elif pictures:
@@ -335,10 +426,15 @@ class Judge:
         self.tally["locks"] += sum(len(access[1]) for access in block.accesses)
         self.tally["replaced"] += any("\ufffd" in access[0] for access in block.accesses)
 
-    def judge(self, name, words):
-        """Judges the page that these words give."""
+    def judge(self, name, words, followed=None):
+        """Judges the page that these words give, with the lines of followed races if there are such."""
         lines = running.printed(self.program, ["triage", name, *words]).split(b"\n")[:-1]
+        if followed is not None:
+            running.write("followed", "".join(json.dumps(entry, sort_keys=True) + "\n" for entry in followed))
+            words = [*words, "--confirmed", "followed"]
         page = running.printed(self.program, ["triage", name, "--page", *words])
+        self.followed = followed
+        self.locations = locations_of(lines)
         root = read(page)
         self.pictures = pictures_of(page)
         self.trace = plain_trace(name)
@@ -358,6 +454,10 @@ class Judge:
         for sort, section in zip(sorts, sections):
             self.judge_section(section, [block for block in blocks if block.sort == sort], name)
         told = "".join(paragraph.text() for paragraph in root.one("main").all("p"))
+        if (f"Runs showed it, and it is not proved. The file has {counted(str(len(followed or [])), 'line')}." in told) != (followed is not None and races > 0):
+            raise Wrong("no word of what was seen and is not proved")
+        if ("This is what runs showed, and no proof rests on it." in told) != (followed is not None):
+            raise Wrong("no word of what stands beside a race")
         for line in lines[11:]:
             if re.fullmatch(rb"(known|hidden) [1-9]\d*", line):
                 word, number = line.decode("ascii").split(" ")
@@ -426,6 +526,32 @@ def write(name, text):
         out.write(text)
 
 
+TEXTS = ["", "status 0", "signal 11 (SIGSEGV)", "hangs", "</td><script>alert(1)</script>", '"\u0007\u202e<!--', "the endings differ", "&lt;]]>\U0001f600"]
+
+
+def followed_line(chance, events, locations):
+    """A line on these events and locations, with texts of all kinds."""
+    entry = {"events": events, "locations": locations, "places": [text.split(" < ")[0] for text in locations], "text": chance.choice(TEXTS)}
+    if chance.random() < 0.2:
+        return {**entry, "ended": "departed", "at": chance.choice([None, events[0]])}
+    texts = {name: chance.choice(TEXTS) for name in ("first", "second", "why")}
+    flags = {"matters": chance.choice([True, False, None]), "same_memory": chance.random() < 0.8}
+    return {**entry, **texts, **flags, "ended": "stands", "liberties": []}
+
+
+def followed_lines(chance, judge, name):
+    """Lines on some of the races of a trace, with other events, the locations turned round, or twice; and on races that it does not have."""
+    lines = running.printed(judge.program, ["triage", name]).split(b"\n")[:-1]
+    entries = [followed_line(chance, [3, 1048575], ["no.c:1", "such.c:2 < location"])]
+    for pair, locations in locations_of(lines).items():
+        texts = [text.decode() for text in locations]
+        for _ in range(chance.choice([0, 1, 1, 1, 2])):
+            events = list(pair) if chance.random() < 0.7 else [pair[0] + 1, pair[1] + 2]
+            entries.append(followed_line(chance, events, texts if chance.random() < 0.7 else texts[::-1]))
+    chance.shuffle(entries)
+    return entries
+
+
 def judge_made(judge, here):
     """The traces that are not drawn."""
     for name in ["count.std", "pdsh.std", "two_pairs.std"]:
@@ -452,6 +578,9 @@ def judge_made(judge, here):
     judge.judge("raced", ["--apart"])
     write("empty", b"")
     judge.judge("empty", ["--apart"])
+    for name in ["count.std", "pdsh.std", "framed", "empty", "many"]:
+        judge.judge(name, ["--apart"] if name != "many" else [], followed_lines(random.Random(name), judge, name))
+    judge.judge("count.std", [], [])
 
 
 def main():
@@ -477,7 +606,7 @@ def main():
             choices = [[], ["--apart"], ["--known", "known"] if "\nrace " in known else [], ["--hide", "p0.c"]]
             words = ["--tries", chance.choice(["0", "1", "16"]), *chance.choice(choices)]
             try:
-                judge.judge("trace", words)
+                judge.judge("trace", words, followed_lines(chance, judge, "trace") if chance.random() < 0.5 else None)
             except Wrong as what:
                 sys.exit(f"page, seed {number}, {words}: {what}{running.given(['', 'trace'])}")
     tally = judge.tally

@@ -439,6 +439,36 @@ class Trace:
 # the commands of a batch, each of which is the call that it is alone.
 
 
+def is_on(lock, events):
+    """How many of the events are on the lock."""
+    return sum(event.word in ("acq", "rel") and event.name == lock for event in events)
+
+
+def prologue(events, start, end, name):
+    """The events that take what is held at `start`, before the events up to `end`; `name` is that of their variable and lock."""
+    trace, part = Trace(events), events[start:end]
+    locks = list(dict.fromkeys(event.name for event in events if event.word in ("acq", "rel")))
+    taken = [(thread, lock) for lock in locks for thread in trace.threads() for _ in range(min(holds(events[:start], thread, lock), 2 * is_on(lock, part)))]
+    made = []
+    for thread, lock in taken:
+        made += [Event(thread, "acq", name), Event(thread, "r", name), Event(thread, "rel", name), Event(thread, "acq", lock)]
+        made += [Event(thread, "acq", name), Event(thread, "w", name), Event(thread, "rel", name)]
+    forked = {event.name for event in part if event.word == "fork"}
+    own = {event.thread for event in part} - forked
+    for thread in trace.threads() if taken else []:
+        made += [Event(thread, word, name) for word in ("acq", "r", "rel") if thread in own]
+    return made
+
+
+def new_name(events):
+    """`window` with as few underscores as make it a name that no variable and no lock has."""
+    used = {event.name for event in events if event.word not in ("fork", "join")}
+    name = "window"
+    while name in used:
+        name += "_"
+    return name
+
+
 def words_of(call):
     """The line of the call in a script, without its client."""
     if call[0] == "batch":

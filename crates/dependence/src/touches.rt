@@ -10,7 +10,7 @@ ghost use Rattle.dependence.specs.Places.{HasAt};
 
 use crate::numbers::Numbers;
 use indexmap::IndexMap;
-use moves::{Command, Name};
+use moves::{Command, Guesses, Name};
 use rapid_text::{OutOfMemory, TextKeyed};
 use std::alloc::Global;
 use std::marker::Model;
@@ -25,8 +25,8 @@ type ByName = IndexMap<Name, Numbers, TextKeyed>;
 #[derive(Drop)]
 pub struct Touches {
     lists: ByName,
-    // the place of the name that was touched last, where calls on one name follow each other
-    recent: usize,
+    // where names stand among the lists
+    guesses: Guesses,
     alloc: Global,
 }
 
@@ -53,7 +53,7 @@ impl Touches {
     {
         Touches {
             lists: IndexMap::with_hasher(alloc, hashers),
-            recent: 0,
+            guesses: Guesses::new(),
             alloc,
         }
     }
@@ -64,15 +64,16 @@ impl Touches {
         ensures ok { OnOk result ((x : List ℕ) → under self.new x ≡ (if bytes_eq x name then insert_key nat_cmp (under self.old x) entry else under self.old x)) }
         ensures err { OnErr result (Same self.old self.new) }
     {
-        if let Some(at) = place_of(&self.lists, self.recent, &name) {
-            self.recent = at;
+        let guess = self.guesses.place(&name);
+        if let Some(at) = place_of(&self.lists, guess, &name) {
+            self.guesses.note(&name, guess, at);
             let (_, list) = self.lists.pair_mut(at);
             return list.place(entry);
         }
         let mut list = Numbers::empty(self.alloc);
         list.place(entry)?;
         let (at, _) = self.lists.insert_full(name, list)?;
-        self.recent = at;
+        self.guesses.note(&name, guess, at);
         Ok(())
     }
 
@@ -80,8 +81,9 @@ impl Touches {
         ensures taken { (x : List ℕ) → under self.new x ≡ (if bytes_eq x name.now then without entry (under self.old x) else under self.old x) }
         ensures gone { list_any (nat_eq entry) (under self.new name.now) ≡ false }
     {
-        if let Some(at) = place_of(&self.lists, self.recent, name) {
-            self.recent = at;
+        let guess = self.guesses.place(name);
+        if let Some(at) = place_of(&self.lists, guess, name) {
+            self.guesses.note(name, guess, at);
             let (_, list) = self.lists.pair_mut(at);
             list.remove(entry);
         }
@@ -157,7 +159,7 @@ impl Touches {
         ensures least { IsLeastAbove entry (under self.now name.now) result }
         ensures first { result ≡ find (λ k. nat_lt entry k) (under self.now name.now) }
     {
-        let at = place_of(&self.lists, self.recent, name)?;
+        let at = place_of(&self.lists, self.guesses.place(name), name)?;
         let (_, list) = self.lists.get_index(at)?;
         list.first_after(entry)
     }
@@ -173,13 +175,13 @@ fn is_at(lists: &ByName, at: usize, name: &Name) -> bool
     }
 }
 
-/// The place of the name's list. Where it is the recent one the name has not to be hashed.
-fn place_of(lists: &ByName, recent: usize, name: &Name) -> Option<usize>
+/// The place of the name's list. If it is the guessed one, the name has not to be hashed.
+fn place_of(lists: &ByName, guess: usize, name: &Name) -> Option<usize>
     ensures none { IfNone result (lookup (bytes_eq name.now) lists.now.entries ≡ None) }
     ensures some { IfSome result (λ at. HasAt lists.now.entries at name.now) }
 {
-    if is_at(lists, recent, name) {
-        return Some(recent);
+    if is_at(lists, guess, name) {
+        return Some(guess);
     }
     let (at, _, _) = lists.get_full(name)?;
     Some(at)

@@ -25,7 +25,7 @@ use Rattle.moves.specs.Rows.{Rows, row_of, put_in, with_row, IsListing, IsFree, 
 use Rattle.moves.specs.Commands.{writes}
 use Rattle.moves.specs.Judged.{Makes, IsJudged}
 use Rattle.moves.specs.Moves.{made_at, applied, put_made, front}
-use Rattle.moves.specs.Inverses.{stepped, in_row, turned, IsReordered, Fits, CanTurn, IsTurned}
+use Rattle.moves.specs.Inverses.{stepped, in_row, turned, is_change, IsReordered, Fits, CanTurn, IsTurned}
 use Rattle.moves.proofs.BirthLemmas.{in_tree, held_set}
 use Rattle.moves.proofs.ChainLemmas.{IsPlain, plain_step, made_free}
 use Rattle.moves.proofs.RowLemmas.{listing-with_row, with_row-same, put_same, removed_none}
@@ -41,6 +41,15 @@ turned_stepped (Was s) r t is = ap (in_row r) is
 turned_stepped Loses r t is = ap (in_row r) is
 turned_stepped (Gains e) r t is = ap (in_row r) is
 turned_stepped (Exchanges k) r t is = ap (in_row r) is
+
+-- a step that leaves the row there, and can be taken there, can be taken of its schedule
+turned_may : (step : Step) (r : Row) (o : Option Row) → is_change step ≡ true → turned step (Some r) ≡ Some o → stepped step r.schedule ≢ None
+turned_may Goes r o stays is none = absurd cc
+turned_may (Comes q) r o stays is none = absurd cc
+turned_may (Was s) r o stays is none = absurd cc
+turned_may Loses r o stays is none = let gone : in_row r (stepped Loses r.schedule) ≡ None = ap (in_row r) none in absurd cc
+turned_may (Gains e) r o stays is none = let gone : in_row r (stepped (Gains e) r.schedule) ≡ None = ap (in_row r) none in absurd cc
+turned_may (Exchanges k) r o stays is none = let gone : in_row r (stepped (Exchanges k) r.schedule) ≡ None = ap (in_row r) none in absurd cc
 
 -- a row that comes
 pub comes_turned : (W V : Rows) (x : List ℕ) (r : Row) (step : Step) → row_of W x ≡ None → step ≡ Comes r → V ≡ put_in x r W → IsTurned x step W V
@@ -60,6 +69,9 @@ module _ (N : List (List ℕ × ℕ)) (M : List (ℕ × (List ℕ × Row))) (hel
 
   slot_row : row_of old x ≡ Some slot.1
   slot_row = sym (ap (λ S. row_of S x) is_old) ∙ at.2 ∙ ap (λ (p : List ℕ × Row). Some p.1) slot_is
+
+  pub change_may : (step : Step) → is_change step ≡ true → CanTurn x step old → stepped step slot.1.schedule ≢ None
+  change_may step stays can = turned_may step slot.1 can.0 stays (sym (ap (turned step) slot_row) ∙ can.1)
 
   module _ (t : Scheduled) (U : List (ℕ × (List ℕ × Row))) (set : U ≡ set_value (is_at (nat_cmp a)) M (slot.0, with_schedule slot.1 t)) where
     is_set : (values_of U ≡ with_row (values_of M) slot.0 (Some (with_schedule slot.1 t))) × IsHeld N U

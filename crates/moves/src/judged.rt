@@ -239,7 +239,7 @@ fn drop_row<'a>(
 {
     let _ = indexed;
     let _ = board;
-    if !rows.contains(name) {
+    if !rows.has(name) {
         return Err(MoveRefusal::NoSuchSchedule);
     }
     Ok(Judged::Goes)
@@ -256,7 +256,7 @@ fn adopt<'a>(
     ensures judged { IsJudged indexed.now board.now (Command.Adopt name proposal) rows.now result }
     ensures source { IsBoardOf indexed.now board.now → IfOk result (λ j. IsSourceOf indexed.now j) }
 {
-    if !rows.contains(name) {
+    if !rows.has(name) {
         return Err(MoveRefusal::NoSuchSchedule);
     }
     if proposal as usize >= board.len() {

@@ -14,6 +14,7 @@ ghost use Rattle.moves.specs.Inverses.{CanTurn, IsTurned, Fits, wants_memory, is
 use crate::birth::Birth;
 use crate::board::Board;
 use crate::command::Command;
+use crate::guesses::Guesses;
 use crate::inverse::{Inverse, Step, turn_schedule};
 use crate::judged::{copy_of, judge};
 use crate::lists::Names;
@@ -35,8 +36,8 @@ type Births = IndexMap<Name, Birth, TextKeyed>;
 #[derive(Drop)]
 pub(crate) struct Listing {
     births: Births,
-    // the place among the births of the name that was put in last
-    recent: usize,
+    // where names stand among the births
+    guesses: Guesses,
     rows: BTreeMap<u128, (Name, Row)>,
 }
 
@@ -59,7 +60,7 @@ impl Listing {
     {
         Listing {
             births: IndexMap::with_hasher(alloc, hashers),
-            recent: 0,
+            guesses: Guesses::new(),
             rows: BTreeMap::new(alloc),
         }
     }
@@ -148,12 +149,19 @@ impl Listing {
         self.births.contains_key(&name)
     }
 
+    /// The same, and quicker where the name has a row.
+    pub(crate) fn has(&self, name: Name) -> bool
+        ensures { result ≡ is_some (row_of self.now name) }
+    {
+        self.find(name).is_some()
+    }
+
     /// The birth of a name's row.
     pub(crate) fn find(&self, name: Name) -> Option<Birth>
         ensures none { IfNone result (row_of self.now name ≡ None) }
         ensures some { IfSome result (λ birth. IsAt self.now birth name) }
     {
-        let birth = birth_of(&self.births, self.recent, &name)?;
+        let birth = birth_of(&self.births, self.guesses.place(&name), &name)?;
         Some(birth)
     }
 
@@ -195,7 +203,7 @@ impl Listing {
         };
         let birth = row.birth;
         let Err(failed) = self.rows.insert(birth.age(), (name, row)) else {
-            self.recent = self.births.len();
+            self.guesses.note(&name, usize::MAX, self.births.len());
             let _ = self.births.insert(name, birth);
             return Ok(());
         };
@@ -209,7 +217,7 @@ impl Listing {
         ensures gone { row_of self.new name ≡ None }
         ensures unchanged { IfNone result (self.new ≡ self.old) }
     {
-        let birth = take_birth(&mut self.births, self.recent, &name)?;
+        let birth = take_birth(&mut self.births, self.guesses.place(&name), &name)?;
         let (_, row) = take_out(&mut self.rows, birth.age()).unwrap();
         Some(row)
     }
@@ -280,7 +288,7 @@ impl Listing {
         ensures returned { IfErr result (λ s. s ≡ step) }
         ensures succeeds { wants_memory step ≡ false → IsOk result }
     {
-        let Some(birth) = self.find(name) else {
+        let Some(birth) = birth_noted(&self.births, &mut self.guesses, &name) else {
             return Err(step);
         };
         let (_, row) = self.rows.get_mut(&birth.age()).unwrap();
@@ -308,35 +316,48 @@ fn take_out(rows: &mut BTreeMap<u128, (Name, Row)>, birth: u128) -> Option<(Name
     rows.remove(&birth)
 }
 
-/// The birth of the name, where its place is the recent one.
-fn recent_birth(births: &Births, recent: usize, name: &Name) -> Option<Birth>
-    ensures { IfSome result (λ birth. HasBirth births.now.entries recent name.now birth) }
+/// The birth of the name, where it stands at the guessed place.
+fn guessed_birth(births: &Births, place: usize, name: &Name) -> Option<Birth>
+    ensures { IfSome result (λ birth. HasBirth births.now.entries place name.now birth) }
 {
-    match births.get_index(recent) {
+    match births.get_index(place) {
         Some((key, birth)) if key == name => Some(*birth),
         _ => None,
     }
 }
 
-/// The birth of the name's row. Where its place is the recent one the name has not to be hashed.
-fn birth_of(births: &Births, recent: usize, name: &Name) -> Option<Birth>
+/// The birth of the name's row. If it stands at the guessed place, the name has not to be hashed.
+fn birth_of(births: &Births, place: usize, name: &Name) -> Option<Birth>
     ensures value { result ≡ lookup (bytes_eq name.now) births.now.entries }
 {
-    if let Some(birth) = recent_birth(births, recent, name) {
+    if let Some(birth) = guessed_birth(births, place, name) {
         return Some(birth);
     }
     births.get(name).copied()
 }
 
+/// The same, and where the name stands is noted.
+fn birth_noted(births: &Births, guesses: &mut Guesses, name: &Name) -> Option<Birth>
+    ensures value { result ≡ lookup (bytes_eq name.now) births.now.entries }
+{
+    let place = guesses.place(name);
+    if let Some(birth) = guessed_birth(births, place, name) {
+        return Some(birth);
+    }
+    let (at, _, birth) = births.get_full(name)?;
+    guesses.note(name, place, at);
+    Some(*birth)
+}
+
 /// Takes out the birth of the name's row, in the same way.
-fn take_birth(births: &mut Births, recent: usize, name: &Name) -> Option<Birth>
+fn take_birth(births: &mut Births, place: usize, name: &Name) -> Option<Birth>
     ensures value { result ≡ lookup (bytes_eq name.now) births.old.entries }
     ensures updates { (y : List ℕ) → lookup (bytes_eq y) births.new.entries
         ≡ (if bytes_eq name.now y then None else lookup (bytes_eq y) births.old.entries) }
     ensures unchanged { IfNone result (births.new.entries ≡ births.old.entries) }
 {
-    if recent_birth(births, recent, name).is_some() {
-        let (_, birth) = births.swap_remove_index(recent)?;
+    if guessed_birth(births, place, name).is_some() {
+        let (_, birth) = births.swap_remove_index(place)?;
         return Some(birth);
     }
     births.swap_remove(name)

@@ -63,8 +63,8 @@ impl Name {
         &self.padded[..self.len as usize]
     }
 
-    // The bytes of the name and zeros up to a whole word, since hashers take whole words at once.
-    fn words(&self) -> &[u8]
+    /// The bytes of the name and zeros up to a whole word, since hashers take whole words at once.
+    pub(crate) fn words(&self) -> &[u8]
         ensures { result.now ≡ whole_words self.now }
     {
         let len = self.len as usize;
@@ -97,7 +97,7 @@ impl Hash for Name {
 }
 
 /// Whether the bytes are a name.
-fn is_name(bytes: &[u8]) -> bool
+pub fn is_name(bytes: &[u8]) -> bool
     ensures { result ≡ is_name bytes.now }
 {
     !bytes.is_empty() && bytes.len() <= 64 && are_name_bytes(bytes)

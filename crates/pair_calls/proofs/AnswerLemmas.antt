@@ -7,8 +7,10 @@ use Rattle.client_scripts.specs.Replay.{AppendsPart, IsFault, of_trace}
 use Rattle.client_scripts.specs.declared.fault.ReadCause.{ReadCause}
 use Rattle.client_scripts.specs.declared.fault.ReplayFault.{ReplayFault}
 use Rattle.client_scripts.specs.declared.fault.ReplayFault.TheVariants.{Text, Rule, Script, Read, Write, OutOfMemory}
-use Rattle.pair_calls.specs.Answers.{IsAnswered, IsListed, IsPairOf, IsUnexplained, IsUnlisted, IsUnwitnessed, IsWitness, IsWritten}
+use Rattle.pair_calls.specs.Answers.{IsAnswered, IsListed, IsUnexplained, IsUnlisted, IsUnwitnessed, IsWitness, IsWritten}
+use Rattle.source_places.specs.declared.name.Name.{Name}
 use Rattle.pair_calls.specs.Forms.{IsPrinted}
+use Rattle.pair_calls.specs.Named.{IsNamedPair}
 use Rattle.pair_calls.specs.declared.fault.PairFault.{PairFault}
 use Rattle.pair_calls.specs.declared.form.Form.{Form}
 use Rattle.pair_calls.specs.declared.fault.PairFault.TheVariants.{Replay, NoSuchPair, NotShown}
@@ -48,7 +50,7 @@ module _ (Prints : Recording → List ℕ → Type 0) (Refuses : Recording → P
         absurd (cc (only_memory (Read input why) at.0))
 
 -- the faults of finding are no faults of reading
-pub unexplained-memory : (r : Recording) (one other : ℕ) (fault : ReplayFault) → IsUnexplained r one other (Replay fault) → fault ≡ OutOfMemory
+pub unexplained-memory : (r : Recording) (one other : Name) (fault : ReplayFault) → IsUnexplained r one other (Replay fault) → fault ≡ OutOfMemory
 unexplained-memory r one other OutOfMemory h = refl
 unexplained-memory r one other (Text refusal) h = absurd h
 unexplained-memory r one other (Rule refusal) h = absurd h
@@ -56,7 +58,7 @@ unexplained-memory r one other (Script refusal) h = absurd h
 unexplained-memory r one other (Read input why) h = absurd h
 unexplained-memory r one other Write h = absurd h
 
-pub unwitnessed-memory : (r : Recording) (one other : ℕ) (fault : ReplayFault) → IsUnwitnessed r one other (Replay fault) → fault ≡ OutOfMemory
+pub unwitnessed-memory : (r : Recording) (one other : Name) (fault : ReplayFault) → IsUnwitnessed r one other (Replay fault) → fault ≡ OutOfMemory
 unwitnessed-memory r one other OutOfMemory h = refl
 unwitnessed-memory r one other (Text refusal) h = absurd h
 unwitnessed-memory r one other (Rule refusal) h = absurd h
@@ -73,7 +75,7 @@ text-written Prints Refuses r known new text shown same right (Err fault) ok err
     subst (λ (f : PairFault). IsWritten Prints Refuses r known new (Err f)) (sym why) (shown, subst (Prints r) (sym same) right, err)
 
 -- why no schedule of the pair is printed, of the two as they were given
-pub unlisted-unwitnessed : (r : Recording) (one other a b : ℕ) → IsPairOf one other a b → (fault : PairFault) → IsUnlisted r a b fault → IsUnwitnessed r one other fault
+pub unlisted-unwitnessed : (r : Recording) (one other : Name) (a b : ℕ) → IsNamedPair r one other a b → (fault : PairFault) → IsUnlisted r a b fault → IsUnwitnessed r one other fault
 unlisted-unwitnessed r one other a b pair (Replay OutOfMemory) h = tt
 unlisted-unwitnessed r one other a b pair (Replay (Text refusal)) h = absurd h
 unlisted-unwitnessed r one other a b pair (Replay (Rule refusal)) h = absurd h
@@ -84,7 +86,7 @@ unlisted-unwitnessed r one other a b pair NoSuchPair h = absurd h
 unlisted-unwitnessed r one other a b pair (NotShown kind) h = (a, b, pair, h)
 
 -- the text of a schedule that was found
-pub witness-text : (r : Recording) (one other a b : ℕ) (form : Form) → IsPairOf one other a b → (events shown empty printed text : List ℕ) → IsListed r a b events → shown ≡ events → empty ≡ []
+pub witness-text : (r : Recording) (one other : Name) (a b : ℕ) (form : Form) → IsNamedPair r one other a b → (events shown empty printed text : List ℕ) → IsListed r a b events → shown ≡ events → empty ≡ []
     → text ≡ empty ++ printed → IsPrinted r shown a b form printed → IsWitness r one other form text
 witness-text r one other a b form pair events shown empty printed text listed same none e is =
     let whole : text ≡ printed = e ∙ ap (λ (before : List ℕ). before ++ printed) none in

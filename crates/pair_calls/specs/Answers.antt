@@ -1,6 +1,6 @@
--- What a call on a pair answers of the bytes that it reads, and what its writer has taken. `one` and `other` are the pair as it is
--- given, `a` the earlier of the two, `b` the later. All notions here are this project's own.
-use Rattle.std.specs.Prelude.{◌≡◌, ℕ, List, ◌++◌, length, min, max, None, Option, Result, Ok, Err, ⊤}
+-- What a call on a pair answers of the bytes that it reads, and what its writer has taken. `one` and `other` name the pair, `a` is its earlier
+-- event, `b` the later. All notions here are this project's own.
+use Rattle.std.specs.Prelude.{◌≡◌, ℕ, List, ◌++◌, length, None, Option, Result, Ok, Err, ⊤}
 use Rattle.std.specs.Io.KnownBytes.{Appends}
 use Rattle.rapid_text.specs.Recording.{Recording}
 use Rattle.event_index.specs.Relations.{IsConflicting}
@@ -18,14 +18,12 @@ use Rattle.pair_findings.specs.declared.searching.TheConstants.{BUDGET}
 use Rattle.client_scripts.specs.Loading.{IsTraceOf}
 use Rattle.client_scripts.specs.Replay.{AppendsPart, IsFault, of_trace}
 use Rattle.client_scripts.specs.declared.fault.ReplayFault.TheVariants.{Write, OutOfMemory}
+use Rattle.source_places.specs.declared.name.Name.{Name}
 use Rattle.pair_calls.specs.Forms.{IsPrinted}
+use Rattle.pair_calls.specs.Named.{IsNamedPair, IsNoPair}
 use Rattle.pair_calls.specs.declared.fault.PairFault.{PairFault}
 use Rattle.pair_calls.specs.declared.form.Form.{Form}
 use Rattle.pair_calls.specs.declared.fault.PairFault.TheVariants.{Replay, NoSuchPair, NotShown}
-
--- a and b are the two events, the earlier first
-abbrev pub IsPairOf : ℕ → ℕ → ℕ → ℕ → Type 0
-IsPairOf one other a b = (a ≡ min one other) × (b ≡ max one other)
 
 -- the text tells a finding on the pair: its words, both accesses with the locks that are held, and the reason
 abbrev pub IsFindingTold : Recording → Finding → ℕ → ℕ → List ℕ → Type 0
@@ -41,19 +39,19 @@ pub record IsPairTold (r : Recording) (a b : ℕ) (text : List ℕ) : Type 0 whe
   pub never : IsNeverShown r.events a b finding
   pub printed : IsFindingTold r finding a b text
 
--- the two conflict, and the text tells a right finding on the pair
-pub record IsExplanation (r : Recording) (one other : ℕ) (text : List ℕ) : Type 0 where
+-- the two that the names mean conflict, and the text tells a right finding on the pair
+pub record IsExplanation (r : Recording) (one other : Name) (text : List ℕ) : Type 0 where
   pub a : ℕ
   pub b : ℕ
-  pub pair : IsPairOf one other a b
+  pub pair : IsNamedPair r one other a b
   pub conflict : IsConflicting r.events a b
   pub told : IsPairTold r a b text
 
 -- the text prints, in this form, a correct reordering that shows the pair
-pub record IsWitness (r : Recording) (one other : ℕ) (form : Form) (text : List ℕ) : Type 0 where
+pub record IsWitness (r : Recording) (one other : Name) (form : Form) (text : List ℕ) : Type 0 where
   pub a : ℕ
   pub b : ℕ
-  pub pair : IsPairOf one other a b
+  pub pair : IsNamedPair r one other a b
   pub how : How
   pub events : List ℕ
   pub found : IsFinding r a b (Race how events)
@@ -78,23 +76,19 @@ IsUnlisted r a b (Replay fault) = ⊥
 IsUnlisted r a b NoSuchPair = ⊥
 IsUnlisted r a b (NotShown kind) = IsNotShown r a b kind
 
--- one of the two is no event, or they do not conflict
-abbrev pub IsNoPair : Recording → ℕ → ℕ → Type 0
-IsNoPair r one other = ¬ IsConflicting r.events (min one other) (max one other)
-
 -- why a pair of this trace is not explained
-abbrev pub IsUnexplained : Recording → ℕ → ℕ → PairFault → Type 0
+abbrev pub IsUnexplained : Recording → Name → Name → PairFault → Type 0
 IsUnexplained r one other (Replay OutOfMemory) = ⊤
 IsUnexplained r one other (Replay fault) = ⊥
 IsUnexplained r one other NoSuchPair = IsNoPair r one other
 IsUnexplained r one other (NotShown kind) = ⊥
 
 -- why no schedule of it is printed
-abbrev pub IsUnwitnessed : Recording → ℕ → ℕ → PairFault → Type 0
+abbrev pub IsUnwitnessed : Recording → Name → Name → PairFault → Type 0
 IsUnwitnessed r one other (Replay OutOfMemory) = ⊤
 IsUnwitnessed r one other (Replay fault) = ⊥
 IsUnwitnessed r one other NoSuchPair = IsNoPair r one other
-IsUnwitnessed r one other (NotShown kind) = (a b : ℕ) × IsPairOf one other a b × IsNotShown r a b kind
+IsUnwitnessed r one other (NotShown kind) = (a b : ℕ) × IsNamedPair r one other a b × IsNotShown r a b kind
 
 -- What was written of a trace where `Prints` says which texts are right, and `Refuses` which faults: the whole text; or the writer
 -- failed, and it is a beginning of the text; or, at another fault, nothing.
@@ -116,11 +110,11 @@ IsAnswered Prints Refuses bytes old new (Err (NotShown kind)) =
     (r : Recording) × IsTraceOf bytes r × IsWritten Prints Refuses r old new (Err (NotShown kind))
 
 -- what `explain` answers of the pair
-abbrev pub IsExplained : List ℕ → ℕ → ℕ → Option (List ℕ) → Option (List ℕ) → Result Unit PairFault → Type 0
+abbrev pub IsExplained : List ℕ → Name → Name → Option (List ℕ) → Option (List ℕ) → Result Unit PairFault → Type 0
 IsExplained bytes one other old new result =
     IsAnswered (λ r text. IsExplanation r one other text) (λ r fault. IsUnexplained r one other fault) bytes old new result
 
 -- what `witness` answers of the pair, in this form
-abbrev pub IsWitnessed : List ℕ → ℕ → ℕ → Form → Option (List ℕ) → Option (List ℕ) → Result Unit PairFault → Type 0
+abbrev pub IsWitnessed : List ℕ → Name → Name → Form → Option (List ℕ) → Option (List ℕ) → Result Unit PairFault → Type 0
 IsWitnessed bytes one other form old new result =
     IsAnswered (λ r text. IsWitness r one other form text) (λ r fault. IsUnwitnessed r one other fault) bytes old new result

@@ -1,3 +1,4 @@
 pub mod Answers
-pub mod PairFaults
 pub mod Forms
+pub mod Named
+pub mod PairFaults

@@ -8,14 +8,16 @@ ghost use Rattle.pair_calls.specs.Answers.{IsExplained, IsExplanation, IsFinding
 ghost use Rattle.pair_calls.specs.declared.fault.PairFault.TheVariants.{Replay};
 
 use crate::fault::PairFault;
+use crate::naming::named_pair;
 use crate::writing::write_text;
 use client_scripts::{Sink, Source, read_trace};
 use event_index::Indexed;
 use explain_report::{Verdict, explain_text};
 use must_order::Must;
-use pair_findings::{Finding, find, pair_of};
+use pair_findings::{Finding, find};
 use rapid_text::OutOfMemory;
 use shb_clocks::Clocks;
+use source_places::Name;
 use std::alloc::Global;
 
 /// What is found of a conflicting pair, whose earlier event is the first.
@@ -184,18 +186,19 @@ fn append_explanation(
 fn explanation_of(
     alloc: Global,
     indexed: &Indexed,
-    one: u32,
-    other: u32,
+    one: Name<'_>,
+    other: Name<'_>,
     all: bool,
 ) -> Result<Vec<u8>, PairFault>
-    ensures text { IfOk result (λ text. IsExplanation indexed.now one other text.items) }
-    ensures fault { IfErr result (IsUnexplained indexed.now one other) }
+    ensures text { IfOk result (λ text. IsExplanation indexed.now one.entry other.entry text.items) }
+    ensures fault { IfErr result (IsUnexplained indexed.now one.entry other.entry) }
 {
-    let Some((first, second)) = pair_of(indexed, one, other) else {
-        return Err(PairFault::NoSuchPair);
+    let pair = match named_pair(alloc, indexed, one, other)? {
+        Some(pair) => pair,
+        None => return Err(PairFault::NoSuchPair),
     };
     let mut text = Vec::new(alloc);
-    append_explanation(&mut text, indexed, (first, second), all)?;
+    append_explanation(&mut text, indexed, pair, all)?;
     Ok(text)
 }
 
@@ -203,13 +206,13 @@ fn explanation_of(
 fn write_explanation<K: Sink>(
     alloc: Global,
     indexed: &Indexed,
-    one: u32,
-    other: u32,
+    one: Name<'_>,
+    other: Name<'_>,
     all: bool,
     writer: &mut K,
 ) -> Result<(), PairFault>
     requires { K.has_failed writer.old ≡ false }
-    ensures written { IsWritten (λ r text. IsExplanation r one other text) (λ r fault. IsUnexplained r one other fault)
+    ensures written { IsWritten (λ r text. IsExplanation r one.entry other.entry text) (λ r fault. IsUnexplained r one.entry other.entry fault)
         indexed.now (K.taken writer.old) (K.taken writer.new) result }
     ensures unread { (input : ℕ) (why : ReadCause) → result ≢ Err (Replay (Read input why)) }
     ensures failed { K.has_failed writer.new ≡ true → result ≡ Err (Replay Write) }
@@ -222,17 +225,17 @@ fn write_explanation<K: Sink>(
     write_text(writer, text.as_slice())
 }
 
-/// Reads a trace text, whole, and writes what is found of the pair of these two events, given in either order: a schedule that
-/// shows it, told by its runs; what keeps the two apart in every correct reordering of this trace; or that neither was found.
-/// Of a schedule of more than eleven runs the first are one block, unless `all` is true.
+/// Reads a trace text, whole, and writes what is found of the pair that these names mean, given in either order: a schedule
+/// that shows it, told by its runs; what keeps the two apart in every correct reordering of this trace; or that neither was
+/// found. Of a schedule of more than eleven runs the first are one block, unless `all` is true.
 ///
 /// Before the faults 91, 92, 94 and 98 nothing is written, nor where memory is refused. At 95 what was written is a beginning of
 /// the text.
 pub fn explain<S: Source, K: Sink>(
     alloc: Global,
     reader: &mut S,
-    one: u32,
-    other: u32,
+    one: Name<'_>,
+    other: Name<'_>,
     all: bool,
     writer: &mut K,
 ) -> Result<(), PairFault>
@@ -241,7 +244,7 @@ pub fn explain<S: Source, K: Sink>(
     // There is a text, the one that the reader tells where it tells it, of which this comes.
     ensures explained { (bytes : List ℕ)
         × IfSome (S.rest reader.old) (λ told. bytes ≡ told)
-        × IsExplained bytes one other (K.taken writer.old) (K.taken writer.new) result }
+        × IsExplained bytes one.entry other.entry (K.taken writer.old) (K.taken writer.new) result }
     // There is one input, and no second one is named.
     ensures input { (why : ReadCause) → result ≢ Err (Replay (Read 2 why)) }
     // The device is at fault exactly where a read failed, and the writer exactly where a write failed.

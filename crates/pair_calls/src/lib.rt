@@ -5,6 +5,7 @@
 mod explaining;
 mod fault;
 mod form;
+mod naming;
 mod witnessing;
 mod writing;
 
@@ -12,4 +13,5 @@ pub use explaining::explain;
 pub use fault::{PairFault, pair_fault_text};
 pub use form::Form;
 pub use must_order::Kind;
+pub use source_places::Name;
 pub use witnessing::witness;

@@ -4,17 +4,20 @@ ghost use Rattle.client_scripts.specs.declared.fault.ReadCause.{ReadCause};
 ghost use Rattle.client_scripts.specs.declared.fault.ReadCause.TheVariants.{Device};
 ghost use Rattle.client_scripts.specs.declared.fault.ReplayFault.TheVariants.{Write, Read};
 ghost use Rattle.event_index.specs.Relations.{IsConflicting};
+ghost use Rattle.pair_calls.specs.Named.{IsNamedPair};
 ghost use Rattle.pair_calls.specs.Answers.{IsUnwitnessed, IsWitness, IsWitnessed, IsWritten, IsListed, IsUnlisted};
 ghost use Rattle.pair_calls.specs.declared.fault.PairFault.TheVariants.{Replay};
 
 use crate::explaining::finding_of;
 use crate::fault::PairFault;
 use crate::form::{Form, append_schedule};
+use crate::naming::named_pair;
 use crate::writing::write_text;
 use client_scripts::{Sink, Source, read_trace};
 use event_index::{EventList, Indexed};
 use must_order::Kind;
-use pair_findings::{Finding, pair_of};
+use pair_findings::Finding;
+use source_places::Name;
 use std::alloc::Global;
 
 /// The schedule that shows a conflicting pair, whose earlier event is the first.
@@ -38,20 +41,23 @@ fn schedule_of(
     }
 }
 
-/// The text of the schedule that shows the pair.
-fn witness_of(
+/// The text of the schedule that shows the pair that these names mean.
+fn witness_of_pair(
     alloc: Global,
     indexed: &Indexed,
-    one: u32,
-    other: u32,
+    _one: Name<'_>,
+    _other: Name<'_>,
+    pair: (u32, u32),
     form: Form,
 ) -> Result<Vec<u8>, PairFault>
-    ensures text { IfOk result (λ text. IsWitness indexed.now one other form text.items) }
-    ensures fault { IfErr result (IsUnwitnessed indexed.now one other) }
+    requires named { IsNamedPair indexed.now _one _other pair.0 pair.1 }
+    requires first { pair.0 < length indexed.now.events }
+    requires second { pair.1 < length indexed.now.events }
+    requires conflict { IsConflicting indexed.now.events pair.0 pair.1 }
+    ensures text { IfOk result (λ text. IsWitness indexed.now _one.entry _other.entry form text.items) }
+    ensures fault { IfErr result (IsUnwitnessed indexed.now _one.entry _other.entry) }
 {
-    let Some((first, second)) = pair_of(indexed, one, other) else {
-        return Err(PairFault::NoSuchPair);
-    };
+    let (first, second) = pair;
     let events = match schedule_of(alloc, indexed, first, second) {
         Ok(events) => events,
         Err(fault) => return Err(fault),
@@ -61,17 +67,35 @@ fn witness_of(
     Ok(text)
 }
 
+/// The text of the schedule that shows the pair.
+fn witness_of(
+    alloc: Global,
+    indexed: &Indexed,
+    one: Name<'_>,
+    other: Name<'_>,
+    form: Form,
+) -> Result<Vec<u8>, PairFault>
+    ensures text { IfOk result (λ text. IsWitness indexed.now one.entry other.entry form text.items) }
+    ensures fault { IfErr result (IsUnwitnessed indexed.now one.entry other.entry) }
+{
+    match named_pair(alloc, indexed, one, other) {
+        Ok(Some(pair)) => witness_of_pair(alloc, indexed, one, other, pair, form),
+        Ok(None) => Err(PairFault::NoSuchPair),
+        Err(refused) => Err(PairFault::from(refused)),
+    }
+}
+
 /// Writes the text of the schedule that shows the pair.
 fn write_witness<K: Sink>(
     alloc: Global,
     indexed: &Indexed,
-    one: u32,
-    other: u32,
+    one: Name<'_>,
+    other: Name<'_>,
     form: Form,
     writer: &mut K,
 ) -> Result<(), PairFault>
     requires { K.has_failed writer.old ≡ false }
-    ensures written { IsWritten (λ r text. IsWitness r one other form text) (λ r fault. IsUnwitnessed r one other fault)
+    ensures written { IsWritten (λ r text. IsWitness r one.entry other.entry form text) (λ r fault. IsUnwitnessed r one.entry other.entry fault)
         indexed.now (K.taken writer.old) (K.taken writer.new) result }
     ensures unread { (input : ℕ) (why : ReadCause) → result ≢ Err (Replay (Read input why)) }
     ensures failed { K.has_failed writer.new ≡ true → result ≡ Err (Replay Write) }
@@ -84,7 +108,7 @@ fn write_witness<K: Sink>(
     write_text(writer, text.as_slice())
 }
 
-/// Reads a trace text, whole, and writes a schedule that shows the pair of these two events, given in either order, in this form:
+/// Reads a trace text, whole, and writes a schedule that shows the pair that these names mean, given in either order, in this form:
 /// a correct reordering of the trace after which both are next in their threads.
 ///
 /// Before the faults 91, 92, 94, 98 and 99 nothing is written, nor where memory is refused. At 95 what was written is a beginning
@@ -92,8 +116,8 @@ fn write_witness<K: Sink>(
 pub fn witness<S: Source, K: Sink>(
     alloc: Global,
     reader: &mut S,
-    one: u32,
-    other: u32,
+    one: Name<'_>,
+    other: Name<'_>,
     form: Form,
     writer: &mut K,
 ) -> Result<(), PairFault>
@@ -102,7 +126,7 @@ pub fn witness<S: Source, K: Sink>(
     // There is a text, the one that the reader tells where it tells it, of which this comes.
     ensures witnessed { (bytes : List ℕ)
         × IfSome (S.rest reader.old) (λ told. bytes ≡ told)
-        × IsWitnessed bytes one other form (K.taken writer.old) (K.taken writer.new) result }
+        × IsWitnessed bytes one.entry other.entry form (K.taken writer.old) (K.taken writer.new) result }
     // There is one input, and no second one is named.
     ensures input { (why : ReadCause) → result ≢ Err (Replay (Read 2 why)) }
     // The device is at fault exactly where a read failed, and the writer exactly where a write failed.

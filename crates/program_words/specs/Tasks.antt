@@ -1,11 +1,12 @@
 -- Which tasks the words may ask for. All notions here are this project's own.
 use Rattle.std.specs.Prelude.{◌<◌, ◌≤◌, IfSome, vec_len, ⊤}
+use Rattle.program_words.specs.declared.task.CutTask.{CutTask}
 use Rattle.program_words.specs.declared.task.Limits.{Limits}
 use Rattle.program_words.specs.declared.task.SessionTask.{SessionTask}
 use Rattle.program_words.specs.declared.task.ThreadsTask.{ThreadsTask}
 use Rattle.program_words.specs.declared.task.TriageTask.{TriageTask}
 use Rattle.program_words.specs.declared.task.Task.{Task}
-use Rattle.program_words.specs.declared.task.Task.TheVariants.{Joint, Info, Replay, Session, Log, Threads, Triage, Explain, Witness}
+use Rattle.program_words.specs.declared.task.Task.TheVariants.{Joint, Info, Replay, Session, Log, Threads, Triage, Explain, Witness, Cut}
 
 -- the client, where one is named, is one of those that there may be
 abbrev pub IsSessionWithin : Limits → SessionTask → Type 0
@@ -19,6 +20,10 @@ IsThreadsWithin limits task = (1 < vec_len task.paths) × (task.workers ≤ limi
 abbrev pub IsTriageWithin : Limits → TriageTask → Type 0
 IsTriageWithin limits task = (task.tries ≤ limits.tries) × (task.workers ≤ limits.workers)
 
+-- a window has an event
+abbrev pub IsCutWithin : CutTask → Type 0
+IsCutWithin task = 0 < task.most
+
 -- a task whose numbers are within the limits
 abbrev pub IsWithin : Limits → Task → Type 0
 IsWithin limits Joint = ⊤
@@ -30,3 +35,4 @@ IsWithin limits (Threads task) = IsThreadsWithin limits task
 IsWithin limits (Triage task) = IsTriageWithin limits task
 IsWithin limits (Explain pair all) = ⊤
 IsWithin limits (Witness pair form) = ⊤
+IsWithin limits (Cut task) = IsCutWithin task

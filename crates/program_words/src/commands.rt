@@ -11,10 +11,11 @@ pub(crate) enum CommandName {
     Triage,
     Explain,
     Witness,
+    Cut,
 }
 
 /// All of them, in the order of help.
-pub(crate) const COMMANDS: [CommandName; 8] = [
+pub(crate) const COMMANDS: [CommandName; 9] = [
     CommandName::Info,
     CommandName::Replay,
     CommandName::Session,
@@ -23,6 +24,7 @@ pub(crate) const COMMANDS: [CommandName; 8] = [
     CommandName::Triage,
     CommandName::Explain,
     CommandName::Witness,
+    CommandName::Cut,
 ];
 
 /// What is said of a command, or of the program itself, and the words that it takes.
@@ -78,6 +80,8 @@ pub(crate) enum Most {
     Workers,
     /// That of tries.
     Tries,
+    /// That of the events of a trace.
+    Events,
 }
 
 const TRACE: Word = Word {
@@ -95,13 +99,13 @@ const TRACE_FILE: Word = Word {
 const FIRST: Word = Word {
     name: "A",
     kind: Kind::Needed,
-    help: Some("Number of an event, counted from 0"),
+    help: Some("Event, counted from 0, or a location such as count.c:7"),
 };
 
 const SECOND: Word = Word {
     name: "B",
     kind: Kind::Needed,
-    help: Some("Number of an event, counted from 0"),
+    help: Some("Event, counted from 0, or a location such as count.c:7"),
 };
 
 const INFO: Words = Words {
@@ -296,6 +300,13 @@ locations may race.",
             help: Some("Write a self-contained HTML report, with a picture of each race"),
         },
         Word {
+            name: "confirmed",
+            kind: Kind::Text("FILE"),
+            help: Some(
+                "With --page, show beside each race how it came out in FILE, by `record/confirm --json`",
+            ),
+        },
+        Word {
             name: "fail",
             kind: Kind::Flag(&[]),
             help: Some("End with status 3 if a race is printed, or 4 if the trace has no events"),
@@ -314,10 +325,12 @@ const EXPLAIN: Words = Words {
     example: "For example
 
   racebench explain trace.std 7 12
+  racebench explain trace.std count.c:7 count.c:13
 
-Events are counted from 0, in the order of the trace. The first line is the verdict: `race`, with a
-schedule after which both are next in their threads; `apart`, with what keeps the two apart in every
-correct reordering of this trace; or `undecided`. Apart is about this trace only: each read keeps
+Events are counted from 0, in the order of the trace. A location is a file and a line, or a part
+that only one line has. Of two locations, `explain` takes the pair of events that `triage` reports.
+The first line is the verdict: `race`, with a schedule after which both are next in their threads;
+`apart`, with what keeps the two apart in every correct reordering of this trace; or `undecided`. Apart is about this trace only: each read keeps
 the write that it saw, and in another run it may see another one.",
     words: &[
         TRACE,
@@ -337,6 +350,7 @@ const WITNESS: Words = Words {
     example: "For example
 
   racebench witness trace.std 7 12
+  racebench witness trace.std count.c:7 count.c:13
 
 Each line has the number of an event and its line of the trace. After these events, in this order,
 both events of the pair are next in their threads.",
@@ -362,6 +376,39 @@ both events of the pair are next in their threads.",
     ],
 };
 
+const CUT: Words = Words {
+    name: "cut",
+    about: "Print a window of a trace, as a trace of its own",
+    example: "For example
+
+  racebench cut trace.std --windows 1000 --window 5000
+
+The window has the events 5000 to 5999. Before them come a few events that take the locks which
+are held at event 5000, so that a race in the window is a race of the whole trace. The first line
+says where the window lies, and how many events come before its first own event.",
+    words: &[
+        TRACE,
+        Word {
+            name: "windows",
+            kind: Kind::Number {
+                least: 1,
+                most: Most::Events,
+                default: Some("1000000"),
+            },
+            help: Some("Events of a window, at most 1048576"),
+        },
+        Word {
+            name: "window",
+            kind: Kind::Number {
+                least: 0,
+                most: Most::Events,
+                default: Some("0"),
+            },
+            help: Some("Event at which the window begins, counted from 0"),
+        },
+    ],
+};
+
 /// The words of a command. They are handed out one command at a time, since a proof carries all of a constant that it meets.
 pub(crate) fn words_of(command: CommandName) -> Words {
     match command {
@@ -373,6 +420,7 @@ pub(crate) fn words_of(command: CommandName) -> Words {
         CommandName::Triage => TRIAGE,
         CommandName::Explain => EXPLAIN,
         CommandName::Witness => WITNESS,
+        CommandName::Cut => CUT,
     }
 }
 

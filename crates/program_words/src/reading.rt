@@ -1,11 +1,12 @@
 //! What the words ask for, read from what `clap` found in them.
 ghost use Rattle.std.specs.Prelude.{◌≤◌, IfOk};
-ghost use Rattle.program_words.specs.Tasks.{IsWithin, IsSessionWithin, IsThreadsWithin, IsTriageWithin};
+ghost use Rattle.program_words.specs.Tasks.{IsWithin, IsCutWithin, IsSessionWithin, IsThreadsWithin, IsTriageWithin};
 
 use crate::building::words_taken;
 use crate::commands::{CommandName, command_of};
 use crate::task::{
-    Limits, PairTask, RacesForm, ScheduleForm, SessionTask, Task, ThreadsTask, TriageTask,
+    CutTask, Limits, Named, PairTask, RacesForm, ScheduleForm, SessionTask, Task, ThreadsTask,
+    TriageTask,
 };
 use crate::told::{Told, refused, told_of};
 use clap::ArgMatches;
@@ -50,12 +51,14 @@ fn number(word: &str, least: u32, most: u32, reason: &'static str) -> Result<u32
     }
 }
 
-/// The event that the word names. A number that is larger than any event is one that no trace has.
-fn event(word: &str) -> Result<u32, Unread> {
-    if !is_number(word) {
-        return Err(Unread::Refused("an event is a number in decimal digits"));
+/// What the word names: digits an event, any other word a place. A number that is larger than any event is one that no
+/// trace has.
+fn named(word: &str) -> Named<'_> {
+    if is_number(word) {
+        Named::Event(word.parse::<u32>().unwrap_or(u32::MAX))
+    } else {
+        Named::Place(word)
     }
-    Ok(word.parse::<u32>().unwrap_or(u32::MAX))
 }
 
 /// The path that stands for standard input.
@@ -174,6 +177,14 @@ fn races_form(given: &ArgMatches<'_>) -> RacesForm {
     }
 }
 
+/// A refusal if a file is named for what a page shows, and no page is asked for.
+fn check_confirmed(given: &ArgMatches<'_>, confirmed: Option<&str>) -> Result<(), Unread> {
+    if confirmed.is_some() && !given.get_flag("page") {
+        return Err(Unread::Refused("`--confirmed` goes with `--page`"));
+    }
+    Ok(())
+}
+
 /// What `triage` is asked for.
 fn triage<'a>(
     alloc: Global,
@@ -187,7 +198,9 @@ fn triage<'a>(
     let workers = number(word(given, "workers"), 0, limits.workers, reason)?;
     let trace = word(given, "TRACE");
     let known = given.get_str("known");
-    check_inputs(&[trace, known.unwrap_or("")])?;
+    let confirmed = given.get_str("confirmed");
+    check_inputs(&[trace, known.unwrap_or(""), confirmed.unwrap_or("")])?;
+    check_confirmed(given, confirmed)?;
     let only = texts(alloc, given, "only")?;
     let hide = texts(alloc, given, "hide")?;
     Ok(TriageTask {
@@ -199,18 +212,19 @@ fn triage<'a>(
         tries,
         workers,
         form: races_form(given),
+        confirmed,
         fail: given.get_flag("fail"),
         progress: given.get_flag("progress"),
     })
 }
 
 /// The pair that the words name.
-fn pair<'a>(given: &ArgMatches<'a>) -> Result<PairTask<'a>, Unread> {
-    Ok(PairTask {
+fn pair<'a>(given: &ArgMatches<'a>) -> PairTask<'a> {
+    PairTask {
         trace: word(given, "TRACE"),
-        one: event(word(given, "A"))?,
-        other: event(word(given, "B"))?,
-    })
+        one: named(word(given, "A")),
+        other: named(word(given, "B")),
+    }
 }
 
 /// In which form `witness` is asked for.
@@ -224,6 +238,18 @@ fn schedule_form(given: &ArgMatches<'_>) -> ScheduleForm {
     } else {
         ScheduleForm::Events
     }
+}
+
+/// The window that `cut` is asked for.
+fn window<'a>(given: &ArgMatches<'a>, limits: Limits) -> Result<CutTask<'a>, Unread>
+    ensures { IfOk result IsCutWithin }
+{
+    let reason = "`--windows` and `--window` take numbers in decimal digits";
+    Ok(CutTask {
+        trace: word(given, "TRACE"),
+        from: number(word(given, "window"), 0, limits.events, reason)?,
+        most: number(word(given, "windows"), 1, limits.events, reason)?,
+    })
 }
 
 /// What a command is asked for.
@@ -242,8 +268,9 @@ fn command_task<'a>(
         CommandName::Log => Ok(Task::Log(word(given, "LOG"))),
         CommandName::Threads => Ok(Task::Threads(threads(alloc, given, limits)?)),
         CommandName::Triage => Ok(Task::Triage(triage(alloc, given, limits)?)),
-        CommandName::Explain => Ok(Task::Explain(pair(given)?, given.get_flag("all"))),
-        CommandName::Witness => Ok(Task::Witness(pair(given)?, schedule_form(given))),
+        CommandName::Explain => Ok(Task::Explain(pair(given), given.get_flag("all"))),
+        CommandName::Witness => Ok(Task::Witness(pair(given), schedule_form(given))),
+        CommandName::Cut => Ok(Task::Cut(window(given, limits)?)),
     }
 }
 

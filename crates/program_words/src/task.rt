@@ -11,6 +11,8 @@ pub struct Limits {
     pub workers: u32,
     /// How many pairs of events may be tried for a pair of places.
     pub tries: u32,
+    /// How many events a trace may have.
+    pub events: u32,
 }
 
 impl Limits {
@@ -20,6 +22,7 @@ impl Limits {
             Most::Clients => self.clients,
             Most::Workers => self.workers,
             Most::Tries => self.tries,
+            Most::Events => self.events,
         }
     }
 }
@@ -50,15 +53,24 @@ pub enum RacesForm {
     Page,
 }
 
+/// What a word names of a trace.
+#[derive(Clone, Copy)]
+pub enum Named<'a> {
+    /// The event of this number.
+    Event(u32),
+    /// The accesses at a place.
+    Place(&'a str),
+}
+
 /// A pair of events of the trace in a file.
 #[derive(Clone, Copy)]
 pub struct PairTask<'a> {
     /// The path of the trace.
     pub trace: &'a str,
-    /// One event.
-    pub one: u32,
-    /// The other.
-    pub other: u32,
+    /// What names one event.
+    pub one: Named<'a>,
+    /// What names the other.
+    pub other: Named<'a>,
 }
 
 /// Lines that are answered as they come.
@@ -102,10 +114,23 @@ pub struct TriageTask<'a> {
     pub workers: u32,
     /// In which form they are printed.
     pub form: RacesForm,
+    /// The path of what `record/confirm` wrote, which a page shows beside its races.
+    pub confirmed: Option<&'a str>,
     /// Whether a race that is printed makes the status 3, and a trace without events 4.
     pub fail: bool,
     /// Whether standard error shows how far the work is, even if it is no terminal.
     pub progress: bool,
+}
+
+/// A window of the trace in a file.
+#[derive(Clone, Copy)]
+pub struct CutTask<'a> {
+    /// The path of the trace.
+    pub trace: &'a str,
+    /// The event at which it begins.
+    pub from: u32,
+    /// The most events that it has, at least one.
+    pub most: u32,
 }
 
 /// What the words ask for.
@@ -129,4 +154,6 @@ pub enum Task<'a> {
     Explain(PairTask<'a>, bool),
     /// The schedule that shows a pair, in this form.
     Witness(PairTask<'a>, ScheduleForm),
+    /// A window of a trace.
+    Cut(CutTask<'a>),
 }

@@ -21,6 +21,10 @@ no_parts r text rows e f = rw e (rw f AreParts.none)
 pub both_as_one : (old new first second : List ℕ) → new ≡ old ++ first ++ second → new ≡ old ++ (first ++ second)
 both_as_one old new first second e = e ∙ append_assoc old first second
 
+-- what is appended behind a text that was appended is appended with it
+pub one_more : (old between new first second : List ℕ) → between ≡ old ++ first → new ≡ between ++ second → new ≡ old ++ (first ++ second)
+one_more old between new first second e f = f ∙ (ap (λ (xs : List ℕ). xs ++ second) e ∙ append_assoc old first second)
+
 -- what is appended to nothing stands alone
 pub alone : (empty text words bytes : List ℕ) → empty ≡ [] → text ≡ empty ++ words → bytes ≡ text → bytes ≡ words
 alone empty text words bytes e f g = g ∙ (f ∙ ap (λ (xs : List ℕ). xs ++ words) e)
@@ -46,13 +50,13 @@ module _ (r : Recording) (old new added : List ℕ) (rows : List Shown) (is : Ar
   with_piece piece whole f = rw e (rw f (AreParts.piece piece old rows whole is))
 
   pub with_row :
-      (shown : Shown) (piece : List ℕ) (after last : List Shown) → IsPiece piece → added ≡ row_text shown.sort shown.first shown.second piece → after ≡ rows
+      (shown : Shown) (piece : List ℕ) (after last : List Shown) → IsPiece piece → added ≡ row_text shown piece → after ≡ rows
       → last ≡ after ++ shown ∷ [] → AreParts r new last
   with_row shown piece after last whole f g h = rw e (rw f (rw h (rw g (AreParts.row shown piece old rows whole is))))
 
   pub with_drawn :
       (shown : Shown) (before figure behind : List ℕ) (after last : List Shown) → IsPiece before → IsDrawn r shown.first shown.second figure → IsPiece behind
-      → added ≡ row_text shown.sort shown.first shown.second (before ++ figure ++ behind) → after ≡ rows → last ≡ after ++ shown ∷ [] → AreParts r new last
+      → added ≡ row_text shown (before ++ figure ++ behind) → after ≡ rows → last ≡ after ++ shown ∷ [] → AreParts r new last
   with_drawn shown before figure behind after last whole drawn end f g h =
       rw e (rw f (rw h (rw g (AreParts.drawn shown before figure behind old rows whole drawn end is))))
 

@@ -1,9 +1,12 @@
 -- The page's own markup: a closed list. Nothing else stands on a page unescaped but digits and pictures.
-use Rattle.std.specs.Prelude.{ℕ, List, ◌++◌, codes, decimal}
+use Rattle.std.specs.Prelude.{ℕ, List, [], ◌++◌, codes, decimal}
 use Rattle.race_page.specs.declared.own.Part.{Part}
 use Rattle.race_page.specs.declared.own.Part.TheVariants.{Foot, LineEnd}
 use Rattle.race_page.specs.declared.own.Tag.{Tag}
 use Rattle.race_page.specs.declared.own.Tag.TheVariants.{Section, SectionHeading, RowHeading, PartHeading, Paragraph, Isolated, Table, TableHead, TableBody, Line, ColumnHead, LineHead, Cell, NumberCell, Summary, Facts, Lines, Code, Figure, Caption, Wide}
+use Rattle.race_page.specs.declared.shown.Seen.{Seen}
+use Rattle.race_page.specs.declared.shown.Seen.TheVariants.{Unasked, NotFollowed, Departed, OtherMemory, Matters, Same, Unknown}
+use Rattle.race_page.specs.declared.shown.Shown.{Shown}
 use Rattle.race_page.specs.declared.shown.Sort.{Sort}
 use Rattle.race_page.specs.declared.shown.Sort.TheVariants.{Race, Undecided, Apart}
 use Rattle.race_page.specs.declared.style.TheConstants.{FOOT}
@@ -67,6 +70,17 @@ row_begin Race = codes "<details id=\"race-"
 row_begin Undecided = codes "<details id=\"undecided-"
 row_begin Apart = codes "<details id=\"apart-"
 
--- the row of a pair in which a text stands
-abbrev pub row_text : Sort → ℕ → ℕ → List ℕ → List ℕ
-row_text sort a b text = row_begin sort ++ decimal a ++ codes "-" ++ decimal b ++ codes "\">\n" ++ text ++ codes "</details>\n"
+-- what stands beside a row: how a race came out that was followed on the real program
+abbrev pub seen_text : Seen → List ℕ
+seen_text Unasked = []
+seen_text NotFollowed = codes "<span class=\"seen\">not followed</span> "
+seen_text Departed = codes "<span class=\"seen\">departed</span> "
+seen_text OtherMemory = codes "<span class=\"seen\">other memory</span> "
+seen_text Matters = codes "<span class=\"seen matters\">order matters</span> "
+seen_text Same = codes "<span class=\"seen\">same in both orders</span> "
+seen_text Unknown = codes "<span class=\"seen\">order not known</span> "
+
+-- the row in which a text stands
+abbrev pub row_text : Shown → List ℕ → List ℕ
+row_text shown text =
+    row_begin shown.sort ++ decimal shown.first ++ codes "-" ++ decimal shown.second ++ codes "\">\n<summary>" ++ seen_text shown.seen ++ text ++ codes "</details>\n"

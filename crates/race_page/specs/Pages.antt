@@ -34,10 +34,10 @@ pub data AreParts (r : Recording) : List ℕ → List Shown → Type 0 where
   piece : (p m : List ℕ) (rows : List Shown) → IsPiece p → AreParts r m rows → AreParts r (m ++ p) rows
   row :
       (shown : Shown) (p m : List ℕ) (rows : List Shown) → IsPiece p → AreParts r m rows
-      → AreParts r (m ++ row_text shown.sort shown.first shown.second p) (rows ++ shown ∷ [])
+      → AreParts r (m ++ row_text shown p) (rows ++ shown ∷ [])
   drawn :
       (shown : Shown) (before figure after m : List ℕ) (rows : List Shown) → IsPiece before → IsDrawn r shown.first shown.second figure → IsPiece after
-      → AreParts r m rows → AreParts r (m ++ row_text shown.sort shown.first shown.second (before ++ figure ++ after)) (rows ++ shown ∷ [])
+      → AreParts r m rows → AreParts r (m ++ row_text shown (before ++ figure ++ after)) (rows ++ shown ∷ [])
 
 -- The text is a page of the trace at this path with these rows. It begins with the head, which has the policy, and with its first line, which says
 -- how many races are told and of which file.

@@ -1,10 +1,17 @@
--- Which rows a page has.
-use Rattle.std.specs.Prelude.{ℕ, Bool, true, false, cond, List, [], ◌++◌, map, take}
+-- Which rows a page has, and what stands beside each. `r` is the recording of its trace.
+use Rattle.std.specs.Prelude.{ℕ, Bool, true, false, cond, List, [], ◌++◌, map, take, slice_get, codes, bytes_eq, Option, Some, None, option_and_then, option_map}
 use Rattle.std.specs.List.{filter}
+use Rattle.followed_races.specs.Choosing.{told_at}
+use Rattle.followed_races.specs.declared.entries.Followed.{Followed}
+use Rattle.rapid_text.specs.Recording.{Recording}
+use Rattle.source_places.specs.Located.{location_at}
+use Rattle.race_page.specs.declared.about.About.{About}
 use Rattle.race_triage.specs.declared.verdicts.Outcome.{Outcome}
 use Rattle.race_triage.specs.declared.verdicts.Outcome.TheVariants.{Race as RaceOutcome, Undecided as UndecidedOutcome, Apart as ApartOutcome}
 use Rattle.race_triage.specs.declared.verdicts.Verdict.{Verdict}
 use Rattle.race_page.specs.declared.rows.TheConstants.{MOST_ROWS}
+use Rattle.race_page.specs.declared.shown.Seen.{Seen}
+use Rattle.race_page.specs.declared.shown.Seen.TheVariants.{Unasked, NotFollowed, Departed, OtherMemory, Matters, Same, Unknown}
 use Rattle.race_page.specs.declared.shown.Shown.{Shown}
 use Rattle.race_page.specs.declared.shown.Sort.{Sort}
 use Rattle.race_page.specs.declared.shown.Sort.TheVariants.{Race, Undecided, Apart}
@@ -15,9 +22,47 @@ outcome_sort (RaceOutcome how events threads) = Race
 outcome_sort (UndecidedOutcome tried) = Undecided
 outcome_sort ApartOutcome = Apart
 
+-- how races came out that were followed, where there is a file of that
+abbrev pub followed_in : About → Option (List Followed)
+followed_in about = option_map (λ fs. fs.now) about.followed
+
+-- the entry on accesses at these two locations: the first that has them, in one order or the other
+abbrev pub entry_on : Option (List Followed) → List ℕ → List ℕ → Option Followed
+entry_on None here there = None
+entry_on (Some fs) here there = option_and_then (λ k. slice_get fs k) (told_at here there fs)
+
+-- whether the order matters
+abbrev pub order_seen : Option Bool → Seen
+order_seen None = Unknown
+order_seen (Some true) = Matters
+order_seen (Some false) = Same
+
+-- the same, if the two accesses were on one memory
+abbrev pub memory_seen : Option Bool → Option Bool → Seen
+memory_seen (Some false) matters = OtherMemory
+memory_seen (Some true) matters = order_seen matters
+memory_seen None matters = order_seen matters
+
+-- how a race came out
+abbrev pub entry_seen : Option Followed → Seen
+entry_seen None = NotFollowed
+entry_seen (Some f) = cond (bytes_eq f.ended.items (codes "departed")) Departed (memory_seen f.same_memory f.matters)
+
+-- what stands beside accesses at these two locations
+abbrev pub seen_on : Option (List Followed) → List ℕ → List ℕ → Seen
+seen_on None here there = Unasked
+seen_on (Some fs) here there = entry_seen (entry_on (Some fs) here there)
+
+-- what stands beside a row of this sort: only a race has something
+abbrev pub sort_seen : Sort → Seen → Seen
+sort_seen Race seen = seen
+sort_seen Undecided seen = Unasked
+sort_seen Apart seen = Unasked
+
 -- the row of a verdict
-abbrev pub row_of : Verdict → Shown
-row_of v = record { sort = outcome_sort v.outcome; first = v.first; second = v.second }
+abbrev pub row_of : Recording → Option (List Followed) → Verdict → Shown
+row_of r told v =
+    record { sort = outcome_sort v.outcome; first = v.first; second = v.second; seen = sort_seen (outcome_sort v.outcome) (seen_on told (location_at r v.first) (location_at r v.second)) }
 
 -- whether two sorts are one
 abbrev pub is_sort : Sort → Sort → Bool
@@ -31,13 +76,13 @@ abbrev pub is_of : Sort → Verdict → Bool
 is_of sort v = is_sort (outcome_sort v.outcome) sort
 
 -- the rows of these verdicts: as many as a page has of a sort
-abbrev pub rows_of : List Verdict → List Shown
-rows_of vs = map row_of (take MOST_ROWS vs)
+abbrev pub rows_of : Recording → Option (List Followed) → List Verdict → List Shown
+rows_of r told vs = map (row_of r told) (take MOST_ROWS vs)
 
 -- the rows of the verdicts of a sort
-abbrev pub sort_rows : Sort → List Verdict → List Shown
-sort_rows sort vs = rows_of (filter (is_of sort) vs)
+abbrev pub sort_rows : Recording → Option (List Followed) → Sort → List Verdict → List Shown
+sort_rows r told sort vs = rows_of r told (filter (is_of sort) vs)
 
 -- the rows of all verdicts, with or without those that are apart
-abbrev pub all_rows : Bool → List Verdict → List Shown
-all_rows apart vs = sort_rows Race vs ++ sort_rows Undecided vs ++ cond apart (sort_rows Apart vs) []
+abbrev pub all_rows : Recording → Option (List Followed) → Bool → List Verdict → List Shown
+all_rows r told apart vs = sort_rows r told Race vs ++ sort_rows r told Undecided vs ++ cond apart (sort_rows r told Apart vs) []

@@ -1,9 +1,11 @@
 //! The races of a trace as a page: one HTML file that fetches nothing and runs nothing.
 #![tactic(auto)]
 
+mod about;
 mod accesses;
 mod commands;
 mod counting;
+mod followed;
 mod heading;
 mod leftovers;
 mod meanings;
@@ -20,7 +22,8 @@ mod titles;
 mod whole;
 mod words;
 
+pub use about::About;
 pub use own::{Part, Tag};
 pub use rows::{MOST_PICTURES, MOST_ROWS};
-pub use shown::{Shown, Sort};
+pub use shown::{Seen, Shown, Sort};
 pub use whole::page_text;

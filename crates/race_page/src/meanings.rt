@@ -15,14 +15,22 @@ const APART: &[u8] =
     b"Two places are apart if no schedule of this trace shows a race of them, and undecided if the search found neither. \
 A read keeps the write that it saw, so places that are apart here may race in another run.";
 
-/// Writes them.
-pub(crate) fn write_meanings(piece: &mut Piece) -> Result<(), OutOfMemory> {
+const FOLLOWED: &[u8] =
+    b"Beside a race: order matters, if the program ended or printed otherwise with the other access first; same in both orders; \
+order not known, if its output varies by itself; other memory, if the two accesses were on different memory; departed, if the run went \
+another way than the schedule; not followed, if the file has no line on it. This is what runs showed, and no proof rests on it.";
+
+/// Writes them, and those beside races if there are such.
+pub(crate) fn write_meanings(piece: &mut Piece, are_followed: bool) -> Result<(), OutOfMemory> {
     piece.write(&[
         Item::Begin(Tag::Section),
         Item::Element(Tag::SectionHeading, b"What the words mean"),
         Item::Element(Tag::Paragraph, RACE),
         Item::Element(Tag::Paragraph, NEXT),
         Item::Element(Tag::Paragraph, APART),
-        Item::End(Tag::Section),
-    ])
+    ])?;
+    if are_followed {
+        piece.write(&[Item::Element(Tag::Paragraph, FOLLOWED)])?;
+    }
+    piece.write(&[Item::End(Tag::Section)])
 }

@@ -1,12 +1,12 @@
 //! What stands under the first line of a page: pieces, and rows.
-ghost use Rattle.std.specs.Prelude.{◌≡◌, ◌++◌, ◌∷◌, [], OnOk, List, ℕ, decimal};
+ghost use Rattle.std.specs.Prelude.{◌≡◌, ◌++◌, ◌∷◌, [], OnOk, List, ℕ, codes, decimal};
 ghost use Rattle.schedule.specs.Reordering.{IsCorrectReordering};
 ghost use Rattle.schedule.specs.Shows.{Shows};
-ghost use Rattle.race_page.specs.Own.{row_text};
+ghost use Rattle.race_page.specs.Own.{row_begin, row_text, seen_text};
 ghost use Rattle.race_page.specs.Pages.{IsDrawn, AreParts, IsPiece};
 
 use crate::piece::Piece;
-use crate::shown::{Shown, row_begin_of};
+use crate::shown::{Shown, row_begin_of, seen_of};
 use event_index::Indexed;
 use itoa::Buffer;
 use pair_picture::figure_text;
@@ -140,7 +140,7 @@ fn append_drawn(
     after: &[u8],
 ) -> Result<(), OutOfMemory>
     requires { out.now.items ≡ [] }
-    ensures { OnOk result (out.new.items ≡ row_text shown.sort shown.first shown.second (before.now ++ figure.now ++ after.now)) }
+    ensures { OnOk result (out.new.items ≡ row_text shown (before.now ++ figure.now ++ after.now)) }
 {
     let mut body = Vec::new(*out.allocator());
     body.extend_from_slice(before)?;
@@ -152,15 +152,25 @@ fn append_drawn(
 
 /// Appends a row in which these bytes stand.
 fn append_row(out: &mut Vec<u8>, shown: Shown, bytes: &[u8]) -> Result<(), OutOfMemory>
-    ensures { OnOk result (out.new.items ≡ out.old.items ++ row_text shown.sort shown.first shown.second bytes.now) }
+    ensures { OnOk result (out.new.items ≡ out.old.items ++ row_text shown bytes.now) }
+{
+    append_head(out, shown)?;
+    out.extend_from_slice(bytes)?;
+    out.extend_from_slice(b"</details>\n")?;
+    Ok(())
+}
+
+/// Appends how a row begins, with what stands beside it.
+fn append_head(out: &mut Vec<u8>, shown: Shown) -> Result<(), OutOfMemory>
+    ensures { OnOk result (out.new.items ≡ out.old.items
+        ++ (row_begin shown.sort ++ decimal shown.first ++ codes "-" ++ decimal shown.second ++ codes "\">\n<summary>" ++ seen_text shown.seen)) }
 {
     out.extend_from_slice(row_begin_of(shown.sort))?;
     append_number(out, shown.first)?;
     out.extend_from_slice(b"-")?;
     append_number(out, shown.second)?;
-    out.extend_from_slice(b"\">\n")?;
-    out.extend_from_slice(bytes)?;
-    out.extend_from_slice(b"</details>\n")?;
+    out.extend_from_slice(b"\">\n<summary>")?;
+    out.extend_from_slice(seen_of(shown.seen))?;
     Ok(())
 }
 

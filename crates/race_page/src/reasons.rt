@@ -4,7 +4,6 @@ ghost use Rattle.race_page.specs.Raced.{IsRacedIn};
 
 use crate::own::Tag;
 use crate::piece::{Item, Piece};
-use crate::selecting::shown_of;
 use crate::shown::Shown;
 use crate::words::cut_line;
 use event_index::Indexed;
@@ -27,11 +26,11 @@ pub(crate) fn write_reason(
     clocks: &Clocks,
     must: &Must,
     verdict: Verdict,
+    shown: Shown,
 ) -> Result<(), OutOfMemory>
     requires clocks { clocks.now ≡ indexed.now }
     requires must { must.now ≡ indexed.now }
 {
-    let shown = shown_of(verdict);
     if shown.first >= indexed.len() || shown.second >= indexed.len() {
         return Ok(());
     }

@@ -1,8 +1,10 @@
 //! The rows of a page, section by section.
 ghost use Rattle.std.specs.Prelude.{◌≡◌, ◌++◌, ◌∷◌, [], OnOk};
-ghost use Rattle.race_page.specs.Rows.{row_of, rows_of};
+ghost use Rattle.race_page.specs.Rows.{followed_in, row_of, rows_of};
 
+use crate::about::About;
 use crate::accesses::write_accesses;
+use crate::followed::write_followed;
 use crate::own::Tag;
 use crate::page::Page;
 use crate::piece::{Item, Piece};
@@ -31,18 +33,20 @@ pub(crate) fn write_rows(
     indexed: &Indexed,
     clocks: &Clocks,
     must: &Must,
-    word: &[u8],
+    about: About<'_>,
     kept: &[Verdict],
 ) -> Result<(), OutOfMemory>
     requires trace { page.old.trace ≡ indexed.now }
     requires clocks { clocks.now ≡ indexed.now }
     requires must { must.now ≡ indexed.now }
     ensures trace { page.new.trace ≡ page.old.trace }
-    ensures rows { OnOk result (page.new.rows ≡ page.old.rows ++ rows_of kept.now) }
+    ensures rows { OnOk result (page.new.rows ≡ page.old.rows ++ rows_of indexed.now (followed_in about.entry) kept.now) }
 {
     for at in 0..MOST_ROWS.min(kept.len()) {
         let is_drawn = at < MOST_PICTURES;
-        write_row(page, piece, indexed, clocks, must, word, kept[at], is_drawn)?;
+        write_row(
+            page, piece, indexed, clocks, must, about, kept[at], is_drawn,
+        )?;
     }
     Ok(())
 }
@@ -54,7 +58,7 @@ fn write_row(
     indexed: &Indexed,
     clocks: &Clocks,
     must: &Must,
-    word: &[u8],
+    about: About<'_>,
     verdict: Verdict,
     is_drawn: bool,
 ) -> Result<(), OutOfMemory>
@@ -62,20 +66,21 @@ fn write_row(
     requires clocks { clocks.now ≡ indexed.now }
     requires must { must.now ≡ indexed.now }
     ensures trace { page.new.trace ≡ page.old.trace }
-    ensures rows { OnOk result (page.new.rows ≡ page.old.rows ++ row_of verdict ∷ []) }
+    ensures rows { OnOk result (page.new.rows ≡ page.old.rows ++ row_of indexed.now (followed_in about.entry) verdict ∷ []) }
 {
-    let shown = shown_of(verdict);
+    let shown = shown_of(about, indexed, verdict);
     piece.clear();
     write_summary(piece, indexed, clocks, must, verdict, shown)?;
     write_accesses(piece, indexed, must, shown.first, shown.second)?;
+    write_followed(piece, indexed, about, shown)?;
     if is_drawn && shown.sort == Sort::Race {
-        write_with_schedule(page, piece, indexed, clocks, must, word, shown)
+        write_with_schedule(page, piece, indexed, clocks, must, about.name, shown)
     } else {
-        write_plain(page, piece, word, shown)
+        write_plain(page, piece, about.name, shown)
     }
 }
 
-/// Writes what is seen of a row that is closed.
+/// Writes what is seen of a row that is closed, after what stands beside it.
 fn write_summary(
     piece: &mut Piece,
     indexed: &Indexed,
@@ -87,11 +92,11 @@ fn write_summary(
     requires clocks { clocks.now ≡ indexed.now }
     requires must { must.now ≡ indexed.now }
 {
-    piece.write(&[Item::Begin(Tag::Summary), Item::Begin(Tag::RowHeading)])?;
+    piece.write(&[Item::Begin(Tag::RowHeading)])?;
     write_title(piece, indexed, verdict)?;
     write_facts(piece, verdict)?;
     if shown.sort != Sort::Race {
-        write_reason(piece, indexed, clocks, must, verdict)?;
+        write_reason(piece, indexed, clocks, must, verdict, shown)?;
     }
     piece.write(&[Item::End(Tag::Summary)])
 }

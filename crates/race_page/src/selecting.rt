@@ -1,11 +1,16 @@
 //! Of which sort a verdict is, and its row.
-ghost use Rattle.std.specs.Prelude.{◌≡◌, [], IfOk, OnOk};
+ghost use Rattle.std.specs.Prelude.{◌≡◌, [], Some, IfOk, OnOk, option_map};
 ghost use Rattle.std.specs.List.{filter};
-ghost use Rattle.race_page.specs.Rows.{is_of, is_sort, outcome_sort, row_of};
+ghost use Rattle.source_places.specs.Located.{location_at};
+ghost use Rattle.race_page.specs.Rows.{entry_on, entry_seen, followed_in, is_of, is_sort, order_seen, outcome_sort, row_of, seen_on, sort_seen};
 
-use crate::shown::{Shown, Sort};
+use crate::about::About;
+use crate::shown::{Seen, Shown, Sort};
+use event_index::Indexed;
+use followed_races::{Followed, told_of};
 use race_triage::{Outcome, Verdict};
 use rapid_text::OutOfMemory;
+use source_places::location_of;
 use std::alloc::Global;
 
 /// Of which sort a verdict is.
@@ -35,14 +40,92 @@ fn are_same(one: Sort, other: Sort) -> bool
     }
 }
 
+/// The entry on the two events' locations: the first that has them.
+pub(crate) fn entry_of<'a>(
+    about: About<'a>,
+    indexed: &Indexed,
+    first: u32,
+    second: u32,
+) -> Option<&'a Followed>
+    ensures { option_map (λ f. f.now) result ≡ entry_on (followed_in about.entry) (location_at indexed.now first) (location_at indexed.now second) }
+{
+    let all = about.followed?;
+    match told_of(
+        all,
+        location_of(indexed, first),
+        location_of(indexed, second),
+    ) {
+        Some(at) => all.get(at),
+        None => None,
+    }
+}
+
+/// How a race came out.
+fn seen_by(found: Option<&Followed>) -> Seen
+    ensures { result ≡ entry_seen (option_map (λ f. f.now) found.entry) }
+{
+    match found {
+        Some(followed) => seen_in(followed),
+        None => Seen::NotFollowed,
+    }
+}
+
+/// The same of an entry.
+fn seen_in(followed: &Followed) -> Seen
+    ensures { result ≡ entry_seen (Some followed.now) }
+{
+    if followed.ended.as_slice() == b"departed".as_slice() {
+        return Seen::Departed;
+    }
+    match followed.same_memory {
+        Some(false) => Seen::OtherMemory,
+        Some(true) => order_of(followed.matters),
+        None => order_of(followed.matters),
+    }
+}
+
+/// Whether the order matters.
+fn order_of(matters: Option<bool>) -> Seen
+    ensures { result ≡ order_seen matters }
+{
+    match matters {
+        Some(true) => Seen::Matters,
+        Some(false) => Seen::Same,
+        None => Seen::Unknown,
+    }
+}
+
+/// What stands beside a race of these two events.
+fn race_seen(about: About<'_>, indexed: &Indexed, first: u32, second: u32) -> Seen
+    ensures { result ≡ seen_on (followed_in about.entry) (location_at indexed.now first) (location_at indexed.now second) }
+{
+    if about.followed.is_none() {
+        return Seen::Unasked;
+    }
+    seen_by(entry_of(about, indexed, first, second))
+}
+
+/// What stands beside the row of a verdict.
+fn seen_of(about: About<'_>, indexed: &Indexed, verdict: Verdict) -> Seen
+    ensures { result ≡ sort_seen (outcome_sort verdict.outcome)
+        (seen_on (followed_in about.entry) (location_at indexed.now verdict.first) (location_at indexed.now verdict.second)) }
+{
+    match sort_of(verdict) {
+        Sort::Race => race_seen(about, indexed, verdict.first, verdict.second),
+        Sort::Undecided => Seen::Unasked,
+        Sort::Apart => Seen::Unasked,
+    }
+}
+
 /// The row of a verdict.
-pub(crate) fn shown_of(verdict: Verdict) -> Shown
-    ensures { result ≡ row_of verdict }
+pub(crate) fn shown_of(about: About<'_>, indexed: &Indexed, verdict: Verdict) -> Shown
+    ensures { result ≡ row_of indexed.now (followed_in about.entry) verdict }
 {
     Shown {
         sort: sort_of(verdict),
         first: verdict.first,
         second: verdict.second,
+        seen: seen_of(about, indexed, verdict),
     }
 }
 

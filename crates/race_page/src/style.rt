@@ -33,9 +33,12 @@ svg{display:block}
 details{margin:.5rem 0;padding:.5rem;border:1px solid var(--edge)}
 summary{cursor:pointer}
 .facts{display:block;color:var(--soft)}
+.seen{float:right;width:11rem;margin-left:1rem;border:1px solid var(--edge);text-align:center;font-size:.875rem;color:var(--soft)}
+.matters{border-color:var(--mark);color:var(--mark);font-weight:bold}
 :focus-visible{outline:3px solid var(--mark);outline-offset:1px}
 @media (max-width:40rem){
 body,details,th,td{padding:.25rem}
+.seen{float:none;display:block;margin:0 0 .25rem}
 .wide{padding:0}
 }
 @media (prefers-color-scheme:dark){

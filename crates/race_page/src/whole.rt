@@ -3,10 +3,12 @@ ghost use Rattle.std.specs.Prelude.{◌≡◌, ◌++◌, [], List, ℕ, IfOk, On
 ghost use Rattle.race_triage.specs.Chosen.{known_places, AreChosen};
 ghost use Rattle.race_triage.specs.declared.chosen.Chosen.{Chosen as Choice};
 ghost use Rattle.race_page.specs.Pages.{IsPage};
-ghost use Rattle.race_page.specs.Rows.{all_rows, rows_of, sort_rows};
+ghost use Rattle.race_page.specs.Rows.{all_rows, followed_in, rows_of, sort_rows};
 
+use crate::about::About;
 use crate::commands::shell_word;
 use crate::counting::write_counts;
+use crate::followed::write_beside;
 use crate::heading::{append_begin, file_of};
 use crate::leftovers::{write_left_out, write_unlisted};
 use crate::meanings::write_meanings;
@@ -25,7 +27,8 @@ use shb_clocks::Clocks;
 /// Appends a page (HTML) of the verdicts. Its first line is `6 races in pdsh.std`: how many are told, and `name` without folders. Then there is a row for
 /// each race, each pair of places that is undecided, and where `apart` is true each that is apart; of each sort the first 2,000, and a picture
 /// for each of the first 200 races. Then come the eleven counts of the whole trace, and what the words mean. Races of known places are left out, and rows that the
-/// filters do not keep; where there are such, the page tells how many. `name` is the trace's, as it stands in commands. Answers how many races
+/// filters do not keep; where there are such, the page tells how many. `about` has the trace's name, and how its races came out when they were followed
+/// on the real program: that stands beside each race. Answers how many races
 /// there are among those that were not left out, also where there are more than rows. Where memory is refused `out` stays as it was.
 pub fn page_text(
     indexed: &Indexed,
@@ -35,7 +38,7 @@ pub fn page_text(
     known: &Option<Known>,
     filters: Filters<'_>,
     apart: bool,
-    name: &[u8],
+    about: About<'_>,
     out: &mut Vec<u8>,
 ) -> Result<u64, OutOfMemory>
     requires clocks { clocks.now ≡ indexed.now }
@@ -45,12 +48,12 @@ pub fn page_text(
     ensures ok { IfOk result (λ races. (chosen : Choice)
         × AreChosen indexed.now (known_places known.now) (map (λ t. t.now) filters.entry.only.now) (map (λ t. t.now) filters.entry.hide.now) apart
         verdicts.now.verdicts.items chosen
-        × (text : List ℕ) × (out.new.items ≡ out.old.items ++ text) × IsPage indexed.now chosen.races name.now text (all_rows apart chosen.verdicts.items) × (races ≡ chosen.races)) }
+        × (text : List ℕ) × (out.new.items ≡ out.old.items ++ text) × IsPage indexed.now chosen.races about.entry.name.now text (all_rows indexed.now (followed_in about.entry) apart chosen.verdicts.items) × (races ≡ chosen.races)) }
     ensures err { OnErr result (out.new.items ≡ out.old.items) }
 {
     match chosen_of(*out.allocator(), indexed, verdicts, known, filters, apart) {
         Ok(chosen) => {
-            append_page(indexed, clocks, must, verdicts, &chosen, apart, name, out)?;
+            append_page(indexed, clocks, must, verdicts, &chosen, apart, about, out)?;
             Ok(chosen.races)
         }
         Err(refused) => Err(refused),
@@ -65,20 +68,20 @@ fn append_page(
     verdicts: &Verdicts,
     chosen: &Chosen,
     apart: bool,
-    name: &[u8],
+    about: About<'_>,
     out: &mut Vec<u8>,
 ) -> Result<(), OutOfMemory>
     requires clocks { clocks.now ≡ indexed.now }
     requires must { must.now ≡ indexed.now }
     ensures ok { OnOk result ((text : List ℕ) × (out.new.items ≡ out.old.items ++ text)
-        × IsPage indexed.now chosen.now.races name.now text (all_rows apart chosen.now.verdicts.items)) }
+        × IsPage indexed.now chosen.now.races about.entry.name.now text (all_rows indexed.now (followed_in about.entry) apart chosen.now.verdicts.items)) }
     ensures err { OnErr result (out.new.items ≡ out.old.items) }
 {
     let mut page = Page::new(*out.allocator(), indexed);
     write_page(
-        &mut page, indexed, clocks, must, verdicts, chosen, apart, name,
+        &mut page, indexed, clocks, must, verdicts, chosen, apart, about,
     )?;
-    append_written(&page, chosen.races, name, out)
+    append_written(&page, chosen.races, about.name, out)
 }
 
 /// Appends the page, whose parts are written. Its beginning is made first, so that all is appended, or nothing.
@@ -118,17 +121,17 @@ fn write_page(
     verdicts: &Verdicts,
     chosen: &Chosen,
     apart: bool,
-    name: &[u8],
+    about: About<'_>,
 ) -> Result<(), OutOfMemory>
     requires trace { page.old.trace ≡ indexed.now }
     requires clocks { clocks.now ≡ indexed.now }
     requires must { must.now ≡ indexed.now }
     ensures trace { page.new.trace ≡ page.old.trace }
-    ensures rows { OnOk result (page.new.rows ≡ page.old.rows ++ all_rows apart chosen.now.verdicts.items) }
+    ensures rows { OnOk result (page.new.rows ≡ page.old.rows ++ all_rows indexed.now (followed_in about.entry) apart chosen.now.verdicts.items) }
 {
     let mut piece = Piece::new(page.allocator());
     write_parts(
-        page, &mut piece, indexed, clocks, must, verdicts, chosen, apart, name,
+        page, &mut piece, indexed, clocks, must, verdicts, chosen, apart, about,
     )
 }
 
@@ -142,13 +145,13 @@ fn write_parts(
     verdicts: &Verdicts,
     chosen: &Chosen,
     apart: bool,
-    name: &[u8],
+    about: About<'_>,
 ) -> Result<(), OutOfMemory>
     requires trace { page.old.trace ≡ indexed.now }
     requires clocks { clocks.now ≡ indexed.now }
     requires must { must.now ≡ indexed.now }
     ensures trace { page.new.trace ≡ page.old.trace }
-    ensures rows { OnOk result (page.new.rows ≡ page.old.rows ++ all_rows apart chosen.now.verdicts.items) }
+    ensures rows { OnOk result (page.new.rows ≡ page.old.rows ++ all_rows indexed.now (followed_in about.entry) apart chosen.now.verdicts.items) }
 {
     write_told(
         page,
@@ -158,9 +161,9 @@ fn write_parts(
         must,
         chosen.verdicts.as_slice(),
         apart,
-        name,
+        about,
     )?;
-    end_page(page, piece, indexed, verdicts, chosen, apart)
+    end_page(page, piece, indexed, verdicts, chosen, apart, about)
 }
 
 /// Writes what stands under the rows: what is left out, the counts, and what the words mean.
@@ -171,6 +174,7 @@ fn end_page(
     verdicts: &Verdicts,
     chosen: &Chosen,
     apart: bool,
+    about: About<'_>,
 ) -> Result<(), OutOfMemory>
     ensures trace { page.new.trace ≡ page.old.trace }
     ensures rows { page.new.rows ≡ page.old.rows }
@@ -178,7 +182,7 @@ fn end_page(
     piece.clear();
     write_unlisted(piece, chosen, apart)?;
     write_counts(piece, indexed, verdicts)?;
-    write_meanings(piece)?;
+    write_meanings(piece, about.followed.is_some())?;
     piece.write(&[Item::Part(Part::Foot)])?;
     page.write(piece)
 }
@@ -192,15 +196,15 @@ fn write_told(
     must: &Must,
     told: &[Verdict],
     apart: bool,
-    name: &[u8],
+    about: About<'_>,
 ) -> Result<(), OutOfMemory>
     requires trace { page.old.trace ≡ indexed.now }
     requires clocks { clocks.now ≡ indexed.now }
     requires must { must.now ≡ indexed.now }
     ensures trace { page.new.trace ≡ page.old.trace }
-    ensures rows { OnOk result (page.new.rows ≡ page.old.rows ++ all_rows apart told.now) }
+    ensures rows { OnOk result (page.new.rows ≡ page.old.rows ++ all_rows indexed.now (followed_in about.entry) apart told.now) }
 {
-    match shell_word(page.allocator(), name) {
+    match shell_word(page.allocator(), about.name) {
         Ok(word) => write_sections(
             page,
             piece,
@@ -209,7 +213,10 @@ fn write_told(
             must,
             told,
             apart,
-            word.as_slice(),
+            About {
+                name: word.as_slice(),
+                followed: about.followed,
+            },
         ),
         Err(refused) => Err(refused),
     }
@@ -224,27 +231,27 @@ fn write_sections(
     must: &Must,
     told: &[Verdict],
     apart: bool,
-    word: &[u8],
+    about: About<'_>,
 ) -> Result<(), OutOfMemory>
     requires trace { page.old.trace ≡ indexed.now }
     requires clocks { clocks.now ≡ indexed.now }
     requires must { must.now ≡ indexed.now }
     ensures trace { page.new.trace ≡ page.old.trace }
-    ensures rows { OnOk result (page.new.rows ≡ page.old.rows ++ all_rows apart told.now) }
+    ensures rows { OnOk result (page.new.rows ≡ page.old.rows ++ all_rows indexed.now (followed_in about.entry) apart told.now) }
 {
-    write_sort(page, piece, indexed, clocks, must, word, Sort::Race, told)?;
+    write_sort(page, piece, indexed, clocks, must, about, Sort::Race, told)?;
     write_sort(
         page,
         piece,
         indexed,
         clocks,
         must,
-        word,
+        about,
         Sort::Undecided,
         told,
     )?;
     if apart {
-        write_sort(page, piece, indexed, clocks, must, word, Sort::Apart, told)?;
+        write_sort(page, piece, indexed, clocks, must, about, Sort::Apart, told)?;
     }
     Ok(())
 }
@@ -256,7 +263,7 @@ fn write_sort(
     indexed: &Indexed,
     clocks: &Clocks,
     must: &Must,
-    word: &[u8],
+    about: About<'_>,
     sort: Sort,
     told: &[Verdict],
 ) -> Result<(), OutOfMemory>
@@ -264,7 +271,7 @@ fn write_sort(
     requires clocks { clocks.now ≡ indexed.now }
     requires must { must.now ≡ indexed.now }
     ensures trace { page.new.trace ≡ page.old.trace }
-    ensures rows { OnOk result (page.new.rows ≡ page.old.rows ++ sort_rows sort told.now) }
+    ensures rows { OnOk result (page.new.rows ≡ page.old.rows ++ sort_rows indexed.now (followed_in about.entry) sort told.now) }
 {
     match of_sort(page.allocator(), told, sort) {
         Ok(kept) => write_section(
@@ -273,7 +280,7 @@ fn write_sort(
             indexed,
             clocks,
             must,
-            word,
+            about,
             sort,
             kept.as_slice(),
         ),
@@ -288,7 +295,7 @@ fn write_section(
     indexed: &Indexed,
     clocks: &Clocks,
     must: &Must,
-    word: &[u8],
+    about: About<'_>,
     sort: Sort,
     kept: &[Verdict],
 ) -> Result<(), OutOfMemory>
@@ -296,17 +303,18 @@ fn write_section(
     requires clocks { clocks.now ≡ indexed.now }
     requires must { must.now ≡ indexed.now }
     ensures trace { page.new.trace ≡ page.old.trace }
-    ensures rows { OnOk result (page.new.rows ≡ page.old.rows ++ rows_of kept.now) }
+    ensures rows { OnOk result (page.new.rows ≡ page.old.rows ++ rows_of indexed.now (followed_in about.entry) kept.now) }
 {
-    begin_section(page, piece, sort, kept.is_empty())?;
-    write_rows(page, piece, indexed, clocks, must, word, kept)?;
-    end_section(page, piece, word, sort, kept.len())
+    begin_section(page, piece, about, sort, kept.is_empty())?;
+    write_rows(page, piece, indexed, clocks, must, about, kept)?;
+    end_section(page, piece, about.name, sort, kept.len())
 }
 
 /// Writes the heading of a section.
 fn begin_section(
     page: &mut Page,
     piece: &mut Piece,
+    about: About<'_>,
     sort: Sort,
     is_empty: bool,
 ) -> Result<(), OutOfMemory>
@@ -320,6 +328,8 @@ fn begin_section(
     ])?;
     if is_empty {
         piece.write(&[Item::Element(Tag::Paragraph, b"None.")])?;
+    } else if sort == Sort::Race {
+        write_beside(piece, about)?;
     }
     page.write(piece)
 }

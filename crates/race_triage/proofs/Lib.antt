@@ -1,10 +1,10 @@
+mod BetweenLemmas
 mod ChosenLemmas
 mod CountLemmas
 mod FilterLemmas
 pub mod HeldLemmas
 mod KnownLemmas
 mod ListLemmas
-mod MarkLemmas
 pub mod NumberLemmas
 mod OnceLemmas
 mod OneLemmas

@@ -2,6 +2,7 @@
 //! or undecided; and the text that lists them.
 #![tactic(auto)]
 
+mod between;
 mod blocks;
 mod chosen;
 mod filters;
@@ -19,6 +20,7 @@ mod verdicts;
 mod watch;
 mod workers;
 
+pub use between::{USUAL_TRIES, verdict_between};
 pub use chosen::{Chosen, chosen_of, is_kept, is_known};
 pub use filters::Filters;
 pub use known::{Known, has_block, known_of};

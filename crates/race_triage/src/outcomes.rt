@@ -1,23 +1,22 @@
 //! Schedules that show a pair: how many events they have, and of how many threads.
-ghost use Rattle.std.specs.Prelude.{◌≡◌, ◌≢◌, ◌<◌, ◌⊎◌, ◌↔◌, ℕ, IfOk, IfSome, None, Some, false, length, replicate, slice_index};
-ghost use Rattle.event_index.specs.Events.{thread_at};
+ghost use Rattle.std.specs.Prelude.{◌≡◌, ◌≢◌, ◌<◌, IfOk, IfSome, None, false, length};
 ghost use Rattle.must_order.specs.Kinds.{IsKind};
 ghost use Rattle.must_order.specs.declared.kind.Kind.TheVariants.{Candidate as CandidateKind, Open as OpenKind};
 ghost use Rattle.in_order.specs.Laws.{HasListInOrder};
 ghost use Rattle.in_order.specs.Refusals.{IsNeverShownInOrder};
-ghost use Rattle.in_order.specs.Layout.{IsThreadCount};
-ghost use Rattle.in_order.specs.Sizes.{IsSizeInOrder, HasSize, HasThread};
+ghost use Rattle.in_order.specs.Sizes.{IsSizeInOrder};
 ghost use Rattle.in_order.specs.declared.refusal.InOrderRefusal.TheVariants.{OutOfMemory as NoMemory};
 ghost use Rattle.explain_report.specs.declared.verdict.How.TheVariants.{Candidate, Turned};
 ghost use Rattle.race_triage.specs.Verdicts.{IsNotFound, IsOpenRace, IsRaceOf};
 ghost use Rattle.race_triage.specs.declared.verdicts.Outcome.TheVariants.{Race};
 
-use crate::places::small;
 use crate::tables::Tables;
 use crate::verdicts::Outcome;
 use event_index::Indexed;
 use explain_report::How;
-use in_order::{InOrderRefusal, candidates_are_in_order, in_order_is_sound, in_order_size, turned};
+use in_order::{
+    InOrderRefusal, candidates_are_in_order, in_order_is_sound, in_order_size, turned_size,
+};
 use pair_findings::BUDGET;
 use rapid_text::OutOfMemory;
 use std::alloc::Global;
@@ -77,16 +76,16 @@ impl Tables<'_> {
         first: u32,
         second: u32,
     ) -> Result<Option<Outcome>, OutOfMemory>
+        requires must { self.now.must.now ≡ self.now.indexed.now }
+        requires acquires { self.now.acquires.now ≡ self.now.indexed.now }
         requires kind { IsKind self.now.indexed.now first second OpenKind }
         requires never { IsNeverShownInOrder self.now.indexed.now.events first second }
         ensures race { IfOk result (λ found. IfSome found (IsRaceOf self.now.indexed.now first second Turned)) }
         ensures none { IfOk result (λ found. found ≡ None → IsNotFound self.now.indexed.now.events first second) }
     {
-        match turned(alloc, self.indexed, first, second, BUDGET)? {
-            Some(list) => {
-                let size = size_of(alloc, self.indexed, list.items())?;
-                Ok(Some(race(How::Turned, size)))
-            }
+        let pair = (first, second);
+        match turned_size(alloc, self.indexed, self.must, self.acquires, pair, BUDGET)? {
+            Some(size) => Ok(Some(race(How::Turned, size))),
             None => Ok(None),
         }
     }
@@ -138,57 +137,4 @@ fn race(how: How, size: (u32, u32)) -> Outcome
         events: size.0,
         threads: size.1,
     }
-}
-
-// How many events the list has, and of how many threads.
-fn size_of(alloc: Global, indexed: &Indexed, list: &[u32]) -> Result<(u32, u32), OutOfMemory>
-    ensures { IfOk result (λ size. HasSize indexed.now.events list.now size.0 size.1) }
-{
-    let mut marks = zeros(alloc, indexed.threads() as usize)?;
-    mark(&mut marks, indexed, list);
-    let threads = count(marks.as_slice(), indexed.threads());
-    let events = small(list.len())?;
-    Ok((events, threads))
-}
-
-fn zeros(alloc: Global, len: usize) -> Result<Vec<u32>, OutOfMemory>
-    ensures { IfOk result (λ made. made.items ≡ replicate len 0) }
-{
-    Ok(vec![in alloc; 0u32; len]?)
-}
-
-// Marks the threads that have an event in the list.
-fn mark(marks: &mut Vec<u32>, indexed: &Indexed, list: &[u32])
-    requires marks { marks.old.items ≡ replicate (length indexed.now.threads) 0 }
-    ensures len { length marks.new.items ≡ length indexed.now.threads }
-    ensures marked { (t : ℕ) → (0 < slice_index marks.new.items t) ↔ HasThread indexed.now.events list.now t }
-{
-    for event in list {
-        mark_one(marks, indexed, *event);
-    }
-}
-
-// Marks the thread of the event.
-fn mark_one(marks: &mut Vec<u32>, indexed: &Indexed, event: u32)
-    requires len { length marks.old.items ≡ length indexed.now.threads }
-    ensures len { length marks.new.items ≡ length marks.old.items }
-    ensures marked { (t : ℕ) → (0 < slice_index marks.new.items t) ↔ ((0 < slice_index marks.old.items t) ⊎ (thread_at indexed.now.events event ≡ Some t)) }
-{
-    if let Some(found) = indexed.get(event) {
-        marks[found.thread as usize] = 1;
-    }
-}
-
-// How many of the threads are marked.
-fn count(marks: &[u32], threads: u32) -> u32
-    requires { length marks.now ≡ threads }
-    ensures { IsThreadCount (slice_index marks.now) threads result }
-{
-    let mut count = 0;
-    for thread in 0..threads {
-        if marks[thread as usize] > 0 {
-            count += 1;
-        }
-    }
-    count
 }

@@ -3,11 +3,12 @@ ghost use Rattle.std.specs.Prelude.{◌≡◌, ◌<◌, ◌≤◌, All, false, v
 
 use crate::input::{Input, Watched, input_at, inputs_at};
 use crate::notes::are_wanted;
-use crate::telling::{say, tell_files, tell_joint, tell_pair, tell_replay};
+use crate::telling::{say, tell_files, tell_joint, tell_pair, tell_replay, tell_window};
 use client_scripts::{FromWrite, ReplayFault, replay, replay_joint};
-use pair_calls::{Form, explain, witness};
+use cut_calls::cut_window;
+use pair_calls::{Form, Name, explain, witness};
 use program_calls::{BEST_ROOM, BenchFault, MAX_SCRIPTS, info, threads_with_room};
-use program_words::{PairTask, ScheduleForm, ThreadsTask};
+use program_words::{CutTask, Named, PairTask, ScheduleForm, ThreadsTask};
 use std::io;
 use std::process::ExitCode;
 use std::sync::Wait;
@@ -58,18 +59,20 @@ pub(crate) fn info_of_file(rt: &HostRuntime, trace: &str) -> ExitCode {
     }
 }
 
+/// What a word names, as the calls take it.
+pub(crate) fn name_of(named: Named<'_>) -> Name<'_> {
+    match named {
+        Named::Event(number) => Name::Event(number),
+        Named::Place(word) => Name::Place(word.as_bytes()),
+    }
+}
+
 /// Explains a pair of events of the trace in a file.
 pub(crate) fn explain_in_file(rt: &HostRuntime, pair: &PairTask<'_>, all: bool) -> ExitCode {
     let mut writer = FromWrite::new(io::writer(rt));
     let mut input = input_at(rt, pair.trace);
-    match explain(
-        rt.alloc(),
-        &mut input,
-        pair.one,
-        pair.other,
-        all,
-        &mut writer,
-    ) {
+    let (one, other) = (name_of(pair.one), name_of(pair.other));
+    match explain(rt.alloc(), &mut input, one, other, all, &mut writer) {
         Ok(()) => finish(rt, &mut writer),
         Err(fault) => tell_pair(rt, fault, pair),
     }
@@ -94,16 +97,22 @@ pub(crate) fn witness_in_file(
     let mut writer = FromWrite::new(io::writer(rt));
     let mut input = input_at(rt, pair.trace);
     let form = form_of(form);
-    match witness(
-        rt.alloc(),
-        &mut input,
-        pair.one,
-        pair.other,
-        form,
-        &mut writer,
-    ) {
+    let (one, other) = (name_of(pair.one), name_of(pair.other));
+    match witness(rt.alloc(), &mut input, one, other, form, &mut writer) {
         Ok(()) => finish(rt, &mut writer),
         Err(fault) => tell_pair(rt, fault, pair),
+    }
+}
+
+/// Prints a window of the trace in a file.
+pub(crate) fn cut_of_file(rt: &HostRuntime, task: &CutTask<'_>) -> ExitCode
+    requires { 0 < task.now.most }
+{
+    let mut writer = FromWrite::new(io::writer(rt));
+    let mut input = input_at(rt, task.trace);
+    match cut_window(rt.alloc(), &mut input, task.from, task.most, &mut writer) {
+        Ok(()) => finish(rt, &mut writer),
+        Err(fault) => tell_window(rt, fault, task.trace),
     }
 }
 

@@ -11,6 +11,7 @@ mod lines;
 mod notes;
 mod output;
 mod pair_notes;
+mod place_notes;
 mod progress;
 mod quoted;
 mod seen;
@@ -19,13 +20,15 @@ mod telling;
 mod triaging;
 
 use crate::doing::{
-    explain_in_file, info_of_file, replay_files, replay_input, threads_on_files, witness_in_file,
+    cut_of_file, explain_in_file, info_of_file, replay_files, replay_input, threads_on_files,
+    witness_in_file,
 };
 use crate::sessions::{log_of_file, session_on_files};
 use crate::telling::tell_words;
 use crate::triaging::triage_file;
 use program_calls::{MAX_SCRIPTS, MAX_WORKERS};
 use program_words::{Limits, Task, Told, no_text, task_of};
+use rapid_text::MAX_EVENTS;
 use std::io;
 use std::process::ExitCode;
 use std::sync::Wait;
@@ -37,6 +40,7 @@ const LIMITS: Limits = Limits {
     clients: MAX_SCRIPTS as u32 + 1,
     workers: MAX_WORKERS,
     tries: MAX_TRIES,
+    events: MAX_EVENTS as u32,
 };
 
 /// The words that the program is called with, its own name first.
@@ -71,6 +75,7 @@ fn work<R: Threads + Wait + Sync + Clone + Send + Drop + 'static>(
         Task::Triage(task) => triage_file(rt, starts, task),
         Task::Explain(pair, all) => explain_in_file(rt, pair, *all),
         Task::Witness(pair, form) => witness_in_file(rt, pair, *form),
+        Task::Cut(task) => cut_of_file(rt, task),
     }
 }
 

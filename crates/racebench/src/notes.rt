@@ -293,6 +293,21 @@ pub(crate) fn append_file_notes(
     }
 }
 
+/// Appends the notes on a refused line of the followed races in a file.
+pub(crate) fn append_confirmed_notes(
+    rt: &HostRuntime,
+    out: &mut Vec<u8>,
+    path: &str,
+    number: u64,
+) -> Result<(), OutOfMemory> {
+    if let Some(text) = bytes_again(rt, path) {
+        if let Some(line) = line_of(&text, true, number) {
+            append_quote(out, path, number, line)?;
+        }
+    }
+    append_named(out, path, b" is not what `record/confirm --json` writes")
+}
+
 /// The path of the input of this number.
 fn path_of<'a>(paths: &[&'a str], input: u32) -> &'a str {
     match paths.get((input as usize).saturating_sub(1)) {

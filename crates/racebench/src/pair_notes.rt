@@ -1,28 +1,30 @@
-//! The note on two events that are no pair: which of the three reasons it is.
+//! The note on two names of no pair: which of the reasons it is.
 
 ghost use Rattle.std.specs.Prelude.{◌≡◌, false};
 
+use crate::doing::name_of;
 use crate::input::{Input, input_at};
 use crate::notes::is_plain;
+use crate::place_notes::append_place_reason;
 use crate::quoted::{append_number, append_shown};
 use client_scripts::read_trace;
 use event_index::Indexed;
+use pair_calls::Name;
+use program_words::PairTask;
 use rapid_text::OutOfMemory;
 
-/// Appends the note that says why two events of the trace in a file are no pair. The file is read once more, so a file that is not plain
-/// gets no note.
+/// Appends the note that says why the names of the trace in a file mean no pair. The file is read once more, so a file
+/// that is not plain gets no note.
 pub(crate) fn append_pair_note(
     rt: &HostRuntime,
     out: &mut Vec<u8>,
-    path: &str,
-    one: u32,
-    other: u32,
+    pair: &PairTask<'_>,
 ) -> Result<(), OutOfMemory> {
-    if !is_plain(rt, path) {
+    if !is_plain(rt, pair.trace) {
         return Ok(());
     }
-    let mut input = input_at(rt, path);
-    append_note_of(rt, out, &mut input, one, other)
+    let mut input = input_at(rt, pair.trace);
+    append_note_of(rt, out, &mut input, pair)
 }
 
 /// Appends the note, of the trace that this input holds.
@@ -30,18 +32,30 @@ fn append_note_of(
     rt: &HostRuntime,
     out: &mut Vec<u8>,
     input: &mut Input,
-    one: u32,
-    other: u32,
+    pair: &PairTask<'_>,
 ) -> Result<(), OutOfMemory>
     requires { input.old.failed ≡ false }
 {
     match read_trace(rt.alloc(), input) {
-        Ok(indexed) => append_reason(out, &indexed, one, other),
+        Ok(indexed) => append_reason_of(rt, out, &indexed, pair),
         Err(_) => Ok(()),
     }
 }
 
 /// Appends the note, of this trace.
+fn append_reason_of(
+    rt: &HostRuntime,
+    out: &mut Vec<u8>,
+    indexed: &Indexed,
+    pair: &PairTask<'_>,
+) -> Result<(), OutOfMemory> {
+    match (name_of(pair.one), name_of(pair.other)) {
+        (Name::Event(one), Name::Event(other)) => append_reason(out, indexed, one, other),
+        (one, other) => append_place_reason(rt.alloc(), out, indexed, one, other),
+    }
+}
+
+/// Appends the note on two events.
 fn append_reason(
     out: &mut Vec<u8>,
     indexed: &Indexed,
@@ -69,7 +83,7 @@ fn append_reason(
 }
 
 /// Appends the note on a number that is no event of a trace of so many events.
-fn append_no_event(out: &mut Vec<u8>, event: u32, len: u32) -> Result<(), OutOfMemory> {
+pub(crate) fn append_no_event(out: &mut Vec<u8>, event: u32, len: u32) -> Result<(), OutOfMemory> {
     out.extend_from_slice(b"note: ")?;
     append_number(out, u64::from(event))?;
     if len == 0 {

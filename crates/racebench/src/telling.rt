@@ -1,19 +1,21 @@
 //! What the program says where it stops short of what the words ask for, and the status that it ends with then.
 
 use crate::notes::{
-    STANDARD_OUTPUT, append_file_notes, append_joint_notes, append_write_note, are_wanted,
+    STANDARD_OUTPUT, append_confirmed_notes, append_file_notes, append_joint_notes,
+    append_write_note, are_wanted,
 };
 use crate::pair_notes::append_pair_note;
 use crate::quoted::append_name;
 use client_scripts::{FromWrite, ReplayFault, write_all};
+use cut_calls::{WindowFault, window_fault_text};
 use kept_session::{SessionFault, session_fault_text};
 use pair_calls::{PairFault, pair_fault_text};
 use program_calls::{BenchFault, bench_fault_text};
-use program_words::{PairTask, Told};
+use program_words::{PairTask, Told, TriageTask};
 use rapid_text::OutOfMemory;
 use std::io;
 use std::process::ExitCode;
-use triage_calls::{TriageFault, triage_fault_text};
+use triage_calls::{ConfirmedFault, TriageFault, confirmed_fault_text, triage_fault_text};
 
 /// The status where words are refused, or ask for more than the program does.
 const REFUSED: u8 = 2;
@@ -31,6 +33,8 @@ enum Fault {
     Pair(PairFault),
     Session(SessionFault),
     Triage(TriageFault),
+    Confirmed(ConfirmedFault),
+    Window(WindowFault),
 }
 
 /// Appends the text of a fault.
@@ -40,6 +44,8 @@ fn append_text(out: &mut Vec<u8>, fault: &Fault) -> Result<(), OutOfMemory> {
         Fault::Pair(fault) => pair_fault_text(fault, out),
         Fault::Session(fault) => session_fault_text(fault, out),
         Fault::Triage(fault) => triage_fault_text(fault, out),
+        Fault::Confirmed(fault) => confirmed_fault_text(fault, out),
+        Fault::Window(fault) => window_fault_text(fault, out),
     }
 }
 
@@ -147,7 +153,7 @@ fn append_in_pair(
 ) -> Result<(), OutOfMemory> {
     append_fault(out, &Fault::Pair(*fault))?;
     if *fault == PairFault::NoSuchPair && are_wanted(rt) {
-        append_pair_note(rt, out, pair.trace, pair.one, pair.other)?;
+        append_pair_note(rt, out, pair)?;
     }
     Ok(())
 }
@@ -208,6 +214,49 @@ pub(crate) fn tell_triage(rt: &HostRuntime, fault: TriageFault, paths: &[&str]) 
     match fault {
         TriageFault::Replay(fault) => tell_files(rt, BenchFault::from(fault), paths),
         fault => tell(rt, Fault::Triage(fault)),
+    }
+}
+
+/// Appends the line that tells a refused line of the followed races at this path, and its notes.
+fn append_in_confirmed(
+    rt: &HostRuntime,
+    out: &mut Vec<u8>,
+    line: u64,
+    path: &str,
+) -> Result<(), OutOfMemory> {
+    append_fault(out, &Fault::Confirmed(ConfirmedFault::Line(line)))?;
+    if are_wanted(rt) {
+        append_confirmed_notes(rt, out, path, line)?;
+    }
+    Ok(())
+}
+
+/// Tells a fault of the followed races that the task names, which are input 3.
+pub(crate) fn tell_confirmed(
+    rt: &HostRuntime,
+    fault: ConfirmedFault,
+    task: &TriageTask<'_>,
+) -> ExitCode {
+    let path = task.confirmed.unwrap_or("");
+    match fault {
+        ConfirmedFault::Replay(fault) => tell_files(
+            rt,
+            BenchFault::from(fault),
+            &[task.trace, task.known.unwrap_or(""), path],
+        ),
+        ConfirmedFault::Line(line) => {
+            let mut lines = Vec::new(rt.alloc());
+            let made = append_in_confirmed(rt, &mut lines, line, path);
+            end(rt, &lines, made, ExitCode::FAILURE)
+        }
+    }
+}
+
+/// Tells a fault of `cut` on the trace at this path.
+pub(crate) fn tell_window(rt: &HostRuntime, fault: WindowFault, trace: &str) -> ExitCode {
+    match fault {
+        WindowFault::Replay(fault) => tell_files(rt, BenchFault::from(fault), &[trace]),
+        fault => tell(rt, Fault::Window(fault)),
     }
 }
 

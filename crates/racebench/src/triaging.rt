@@ -4,7 +4,7 @@ ghost use Rattle.std.specs.Prelude.{◌≡◌, IfSome, false};
 use crate::input::{Input, input_at};
 use crate::progress::Progress;
 use crate::seen::Seen;
-use crate::telling::{say, tell_blockless, tell_replay, tell_triage};
+use crate::telling::{say, tell_blockless, tell_confirmed, tell_replay, tell_triage};
 use client_scripts::{FromWrite, ReplayFault, Sink};
 use program_words::{RacesForm, TriageTask};
 use std::io::IsTerminal;
@@ -12,7 +12,10 @@ use std::process::ExitCode;
 use std::sync::Wait;
 use std::thread::Threads;
 use std::{io, thread};
-use triage_calls::{Asked, Filters, Form, Silent, TriageFault, Watch, triage};
+use triage_calls::{
+    About, Asked, ConfirmedFault, Filters, Followed, Form, Silent, TriageFault, Watch,
+    read_confirmed, triage,
+};
 
 /// The status if a race is printed, for `--fail`.
 const RACES: u8 = 3;
@@ -21,7 +24,7 @@ const RACES: u8 = 3;
 const UNJUDGED: u8 = 4;
 
 /// What is asked for, as the call takes it.
-fn asked_of<'a>(task: &'a TriageTask<'_>) -> Asked<'a> {
+fn asked_of<'a>(task: &'a TriageTask<'_>, about: About<'a>) -> Asked<'a> {
     Asked {
         filters: Filters {
             only: task.only.as_slice(),
@@ -34,9 +37,7 @@ fn asked_of<'a>(task: &'a TriageTask<'_>) -> Asked<'a> {
             RacesForm::Text => Form::Text,
             RacesForm::Json => Form::Json,
             RacesForm::Lines => Form::Lines,
-            RacesForm::Page => Form::Page {
-                name: task.trace.as_bytes(),
-            },
+            RacesForm::Page => Form::Page { about },
         },
     }
 }
@@ -48,6 +49,17 @@ fn known_at(rt: &HostRuntime, path: Option<&str>) -> Option<Input>
     match path {
         Some(path) => Some(input_at(rt, path)),
         None => None,
+    }
+}
+
+/// How races came out when they were followed, by the file at this path, if one is named.
+fn confirmed_at(
+    rt: &HostRuntime,
+    path: Option<&str>,
+) -> Result<Option<Vec<Followed>>, ConfirmedFault> {
+    match path {
+        Some(path) => Ok(Some(read_confirmed(rt.alloc(), &mut input_at(rt, path))?)),
+        None => Ok(None),
     }
 }
 
@@ -88,6 +100,7 @@ fn list_to<R: Threads + Sync, K: Sink, W: Watch + Sync>(
     rt: &HostRuntime,
     starts: &R,
     task: &TriageTask<'_>,
+    about: About<'_>,
     writer: &mut K,
     watch: &W,
 ) -> Result<u64, TriageFault>
@@ -100,7 +113,7 @@ fn list_to<R: Threads + Sync, K: Sink, W: Watch + Sync>(
         rt.alloc(),
         &mut reader,
         known,
-        asked_of(task),
+        asked_of(task, about),
         writer,
         watch,
     )
@@ -111,11 +124,12 @@ fn list_races<R: Threads + Sync, W: Watch + Sync>(
     rt: &HostRuntime,
     starts: &R,
     task: &TriageTask<'_>,
+    about: About<'_>,
     watch: &W,
 ) -> ExitCode {
     let mut writer = FromWrite::new(io::writer(rt));
     let seen = Seen::new(watch);
-    let listed = list_to(rt, starts, task, &mut writer, &seen);
+    let listed = list_to(rt, starts, task, about, &mut writer, &seen);
     watch.end();
     match listed {
         Ok(races) => match writer.flush() {
@@ -131,25 +145,51 @@ fn list_shown<R: Threads + Wait + Sync>(
     rt: &HostRuntime,
     starts: &R,
     task: &TriageTask<'_>,
+    about: About<'_>,
 ) -> ExitCode {
     let progress = Progress::new(rt, starts, rt.stderr().is_terminal());
     let (_, status) = thread::join(
         starts,
         || progress.show(),
-        || list_races(rt, starts, task, &progress),
+        || list_races(rt, starts, task, about, &progress),
     );
     status
 }
 
 /// Lists the races of the trace in a file. Standard error shows how far that is if it is a terminal, or if that is asked for.
+fn list_about<R: Threads + Wait + Sync>(
+    rt: &HostRuntime,
+    starts: &R,
+    task: &TriageTask<'_>,
+    about: About<'_>,
+) -> ExitCode {
+    if task.progress || rt.stderr().is_terminal() {
+        list_shown(rt, starts, task, about)
+    } else {
+        list_races(rt, starts, task, about, &Silent)
+    }
+}
+
+/// The same of races that were followed, as this list says, if there is one.
+fn list_followed<R: Threads + Wait + Sync>(
+    rt: &HostRuntime,
+    starts: &R,
+    task: &TriageTask<'_>,
+    followed: Option<&[Followed]>,
+) -> ExitCode {
+    let name = task.trace.as_bytes();
+    list_about(rt, starts, task, About { name, followed })
+}
+
+/// The same, after what the file of followed races says was read.
 pub(crate) fn triage_file<R: Threads + Wait + Sync>(
     rt: &HostRuntime,
     starts: &R,
     task: &TriageTask<'_>,
 ) -> ExitCode {
-    if task.progress || rt.stderr().is_terminal() {
-        list_shown(rt, starts, task)
-    } else {
-        list_races(rt, starts, task, &Silent)
+    match confirmed_at(rt, task.confirmed) {
+        Ok(Some(confirmed)) => list_followed(rt, starts, task, Some(confirmed.as_slice())),
+        Ok(None) => list_followed(rt, starts, task, None),
+        Err(fault) => tell_confirmed(rt, fault, task),
     }
 }

@@ -1,5 +1,5 @@
 //! The pieces of a line: the one place where numbers, names and lists become bytes.
-ghost use Rattle.std.specs.Prelude.{◌≡◌, ◌++◌, ◌∷◌, OnOk, OnErr, decimal};
+ghost use Rattle.std.specs.Prelude.{◌≡◌, ◌+◌, ◌≤◌, ◌++◌, ◌∷◌, OnOk, OnErr, decimal, length, vec_len, vec_capacity};
 ghost use Rattle.report.specs.Info.{count_line};
 ghost use Rattle.report.specs.Pieces.{piece_bytes, pieces_text, spaced, spaced_names, spaced_pair, spaced_pairs};
 
@@ -31,13 +31,28 @@ pub(crate) fn append_bytes(out: &mut Vec<u8>, bytes: &[u8]) -> Result<(), OutOfM
     Ok(())
 }
 
+/// Appends a few bytes, for which there is room. For so few a loop is quicker than a call that copies.
+#[inline]
+pub(crate) fn put_few(out: &mut Vec<u8>, bytes: &[u8])
+    requires { vec_len out.old + length bytes.now ≤ vec_capacity out.old }
+    ensures items { out.new.items ≡ out.old.items ++ bytes.now }
+    ensures len { vec_len out.new ≡ vec_len out.old + length bytes.now }
+    ensures capacity { vec_capacity out.new ≡ vec_capacity out.old }
+{
+    for byte in bytes {
+        out.push_reserved(*byte);
+    }
+}
+
 /// Appends a number. Where memory is refused `out` stays as it was.
 fn append_number(out: &mut Vec<u8>, number: u64) -> Result<(), OutOfMemory>
     ensures ok { OnOk result (out.new.items ≡ out.old.items ++ decimal number) }
     ensures err { OnErr result (out.new.items ≡ out.old.items) }
 {
-    let mut digits = Buffer::new();
-    out.extend_from_slice(digits.format(number).as_bytes())?;
+    let mut buffer = Buffer::new();
+    let digits = buffer.format(number).as_bytes();
+    out.reserve(digits.len())?;
+    put_few(out, digits);
     Ok(())
 }
 
@@ -46,12 +61,11 @@ fn append_spaced(out: &mut Vec<u8>, number: u64) -> Result<(), OutOfMemory>
     ensures ok { OnOk result (out.new.items ≡ out.old.items ++ 32 ∷ decimal number) }
     ensures err { OnErr result (out.new.items ≡ out.old.items) }
 {
-    let start = out.len();
-    out.push(b' ')?;
-    if let Err(refused) = append_number(out, number) {
-        out.truncate(start);
-        return Err(refused);
-    }
+    let mut buffer = Buffer::new();
+    let digits = buffer.format(number).as_bytes();
+    out.reserve(digits.len() + 1)?;
+    out.push_reserved(b' ');
+    put_few(out, digits);
     Ok(())
 }
 

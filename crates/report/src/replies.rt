@@ -3,8 +3,9 @@ ghost use Rattle.std.specs.Prelude.{◌≡◌, ◌++◌, OnOk, OnErr, codes, dec
 ghost use Rattle.report.specs.Pieces.{piece_bytes};
 ghost use Rattle.report.specs.Replies.{reply_text};
 
-use crate::pieces::{Piece, append_pieces};
+use crate::pieces::{Piece, append_pieces, put_few};
 use inverse_log::Reply;
+use itoa::Buffer;
 use rapid_text::OutOfMemory;
 
 /// Appends the line of a number and words.
@@ -12,7 +13,11 @@ fn append_done(out: &mut Vec<u8>, number: u64) -> Result<(), OutOfMemory>
     ensures ok { OnOk result (out.new.items ≡ out.old.items ++ (decimal number ++ codes ": done\n")) }
     ensures err { OnErr result (out.new.items ≡ out.old.items) }
 {
-    append_pieces(out, &[Piece::Number(number), Piece::Words(b": done\n")])?;
+    let mut buffer = Buffer::new();
+    let digits = buffer.format(number).as_bytes();
+    out.reserve(digits.len() + 7)?;
+    put_few(out, digits);
+    put_few(out, b": done\n");
     Ok(())
 }
 
@@ -26,15 +31,15 @@ fn append_numbered(
     ensures ok { OnOk result (out.new.items ≡ out.old.items ++ (decimal number ++ words.now ++ decimal other ++ codes "\n")) }
     ensures err { OnErr result (out.new.items ≡ out.old.items) }
 {
-    append_pieces(
-        out,
-        &[
-            Piece::Number(number),
-            Piece::Words(words),
-            Piece::Number(other),
-            Piece::Words(b"\n"),
-        ],
-    )?;
+    let mut first = Buffer::new();
+    let number = first.format(number).as_bytes();
+    let mut second = Buffer::new();
+    let other = second.format(other).as_bytes();
+    out.reserve(number.len() + words.len() + other.len() + 1)?;
+    put_few(out, number);
+    put_few(out, words);
+    put_few(out, other);
+    out.push_reserved(b'\n');
     Ok(())
 }
 

@@ -17,10 +17,10 @@ use crate::refusal::{Disabled, ExtendRefusal, ListRefusal, PrefixRefusal, SwapRe
 use crate::refusing::refusal_of;
 use crate::showing::is_ready;
 use crate::swapping::swap_refusal;
-use crate::tables::{Tables, forget, note, tables_of, tables_with_room, trim};
+use crate::tables::{Tables, copied, forget, note, tables_of, tables_with_room, trim};
 use event_index::Indexed;
 use rapid_text::OutOfMemory;
-use std::alloc::Global;
+use std::alloc::{AllocError, Global};
 use std::marker::Model;
 use std::snapshot::Snapshot;
 
@@ -250,7 +250,7 @@ impl Schedule {
         let Ok(events) = Vec::from_slice(alloc, front) else {
             return Err(PrefixRefusal::OutOfMemory);
         };
-        let Ok(tables) = tables_of(alloc, indexed, front) else {
+        let Ok(tables) = self.front_tables(alloc, indexed, len) else {
             return Err(PrefixRefusal::OutOfMemory);
         };
         Ok(Schedule {
@@ -258,6 +258,23 @@ impl Schedule {
             events,
             tables,
         })
+    }
+
+    // The tables of the first `len` events. Those of all events are copied, since that is quicker than to make them anew.
+    fn front_tables(
+        &self,
+        alloc: Global,
+        indexed: &Indexed,
+        len: usize,
+    ) -> Result<Box<Tables>, AllocError>
+        requires trace { self.now.trace ≡ indexed.now }
+        requires fits { len ≤ length self.now.events }
+        ensures { IfOk result (λ tables. AreTables indexed.now.events (take len self.now.events) tables.value) }
+    {
+        if len == self.events().len() {
+            return copied(alloc, &self.tables);
+        }
+        tables_of(alloc, indexed, &self.events()[..len])
     }
 
     /// The event of the thread that follows those in the schedule, or None where all of them are there.

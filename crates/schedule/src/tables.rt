@@ -91,6 +91,23 @@ pub(crate) fn trim(tables: &mut Tables)
     tables.latest.shrink_to_fit();
 }
 
+/// Tables of their own that hold the same, with no room for more places.
+pub(crate) fn copied(alloc: Global, tables: &Tables) -> Result<Box<Tables>, AllocError>
+    ensures { (T : List Event) (P : List ℕ) → AreTables T P tables.now
+        → IfOk result (λ copy. AreTables T P copy.value) }
+{
+    let mut copy = Tables {
+        counts: Vec::from_slice(alloc, &tables.counts)?,
+        latest: tables.latest.clone()?,
+        shadows: Vec::from_slice(alloc, &tables.shadows)?,
+    };
+    trim(&mut copy);
+    let Ok(copy) = Box::new(alloc, copy) else {
+        return Err(AllocError);
+    };
+    Ok(copy)
+}
+
 /// The tables of a list, with no room for more places.
 pub(crate) fn tables_of(
     alloc: Global,

@@ -1,3 +1,4 @@
+pub mod Arguments
 pub mod Kept
 pub mod Limits
 pub mod LineWords

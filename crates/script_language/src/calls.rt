@@ -2,6 +2,7 @@
 ghost use Rattle.std.specs.Prelude.{◌≡◌, ◌⊎◌, ◌≤◌, ℕ, IfOk, IfSome, Ok, Err, Some, map};
 ghost use Rattle.std.specs.List.{list_any, slice_split};
 ghost use Rattle.dependence.specs.Limits.{client_limit};
+ghost use Rattle.script_language.specs.Arguments.{is_one, are_two, are_three, are_arguments};
 ghost use Rattle.script_language.specs.LineWords.{is_separator};
 ghost use Rattle.script_language.specs.Scripts.{name_reading, number_reading, numbers_reading, nothing_reading, one_name_reading, name_and_number_reading, branch_reading, command_arguments_reading, command_with, command_reading, is_bad_word, all_read, batch_reading, undo_reading, propose_reading, arguments_reading, call_reading, client_reading, words_reading, script_line_reading};
 ghost use Rattle.script_language.specs.declared.refusal.ScriptCause.TheVariants.{OutOfMemory};
@@ -156,13 +157,48 @@ fn read_command(words: &mut Words<'_>) -> Result<Command, ScriptCause>
     }
 }
 
-/// Whether no command is written with this word, or with so many.
-fn is_bad_word(reading: Result<Command, ScriptCause>) -> bool
-    ensures { result ≡ is_bad_word reading }
+/// Whether this is one word.
+fn is_one(words: &mut Words<'_>) -> bool
+    ensures { result ≡ is_one words.old }
 {
-    match reading {
-        Err(ScriptCause::BadWord) => true,
-        _ => false,
+    words.next().is_some() && words.next().is_none()
+}
+
+/// Whether these are two words.
+fn are_two(words: &mut Words<'_>) -> bool
+    ensures { result ≡ are_two words.old }
+{
+    words.next().is_some() && is_one(words)
+}
+
+/// Whether these are three words.
+fn are_three(words: &mut Words<'_>) -> bool
+    ensures { result ≡ are_three words.old }
+{
+    words.next().is_some() && are_two(words)
+}
+
+/// Whether these are as many words as a command of this kind has arguments.
+fn are_arguments(verb: CommandVerb, words: &mut Words<'_>) -> bool
+    ensures { result ≡ are_arguments verb words.old }
+{
+    match verb {
+        CommandVerb::New | CommandVerb::Back | CommandVerb::Drop => is_one(words),
+        CommandVerb::Add | CommandVerb::Swap | CommandVerb::Adopt => are_two(words),
+        CommandVerb::Branch => are_three(words),
+    }
+}
+
+/// Whether no command is written with this word, or with so many. The arguments are not read.
+fn is_bad_command(words: &mut Words<'_>) -> bool
+    ensures { result ≡ is_bad_word (command_reading words.old) }
+{
+    let Some(word) = words.next() else {
+        return true;
+    };
+    match verb_with(word) {
+        Some(Verb::Do(verb)) => !are_arguments(verb, words),
+        _ => true,
     }
 }
 
@@ -172,7 +208,7 @@ fn has_bad_word(words: Words<'_>) -> bool
 {
     let mut left = Some(words);
     while let Some(words) = left.take() {
-        if is_bad_word(read_command(&mut words.before_separator())) {
+        if is_bad_command(&mut words.before_separator()) {
             return true;
         }
         left = words.behind_separator();

@@ -80,8 +80,12 @@ fn keep_names(
         ≡ call_in form name.now to.now number own) }
 {
     let at = names.len();
-    names.extend_from_slice(name)?;
-    names.extend_from_slice(to)?;
+    if !name.is_empty() {
+        names.extend_from_slice(name)?;
+    }
+    if !to.is_empty() {
+        names.extend_from_slice(to)?;
+    }
     Ok(Kept {
         line: 0,
         at,

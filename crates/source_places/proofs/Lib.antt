@@ -1,2 +1,4 @@
 mod ArrowLemmas
 mod CutLemmas
+mod FlagLemmas
+mod NameLemmas

@@ -1,2 +1,4 @@
+pub mod Accesses
 pub mod Located
+pub mod Names
 pub mod Places

@@ -46,7 +46,7 @@ fn are_digits(text: &[u8]) -> bool
 }
 
 /// What comes before the last of these bytes, or nothing, and what comes after it, or all.
-fn cut_at_last(byte: u8, text: &[u8]) -> (&[u8], &[u8])
+pub fn cut_at_last(byte: u8, text: &[u8]) -> (&[u8], &[u8])
     ensures before { result.0.now ≡ before_last (λ b. b == byte) text.now }
     ensures after { result.1.now ≡ after_last (λ b. b == byte) text.now }
 {

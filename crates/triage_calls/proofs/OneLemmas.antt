@@ -85,7 +85,7 @@ module _ (r : Recording) (place : ℕ → ℕ) (legal : IsLegal r) (asked : Aske
     lines_same r place asked.tries asked.apart legal vs ws one two known (only_of asked) (hide_of asked) c d chosen (chosen_by d also) text words told another,
     races_same c d chosen also mine its,
   )
-  told_same (Page name) lines told another = absurd lines
+  told_same (Page about) lines told another = absurd lines
 
 pub listings_law : ListingsAreOne
 listings_law r given asked workers races others text words legal lines one two =

@@ -7,7 +7,7 @@ use Rattle.race_groups.specs.Found.{AreTooMany}
 use Rattle.race_json.specs.Lines.{IsTriageJson}
 use Rattle.race_lines.specs.Lines.{IsLinesText}
 use Rattle.race_page.specs.Pages.{IsPage}
-use Rattle.race_page.specs.Rows.{all_rows}
+use Rattle.race_page.specs.Rows.{all_rows, followed_in}
 use Rattle.race_triage.specs.Chosen.{AreChosen}
 use Rattle.race_triage.specs.Known.{AreKnown}
 use Rattle.race_triage.specs.Places.{AreFirstUses, AreNumbered, AreNumbers}
@@ -55,8 +55,9 @@ IsToldIn Json r known asked vs races text =
     (c : Chosen) × AreChosen r known (only_of asked) (hide_of asked) asked.apart vs c × IsTriageJson r vs c text × (races ≡ c.races)
 IsToldIn Lines r known asked vs races text =
     (c : Chosen) × AreChosen r known (only_of asked) (hide_of asked) asked.apart vs c × IsLinesText r c text × (races ≡ c.races)
-IsToldIn (Page name) r known asked vs races text =
-    (c : Chosen) × AreChosen r known (only_of asked) (hide_of asked) asked.apart vs c × IsPage r c.races name.now text (all_rows asked.apart c.verdicts.items) × (races ≡ c.races)
+IsToldIn (Page about) r known asked vs races text =
+    (c : Chosen) × AreChosen r known (only_of asked) (hide_of asked) asked.apart vs c
+    × IsPage r c.races about.name.now text (all_rows r (followed_in about) asked.apart c.verdicts.items) × (races ≡ c.races)
 
 -- Which pairs of places are known: those whose two locations the text names, where one is given. `keys` are the locations by their numbers.
 abbrev pub IsGiven : List (Vec ℕ Global) → Option (List ℕ) → Option (List (ℕ × ℕ)) → Type 0

@@ -12,7 +12,7 @@ abbrev pub IsLines : Form → Type 0
 IsLines Text = ⊤
 IsLines Json = ⊤
 IsLines Lines = ⊤
-IsLines (Page name) = ⊥
+IsLines (Page about) = ⊥
 
 -- Two texts in lines that tell of one trace what was asked for are one, and tell of as many races, however many workers there were for each.
 abbrev pub ListingsAreOne : Type 0

@@ -1,3 +1,4 @@
 pub mod Answers
+pub mod Confirmed
 pub mod TriageFaults
 pub mod Laws

@@ -1,12 +1,16 @@
 //! The call that the program makes for `triage`, over readers and a writer.
 #![tactic(auto)]
 
+mod confirming;
 mod fault;
 mod laws;
 mod listing;
 mod writing;
 
+pub use confirming::{ConfirmedFault, confirmed_fault_text, read_confirmed};
 pub use fault::{TriageFault, triage_fault_text};
+pub use followed_races::Followed;
 pub use laws::listings_are_one;
 pub use listing::{Asked, Form, triage};
+pub use race_page::About;
 pub use race_triage::{Filters, MAX_TRIES, Silent, Watch};

@@ -15,7 +15,7 @@ use event_index::Indexed;
 use must_order::Must;
 use race_json::triage_json;
 use race_lines::triage_lines;
-use race_page::page_text;
+use race_page::{About, page_text};
 use race_triage::{
     Chosen, Filters, Known, Places, TriageRefusal, Verdicts, Watch, chosen_of, has_block, known_of,
     triage as verdicts_of, triage_text,
@@ -49,10 +49,10 @@ pub enum Form<'a> {
     Json,
     /// Lines as compilers write them.
     Lines,
-    /// A page (HTML), which calls the trace by this name.
+    /// A page (HTML).
     Page {
-        /// The name.
-        name: &'a [u8],
+        /// The trace's name, and how its races came out when they were followed.
+        about: About<'a>,
     },
 }
 
@@ -310,7 +310,7 @@ fn append_told(
             triage_lines(indexed, must, &chosen, out)?;
             Ok(chosen.races)
         }
-        Form::Page { name } => page_text(
+        Form::Page { about } => page_text(
             indexed,
             clocks,
             must,
@@ -318,7 +318,7 @@ fn append_told(
             known,
             asked.filters,
             asked.apart,
-            name,
+            about,
             out,
         ),
     }

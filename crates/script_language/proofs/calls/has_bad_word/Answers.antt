@@ -5,8 +5,8 @@ use Rattle.script_language.specs.Scripts.{command_reading, is_bad_word}
 use Rattle.script_language.proofs.PartLemmas.{bad-first}
 use Rattle.script_language.proofs.calls.has_bad_word.Goals as goal
 
-pub returns-then-is_bad_word : goal.returns-then-is_bad_word
-returns-then-is_bad_word c =
+pub returns-then-is_bad_command : goal.returns-then-is_bad_command
+returns-then-is_bad_command c =
     let words = c.in-Some.words in
-    let bad : is_bad_word (command_reading (before_first is_separator words)) ≡ true = cc (c.before_separator.ensures, c.read_command.ensures, c.is_bad_word.ensures, c.if-is_bad_word.true) in
+    let bad : is_bad_word (command_reading (before_first is_separator words)) ≡ true = cc (c.before_separator.ensures, c.is_bad_command.ensures, c.if-is_bad_command.true) in
     sym (bad-first words c.loop-words.left (sym c.in-Some.ensures.value) bad) ∙ c.loop-words.invariant

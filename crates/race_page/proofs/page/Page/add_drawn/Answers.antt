@@ -13,6 +13,6 @@ invariant_of-self-2 c =
     with_drawn _ _ _ _ _ c.self.invariant c.in_ok-extend_from_slice.ensures.items shown _ _ _ _ _ c.bytes.ensures.piece drawn c.bytes-2.ensures.piece
     (c.as_slice.ensures.value
     ∙ c.in_ok-append_drawn.ensures
-    ∙ ap (λ (xs : List ℕ). row_text shown.sort shown.first shown.second (xs ++ figure ++ c.bytes-2.result.now)) c.bytes.ensures.text
-    ∙ ap (λ (xs : List ℕ). row_text shown.sort shown.first shown.second (c.args.before.now ++ figure ++ xs)) c.bytes-2.ensures.text)
+    ∙ ap (λ (xs : List ℕ). row_text shown (xs ++ figure ++ c.bytes-2.result.now)) c.bytes.ensures.text
+    ∙ ap (λ (xs : List ℕ). row_text shown (c.args.before.now ++ figure ++ xs)) c.bytes-2.ensures.text)
     c.in_ok-reserve.ensures.items c.in_ok-push.ensures.items

@@ -7,5 +7,5 @@ pub invariant_of-self-2 : goal.invariant_of-self-2
 invariant_of-self-2 c =
     with_row _ _ _ _ _ c.self.invariant c.in_ok-extend_from_slice.ensures.items c.args.shown _ _ _ c.bytes.ensures.piece
     (alone _ _ _ _ c.requires c.in_ok-append_row.ensures c.as_slice.ensures.value
-    ∙ ap (λ (xs : List ℕ). row_text c.args.shown.sort c.args.shown.first c.args.shown.second xs) c.bytes.ensures.text)
+    ∙ ap (λ (xs : List ℕ). row_text c.args.shown xs) c.bytes.ensures.text)
     c.in_ok-reserve.ensures.items c.in_ok-push.ensures.items

@@ -1,0 +1,187 @@
+//! The note on two locations of no pair of events: none, several, or no conflict.
+
+ghost use Rattle.std.specs.Prelude.{◌≡◌, length};
+
+use crate::pair_notes::append_no_event;
+use crate::quoted::append_shown;
+use event_index::Indexed;
+use memchr::memrchr;
+use pair_calls::Name;
+use rapid_text::OutOfMemory;
+use source_places::{are_apart, are_at_one_place, flags_of, place_of};
+use std::alloc::Global;
+
+/// The most locations that a note lists.
+const MAX_LISTED: usize = 4;
+
+/// Appends the note that says why two names of this trace mean no pair, one of which is a location.
+pub(crate) fn append_place_reason(
+    alloc: Global,
+    out: &mut Vec<u8>,
+    indexed: &Indexed,
+    one: Name<'_>,
+    other: Name<'_>,
+) -> Result<(), OutOfMemory> {
+    let ones = flags_of(alloc, indexed, one)?;
+    if append_name_note(alloc, out, indexed, one, ones.as_slice())? {
+        return Ok(());
+    }
+    let others = flags_of(alloc, indexed, other)?;
+    if append_name_note(alloc, out, indexed, other, others.as_slice())? {
+        return Ok(());
+    }
+    append_both_note(out, one, other, ones.as_slice(), others.as_slice())
+}
+
+/// Appends the note on a name that means nothing, or accesses at several locations; whether there was such a note.
+fn append_name_note(
+    alloc: Global,
+    out: &mut Vec<u8>,
+    indexed: &Indexed,
+    name: Name<'_>,
+    flags: &[bool],
+) -> Result<bool, OutOfMemory>
+    requires { length flags.now ≡ length indexed.now.events }
+{
+    match name {
+        Name::Event(number) => append_event_note(out, indexed, number),
+        Name::Place(word) => {
+            if !flags.contains(&true) {
+                append_unknown(alloc, out, indexed, word)?;
+                return Ok(true);
+            }
+            if are_at_one_place(indexed, flags) {
+                return Ok(false);
+            }
+            append_several(out, indexed, word, flags)?;
+            Ok(true)
+        }
+    }
+}
+
+/// Appends the note on a number that is no event; whether it is none.
+fn append_event_note(
+    out: &mut Vec<u8>,
+    indexed: &Indexed,
+    number: u32,
+) -> Result<bool, OutOfMemory> {
+    if number < indexed.len() {
+        return Ok(false);
+    }
+    append_no_event(out, number, indexed.len())?;
+    Ok(true)
+}
+
+/// Appends a word in back quotes.
+fn append_word(out: &mut Vec<u8>, word: &[u8]) -> Result<(), OutOfMemory> {
+    out.extend_from_slice(b"`")?;
+    append_shown(out, word)?;
+    out.extend_from_slice(b"`")?;
+    Ok(())
+}
+
+/// Appends the note on a word that fits no access, and the locations of accesses in its file, if it names a file and a line.
+fn append_unknown(
+    alloc: Global,
+    out: &mut Vec<u8>,
+    indexed: &Indexed,
+    word: &[u8],
+) -> Result<(), OutOfMemory> {
+    out.extend_from_slice(b"note: no access is at ")?;
+    append_word(out, word)?;
+    let file = file_of(word);
+    let flags = flags_of(alloc, indexed, Name::Place(file))?;
+    append_places(
+        out,
+        b"; there are accesses at ",
+        indexed,
+        flags.as_slice(),
+        file,
+    )?;
+    out.extend_from_slice(b"\n")?;
+    Ok(())
+}
+
+/// The file of a word `FILE:LINE`, else the word.
+fn file_of(word: &[u8]) -> &[u8] {
+    match memrchr(b':', word) {
+        Some(at) => &word[..at],
+        None => word,
+    }
+}
+
+/// Appends the note on a word that fits accesses at several locations.
+fn append_several(
+    out: &mut Vec<u8>,
+    indexed: &Indexed,
+    word: &[u8],
+    flags: &[bool],
+) -> Result<(), OutOfMemory> {
+    out.extend_from_slice(b"note: ")?;
+    append_word(out, word)?;
+    append_places(out, b" names several locations: ", indexed, flags, b"")?;
+    out.extend_from_slice(b"\n")?;
+    Ok(())
+}
+
+/// Appends these words, if there are any places, and the first places of the events with a flag, each once, if their
+/// files end with this text.
+fn append_places(
+    out: &mut Vec<u8>,
+    words: &[u8],
+    indexed: &Indexed,
+    flags: &[bool],
+    file: &[u8],
+) -> Result<(), OutOfMemory> {
+    let mut listed: Vec<u32> = Vec::new(*out.allocator());
+    for event in 0..indexed.len() {
+        let place = place_of(indexed, event);
+        let is_meant = flags.get(event as usize) == Some(&true) && file_of(place).ends_with(file);
+        if is_meant && !is_listed(indexed, listed.as_slice(), place) {
+            if listed.len() == MAX_LISTED {
+                out.extend_from_slice(b" and others")?;
+                return Ok(());
+            }
+            append_place(out, if listed.is_empty() { words } else { b", " }, place)?;
+            listed.push(event)?;
+        }
+    }
+    Ok(())
+}
+
+/// Whether one of these events is at the place.
+fn is_listed(indexed: &Indexed, listed: &[u32], place: &[u8]) -> bool {
+    listed
+        .iter()
+        .any(|event| place_of(indexed, *event) == place)
+}
+
+/// Appends these words, and a place.
+fn append_place(out: &mut Vec<u8>, words: &[u8], place: &[u8]) -> Result<(), OutOfMemory> {
+    out.extend_from_slice(words)?;
+    append_shown(out, place)
+}
+
+/// Appends the note on two names that mean accesses at one location each, and no pair.
+fn append_both_note(
+    out: &mut Vec<u8>,
+    one: Name<'_>,
+    other: Name<'_>,
+    ones: &[bool],
+    others: &[bool],
+) -> Result<(), OutOfMemory>
+    requires { length ones.now ≡ length others.now }
+{
+    if let (Name::Place(_), Name::Place(_)) = (one, other) {
+        if ones != others && !are_apart(ones, others) {
+            out.extend_from_slice(
+                b"note: both names mean some of the same accesses, but not all\n",
+            )?;
+            return Ok(());
+        }
+    }
+    out.extend_from_slice(
+        b"note: no two accesses there conflict: a pair accesses one variable in two threads, and one of them writes\n",
+    )?;
+    Ok(())
+}

@@ -1,0 +1,6 @@
+use Rattle.window.proofs.GrowthLemmas.{goes_on, chain_more}
+use Rattle.window.proofs.prologue.add_chain.Goals as goal
+
+pub loop-at-preserved : goal.loop-at-preserved
+loop-at-preserved c =
+    goes_on c.args.events.now.items _ _ _ _ _ c.in_ok-add_links.ensures c.loop-at.invariant (chain_more c.args.variable c.args.own c.args.holds.now c.loop-at.at _ c.loop-at-test.true)

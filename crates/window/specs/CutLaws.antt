@@ -1,0 +1,47 @@
+-- What the text of a window tells of its trace.
+use Rattle.std.specs.Prelude.{◌≡◌, ℕ, ◌≤◌, List, Ok}
+use Rattle.rapid_text.specs.Reading.{reading_of}
+use Rattle.rapid_text.specs.Recording.{Recording, IsWellFormed}
+use Rattle.trace_rules.specs.Rules.{IsDisciplined}
+use Rattle.schedule.specs.Reordering.{IsCorrectReordering}
+use Rattle.schedule.specs.Shows.{Shows}
+use Rattle.window.specs.Cuts.{IsCut, prologue_size}
+use Rattle.window.specs.Renamed.{Names, AreApart, renamed}
+use Rattle.window.specs.Window.{IsWindow, back, resumed}
+
+-- The text reads as a trace of its own, which is the window of the trace from k to m, but that threads, variables and locks
+-- have other numbers.
+pub record IsWindowText (r : Recording) (k m : ℕ) (text : List ℕ) : Type 0 where
+  pub inner : Recording
+  pub reads : reading_of text ≡ Ok inner
+  pub names : Names
+  pub apart : AreApart names
+  pub variable : ℕ
+  pub lock : ℕ
+  pub chain : ℕ
+  pub is : IsWindow r.events (renamed names inner.events) k m (prologue_size r k m) variable lock chain
+  pub keeps : IsDisciplined inner.events
+
+-- what is cut from a trace that was read reads as its window
+abbrev pub CutReadsAsWindow : Type 0
+CutReadsAsWindow =
+    (bytes : List ℕ) (r : Recording) (k most : ℕ) (text : List ℕ)
+    → reading_of bytes ≡ Ok r
+    → IsWellFormed r
+    → IsDisciplined r.events
+    → (cut : IsCut r k most text)
+    → IsWindowText r k cut.end text
+
+-- and a race of it is a race of the trace: what a correct reordering of it shows, the events before k as recorded, followed by
+-- that reordering, show
+abbrev pub CutIsSound : Type 0
+CutIsSound =
+    (r : Recording) (k m a b : ℕ) (text P : List ℕ)
+    → IsDisciplined r.events
+    → (window : IsWindowText r k m text)
+    → IsCorrectReordering window.inner.events P
+    → prologue_size r k m ≤ a
+    → prologue_size r k m ≤ b
+    → Shows window.inner.events P a b
+    → IsCorrectReordering r.events (resumed (prologue_size r k m) k P)
+    × Shows r.events (resumed (prologue_size r k m) k P) (back (prologue_size r k m) k a) (back (prologue_size r k m) k b)

@@ -1,0 +1,82 @@
+-- The window of a trace as a text: a line that says where it begins and ends, its prologue, and its part of the trace.
+use Rattle.std.specs.Prelude.{◌≡◌, ◌⊎◌, ℕ, ◌+◌, ◌-◌, ◌/◌, ◌<◌, ◌≤◌, Bool, ◌||◌, true, false, nat_lt, if◌then◌else◌, List, [], ◌∷◌, ◌++◌, length, take, drop, replicate, bytes_eq, codes}
+use Rattle.std.specs.Fmt.{decimal}
+use Rattle.std.specs.List.{list_any}
+use Rattle.rapid_text.specs.declared.event.Event.{Event}
+use Rattle.rapid_text.specs.Canonical.{events_text}
+use Rattle.rapid_text.specs.Limits.{event_limit, name_limit}
+use Rattle.rapid_text.specs.Recording.{Recording}
+use Rattle.window.specs.Made.{chain_of, reads_of, part_of, holds_at, readers_at, prologue_length}
+
+-- `window` with so many underscores after it
+abbrev pub name_with : ℕ → List ℕ
+name_with j = codes "window" ++ replicate j 95
+
+-- the name is that of a variable or a lock
+abbrev pub is_taken : Recording → List ℕ → Bool
+is_taken r name = list_any (bytes_eq name) r.variables || list_any (bytes_eq name) r.locks
+
+-- the name has as few underscores as make it a new one
+pub record IsNewName (r : Recording) (name : List ℕ) : Type 0 where
+  pub underscores : ℕ
+  pub is : name ≡ name_with underscores
+  pub short : length name ≤ name_limit
+  pub new : is_taken r name ≡ false
+  pub fewest : (j : ℕ) → j < underscores → is_taken r (name_with j) ≡ true
+
+-- each name that would do is taken
+abbrev pub HasNoNewName : Recording → Type 0
+HasNoNewName r = (j : ℕ) → length (name_with j) ≤ name_limit → is_taken r (name_with j) ≡ true
+
+-- the recording that knows a variable and a lock of this name too, each as the last
+abbrev pub with_name : Recording → List ℕ → Recording
+with_name r name = record r { variables = r.variables ++ name ∷ []; locks = r.locks ++ name ∷ [] }
+
+-- the events of the prologue: its variable and its lock have the numbers after those of the trace
+abbrev pub prologue_of : Recording → ℕ → ℕ → List Event
+prologue_of r k m =
+    let threads = length r.threads in
+    let locks = length r.locks in
+    chain_of (length r.variables) locks (holds_at r.events k m threads locks)
+    ++ reads_of (length r.variables) locks (readers_at r.events k m threads locks)
+
+-- how many they are
+abbrev pub prologue_size : Recording → ℕ → ℕ → ℕ
+prologue_size r k m = prologue_length r.events k m (length r.threads) (length r.locks)
+
+-- the line that says where the window lies; readers of traces skip it
+abbrev pub begin_line : ℕ → ℕ → ℕ → List ℕ
+begin_line k m n =
+    (codes "window|begin(FROM " ++ decimal k)
+    ++ ((codes " TO " ++ decimal m) ++ ((codes " PROLOGUE " ++ decimal n) ++ codes ")|\n"))
+
+-- the window of the trace at k to m, as a text
+unfoldable pub window_text : Recording → List ℕ → ℕ → ℕ → List ℕ
+window_text r name k m =
+    begin_line k m (prologue_size r k m)
+    ++ (events_text (with_name r name) (prologue_of r k m) []
+    ++ events_text (with_name r name) (part_of r.events k m) (take (m - k) (drop k r.locations)))
+
+-- the window at k to m is no longer than a trace may be
+abbrev pub Fits : Recording → ℕ → ℕ → Type 0
+Fits r k m = prologue_size r k m + (m - k) ≤ event_limit
+
+-- where the trace ends, or the window with so many events
+abbrev pub last_end : Recording → ℕ → ℕ → ℕ
+last_end r k most = if nat_lt (length r.events) (k + most) then length r.events else k + most
+
+-- The window at k with at most so many events ends at m: it has them all, or twice as many would be longer than a trace
+-- may be.
+pub record IsEnd (r : Recording) (k most m : ℕ) : Type 0 where
+  pub some : k < m
+  pub within : m ≤ last_end r k most
+  pub fits : Fits r k m
+  pub longest : (m ≡ last_end r k most) ⊎ ((j : ℕ) × (m - k ≡ (j - k) / 2) × (event_limit < prologue_size r k j + (j - k)))
+
+-- The text is that of the window of the trace at k, with at most so many events.
+pub record IsCut (r : Recording) (k most : ℕ) (text : List ℕ) : Type 0 where
+  pub name : List ℕ
+  pub end : ℕ
+  pub named : IsNewName r name
+  pub ends : IsEnd r k most end
+  pub is : text ≡ window_text r name k end

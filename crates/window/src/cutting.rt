@@ -1,0 +1,87 @@
+//! Cuts a window from a trace.
+ghost use Rattle.std.specs.Prelude.{◌≡◌, ◌⊎◌, ◌+◌, ◌-◌, ◌<◌, ◌≤◌, ℕ, All, List, length, IfErr, IfOk};
+ghost use Rattle.rapid_text.specs.Recording.{IsNamed};
+ghost use Rattle.window.specs.Cuts.{HasNoNewName, IsCut, IsEnd, last_end, prologue_of, prologue_size, window_text, with_name};
+ghost use Rattle.window.specs.declared.fault.CutFault.TheVariants.{NoName, NoSuchEvent, OutOfMemory as NoMemory};
+
+use crate::fault::CutFault;
+use crate::lines::{append_begin, append_part, append_prologue};
+use crate::naming::new_name;
+use crate::prologue::prologue_in;
+use rapid_text::{Event, MAX_EVENTS, OutOfMemory, RawTrace};
+use std::alloc::Global;
+use trace_rules::Trace;
+
+// The end of the window at `from` with at most so many events, and the events of its prologue.
+fn end_of(
+    alloc: Global,
+    trace: &Trace,
+    from: u32,
+    most: u32,
+) -> Result<(u32, Vec<Event>), OutOfMemory>
+    requires from { from < length trace.now.events }
+    requires most { 0 < most }
+    ensures end { IfOk result (λ p. IsEnd trace.now from most p.0) }
+    ensures within { IfOk result (λ p. p.0 ≤ length trace.now.events) }
+    ensures events { IfOk result (λ p. p.1.items ≡ prologue_of trace.now from p.0) }
+    ensures named { IfOk result (λ p. (name : List ℕ) → All (IsNamed (with_name trace.now name)) p.1.items) }
+    ensures size { IfOk result (λ p. length p.1.items ≡ prologue_size trace.now from p.0) }
+{
+    let len = trace.raw().len();
+    let mut to = if most < len - from { from + most } else { len };
+    'shorter: loop {
+        let events = prologue_in(alloc, trace, from, to)?;
+        if events.len() + (to - from) as usize <= MAX_EVENTS {
+            return Ok((to, events));
+        }
+        to = from + (to - from) / 2;
+    }
+}
+
+// The text of the window from `from` to `to` with the events of its prologue.
+fn text_of(
+    alloc: Global,
+    trace: &RawTrace,
+    own: &[u8],
+    from: u32,
+    to: u32,
+    events: &[Event],
+) -> Result<Vec<u8>, OutOfMemory>
+    requires from { from ≤ to }
+    requires to { to ≤ length trace.now.events }
+    requires events { events.now ≡ prologue_of trace.now from to }
+    requires size { length events.now ≡ prologue_size trace.now from to }
+    requires named { All (IsNamed (with_name trace.now own.now)) events.now }
+    ensures { IfOk result (λ text. text.items ≡ window_text trace.now own.now from to) }
+{
+    let mut text = Vec::new(alloc);
+    append_begin(&mut text, from, to, events.len())?;
+    append_prologue(&mut text, trace, own, events)?;
+    append_part(&mut text, trace, own, from, to)?;
+    Ok(text)
+}
+
+/// The window of the trace at this event, with at most so many events, as a text: a trace of its own, which says in its
+/// first line where it lies. It has fewer events if its prologue would make it longer than a trace may be.
+pub fn cut(alloc: Global, trace: &Trace, from: u32, most: u32) -> Result<Vec<u8>, CutFault>
+    requires { 0 < most }
+    ensures ok { IfOk result (λ text. (from < length trace.now.events) × IsCut trace.now from most text.items) }
+    ensures err { IfErr result
+        (λ fault. (fault ≡ NoMemory)
+        ⊎ (((fault ≡ NoSuchEvent) × (length trace.now.events ≤ from)) ⊎ ((fault ≡ NoName) × HasNoNewName trace.now))) }
+{
+    if from >= trace.raw().len() {
+        return Err(CutFault::NoSuchEvent);
+    }
+    let own = new_name(alloc, trace.raw())?;
+    let (to, events) = end_of(alloc, trace, from, most)?;
+    let text = text_of(
+        alloc,
+        trace.raw(),
+        own.as_slice(),
+        from,
+        to,
+        events.as_slice(),
+    )?;
+    Ok(text)
+}

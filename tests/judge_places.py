@@ -1,0 +1,205 @@
+#!/usr/bin/env python3
+"""Judges which pair of events `explain` and `witness` take if they are given locations, by tests/plain.py and the rules of docs/FORMATS.md.
+
+Draws traces with locations that resemble one another, and pairs of words: locations, files and lines, paths, parts of them and numbers of events. Where
+the words name a pair, both commands must print what they print of its two events; else they must say that there is no such pair.
+
+    judge_places.py PROGRAM [TRACES [SEED]]      so many drawn traces, the first of this seed
+
+Says what is wrong, if something is, and ends with status 1 then, also if a kind of question was never met.
+"""
+
+import collections
+import os
+import random
+import sys
+import tempfile
+
+sys.dont_write_bytecode = True
+import by_chance
+import running
+
+TRACES = 150
+MOST_EVENTS = [8, 16, 28]
+QUESTIONS = 14
+TRIES = 16
+DRAWS = [by_chance.locked_trace, by_chance.trace]
+PLACES = ["a/u.c:1", "b/u.c:1", "u.c:1", "u.c:11", "a/u.c:2", "lib/u_v.c:2", ""]
+CALLS = ["", "", " < put", " < put < main m.c:3", " < get m.c:3", " < get m.c:31", " < operator< p.cc:7"]
+WORDS = [*PLACES[:-1], "/src/a/u.c:1", "c:1", "c:2", "put", "get", "ge", "main m.c:3", "m.c:3", "m.c:31", "u.c", "< put", "p.cc:7", "x.c:1", ":1", "+1"]
+FORMS = [[], ["--script"], ["--std"]]
+REACHED = ["whole", "path", "part", "nothing", "several", "shared", "same accesses", "two sets", "event", "no conflict", "candidate", "open", "apart"]
+
+
+class Wrong(Exception):
+    """What the program prints is not what the definitions say."""
+
+
+def is_word(byte):
+    """Whether words consist of such bytes: digits, letters, underscores, and those of other scripts."""
+    return byte >= 128 or bytes([byte]).isalnum() or byte == ord("_")
+
+
+def is_edge(text, at):
+    return at == 0 or at >= len(text) or not (is_word(text[at - 1]) and is_word(text[at]))
+
+
+def is_tail(path, tail):
+    return tail != b"" and path.endswith(b"/" + tail)
+
+
+def place_of(location):
+    return location.split(b" < ", 1)[0]
+
+
+def misfit(word, location):
+    """How well the word fits the location; None if it does not."""
+    place = place_of(location)
+    if word in (place, location):
+        return 0
+    if is_tail(place, word) or is_tail(word, place):
+        return 1
+    for at in range(len(location)):
+        if location.startswith(word, at) and is_edge(location, at) and is_edge(location, at + len(word)):
+            return 2
+    return None
+
+
+class Located:
+    """A trace with a drawn location for each event."""
+
+    def __init__(self, trace, chance):
+        self.trace = trace
+        few = [place and place + chance.choice(CALLS) for place in chance.choices(PLACES, k=chance.randint(1, 5))]
+        self.locations = [chance.choice(few) for _ in trace.events]
+
+    def text(self):
+        return "".join(self.trace.line(event) + location + "\n" for event, location in enumerate(self.locations))
+
+    def named(self, word, tally):
+        """The accesses that the word names, and whether it is the number of an event."""
+        if word.isascii() and word.isdigit():
+            tally["event"] += 1
+            return {int(word)}, True
+        fits = {}
+        for event, location in enumerate(self.locations):
+            how = misfit(word.encode(), location.encode())
+            if self.trace.events[event].word in ("r", "w") and how is not None:
+                fits[event] = how
+        if not fits:
+            tally["nothing"] += 1
+            return set(), False
+        best = min(fits.values())
+        tally[["whole", "path", "part"][best]] += 1
+        return {event for event, how in fits.items() if how == best}, False
+
+    def pair(self, words, tally):
+        """The pair of events that the words name, if they name one."""
+        (ones, one_is_event), (others, other_is_event) = (self.named(word, tally) for word in words)
+        if one_is_event and other_is_event:
+            found = tuple(sorted(ones | others))
+            return found if found in self.trace.conflicting() else None
+        for events, is_event in [(ones, one_is_event), (others, other_is_event)]:
+            if not is_event and len({place_of(self.locations[event].encode()) for event in events}) > 1:
+                tally["several"] += 1
+                return None
+        if ones == others:
+            tally["same accesses"] += 1
+        elif ones & others and not (one_is_event or other_is_event):
+            tally["shared"] += 1
+            return None
+        else:
+            tally["two sets"] += 1
+        return self.reported(ones, others, tally)
+
+    def reported(self, ones, others, tally):
+        """The pair that `triage` reports of these accesses: the least candidate, the first open pair that is shown, the least open one, the least one."""
+        pairs = sorted(
+            (second, first, self.trace.kind(first, second))
+            for first, second in self.trace.conflicting()
+            if (first in ones and second in others) or (second in ones and first in others)
+        )
+        if not pairs:
+            tally["no conflict"] += 1
+            return None
+        kinds = [kind for _, _, kind in pairs]
+        if "candidate" in kinds:
+            tally["candidate"] += 1
+            second, first, _ = pairs[kinds.index("candidate")]
+            return first, second
+        tally["open" if "open" in kinds else "apart"] += 1
+        tried = tries_of(self.trace, pairs)
+        for second, first in tried[:TRIES]:
+            if self.trace.in_order(first, second) is not None or self.trace.turned(first, second) is not None:
+                return first, second
+        second, first = tried[0] if tried else pairs[0][:2]
+        return first, second
+
+
+def tries_of(trace, pairs):
+    """The least open pair of each variable and two threads, in rising order."""
+    least = {}
+    for second, first, kind in pairs:
+        if kind == "open":
+            least.setdefault((trace.events[first].name, trace.thread(first), trace.thread(second)), (second, first))
+    return sorted(least.values())
+
+
+class Judge:
+    def __init__(self, program):
+        self.program = program
+        self.tally = collections.Counter()
+
+    def judge_trace(self, located, chance):
+        running.write("trace", located.text())
+        events = len(located.trace.events)
+        for _ in range(QUESTIONS):
+            words = [self.word(located, chance, events) for _ in range(2)]
+            self.judge_question(located, words, chance)
+        self.tally["traces"] += 1
+
+    def word(self, located, chance, events):
+        drawn = chance.random()
+        if drawn < 0.15:
+            return str(chance.randint(0, events + 1))
+        if drawn < 0.5:
+            location = chance.choice(located.locations)
+            return location if chance.random() < 0.5 else location.split(" < ")[0]
+        return chance.choice(WORDS)
+
+    def judge_question(self, located, words, chance):
+        pair = located.pair(words, self.tally)
+        form = chance.choice(FORMS)
+        for command, flags in [("explain", []), ("witness", form)]:
+            told = running.ended(self.program, [command, "trace", *flags, "--", *words])
+            wanted = (1, b"", b"racebench: no such pair\n")
+            if pair is not None:
+                wanted = running.ended(self.program, [command, "trace", *flags, *map(str, pair)])
+            if told != wanted:
+                raise Wrong(f"{command} of {words}, which name {pair}, answers {told}, and not {wanted}")
+        self.tally["questions"] += 1
+        self.tally["pairs"] += pair is not None
+
+
+def main():
+    judge = Judge(os.path.abspath(sys.argv[1]))
+    traces = int(sys.argv[2]) if sys.argv[2:] else TRACES
+    first = int(sys.argv[3]) if sys.argv[3:] else 0
+    with tempfile.TemporaryDirectory() as folder:
+        os.chdir(folder)
+        for seed in range(first, first + traces):
+            chance = random.Random(seed)
+            located = Located(chance.choice(DRAWS)(chance, chance.choice(MOST_EVENTS)), chance)
+            try:
+                judge.judge_trace(located, chance)
+            except Wrong as what:
+                sys.exit(f"places, seed {seed}: {what}{running.given(['', 'trace'])}")
+    tally = judge.tally
+    missing = [kind for kind in REACHED if not tally[kind]]
+    if missing:
+        sys.exit(f"places: never reached: {missing}")
+    kinds = ", ".join(f"{tally[kind]} {kind}" for kind in REACHED)
+    print(f"places: {tally['questions']} questions on {tally['traces']} traces, {tally['pairs']} with a pair, are answered as the rules say ({kinds})")
+
+
+main()
