@@ -5,6 +5,10 @@ use Rattle.rapid_text.specs.Recording.{Recording}
 use Rattle.schedule.specs.Reordering.{IsCorrectReordering}
 use Rattle.schedule.specs.Shows.{Shows}
 use Rattle.pair_picture.specs.Pictures.{IsFigure}
+use Rattle.race_triage.specs.Texts.{AreTotals}
+use Rattle.race_triage.specs.declared.totals.Totals.{Totals}
+use Rattle.race_triage.specs.declared.verdicts.Verdict.{Verdict}
+use Rattle.race_page.specs.Counts.{counts_text}
 use Rattle.race_page.specs.Heads.{IsFileOf, page_begin}
 use Rattle.race_page.specs.Own.{begin_text, end_text, part_text, row_text}
 use Rattle.race_page.specs.declared.own.Part.{Part}
@@ -39,14 +43,26 @@ pub data AreParts (r : Recording) : List ℕ → List Shown → Type 0 where
       (shown : Shown) (before figure after m : List ℕ) (rows : List Shown) → IsPiece before → IsDrawn r shown.first shown.second figure → IsPiece after
       → AreParts r m rows → AreParts r (m ++ row_text shown (before ++ figure ++ after)) (rows ++ shown ∷ [])
 
--- The text is a page of the trace at this path with these rows. It begins with the head, which has the policy, and with its first line, which says
--- how many races are told and of which file.
-pub record IsPage (r : Recording) (races : ℕ) (path text : List ℕ) (rows : List Shown) : Type 0 where
+-- The text is the end of a page of the trace, of which these are the verdicts: the table of its counts, between two pieces.
+pub record IsEnd (r : Recording) (vs : List Verdict) (text : List ℕ) : Type 0 where
+  pub totals : Totals
+  pub counted : AreTotals r vs totals
+  pub left : List ℕ
+  pub behind : List ℕ
+  pub printed : text ≡ left ++ counts_text totals ++ behind
+  pub begun : IsPiece left
+  pub ended : IsPiece behind
+
+-- The text is a page of the trace at this path with these rows; `vs` are the verdicts on all pairs of locations. It begins with the head, which has
+-- the policy, and with its first line, which says how many races are told and of which file. At its end stand the counts of the whole trace.
+pub record IsPage (r : Recording) (vs : List Verdict) (races : ℕ) (path text : List ℕ) (rows : List Shown) : Type 0 where
   pub file : List ℕ
   pub named : IsFileOf path file
   pub parts : List ℕ
-  pub printed : text ≡ page_begin races file ++ parts
+  pub end : List ℕ
+  pub printed : text ≡ page_begin races file ++ parts ++ end
   pub made : AreParts r parts rows
+  pub closed : IsEnd r vs end
 
 -- what contracts see of a page that is being written
 pub record Made : Type 0 where

@@ -1,101 +1,113 @@
 //! The table of the eleven counts, which are those of the whole trace.
-use crate::own::Tag;
-use crate::piece::{Item, Piece};
-use event_index::Indexed;
-use race_triage::{Totals, Verdicts};
+ghost use Rattle.std.specs.Prelude.{◌≡◌, ◌++◌, OnOk, decimal};
+ghost use Rattle.race_page.specs.Counts.{count_line, counts_text, pair_lines, place_lines, trace_lines};
+
+use itoa::Buffer;
+use race_triage::Totals;
 use rapid_text::OutOfMemory;
 
-const PAIRS: &[u8] =
+/// What stands before the first line of the table.
+pub(crate) const COUNTS_BEGIN: &[u8] = b"<section>
+<h2>Counts</h2>
+<table>
+<thead>
+<tr><th scope=\"col\">What</th><th scope=\"col\">How many</th><th scope=\"col\">Meaning</th></tr>
+</thead>
+<tbody>
+";
+
+/// What stands behind its last line.
+pub(crate) const COUNTS_END: &[u8] = b"</tbody>
+</table>
+</section>
+";
+
+pub(crate) const PAIRS: &[u8] =
     b"pairs of events that conflict: two threads access one variable, and one of them writes";
 
-const CANDIDATES: &[u8] =
+pub(crate) const CANDIDATES: &[u8] =
     b"pairs that no lock, fork, join or read in the trace keeps apart: a schedule shows each";
 
-const OPEN: &[u8] =
+pub(crate) const OPEN: &[u8] =
     b"pairs that only the order of critical sections keeps apart: the search tries some of them";
 
-const GUARDED: &[u8] = b"pairs whose two threads hold one lock: no schedule shows them";
+pub(crate) const GUARDED: &[u8] = b"pairs whose two threads hold one lock: no schedule shows them";
 
-const FORCED: &[u8] = b"pairs whose order every schedule keeps: no schedule shows them";
+pub(crate) const FORCED: &[u8] = b"pairs whose order every schedule keeps: no schedule shows them";
 
-/// Writes the counts.
-pub(crate) fn write_counts(
-    piece: &mut Piece,
-    indexed: &Indexed,
-    verdicts: &Verdicts,
-) -> Result<(), OutOfMemory> {
-    piece.write(&[
-        Item::Begin(Tag::Section),
-        Item::Element(Tag::SectionHeading, b"Counts"),
-        Item::Begin(Tag::Table),
-        Item::Begin(Tag::TableHead),
-        Item::Begin(Tag::Line),
-        Item::Element(Tag::ColumnHead, b"What"),
-        Item::Element(Tag::ColumnHead, b"How many"),
-        Item::Element(Tag::ColumnHead, b"Meaning"),
-        Item::End(Tag::Line),
-        Item::End(Tag::TableHead),
-        Item::Begin(Tag::TableBody),
-    ])?;
-    write_totals(piece, &verdicts.totals(indexed))?;
-    piece.write(&[
-        Item::End(Tag::TableBody),
-        Item::End(Tag::Table),
-        Item::End(Tag::Section),
-    ])
-}
+pub(crate) const PLACES: &[u8] = b"pairs of places where a pair of events has its two accesses";
 
-/// Writes a line for each count.
-fn write_totals(piece: &mut Piece, totals: &Totals) -> Result<(), OutOfMemory> {
-    let counts: [(&[u8], u64, &[u8]); 11] = [
-        (b"events", totals.events, b"lines of the trace"),
-        (b"threads", totals.threads, b"threads of the trace"),
-        (b"pairs", totals.pairs, PAIRS),
-        (b"candidates", totals.candidates, CANDIDATES),
-        (b"open", totals.open_pairs, OPEN),
-        (b"guarded", totals.guarded, GUARDED),
-        (b"forced", totals.forced, FORCED),
-        (
-            b"places",
-            totals.places,
-            b"pairs of places where a pair of events has its two accesses",
-        ),
-        (
-            b"races",
-            totals.races,
-            b"pairs of places for which a schedule was found",
-        ),
-        (
-            b"undecided",
-            totals.undecided,
-            b"pairs of places that the search left open",
-        ),
-        (
-            b"apart",
-            totals.apart,
-            b"pairs of places whose pairs of events are all guarded or forced",
-        ),
-    ];
-    for (word, number, meaning) in counts {
-        write_count(piece, word, number, meaning)?;
-    }
+pub(crate) const RACES: &[u8] = b"pairs of places for which a schedule was found";
+
+pub(crate) const UNDECIDED: &[u8] = b"pairs of places that the search left open";
+
+pub(crate) const APART: &[u8] = b"pairs of places whose pairs of events are all guarded or forced";
+
+/// Appends the table of these counts.
+pub(crate) fn append_counts(out: &mut Vec<u8>, totals: &Totals) -> Result<(), OutOfMemory>
+    ensures { OnOk result (out.new.items ≡ out.old.items ++ counts_text totals.now) }
+{
+    out.extend_from_slice(COUNTS_BEGIN)?;
+    append_trace(out, totals)?;
+    append_pairs(out, totals)?;
+    append_places(out, totals)?;
+    out.extend_from_slice(COUNTS_END)?;
     Ok(())
 }
 
-/// Writes a line of the table.
-fn write_count<'a>(
-    piece: &mut Piece,
-    word: &'a [u8],
+/// Appends the lines on the trace.
+fn append_trace(out: &mut Vec<u8>, totals: &Totals) -> Result<(), OutOfMemory>
+    ensures { OnOk result (out.new.items ≡ out.old.items ++ trace_lines totals.now) }
+{
+    append_line(out, b"events", totals.events, b"lines of the trace")?;
+    append_line(out, b"threads", totals.threads, b"threads of the trace")
+}
+
+/// Appends the lines on pairs of events.
+fn append_pairs(out: &mut Vec<u8>, totals: &Totals) -> Result<(), OutOfMemory>
+    ensures { OnOk result (out.new.items ≡ out.old.items ++ pair_lines totals.now) }
+{
+    append_line(out, b"pairs", totals.pairs, PAIRS)?;
+    append_line(out, b"candidates", totals.candidates, CANDIDATES)?;
+    append_line(out, b"open", totals.open_pairs, OPEN)?;
+    append_line(out, b"guarded", totals.guarded, GUARDED)?;
+    append_line(out, b"forced", totals.forced, FORCED)
+}
+
+/// Appends the lines on pairs of places.
+fn append_places(out: &mut Vec<u8>, totals: &Totals) -> Result<(), OutOfMemory>
+    ensures { OnOk result (out.new.items ≡ out.old.items ++ place_lines totals.now) }
+{
+    append_line(out, b"places", totals.places, PLACES)?;
+    append_line(out, b"races", totals.races, RACES)?;
+    append_line(out, b"undecided", totals.undecided, UNDECIDED)?;
+    append_line(out, b"apart", totals.apart, APART)
+}
+
+/// Appends a line of the table: a word, its number, and what it means.
+fn append_line(
+    out: &mut Vec<u8>,
+    word: &[u8],
     number: u64,
-    meaning: &'a [u8],
-) -> Result<(), OutOfMemory> {
-    piece.write(&[
-        Item::Begin(Tag::Line),
-        Item::Element(Tag::LineHead, word),
-        Item::Begin(Tag::NumberCell),
-        Item::Number(number),
-        Item::End(Tag::NumberCell),
-        Item::Element(Tag::Cell, meaning),
-        Item::End(Tag::Line),
-    ])
+    meaning: &[u8],
+) -> Result<(), OutOfMemory>
+    ensures { OnOk result (out.new.items ≡ out.old.items ++ count_line word.now number meaning.now) }
+{
+    out.extend_from_slice(b"<tr><th scope=\"row\">")?;
+    out.extend_from_slice(word)?;
+    out.extend_from_slice(b"</th><td class=\"number\">")?;
+    append_number(out, number)?;
+    out.extend_from_slice(b"</td><td>")?;
+    out.extend_from_slice(meaning)?;
+    out.extend_from_slice(b"</td></tr>\n")?;
+    Ok(())
+}
+
+/// Appends a number in decimal digits.
+fn append_number(out: &mut Vec<u8>, number: u64) -> Result<(), OutOfMemory>
+    ensures { OnOk result (out.new.items ≡ out.old.items ++ decimal number) }
+{
+    let mut digits = Buffer::new();
+    out.extend_from_slice(digits.format(number).as_bytes())?;
+    Ok(())
 }

@@ -5,6 +5,7 @@ mod about;
 mod accesses;
 mod commands;
 mod counting;
+mod ending;
 mod followed;
 mod heading;
 mod leftovers;

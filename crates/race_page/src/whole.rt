@@ -2,17 +2,17 @@
 ghost use Rattle.std.specs.Prelude.{◌≡◌, ◌++◌, [], List, ℕ, IfOk, OnErr, OnOk, map};
 ghost use Rattle.race_triage.specs.Chosen.{known_places, AreChosen};
 ghost use Rattle.race_triage.specs.declared.chosen.Chosen.{Chosen as Choice};
-ghost use Rattle.race_page.specs.Pages.{IsPage};
+ghost use Rattle.race_triage.specs.declared.verdicts.Verdict.{Verdict as Told};
+ghost use Rattle.race_page.specs.Pages.{IsEnd, IsPage};
 ghost use Rattle.race_page.specs.Rows.{all_rows, followed_in, rows_of, sort_rows};
 
 use crate::about::About;
 use crate::commands::shell_word;
-use crate::counting::write_counts;
+use crate::ending::append_end;
 use crate::followed::write_beside;
 use crate::heading::{append_begin, file_of};
-use crate::leftovers::{write_left_out, write_unlisted};
-use crate::meanings::write_meanings;
-use crate::own::{Part, Tag};
+use crate::leftovers::write_left_out;
+use crate::own::Tag;
 use crate::page::Page;
 use crate::piece::{Item, Piece};
 use crate::rows::write_rows;
@@ -48,7 +48,7 @@ pub fn page_text(
     ensures ok { IfOk result (λ races. (chosen : Choice)
         × AreChosen indexed.now (known_places known.now) (map (λ t. t.now) filters.entry.only.now) (map (λ t. t.now) filters.entry.hide.now) apart
         verdicts.now.verdicts.items chosen
-        × (text : List ℕ) × (out.new.items ≡ out.old.items ++ text) × IsPage indexed.now chosen.races about.entry.name.now text (all_rows indexed.now (followed_in about.entry) apart chosen.verdicts.items) × (races ≡ chosen.races)) }
+        × (text : List ℕ) × (out.new.items ≡ out.old.items ++ text) × IsPage indexed.now verdicts.now.verdicts.items chosen.races about.entry.name.now text (all_rows indexed.now (followed_in about.entry) apart chosen.verdicts.items) × (races ≡ chosen.races)) }
     ensures err { OnErr result (out.new.items ≡ out.old.items) }
 {
     match chosen_of(*out.allocator(), indexed, verdicts, known, filters, apart) {
@@ -74,51 +74,66 @@ fn append_page(
     requires clocks { clocks.now ≡ indexed.now }
     requires must { must.now ≡ indexed.now }
     ensures ok { OnOk result ((text : List ℕ) × (out.new.items ≡ out.old.items ++ text)
-        × IsPage indexed.now chosen.now.races about.entry.name.now text (all_rows indexed.now (followed_in about.entry) apart chosen.now.verdicts.items)) }
+        × IsPage indexed.now verdicts.now.verdicts.items chosen.now.races about.entry.name.now text
+        (all_rows indexed.now (followed_in about.entry) apart chosen.now.verdicts.items)) }
     ensures err { OnErr result (out.new.items ≡ out.old.items) }
 {
     let mut page = Page::new(*out.allocator(), indexed);
-    write_page(
-        &mut page, indexed, clocks, must, verdicts, chosen, apart, about,
+    write_page(&mut page, indexed, clocks, must, chosen, apart, about)?;
+    let mut end = Vec::new(*out.allocator());
+    append_end(
+        &mut end,
+        indexed,
+        verdicts,
+        chosen,
+        apart,
+        about.followed.is_some(),
     )?;
-    append_written(&page, chosen.races, about.name, out)
+    append_written(&page, end.as_slice(), chosen.races, about.name, out)?;
+    Ok(())
 }
 
 /// Appends the page, whose parts are written. Its beginning is made first, so that all is appended, or nothing.
 fn append_written(
     page: &Page,
+    end: &[u8],
     races: u64,
     name: &[u8],
     out: &mut Vec<u8>,
 ) -> Result<(), OutOfMemory>
-    ensures ok { OnOk result ((text : List ℕ) × (out.new.items ≡ out.old.items ++ text)
-        × IsPage page.now.trace races name.now text page.now.rows) }
+    ensures ok { OnOk result ((vs : List Told) → IsEnd page.now.trace vs end.now
+        → (text : List ℕ) × (out.new.items ≡ out.old.items ++ text) × IsPage page.now.trace vs races name.now text page.now.rows) }
     ensures err { OnErr result (out.new.items ≡ out.old.items) }
 {
     let mut begin = Vec::new(*out.allocator());
     append_begin(&mut begin, races, file_of(name))?;
-    append_both(out, begin.as_slice(), page.bytes())?;
+    append_all(out, begin.as_slice(), page.bytes(), end)?;
     Ok(())
 }
 
-/// Appends two texts, or nothing.
-fn append_both(out: &mut Vec<u8>, first: &[u8], second: &[u8]) -> Result<(), OutOfMemory>
-    ensures ok { OnOk result (out.new.items ≡ out.old.items ++ first.now ++ second.now) }
+/// Appends three texts, or nothing.
+fn append_all(
+    out: &mut Vec<u8>,
+    first: &[u8],
+    second: &[u8],
+    third: &[u8],
+) -> Result<(), OutOfMemory>
+    ensures ok { OnOk result (out.new.items ≡ out.old.items ++ (first.now ++ second.now ++ third.now)) }
     ensures err { OnErr result (out.new.items ≡ out.old.items) }
 {
-    out.reserve(first.len() + second.len())?;
+    out.reserve(first.len() + second.len() + third.len())?;
     out.extend_from_slice(first)?;
     out.extend_from_slice(second)?;
+    out.extend_from_slice(third)?;
     Ok(())
 }
 
-/// Writes the page. All its pieces are written in one, which keeps its memory.
+/// Writes the rows. All their pieces are written in one, which keeps its memory.
 fn write_page(
     page: &mut Page,
     indexed: &Indexed,
     clocks: &Clocks,
     must: &Must,
-    verdicts: &Verdicts,
     chosen: &Chosen,
     apart: bool,
     about: About<'_>,
@@ -130,61 +145,16 @@ fn write_page(
     ensures rows { OnOk result (page.new.rows ≡ page.old.rows ++ all_rows indexed.now (followed_in about.entry) apart chosen.now.verdicts.items) }
 {
     let mut piece = Piece::new(page.allocator());
-    write_parts(
-        page, &mut piece, indexed, clocks, must, verdicts, chosen, apart, about,
-    )
-}
-
-/// Writes the rows, and what stands under them.
-fn write_parts(
-    page: &mut Page,
-    piece: &mut Piece,
-    indexed: &Indexed,
-    clocks: &Clocks,
-    must: &Must,
-    verdicts: &Verdicts,
-    chosen: &Chosen,
-    apart: bool,
-    about: About<'_>,
-) -> Result<(), OutOfMemory>
-    requires trace { page.old.trace ≡ indexed.now }
-    requires clocks { clocks.now ≡ indexed.now }
-    requires must { must.now ≡ indexed.now }
-    ensures trace { page.new.trace ≡ page.old.trace }
-    ensures rows { OnOk result (page.new.rows ≡ page.old.rows ++ all_rows indexed.now (followed_in about.entry) apart chosen.now.verdicts.items) }
-{
     write_told(
         page,
-        piece,
+        &mut piece,
         indexed,
         clocks,
         must,
         chosen.verdicts.as_slice(),
         apart,
         about,
-    )?;
-    end_page(page, piece, indexed, verdicts, chosen, apart, about)
-}
-
-/// Writes what stands under the rows: what is left out, the counts, and what the words mean.
-fn end_page(
-    page: &mut Page,
-    piece: &mut Piece,
-    indexed: &Indexed,
-    verdicts: &Verdicts,
-    chosen: &Chosen,
-    apart: bool,
-    about: About<'_>,
-) -> Result<(), OutOfMemory>
-    ensures trace { page.new.trace ≡ page.old.trace }
-    ensures rows { page.new.rows ≡ page.old.rows }
-{
-    piece.clear();
-    write_unlisted(piece, chosen, apart)?;
-    write_counts(piece, indexed, verdicts)?;
-    write_meanings(piece, about.followed.is_some())?;
-    piece.write(&[Item::Part(Part::Foot)])?;
-    page.write(piece)
+    )
 }
 
 /// Writes a section for each sort, with the trace's name as one word of a shell.

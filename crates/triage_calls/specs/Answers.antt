@@ -57,7 +57,7 @@ IsToldIn Lines r known asked vs races text =
     (c : Chosen) × AreChosen r known (only_of asked) (hide_of asked) asked.apart vs c × IsLinesText r c text × (races ≡ c.races)
 IsToldIn (Page about) r known asked vs races text =
     (c : Chosen) × AreChosen r known (only_of asked) (hide_of asked) asked.apart vs c
-    × IsPage r c.races about.name.now text (all_rows r (followed_in about) asked.apart c.verdicts.items) × (races ≡ c.races)
+    × IsPage r vs c.races about.name.now text (all_rows r (followed_in about) asked.apart c.verdicts.items) × (races ≡ c.races)
 
 -- Which pairs of places are known: those whose two locations the text names, where one is given. `keys` are the locations by their numbers.
 abbrev pub IsGiven : List (Vec ℕ Global) → Option (List ℕ) → Option (List (ℕ × ℕ)) → Type 0
