@@ -17,3 +17,10 @@ rows_more r told xs i d shown base old new lt is so e =
     ∙ ap (λ (ys : List Shown). ys ++ shown ∷ []) so
     ∙ append_assoc base (map (row_of r told) (take i xs)) (shown ∷ [])
     ∙ ap (λ (s : Shown). base ++ (map (row_of r told) (take i xs) ++ s ∷ [])) is))
+
+-- the same of a row of a trace that is the same
+pub rows_more_of :
+    (r s : Recording) (told : Option (List Followed)) (xs : List Verdict) (i : ℕ) (d : Verdict) (base old new : List Shown) → i < length xs → s ≡ r
+    → old ≡ base ++ map (row_of r told) (take i xs) → new ≡ old ++ row_of s told (get_or xs i d) ∷ [] → new ≡ base ++ map (row_of r told) (take (i + 1) xs)
+rows_more_of r s told xs i d base old new lt same so e =
+    rows_more r told xs i d (row_of s told (get_or xs i d)) base old new lt (ap (λ (t : Recording). row_of t told (get_or xs i d)) same) so e

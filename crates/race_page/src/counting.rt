@@ -1,6 +1,6 @@
 //! The table of the eleven counts, which are those of the whole trace.
 ghost use Rattle.std.specs.Prelude.{◌≡◌, ◌++◌, OnOk, decimal};
-ghost use Rattle.race_page.specs.Counts.{count_line, counts_text, pair_lines, place_lines, trace_lines};
+ghost use Rattle.race_page.specs.Counts.{count_line, counts_text, kind_lines, meaning_text, pair_lines, place_lines, trace_lines, word_text};
 
 use itoa::Buffer;
 use race_triage::Totals;
@@ -68,6 +68,13 @@ fn append_pairs(out: &mut Vec<u8>, totals: &Totals) -> Result<(), OutOfMemory>
     ensures { OnOk result (out.new.items ≡ out.old.items ++ pair_lines totals.now) }
 {
     append_line(out, b"pairs", totals.pairs, PAIRS)?;
+    append_kinds(out, totals)
+}
+
+/// Appends the lines on their kinds.
+fn append_kinds(out: &mut Vec<u8>, totals: &Totals) -> Result<(), OutOfMemory>
+    ensures { OnOk result (out.new.items ≡ out.old.items ++ kind_lines totals.now) }
+{
     append_line(out, b"candidates", totals.candidates, CANDIDATES)?;
     append_line(out, b"open", totals.open_pairs, OPEN)?;
     append_line(out, b"guarded", totals.guarded, GUARDED)?;
@@ -93,10 +100,25 @@ fn append_line(
 ) -> Result<(), OutOfMemory>
     ensures { OnOk result (out.new.items ≡ out.old.items ++ count_line word.now number meaning.now) }
 {
+    append_word(out, word)?;
+    append_number(out, number)?;
+    append_meaning(out, meaning)
+}
+
+/// Appends how a line begins, up to its number.
+fn append_word(out: &mut Vec<u8>, word: &[u8]) -> Result<(), OutOfMemory>
+    ensures { OnOk result (out.new.items ≡ out.old.items ++ word_text word.now) }
+{
     out.extend_from_slice(b"<tr><th scope=\"row\">")?;
     out.extend_from_slice(word)?;
     out.extend_from_slice(b"</th><td class=\"number\">")?;
-    append_number(out, number)?;
+    Ok(())
+}
+
+/// Appends how a line ends, behind its number.
+fn append_meaning(out: &mut Vec<u8>, meaning: &[u8]) -> Result<(), OutOfMemory>
+    ensures { OnOk result (out.new.items ≡ out.old.items ++ meaning_text meaning.now) }
+{
     out.extend_from_slice(b"</td><td>")?;
     out.extend_from_slice(meaning)?;
     out.extend_from_slice(b"</td></tr>\n")?;

@@ -9,41 +9,76 @@ use crate::piece::Piece;
 use crate::shown::{Shown, row_begin_of, seen_of};
 use event_index::Indexed;
 use itoa::Buffer;
+use must_order::Must;
 use pair_picture::figure_text;
 use rapid_text::OutOfMemory;
+use shb_clocks::Clocks;
 use std::alloc::Global;
 use std::marker::Model;
-use std::snapshot::Snapshot;
 
-/// What stands under the first line of a page, as it is being written. Contracts see its trace, its text so far and its rows.
+/// What stands under the first line of a page, as it is being written, with the trace and its orders. Contracts see its trace, its text so far
+/// and its rows.
 #[derive(Drop)]
-pub(crate) struct Page {
-    of: Snapshot<Indexed>,
+pub(crate) struct Page<'a> {
+    indexed: &'a Indexed,
+    clocks: &'a Clocks,
+    must: &'a Must,
     text: Vec<u8>,
     rows: Vec<Shown>,
 }
 
-impl Model for Page {
+impl<'a> Model for Page<'a> {
+    ghost use Rattle.std.specs.Prelude.{◌≡◌};
     ghost use Rattle.race_page.specs.Pages.{AreParts, Made};
 
     ghost Value = { Made };
 
-    ghost view = { λ p. record { trace = p.of.value; text = p.text.items; rows = p.rows.items } };
+    ghost view = { λ p. record { trace = p.indexed.now; text = p.text.items; rows = p.rows.items } };
 
-    ghost invariant = { λ p. AreParts p.of.value p.text.items p.rows.items };
+    ghost invariant = { λ p. AreParts p.indexed.now p.text.items p.rows.items × (p.clocks.now ≡ p.indexed.now) × (p.must.now ≡ p.indexed.now) };
 }
 
-impl Page {
+impl<'a> Page<'a> {
     /// A page of this trace on which nothing stands yet.
-    pub(crate) fn new(alloc: Global, indexed: &Indexed) -> Page
+    pub(crate) fn new(
+        alloc: Global,
+        indexed: &'a Indexed,
+        clocks: &'a Clocks,
+        must: &'a Must,
+    ) -> Page<'a>
+        requires clocks { clocks.now ≡ indexed.now }
+        requires must { must.now ≡ indexed.now }
         ensures trace { result.trace ≡ indexed.now }
         ensures rows { result.rows ≡ [] }
     {
         Page {
-            of: Snapshot::of(indexed),
+            indexed,
+            clocks,
+            must,
             text: Vec::new(alloc),
             rows: Vec::new(alloc),
         }
+    }
+
+    /// The trace.
+    pub(crate) fn indexed(&self) -> &'a Indexed
+        ensures { result.now ≡ self.now.trace }
+    {
+        self.indexed
+    }
+
+    /// Its clocks.
+    pub(crate) fn clocks(&self) -> &'a Clocks
+        ensures { result.now ≡ self.now.trace }
+    {
+        self.clocks
+    }
+
+    /// Its must-order.
+    pub(crate) fn must(&self) -> &'a Must
+        ensures { result.now ≡ self.now.trace }
+    {
+        self.must
     }
 
     /// The allocator.
@@ -93,20 +128,18 @@ impl Page {
     /// Writes a row in which the schedule of these events is drawn between two pieces: a correct reordering that shows the row's pair.
     pub(crate) fn drawn_row(
         &mut self,
-        indexed: &Indexed,
         events: &[u32],
         shown: Shown,
         before: &Piece,
         after: &Piece,
     ) -> Result<(), OutOfMemory>
-        requires trace { self.old.trace ≡ indexed.now }
-        requires reordering { IsCorrectReordering indexed.now.events events.now }
-        requires shows { Shows indexed.now.events events.now shown.first shown.second }
+        requires reordering { IsCorrectReordering self.old.trace.events events.now }
+        requires shows { Shows self.old.trace.events events.now shown.first shown.second }
         ensures trace { self.new.trace ≡ self.old.trace }
         ensures rows { OnOk result (self.new.rows ≡ self.old.rows ++ shown ∷ []) }
     {
         let mut figure = Vec::new(*self.text.allocator());
-        figure_text(indexed, events, shown.first, shown.second, &mut figure)?;
+        figure_text(self.indexed, events, shown.first, shown.second, &mut figure)?;
         self.add_drawn(figure.as_slice(), shown, before, after)
     }
 

@@ -3,6 +3,7 @@ ghost use Rattle.std.specs.Prelude.{◌≡◌, ◌<◌, IfOk, length};
 ghost use Rattle.race_page.specs.Raced.{IsRacedIn};
 
 use crate::own::Tag;
+use crate::page::Page;
 use crate::piece::{Item, Piece};
 use crate::shown::Shown;
 use crate::words::cut_line;
@@ -22,22 +23,24 @@ const UNTRIED: &[u8] =
 /// read that itself races with the write that it reads, it says that too.
 pub(crate) fn write_reason(
     piece: &mut Piece,
-    indexed: &Indexed,
-    clocks: &Clocks,
-    must: &Must,
+    page: &Page<'_>,
     verdict: Verdict,
     shown: Shown,
-) -> Result<(), OutOfMemory>
-    requires clocks { clocks.now ≡ indexed.now }
-    requires must { must.now ≡ indexed.now }
-{
+) -> Result<(), OutOfMemory> {
+    let indexed = page.indexed();
     if shown.first >= indexed.len() || shown.second >= indexed.len() {
         return Ok(());
     }
     let mut text = Vec::new(piece.allocator());
-    write_line(piece, &mut text, indexed, must, verdict, shown)?;
+    write_line(piece, &mut text, page, verdict, shown)?;
     if verdict.outcome == Outcome::Apart {
-        let raced = raced_in(piece.allocator(), indexed, clocks, must, shown)?;
+        let raced = raced_in(
+            piece.allocator(),
+            indexed,
+            page.clocks(),
+            page.must(),
+            shown,
+        )?;
         write_raced(piece, raced)?;
     }
     piece.write(&[Item::End(Tag::Facts)])
@@ -47,16 +50,14 @@ pub(crate) fn write_reason(
 fn write_line(
     piece: &mut Piece,
     text: &mut Vec<u8>,
-    indexed: &Indexed,
-    must: &Must,
+    page: &Page<'_>,
     verdict: Verdict,
     shown: Shown,
 ) -> Result<(), OutOfMemory>
-    requires must { must.now ≡ indexed.now }
-    requires first { shown.first < length indexed.now.events }
-    requires second { shown.second < length indexed.now.events }
+    requires first { shown.first < length page.now.trace.events }
+    requires second { shown.second < length page.now.trace.events }
 {
-    append_reason(text, indexed, must, verdict, shown)?;
+    append_reason(text, page, verdict, shown)?;
     let (line, _) = cut_line(text.as_slice());
     piece.write(&[Item::Begin(Tag::Facts), Item::Element(Tag::Isolated, line)])
 }
@@ -103,15 +104,14 @@ fn write_raced(piece: &mut Piece, raced: Option<Step>) -> Result<(), OutOfMemory
 /// Appends the reason, of which the first line is shown.
 fn append_reason(
     text: &mut Vec<u8>,
-    indexed: &Indexed,
-    must: &Must,
+    page: &Page<'_>,
     verdict: Verdict,
     shown: Shown,
 ) -> Result<(), OutOfMemory>
-    requires must { must.now ≡ indexed.now }
-    requires first { shown.first < length indexed.now.events }
-    requires second { shown.second < length indexed.now.events }
+    requires first { shown.first < length page.now.trace.events }
+    requires second { shown.second < length page.now.trace.events }
 {
+    let (indexed, must) = (page.indexed(), page.must());
     if verdict.outcome == (Outcome::Undecided { tried: 0 }) {
         text.extend_from_slice(UNTRIED)?;
     } else {

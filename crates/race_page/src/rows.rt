@@ -13,12 +13,9 @@ use crate::schedules::{write_plain, write_with_schedule};
 use crate::selecting::shown_of;
 use crate::shown::{Shown, Sort};
 use crate::titles::write_title;
-use event_index::Indexed;
 use explain_report::How;
-use must_order::Must;
 use race_triage::{Outcome, Verdict};
 use rapid_text::OutOfMemory;
-use shb_clocks::Clocks;
 
 /// The most rows of each sort.
 pub const MOST_ROWS: usize = 2_000;
@@ -28,53 +25,40 @@ pub const MOST_PICTURES: usize = 200;
 
 /// Writes a row for each of the verdicts, up to `MOST_ROWS`.
 pub(crate) fn write_rows(
-    page: &mut Page,
+    page: &mut Page<'_>,
     piece: &mut Piece,
-    indexed: &Indexed,
-    clocks: &Clocks,
-    must: &Must,
     about: About<'_>,
     kept: &[Verdict],
 ) -> Result<(), OutOfMemory>
-    requires trace { page.old.trace ≡ indexed.now }
-    requires clocks { clocks.now ≡ indexed.now }
-    requires must { must.now ≡ indexed.now }
     ensures trace { page.new.trace ≡ page.old.trace }
-    ensures rows { OnOk result (page.new.rows ≡ page.old.rows ++ rows_of indexed.now (followed_in about.entry) kept.now) }
+    ensures rows { OnOk result (page.new.rows ≡ page.old.rows ++ rows_of page.old.trace (followed_in about.entry) kept.now) }
 {
     for at in 0..MOST_ROWS.min(kept.len()) {
         let is_drawn = at < MOST_PICTURES;
-        write_row(
-            page, piece, indexed, clocks, must, about, kept[at], is_drawn,
-        )?;
+        write_row(page, piece, about, kept[at], is_drawn)?;
     }
     Ok(())
 }
 
 /// Writes the row of a verdict.
 fn write_row(
-    page: &mut Page,
+    page: &mut Page<'_>,
     piece: &mut Piece,
-    indexed: &Indexed,
-    clocks: &Clocks,
-    must: &Must,
     about: About<'_>,
     verdict: Verdict,
     is_drawn: bool,
 ) -> Result<(), OutOfMemory>
-    requires trace { page.old.trace ≡ indexed.now }
-    requires clocks { clocks.now ≡ indexed.now }
-    requires must { must.now ≡ indexed.now }
     ensures trace { page.new.trace ≡ page.old.trace }
-    ensures rows { OnOk result (page.new.rows ≡ page.old.rows ++ row_of indexed.now (followed_in about.entry) verdict ∷ []) }
+    ensures rows { OnOk result (page.new.rows ≡ page.old.rows ++ row_of page.old.trace (followed_in about.entry) verdict ∷ []) }
 {
+    let indexed = page.indexed();
     let shown = shown_of(about, indexed, verdict);
     piece.clear();
-    write_summary(piece, indexed, clocks, must, verdict, shown)?;
-    write_accesses(piece, indexed, must, shown.first, shown.second)?;
+    write_summary(piece, page, verdict, shown)?;
+    write_accesses(piece, indexed, page.must(), shown.first, shown.second)?;
     write_followed(piece, indexed, about, shown)?;
     if is_drawn && shown.sort == Sort::Race {
-        write_with_schedule(page, piece, indexed, clocks, must, about.name, shown)
+        write_with_schedule(page, piece, about.name, shown)
     } else {
         write_plain(page, piece, about.name, shown)
     }
@@ -83,20 +67,15 @@ fn write_row(
 /// Writes what is seen of a row that is closed, after what stands beside it.
 fn write_summary(
     piece: &mut Piece,
-    indexed: &Indexed,
-    clocks: &Clocks,
-    must: &Must,
+    page: &Page<'_>,
     verdict: Verdict,
     shown: Shown,
-) -> Result<(), OutOfMemory>
-    requires clocks { clocks.now ≡ indexed.now }
-    requires must { must.now ≡ indexed.now }
-{
+) -> Result<(), OutOfMemory> {
     piece.write(&[Item::Begin(Tag::RowHeading)])?;
-    write_title(piece, indexed, verdict)?;
+    write_title(piece, page.indexed(), verdict)?;
     write_facts(piece, verdict)?;
     if shown.sort != Sort::Race {
-        write_reason(piece, indexed, clocks, must, verdict, shown)?;
+        write_reason(piece, page, verdict, shown)?;
     }
     piece.write(&[Item::End(Tag::Summary)])
 }

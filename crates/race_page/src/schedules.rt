@@ -12,10 +12,8 @@ use crate::shown::Shown;
 use crate::words::lines;
 use event_index::Indexed;
 use explain_report::{How, Verdict, explain_text, runs_of};
-use must_order::Must;
 use pair_findings::{Finding, find};
 use rapid_text::OutOfMemory;
-use shb_clocks::Clocks;
 use std::alloc::Global;
 
 /// The most runs that are told in words; of more the last ones are.
@@ -32,39 +30,34 @@ const LAST_TOLD: &[u8] =
 
 /// Writes the row, the beginning of which stands in the piece: with the schedule that shows its pair, where there is one.
 pub(crate) fn write_with_schedule(
-    page: &mut Page,
+    page: &mut Page<'_>,
     piece: &mut Piece,
-    indexed: &Indexed,
-    clocks: &Clocks,
-    must: &Must,
     word: &[u8],
     shown: Shown,
 ) -> Result<(), OutOfMemory>
-    requires trace { page.old.trace ≡ indexed.now }
-    requires clocks { clocks.now ≡ indexed.now }
-    requires must { must.now ≡ indexed.now }
     ensures trace { page.new.trace ≡ page.old.trace }
     ensures rows { OnOk result (page.new.rows ≡ page.old.rows ++ shown ∷ []) }
 {
+    let indexed = page.indexed();
     if shown.first >= indexed.len() || shown.second >= indexed.len() {
         return write_plain(page, piece, word, shown);
     }
     match find(
         page.allocator(),
         indexed,
-        clocks,
-        must,
+        page.clocks(),
+        page.must(),
         shown.first,
         shown.second,
     ) {
-        Ok(finding) => { write_finding(page, piece, indexed, clocks, must, word, &finding, shown) }
+        Ok(finding) => write_finding(page, piece, word, &finding, shown),
         Err(refused) => Err(refused),
     }
 }
 
 /// Writes the row without a schedule.
 pub(crate) fn write_plain(
-    page: &mut Page,
+    page: &mut Page<'_>,
     piece: &mut Piece,
     word: &[u8],
     shown: Shown,
@@ -78,34 +71,20 @@ pub(crate) fn write_plain(
 
 /// Writes the row with the schedule that was found, where one was.
 fn write_finding(
-    page: &mut Page,
+    page: &mut Page<'_>,
     piece: &mut Piece,
-    indexed: &Indexed,
-    clocks: &Clocks,
-    must: &Must,
     word: &[u8],
     finding: &Finding,
     shown: Shown,
 ) -> Result<(), OutOfMemory>
-    requires trace { page.old.trace ≡ indexed.now }
-    requires clocks { clocks.now ≡ indexed.now }
-    requires must { must.now ≡ indexed.now }
-    requires finding { IsFinding indexed.now shown.first shown.second finding.now }
+    requires finding { IsFinding page.old.trace shown.first shown.second finding.now }
     ensures trace { page.new.trace ≡ page.old.trace }
     ensures rows { OnOk result (page.new.rows ≡ page.old.rows ++ shown ∷ []) }
 {
     match finding {
-        Finding::Race { how, events } => write_race(
-            page,
-            piece,
-            indexed,
-            clocks,
-            must,
-            word,
-            *how,
-            events.items(),
-            shown,
-        ),
+        Finding::Race { how, events } => {
+            write_race(page, piece, word, *how, events.items(), shown)
+        }
         Finding::Forced { chains: _ } => write_plain(page, piece, word, shown),
         Finding::Guarded { lock: _ } => write_plain(page, piece, word, shown),
         Finding::Undecided { events: _ } => write_plain(page, piece, word, shown),
@@ -114,30 +93,24 @@ fn write_finding(
 
 /// Writes the row with the schedule of these events.
 fn write_race(
-    page: &mut Page,
+    page: &mut Page<'_>,
     piece: &mut Piece,
-    indexed: &Indexed,
-    clocks: &Clocks,
-    must: &Must,
     word: &[u8],
     how: How,
     events: &[u32],
     shown: Shown,
 ) -> Result<(), OutOfMemory>
-    requires trace { page.old.trace ≡ indexed.now }
-    requires clocks { clocks.now ≡ indexed.now }
-    requires must { must.now ≡ indexed.now }
-    requires reordering { IsCorrectReordering indexed.now.events events.now }
-    requires shows { Shows indexed.now.events events.now shown.first shown.second }
+    requires reordering { IsCorrectReordering page.old.trace.events events.now }
+    requires shows { Shows page.old.trace.events events.now shown.first shown.second }
     ensures trace { page.new.trace ≡ page.old.trace }
     ensures rows { OnOk result (page.new.rows ≡ page.old.rows ++ shown ∷ []) }
 {
-    let all = is_told(page.allocator(), indexed, events)?;
+    let all = is_told(page.allocator(), page.indexed(), events)?;
     write_caption(piece, events.len() as u64, all, shown)?;
     let mut after = Piece::new(page.allocator());
     let verdict = Verdict::Race { how, events, all };
-    write_after(&mut after, indexed, clocks, must, word, &verdict, shown)?;
-    page.drawn_row(indexed, events, shown, piece, &after)
+    write_after(&mut after, page, word, &verdict, shown)?;
+    page.drawn_row(events, shown, piece, &after)
 }
 
 /// Whether all runs of the schedule are told in words.
@@ -175,19 +148,14 @@ fn write_caption(
 /// Writes what stands under the picture: the runs in words, and the commands.
 fn write_after(
     piece: &mut Piece,
-    indexed: &Indexed,
-    clocks: &Clocks,
-    must: &Must,
+    page: &Page<'_>,
     word: &[u8],
     verdict: &Verdict<'_>,
     shown: Shown,
-) -> Result<(), OutOfMemory>
-    requires clocks { clocks.now ≡ indexed.now }
-    requires must { must.now ≡ indexed.now }
-{
+) -> Result<(), OutOfMemory> {
     piece.write(&[Item::End(Tag::Wide), Item::End(Tag::Figure)])?;
     let mut text = Vec::new(piece.allocator());
-    write_explained(piece, &mut text, indexed, clocks, must, verdict, shown)?;
+    write_explained(piece, &mut text, page, verdict, shown)?;
     write_commands(piece, word, shown)
 }
 
@@ -195,19 +163,14 @@ fn write_after(
 fn write_explained(
     piece: &mut Piece,
     text: &mut Vec<u8>,
-    indexed: &Indexed,
-    clocks: &Clocks,
-    must: &Must,
+    page: &Page<'_>,
     verdict: &Verdict<'_>,
     shown: Shown,
-) -> Result<(), OutOfMemory>
-    requires clocks { clocks.now ≡ indexed.now }
-    requires must { must.now ≡ indexed.now }
-{
+) -> Result<(), OutOfMemory> {
     explain_text(
-        indexed,
-        clocks,
-        must,
+        page.indexed(),
+        page.clocks(),
+        page.must(),
         verdict,
         (shown.first, shown.second),
         text,

@@ -48,54 +48,53 @@ pub fn page_text(
     ensures ok { IfOk result (λ races. (chosen : Choice)
         × AreChosen indexed.now (known_places known.now) (map (λ t. t.now) filters.entry.only.now) (map (λ t. t.now) filters.entry.hide.now) apart
         verdicts.now.verdicts.items chosen
-        × (text : List ℕ) × (out.new.items ≡ out.old.items ++ text) × IsPage indexed.now verdicts.now.verdicts.items chosen.races about.entry.name.now text (all_rows indexed.now (followed_in about.entry) apart chosen.verdicts.items) × (races ≡ chosen.races)) }
+        × (text : List ℕ) × (out.new.items ≡ out.old.items ++ text)
+        × IsPage indexed.now verdicts.now.verdicts.items chosen.races about.entry.name.now text
+        (all_rows indexed.now (followed_in about.entry) apart chosen.verdicts.items) × (races ≡ chosen.races)) }
     ensures err { OnErr result (out.new.items ≡ out.old.items) }
 {
     match chosen_of(*out.allocator(), indexed, verdicts, known, filters, apart) {
         Ok(chosen) => {
-            append_page(indexed, clocks, must, verdicts, &chosen, apart, about, out)?;
+            let mut page = Page::new(*out.allocator(), indexed, clocks, must);
+            append_page(&mut page, verdicts, &chosen, apart, about, out)?;
             Ok(chosen.races)
         }
         Err(refused) => Err(refused),
     }
 }
 
-/// Appends the page of the verdicts that are told.
+/// Appends the page of the verdicts that are told, on which nothing stands yet.
 fn append_page(
-    indexed: &Indexed,
-    clocks: &Clocks,
-    must: &Must,
+    page: &mut Page<'_>,
     verdicts: &Verdicts,
     chosen: &Chosen,
     apart: bool,
     about: About<'_>,
     out: &mut Vec<u8>,
 ) -> Result<(), OutOfMemory>
-    requires clocks { clocks.now ≡ indexed.now }
-    requires must { must.now ≡ indexed.now }
+    requires { page.old.rows ≡ [] }
     ensures ok { OnOk result ((text : List ℕ) × (out.new.items ≡ out.old.items ++ text)
-        × IsPage indexed.now verdicts.now.verdicts.items chosen.now.races about.entry.name.now text
-        (all_rows indexed.now (followed_in about.entry) apart chosen.now.verdicts.items)) }
+        × IsPage page.old.trace verdicts.now.verdicts.items chosen.now.races about.entry.name.now text
+        (all_rows page.old.trace (followed_in about.entry) apart chosen.now.verdicts.items)) }
     ensures err { OnErr result (out.new.items ≡ out.old.items) }
 {
-    let mut page = Page::new(*out.allocator(), indexed);
-    write_page(&mut page, indexed, clocks, must, chosen, apart, about)?;
+    write_page(page, chosen.verdicts.as_slice(), apart, about)?;
     let mut end = Vec::new(*out.allocator());
     append_end(
         &mut end,
-        indexed,
+        page.indexed(),
         verdicts,
         chosen,
         apart,
         about.followed.is_some(),
     )?;
-    append_written(&page, end.as_slice(), chosen.races, about.name, out)?;
+    append_written(page, end.as_slice(), chosen.races, about.name, out)?;
     Ok(())
 }
 
 /// Appends the page, whose parts are written. Its beginning is made first, so that all is appended, or nothing.
 fn append_written(
-    page: &Page,
+    page: &Page<'_>,
     end: &[u8],
     races: u64,
     name: &[u8],
@@ -121,7 +120,7 @@ fn append_all(
     ensures ok { OnOk result (out.new.items ≡ out.old.items ++ (first.now ++ second.now ++ third.now)) }
     ensures err { OnErr result (out.new.items ≡ out.old.items) }
 {
-    out.reserve(first.len() + second.len() + third.len())?;
+    out.reserve((first.len() + second.len()).saturating_add(third.len()))?;
     out.extend_from_slice(first)?;
     out.extend_from_slice(second)?;
     out.extend_from_slice(third)?;
@@ -130,57 +129,33 @@ fn append_all(
 
 /// Writes the rows. All their pieces are written in one, which keeps its memory.
 fn write_page(
-    page: &mut Page,
-    indexed: &Indexed,
-    clocks: &Clocks,
-    must: &Must,
-    chosen: &Chosen,
-    apart: bool,
-    about: About<'_>,
-) -> Result<(), OutOfMemory>
-    requires trace { page.old.trace ≡ indexed.now }
-    requires clocks { clocks.now ≡ indexed.now }
-    requires must { must.now ≡ indexed.now }
-    ensures trace { page.new.trace ≡ page.old.trace }
-    ensures rows { OnOk result (page.new.rows ≡ page.old.rows ++ all_rows indexed.now (followed_in about.entry) apart chosen.now.verdicts.items) }
-{
-    let mut piece = Piece::new(page.allocator());
-    write_told(
-        page,
-        &mut piece,
-        indexed,
-        clocks,
-        must,
-        chosen.verdicts.as_slice(),
-        apart,
-        about,
-    )
-}
-
-/// Writes a section for each sort, with the trace's name as one word of a shell.
-fn write_told(
-    page: &mut Page,
-    piece: &mut Piece,
-    indexed: &Indexed,
-    clocks: &Clocks,
-    must: &Must,
+    page: &mut Page<'_>,
     told: &[Verdict],
     apart: bool,
     about: About<'_>,
 ) -> Result<(), OutOfMemory>
-    requires trace { page.old.trace ≡ indexed.now }
-    requires clocks { clocks.now ≡ indexed.now }
-    requires must { must.now ≡ indexed.now }
     ensures trace { page.new.trace ≡ page.old.trace }
-    ensures rows { OnOk result (page.new.rows ≡ page.old.rows ++ all_rows indexed.now (followed_in about.entry) apart told.now) }
+    ensures rows { OnOk result (page.new.rows ≡ page.old.rows ++ all_rows page.old.trace (followed_in about.entry) apart told.now) }
+{
+    let mut piece = Piece::new(page.allocator());
+    write_told(page, &mut piece, told, apart, about)
+}
+
+/// Writes a section for each sort, with the trace's name as one word of a shell.
+fn write_told(
+    page: &mut Page<'_>,
+    piece: &mut Piece,
+    told: &[Verdict],
+    apart: bool,
+    about: About<'_>,
+) -> Result<(), OutOfMemory>
+    ensures trace { page.new.trace ≡ page.old.trace }
+    ensures rows { OnOk result (page.new.rows ≡ page.old.rows ++ all_rows page.old.trace (followed_in about.entry) apart told.now) }
 {
     match shell_word(page.allocator(), about.name) {
         Ok(word) => write_sections(
             page,
             piece,
-            indexed,
-            clocks,
-            must,
             told,
             apart,
             About {
@@ -194,95 +169,59 @@ fn write_told(
 
 /// Writes a section for each sort.
 fn write_sections(
-    page: &mut Page,
+    page: &mut Page<'_>,
     piece: &mut Piece,
-    indexed: &Indexed,
-    clocks: &Clocks,
-    must: &Must,
     told: &[Verdict],
     apart: bool,
     about: About<'_>,
 ) -> Result<(), OutOfMemory>
-    requires trace { page.old.trace ≡ indexed.now }
-    requires clocks { clocks.now ≡ indexed.now }
-    requires must { must.now ≡ indexed.now }
     ensures trace { page.new.trace ≡ page.old.trace }
-    ensures rows { OnOk result (page.new.rows ≡ page.old.rows ++ all_rows indexed.now (followed_in about.entry) apart told.now) }
+    ensures rows { OnOk result (page.new.rows ≡ page.old.rows ++ all_rows page.old.trace (followed_in about.entry) apart told.now) }
 {
-    write_sort(page, piece, indexed, clocks, must, about, Sort::Race, told)?;
-    write_sort(
-        page,
-        piece,
-        indexed,
-        clocks,
-        must,
-        about,
-        Sort::Undecided,
-        told,
-    )?;
+    write_sort(page, piece, about, Sort::Race, told)?;
+    write_sort(page, piece, about, Sort::Undecided, told)?;
     if apart {
-        write_sort(page, piece, indexed, clocks, must, about, Sort::Apart, told)?;
+        write_sort(page, piece, about, Sort::Apart, told)?;
     }
     Ok(())
 }
 
 /// Writes the section of a sort, of the verdicts that are told.
 fn write_sort(
-    page: &mut Page,
+    page: &mut Page<'_>,
     piece: &mut Piece,
-    indexed: &Indexed,
-    clocks: &Clocks,
-    must: &Must,
     about: About<'_>,
     sort: Sort,
     told: &[Verdict],
 ) -> Result<(), OutOfMemory>
-    requires trace { page.old.trace ≡ indexed.now }
-    requires clocks { clocks.now ≡ indexed.now }
-    requires must { must.now ≡ indexed.now }
     ensures trace { page.new.trace ≡ page.old.trace }
-    ensures rows { OnOk result (page.new.rows ≡ page.old.rows ++ sort_rows indexed.now (followed_in about.entry) sort told.now) }
+    ensures rows { OnOk result (page.new.rows ≡ page.old.rows ++ sort_rows page.old.trace (followed_in about.entry) sort told.now) }
 {
     match of_sort(page.allocator(), told, sort) {
-        Ok(kept) => write_section(
-            page,
-            piece,
-            indexed,
-            clocks,
-            must,
-            about,
-            sort,
-            kept.as_slice(),
-        ),
+        Ok(kept) => write_section(page, piece, about, sort, kept.as_slice()),
         Err(refused) => Err(refused),
     }
 }
 
 /// Writes the section of a sort, with a row for each of these.
 fn write_section(
-    page: &mut Page,
+    page: &mut Page<'_>,
     piece: &mut Piece,
-    indexed: &Indexed,
-    clocks: &Clocks,
-    must: &Must,
     about: About<'_>,
     sort: Sort,
     kept: &[Verdict],
 ) -> Result<(), OutOfMemory>
-    requires trace { page.old.trace ≡ indexed.now }
-    requires clocks { clocks.now ≡ indexed.now }
-    requires must { must.now ≡ indexed.now }
     ensures trace { page.new.trace ≡ page.old.trace }
-    ensures rows { OnOk result (page.new.rows ≡ page.old.rows ++ rows_of indexed.now (followed_in about.entry) kept.now) }
+    ensures rows { OnOk result (page.new.rows ≡ page.old.rows ++ rows_of page.old.trace (followed_in about.entry) kept.now) }
 {
     begin_section(page, piece, about, sort, kept.is_empty())?;
-    write_rows(page, piece, indexed, clocks, must, about, kept)?;
+    write_rows(page, piece, about, kept)?;
     end_section(page, piece, about.name, sort, kept.len())
 }
 
 /// Writes the heading of a section.
 fn begin_section(
-    page: &mut Page,
+    page: &mut Page<'_>,
     piece: &mut Piece,
     about: About<'_>,
     sort: Sort,
@@ -306,7 +245,7 @@ fn begin_section(
 
 /// Writes what stands under the rows of a section.
 fn end_section(
-    page: &mut Page,
+    page: &mut Page<'_>,
     piece: &mut Piece,
     word: &[u8],
     sort: Sort,

@@ -1,6 +1,5 @@
 use Rattle.std.proofs.Common.{ℕ, List, ◌++◌, ap, ◌∙◌}
 use Rattle.race_page.specs.Counts.{counts_text}
-use Rattle.race_page.proofs.PieceLemmas.{alone}
 use Rattle.race_page.proofs.ending.append_end.Goals as goal
 
 pub returns : goal.returns

@@ -4,4 +4,4 @@ use Rattle.race_page.specs.Rows.{followed_in, row_of}
 use Rattle.race_page.proofs.rows.write_rows.Given as goal
 
 abbrev pub invariant-loop-at : goal.invariant-loop-at
-invariant-loop-at l = (l.page.trace ≡ l.fn.page.trace) × (l.page.rows ≡ l.fn.page.rows ++ map (row_of l.fn.indexed (followed_in l.fn.about)) (take l.at l.kept))
+invariant-loop-at l = (l.page.trace ≡ l.fn.page.trace) × (l.page.rows ≡ l.fn.page.rows ++ map (row_of l.fn.page.trace (followed_in l.fn.about)) (take l.at l.kept))
