@@ -1,25 +1,16 @@
 //! Each method makes its call of the system, and then notes it with its answer.
-ghost use Rattle.std.specs.Prelude.{◌≡◌, ◌≢◌, ◌+◌, ◌<◌, ◌^◌, [], ◌∷◌, length, IfOk, IsErrOf};
+ghost use Rattle.std.specs.Prelude.{◌≡◌, ◌≢◌, ◌+◌, ◌<◌, ◌^◌, [], ◌∷◌, length, true, false, Err, IfOk, IsOk, IsErrOf};
 ghost use Rattle.kept_host.specs.History.{seen_of, left_of, left_since, faults_of, held_of, found_of};
 ghost use Rattle.kept_host.specs.HistoryLaws.{now_counts, now_only};
-ghost use Rattle.kept_log.specs.declared.device.DeviceError.TheVariants.{Shorter};
+ghost use Rattle.kept_log.specs.declared.device.DeviceError.TheVariants.{Failed, Shorter};
 
+use crate::call::{FileCall, Taking};
 use crate::record::Record;
 use kept_log::{Device, DeviceError};
 use std::alloc::Global;
 use std::fs::File;
 use std::io;
 use std::os::unix::fs::FileExt;
-
-const TAKEN: u64 = 0;
-
-const RELEASED: u64 = 1;
-
-const WRITTEN: u64 = 2;
-
-const CUT: u64 = 3;
-
-const SYNCED: u64 = 4;
 
 /// No file is longer.
 const MAX_LENGTH: usize = 1 << 62;
@@ -101,6 +92,17 @@ fn locked(file: &File, alloc: Global, at: usize) -> Result<Vec<u8>, DeviceError>
     }
 }
 
+/// What is answered of a call that was made.
+fn told(is_done: bool) -> Result<(), DeviceError>
+    ensures done { is_done ≡ true → IsOk result }
+    ensures failed { is_done ≡ false → result ≡ Err Failed }
+{
+    if is_done {
+        return Ok(());
+    }
+    Err(DeviceError::Failed)
+}
+
 impl Device for Host {
     ghost seen = { λ h. seen_of h.log.events };
 
@@ -123,63 +125,45 @@ impl Device for Host {
     fn take_over(&mut self, alloc: Global, gate: usize) -> Result<Vec<u8>, DeviceError> {
         match locked(&self.file, alloc, gate) {
             Ok(bytes) => {
-                self.log.note(&[TAKEN, gate as u64, 1], &bytes);
+                let (from, how) = (gate, Taking::Read);
+                self.log.note(&FileCall::Taken { from, how }, &bytes);
                 Ok(bytes)
             }
             Err(DeviceError::Shorter) => {
-                self.log.note(&[TAKEN, gate as u64, 0], b"<");
+                let (from, how) = (gate, Taking::Shorter);
+                self.log.note(&FileCall::Taken { from, how }, &[]);
                 Err(DeviceError::Shorter)
             }
             Err(why) => {
-                self.log.note(&[TAKEN, gate as u64, 0], &[]);
+                let (from, how) = (gate, Taking::Failed);
+                self.log.note(&FileCall::Taken { from, how }, &[]);
                 Err(why)
             }
         }
     }
 
     fn release(&mut self, gate: usize) -> Result<(), DeviceError> {
-        let answer = self.file.unlock();
-        self.log
-            .note(&[RELEASED, gate as u64, u64::from(answer.is_ok())], &[]);
-        answer.map_err(|_| DeviceError::Failed)
+        let is_done = self.file.unlock().is_ok();
+        let from = gate;
+        self.log.note(&FileCall::Released { from, is_done }, &[]);
+        told(is_done)
     }
 
     fn write_at(&mut self, at: usize, bytes: &[u8]) -> Result<(), DeviceError> {
-        match self.file.write_all_at(bytes, at as u64) {
-            Ok(()) => {
-                self.log.note(&[WRITTEN, at as u64, 1], bytes);
-                Ok(())
-            }
-            Err(_) => {
-                self.log.note(&[WRITTEN, at as u64, 0], bytes);
-                Err(DeviceError::Failed)
-            }
-        }
+        let is_done = self.file.write_all_at(bytes, at as u64).is_ok();
+        self.log.note(&FileCall::Written { at, is_done }, bytes);
+        told(is_done)
     }
 
     fn cut(&mut self, len: usize) -> Result<(), DeviceError> {
-        match self.file.set_len(len as u64) {
-            Ok(()) => {
-                self.log.note(&[CUT, len as u64, 1], &[]);
-                Ok(())
-            }
-            Err(_) => {
-                self.log.note(&[CUT, len as u64, 0], &[]);
-                Err(DeviceError::Failed)
-            }
-        }
+        let is_done = self.file.set_len(len as u64).is_ok();
+        self.log.note(&FileCall::Cut { len, is_done }, &[]);
+        told(is_done)
     }
 
     fn sync(&mut self) -> Result<(), DeviceError> {
-        match self.file.sync_all() {
-            Ok(()) => {
-                self.log.note(&[SYNCED, 0, 1], &[]);
-                Ok(())
-            }
-            Err(_) => {
-                self.log.note(&[SYNCED, 0, 0], &[]);
-                Err(DeviceError::Failed)
-            }
-        }
+        let is_done = self.file.sync_all().is_ok();
+        self.log.note(&FileCall::Synced { is_done }, &[]);
+        told(is_done)
     }
 }
