@@ -1,9 +1,10 @@
 //! The log: opened, and grown by blocks.
 ghost use Rattle.std.specs.Prelude.{◌≡◌, ◌≢◌, ◌⊎◌, ◌≤◌, ◌<◌, ◌+◌, ◌++◌, [], ◌∷◌, All, List, ℕ, length, take, drop, IfOk, OnOk, IfErr, IsErr, OnErr, IsErrOf, ◌^◌, Some, None, true, false};
-ghost use Rattle.kept_log.specs.Device.{Only, LeavesOnly, HasCause, AfterOthers};
+ghost use Rattle.kept_log.specs.Device.{Only, HasCause, AfterOthers};
 ghost use Rattle.kept_log.specs.declared.device.DeviceError.TheVariants.{Shorter};
 ghost use Rattle.kept_log.specs.Lines.{IsLine, IsEnd, lines_text};
 ghost use Rattle.kept_log.specs.Log.{StandsFor, IsOldOrNew, EndsBehind, at_rest, lines_behind, head_of, lines_of, IsAtRest, IsKnown, IsLeft, BeginsWith};
+ghost use Rattle.kept_log.specs.Moments.{LeavesOnly};
 
 use crate::lines::lines_end;
 use crate::steps::{cut_through, write_through};
@@ -52,7 +53,7 @@ fn repair<D: Device>(device: &mut D, at: usize) -> Result<(), DeviceError>
     ensures closed { OnOk result (D.seen device.new ≡ take at (D.seen device.old) ++ 33 ∷ []) }
     ensures durable { OnOk result (Only (D.seen device.new) (D.may_leave device.new)) }
     ensures view { EndsBehind (take at (D.seen device.old)) (D.seen device.new) }
-    ensures any_moment { LeavesOnly D.moment D.left_since device.old device.new (EndsBehind (take at (D.seen device.old))) }
+    ensures any_moment { LeavesOnly D.Device device.old device.new (EndsBehind (take at (D.seen device.old))) }
     ensures held { D.is_held device.new ≡ true }
     ensures found { D.found device.new ≡ D.found device.old }
     ensures cause { HasCause (D.faults device.old) (D.faults device.new) result }
@@ -80,7 +81,7 @@ fn settle<D: Device>(device: &mut D, at: usize, text: &[u8]) -> Result<usize, De
 
     // A crash at any moment, and a failed call, leave the same lines.
     ensures view { StandsFor (take at (D.seen device.old)) (lines_behind at (D.seen device.old)) (D.seen device.new) }
-    ensures any_moment { LeavesOnly D.moment D.left_since device.old device.new (StandsFor (take at (D.seen device.old)) (lines_behind at (D.seen device.old))) }
+    ensures any_moment { LeavesOnly D.Device device.old device.new (StandsFor (take at (D.seen device.old)) (lines_behind at (D.seen device.old))) }
     ensures held { D.is_held device.new ≡ true }
     ensures found { D.found device.new ≡ D.found device.old }
     ensures cause { HasCause (D.faults device.old) (D.faults device.new) result }
@@ -102,7 +103,7 @@ pub fn create<D: Device>(alloc: Global, device: &mut D, head: &[u8]) -> Result<(
     ensures durable { OnOk result (Only (D.seen device.new) (D.may_leave device.new)) }
 
     // A crash at any moment leaves what it might have left before, or a file of no lines, whatever its head is.
-    ensures any_moment { LeavesOnly D.moment D.left_since device.old device.new
+    ensures any_moment { LeavesOnly D.Device device.old device.new
         (λ c. D.may_leave device.old c ⊎ (lines_behind (length head.now) c ≡ [])) }
     ensures held { D.is_held device.new ≡ true }
     ensures found { D.found device.new ≡ D.found device.old }
@@ -156,7 +157,7 @@ fn find<D: Device>(device: &mut D, head: &[u8], bytes: &[u8]) -> Result<usize, O
     ensures view { take (length head.now) (D.seen device.old) ≡ head.now → StandsFor head.now (lines_behind (length head.now) (D.seen device.old)) (D.seen device.new) }
 
     // A crash at any moment leaves what it might have left before, or the lines that are seen.
-    ensures any_moment { LeavesOnly D.moment D.left_since device.old device.new
+    ensures any_moment { LeavesOnly D.Device device.old device.new
         (λ c. D.may_leave device.old c ⊎ StandsFor head.now (lines_behind (length head.now) (D.seen device.old)) c) }
 {
     if !bytes.starts_with(head) {
@@ -183,10 +184,10 @@ impl<D: Device> KeptLog<D> {
         ensures held_err { IfErr result (λ e. D.is_held e.1 ≡ true) }
         ensures found { IfOk result (λ opened. D.found opened.0.device ≡ D.found device) }
         ensures found_err { IfErr result (λ e. D.found e.1 ≡ D.found device) }
-        ensures at_rest { IfOk result (λ opened. IsAtRest D.seen D.may_leave opened.0) }
-        ensures head { IfOk result (λ opened. head_of D.seen opened.0 ≡ head.now) }
-        ensures lines { IfOk result (λ opened. lines_of D.seen opened.0 ≡ lines_behind (length head.now) (D.seen device)) }
-        ensures text { IfOk result (λ opened. take opened.1 (drop (length head.now) bytes.now) ≡ lines_text (lines_of D.seen opened.0)) }
+        ensures at_rest { IfOk result (λ opened. IsAtRest D.Device opened.0) }
+        ensures head { IfOk result (λ opened. head_of D.Device opened.0 ≡ head.now) }
+        ensures lines { IfOk result (λ opened. lines_of D.Device opened.0 ≡ lines_behind (length head.now) (D.seen device)) }
+        ensures text { IfOk result (λ opened. take opened.1 (drop (length head.now) bytes.now) ≡ lines_text (lines_of D.Device opened.0)) }
         ensures begins { OnOk result (take (length head.now) (D.seen device) ≡ head.now) }
         ensures sound { IfOk result (λ opened. D.faults opened.0.device ≡ D.faults device) }
 
@@ -199,9 +200,9 @@ impl<D: Device> KeptLog<D> {
             → StandsFor head.now (lines_behind (length head.now) (D.seen device)) (D.seen e.1)) }
 
         // A crash at any moment leaves what it might have left before, or the lines that are seen.
-        ensures any_moment { IfOk result (λ opened. LeavesOnly D.moment D.left_since device opened.0.device
+        ensures any_moment { IfOk result (λ opened. LeavesOnly D.Device device opened.0.device
             (λ c. D.may_leave device c ⊎ StandsFor head.now (lines_behind (length head.now) (D.seen device)) c)) }
-        ensures any_moment_err { IfErr result (λ e. LeavesOnly D.moment D.left_since device e.1
+        ensures any_moment_err { IfErr result (λ e. LeavesOnly D.Device device e.1
             (λ c. D.may_leave device c ⊎ StandsFor head.now (lines_behind (length head.now) (D.seen device)) c)) }
     {
         match find(&mut device, head, bytes) {
@@ -216,18 +217,18 @@ impl<D: Device> KeptLog<D> {
 
     /// Waits for the file's lock, and reads what stands from the gate on that this log knows.
     pub fn take_over(&mut self, alloc: Global) -> Result<Vec<u8>, DeviceError>
-        requires known { IsKnown D.seen self.old }
+        requires known { IsKnown D.Device self.old }
 
         ensures held { OnOk result (D.is_held self.new.device ≡ true) }
         ensures found { OnOk result (D.found self.new.device ≡ Some (D.seen self.new.device) ∷ D.found self.old.device) }
         ensures none_found { IfErr result (λ why. why ≢ Shorter → D.found self.new.device ≡ D.found self.old.device) }
         ensures shorter { IsErrOf result Shorter → D.found self.new.device ≡ None ∷ D.found self.old.device }
-        ensures known { IsKnown D.seen self.new }
+        ensures known { IsKnown D.Device self.new }
         ensures front { take self.old.end (D.seen self.new.device) ≡ take self.old.end (D.seen self.old.device) }
         ensures places { (self.new.start ≡ self.old.start) × (self.new.end ≡ self.old.end) }
         ensures bytes { IfOk result (λ bytes. drop self.new.end (D.seen self.new.device) ≡ bytes.items) }
         ensures fits { OnOk result (length (D.seen self.new.device) < 2 ^ 63) }
-        ensures any_moment { LeavesOnly D.moment D.left_since self.old.device self.new.device (λ c. D.may_leave self.old.device c ⊎ AfterOthers self.old.end (D.may_leave self.old.device) c) }
+        ensures any_moment { LeavesOnly D.Device self.old.device self.new.device (λ c. D.may_leave self.old.device c ⊎ AfterOthers self.old.end (D.may_leave self.old.device) c) }
         ensures cause { HasCause (D.faults self.old.device) (D.faults self.new.device) result }
     {
         self.device.take_over(alloc, self.end)
@@ -236,15 +237,15 @@ impl<D: Device> KeptLog<D> {
     /// Lets the file's lock go. From then on, whatever others do, each crash leaves a file whose lines begin with
     /// those of this log.
     pub fn release(&mut self) -> Result<(), DeviceError>
-        requires at_rest { IsAtRest D.seen D.may_leave self.old }
+        requires at_rest { IsAtRest D.Device self.old }
 
         ensures free { OnOk result (D.is_held self.new.device ≡ false) }
         ensures found { D.found self.new.device ≡ D.found self.old.device }
-        ensures known { IsKnown D.seen self.new }
-        ensures left { IsLeft D.seen D.may_leave self.new }
+        ensures known { IsKnown D.Device self.new }
+        ensures left { IsLeft D.Device self.new }
         ensures same { (D.seen self.new.device ≡ D.seen self.old.device) × (self.new.start ≡ self.old.start) × (self.new.end ≡ self.old.end) }
-        ensures kept { (c : List ℕ) → D.may_leave self.new.device c → BeginsWith (head_of D.seen self.old) (lines_of D.seen self.old) c }
-        ensures any_moment { LeavesOnly D.moment D.left_since self.old.device self.new.device (BeginsWith (head_of D.seen self.old) (lines_of D.seen self.old)) }
+        ensures kept { (c : List ℕ) → D.may_leave self.new.device c → BeginsWith (head_of D.Device self.old) (lines_of D.Device self.old) c }
+        ensures any_moment { LeavesOnly D.Device self.old.device self.new.device (BeginsWith (head_of D.Device self.old) (lines_of D.Device self.old)) }
         ensures cause { HasCause (D.faults self.old.device) (D.faults self.new.device) result }
     {
         self.device.release(self.end)
@@ -254,7 +255,7 @@ impl<D: Device> KeptLog<D> {
     /// log knows. It tells how long the text of the further lines is.
     pub fn catch_up(&mut self, text: &[u8]) -> Result<usize, DeviceError>
         requires held { D.is_held self.old.device ≡ true }
-        requires known { IsKnown D.seen self.old }
+        requires known { IsKnown D.Device self.old }
         requires text { drop self.old.end (D.seen self.old.device) ≡ text.now }
         requires fits { length (D.seen self.old.device) < 2 ^ 63 }
 
@@ -262,15 +263,15 @@ impl<D: Device> KeptLog<D> {
         ensures found { D.found self.new.device ≡ D.found self.old.device }
         ensures start { self.new.start ≡ self.old.start }
         ensures text { IfOk result (λ len. take len text.now ≡ lines_text (lines_behind self.old.end (D.seen self.old.device))) }
-        ensures at_rest { OnOk result (IsAtRest D.seen D.may_leave self.new) }
-        ensures lines { OnOk result (lines_of D.seen self.new ≡ lines_of D.seen self.old) }
-        ensures head { OnOk result (head_of D.seen self.new ≡ head_of D.seen self.old) }
+        ensures at_rest { OnOk result (IsAtRest D.Device self.new) }
+        ensures lines { OnOk result (lines_of D.Device self.new ≡ lines_of D.Device self.old) }
+        ensures head { OnOk result (head_of D.Device self.new ≡ head_of D.Device self.old) }
 
         // A crash at any moment leaves what it might have left before, or the lines that are seen. A failed call
         // changes none of them.
-        ensures view { StandsFor (head_of D.seen self.old) (lines_of D.seen self.old) (D.seen self.new.device) }
-        ensures any_moment { LeavesOnly D.moment D.left_since self.old.device self.new.device
-            (λ c. D.may_leave self.old.device c ⊎ StandsFor (head_of D.seen self.old) (lines_of D.seen self.old) c) }
+        ensures view { StandsFor (head_of D.Device self.old) (lines_of D.Device self.old) (D.seen self.new.device) }
+        ensures any_moment { LeavesOnly D.Device self.old.device self.new.device
+            (λ c. D.may_leave self.old.device c ⊎ StandsFor (head_of D.Device self.old) (lines_of D.Device self.old) c) }
         ensures cause { HasCause (D.faults self.old.device) (D.faults self.new.device) result }
     {
         // What another process wrote, and was killed, may be on no disk yet.
@@ -284,21 +285,21 @@ impl<D: Device> KeptLog<D> {
     /// that has them. At `Failed` nothing more can be added until the log was caught up.
     pub fn append(&mut self, block: Block) -> Result<(), AppendError>
         requires held { D.is_held self.old.device ≡ true }
-        requires at_rest { IsAtRest D.seen D.may_leave self.old }
+        requires at_rest { IsAtRest D.Device self.old }
         requires some { block ≢ [] }
 
         ensures held { D.is_held self.new.device ≡ true }
         ensures found { D.found self.new.device ≡ D.found self.old.device }
         ensures start { self.new.start ≡ self.old.start }
-        ensures at_rest { OnOk result (IsAtRest D.seen D.may_leave self.new) }
-        ensures lines { OnOk result (lines_of D.seen self.new ≡ lines_of D.seen self.old ++ block) }
-        ensures head { OnOk result (head_of D.seen self.new ≡ head_of D.seen self.old) }
+        ensures at_rest { OnOk result (IsAtRest D.Device self.new) }
+        ensures lines { OnOk result (lines_of D.Device self.new ≡ lines_of D.Device self.old ++ block) }
+        ensures head { OnOk result (head_of D.Device self.new ≡ head_of D.Device self.old) }
 
         // A crash at any moment, and a failed call, leave the lines from before, with those of the block or without.
-        ensures view { IsOldOrNew (head_of D.seen self.old) (lines_of D.seen self.old) block (D.seen self.new.device) }
-        ensures known { IsKnown D.seen self.new }
-        ensures any_moment { LeavesOnly D.moment D.left_since self.old.device self.new.device
-            (IsOldOrNew (head_of D.seen self.old) (lines_of D.seen self.old) block) }
+        ensures view { IsOldOrNew (head_of D.Device self.old) (lines_of D.Device self.old) block (D.seen self.new.device) }
+        ensures known { IsKnown D.Device self.new }
+        ensures any_moment { LeavesOnly D.Device self.old.device self.new.device
+            (IsOldOrNew (head_of D.Device self.old) (lines_of D.Device self.old) block) }
 
         // It doesn't give up by itself, and then nothing is changed.
         ensures memory { IsErrOf result AppendError.OutOfMemory → self.new ≡ self.old }

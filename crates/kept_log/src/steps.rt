@@ -1,6 +1,7 @@
 //! Calls of a device, each with its sync.
 ghost use Rattle.std.specs.Prelude.{◌≡◌, ◌≤◌, ◌⊎◌, true, length, take, OnOk};
-ghost use Rattle.kept_log.specs.Device.{Only, Torn, Cut, Holds, LeavesOnly, HasCause};
+ghost use Rattle.kept_log.specs.Device.{Only, Torn, Cut, Holds, HasCause};
+ghost use Rattle.kept_log.specs.Moments.{LeavesOnly};
 
 use crate::{Device, DeviceError};
 
@@ -19,7 +20,7 @@ pub(crate) fn write_through<D: Device>(
     ensures torn { Torn at (length bytes.now) (D.seen device.old) (D.seen device.new) }
 
     // A crash at any moment leaves what a torn write does.
-    ensures any_moment { LeavesOnly D.moment D.left_since device.old device.new (Torn at (length bytes.now) (D.seen device.old)) }
+    ensures any_moment { LeavesOnly D.Device device.old device.new (Torn at (length bytes.now) (D.seen device.old)) }
     ensures held { D.is_held device.new ≡ true }
     ensures found { D.found device.new ≡ D.found device.old }
     ensures cause { HasCause (D.faults device.old) (D.faults device.new) result }
@@ -39,7 +40,7 @@ pub(crate) fn cut_through<D: Device>(device: &mut D, len: usize) -> Result<(), D
     ensures short { Cut len (D.seen device.old) (D.seen device.new) }
 
     // A crash at any moment leaves some length between.
-    ensures any_moment { LeavesOnly D.moment D.left_since device.old device.new (Cut len (D.seen device.old)) }
+    ensures any_moment { LeavesOnly D.Device device.old device.new (Cut len (D.seen device.old)) }
     ensures held { D.is_held device.new ≡ true }
     ensures found { D.found device.new ≡ D.found device.old }
     ensures cause { HasCause (D.faults device.old) (D.faults device.new) result }

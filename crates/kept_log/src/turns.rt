@@ -1,6 +1,6 @@
 //! Turns with a log that several processes share: each takes the lock, sees what others added, adds its own, and lets the lock go.
 ghost use Rattle.std.specs.Prelude.{◌≡◌, ◌≢◌, ◌+◌, ◌<◌, ◌^◌, ◌++◌, [], ◌∷◌, List, ℕ, None, true, length, IfOk, OnOk, IsErrOf};
-ghost use Rattle.kept_log.specs.Device.{LeavesOnly};
+ghost use Rattle.kept_log.specs.Moments.{LeavesOnly};
 ghost use Rattle.kept_log.specs.Lines.{kept_lines, lines_text};
 ghost use Rattle.kept_log.specs.Log.{IsOldOrNew, IsAtRest, IsLeft, BeginsWith, HasTurn, IsAsFound, head_of, lines_of};
 ghost use Rattle.kept_log.specs.declared.device.DeviceError.TheVariants.{Shorter};
@@ -22,16 +22,16 @@ impl<D: Device> KeptLog<D> {
     /// Begins a turn: waits for the file's lock, and takes in what others added, which is on the disk then. It tells the text that
     /// stood behind the lines that were known; those of its lines that count are the further ones.
     pub fn enter(&mut self, alloc: Global) -> Result<Vec<u8>, EnterError>
-        requires left { IsLeft D.seen D.may_leave self.old }
+        requires left { IsLeft D.Device self.old }
 
         ensures held { OnOk result (D.is_held self.new.device ≡ true) }
-        ensures at_rest { OnOk result (IsAtRest D.seen D.may_leave self.new) }
-        ensures head { OnOk result (head_of D.seen self.new ≡ head_of D.seen self.old) }
-        ensures lines { IfOk result (λ text. lines_of D.seen self.new ≡ lines_of D.seen self.old ++ kept_lines text.items) }
+        ensures at_rest { OnOk result (IsAtRest D.Device self.new) }
+        ensures head { OnOk result (head_of D.Device self.new ≡ head_of D.Device self.old) }
+        ensures lines { IfOk result (λ text. lines_of D.Device self.new ≡ lines_of D.Device self.old ++ kept_lines text.items) }
 
         // What others wrote is not lost: the lines are those that stood in the file when the lock was taken, also at an error.
-        ensures turn { OnOk result (HasTurn D.seen D.found self.old self.new []) }
-        ensures as_found { IsAsFound D.seen D.found self.old self.new }
+        ensures turn { OnOk result (HasTurn D.Device self.old self.new []) }
+        ensures as_found { IsAsFound D.Device self.old self.new }
 
         // A turn is begun only if no call of the file failed: a sync that failed is not tried again.
         ensures sound { OnOk result (D.faults self.new.device ≡ D.faults self.old.device) }
@@ -40,7 +40,7 @@ impl<D: Device> KeptLog<D> {
         ensures shorter { IsErrOf result (Unread Shorter) → D.found self.new.device ≡ None ∷ D.found self.old.device }
 
         // A crash at any moment leaves a file whose lines begin with those that were known.
-        ensures any_moment { LeavesOnly D.moment D.left_since self.old.device self.new.device (BeginsWith (head_of D.seen self.old) (lines_of D.seen self.old)) }
+        ensures any_moment { LeavesOnly D.Device self.old.device self.new.device (BeginsWith (head_of D.Device self.old) (lines_of D.Device self.old)) }
     {
         let text = match self.take_over(alloc) {
             Ok(text) => text,
@@ -55,19 +55,19 @@ impl<D: Device> KeptLog<D> {
     /// Adds the lines of a block, all or none, where it has any. At `Ok` they are on the disk.
     pub fn add(&mut self, block: Block) -> Result<(), AppendError>
         requires held { D.is_held self.old.device ≡ true }
-        requires at_rest { IsAtRest D.seen D.may_leave self.old }
+        requires at_rest { IsAtRest D.Device self.old }
 
         ensures held { D.is_held self.new.device ≡ true }
         ensures found { D.found self.new.device ≡ D.found self.old.device }
         ensures start { self.new.start ≡ self.old.start }
-        ensures at_rest { OnOk result (IsAtRest D.seen D.may_leave self.new) }
-        ensures head { OnOk result (head_of D.seen self.new ≡ head_of D.seen self.old) }
-        ensures lines { OnOk result (lines_of D.seen self.new ≡ lines_of D.seen self.old ++ block) }
+        ensures at_rest { OnOk result (IsAtRest D.Device self.new) }
+        ensures head { OnOk result (head_of D.Device self.new ≡ head_of D.Device self.old) }
+        ensures lines { OnOk result (lines_of D.Device self.new ≡ lines_of D.Device self.old ++ block) }
 
         // A crash at any moment, and a failed call, leave the lines from before, with those of the block or without.
-        ensures view { IsOldOrNew (head_of D.seen self.old) (lines_of D.seen self.old) block (D.seen self.new.device) }
-        ensures any_moment { LeavesOnly D.moment D.left_since self.old.device self.new.device
-            (IsOldOrNew (head_of D.seen self.old) (lines_of D.seen self.old) block) }
+        ensures view { IsOldOrNew (head_of D.Device self.old) (lines_of D.Device self.old) block (D.seen self.new.device) }
+        ensures any_moment { LeavesOnly D.Device self.old.device self.new.device
+            (IsOldOrNew (head_of D.Device self.old) (lines_of D.Device self.old) block) }
         // It doesn't give up by itself, and then nothing is changed.
         ensures memory { IsErrOf result AppendError.OutOfMemory → self.new ≡ self.old }
         ensures failed { IsErrOf result (AppendError.Device DeviceError.Failed) → D.faults self.old.device < D.faults self.new.device }

@@ -15,7 +15,6 @@ use Rattle.inverse_log.proofs.CallerLemmas.{grown_by, called_grown}
 use Rattle.inverse_log.proofs.SizeLemmas.{limited_ok}
 use Rattle.inverse_log.proofs.HeadLemmas.{at_latest_law}
 use Rattle.script_language.specs.Scripts.{script_line_reading}
-use Rattle.kept_session.specs.Lines.{line_for}
 use Rattle.kept_session.specs.Sessions.{log_by, log_behind, log_of, AreLogged, number_after, number_behind, IsLineAnswered, AreAnswered}
 use Rattle.kept_session.specs.Steps.{SaysCall}
 

@@ -2,9 +2,7 @@
 use Rattle.std.proofs.Common.{◌≡◌, ℕ, List, [], ◌∷◌, ◌++◌, All, Option, refl, sym, ap, ◌∙◌, subst, append_assoc, append-nil}
 use Rattle.rapid_text.specs.Recording.{Recording}
 use Rattle.inverse_log.specs.declared.entry.Entry.{Entry}
-use Rattle.script_language.specs.Scripts.{script_line_reading}
 use Rattle.kept_log.specs.Lines.{IsLine}
-use Rattle.kept_session.specs.Lines.{line_for}
 use Rattle.kept_session.specs.Sessions.{log_behind, AreLogged, number_after, number_behind, IsLineAnswered}
 use Rattle.kept_session.specs.Steps.{LineAnswered, PieceAnswered}
 use Rattle.kept_session.proofs.LineLemmas.{line_within}

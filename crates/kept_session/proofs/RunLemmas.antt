@@ -16,6 +16,7 @@ use Rattle.client_scripts.specs.declared.fault.ReadCause.TheVariants.{TooLong, D
 use Rattle.client_scripts.specs.declared.fault.ReplayFault.TheVariants.{Read, Write, OutOfMemory as NoMemory}
 use Rattle.kept_log.specs.Log.{LosesNone, head_of, lines_of, lines_behind}
 use Rattle.kept_log.specs.Lines.{IsLine}
+use Rattle.kept_log.specs.declared.device.Device.{Ghosts}
 use Rattle.kept_log.specs.declared.log.KeptLog.{KeptLog}
 use Rattle.kept_session.specs.Faults.{IsTurnFault}
 use Rattle.kept_session.specs.Runs.{IsLogTurn, AreTurns, no_turn, one_more, IsRun, IsFinished, IsUnanswered, IsUnwritten, IsHalted}
@@ -72,46 +73,46 @@ Consumes-keeps (Some a) None c xs p q = absurd p
 Consumes-keeps (Some a) (Some b) None xs p q = absurd q
 Consumes-keeps (Some a) (Some b) (Some c) xs p q = p ∙ ap (λ (s : List ℕ). xs ++ s) (sym q)
 
-module _ {D : Type 0} (seen : D → List ℕ) (found : D → List (Option (List ℕ))) (T : Recording) (client : Option ℕ) where
+module _ {D : Type 0} (disk : Ghosts D) (T : Recording) (client : Option ℕ) where
   -- turns, and then further ones
   pub turns-then : (n : ℕ) (old mid : KeptLog D) (xs : List (List ℕ)) (t : List ℕ) (ys : List (List ℕ)) (u : List ℕ) (new : KeptLog D)
-      → AreTurns seen found T client n old xs t mid → AreTurns seen found T client (number_behind n xs) mid ys u new → AreTurns seen found T client n old (xs ++ ys) (t ++ u) new
+      → AreTurns disk T client n old xs t mid → AreTurns disk T client (number_behind n xs) mid ys u new → AreTurns disk T client n old (xs ++ ys) (t ++ u) new
   turns-then n old mid xs t _ _ _ first no_turn =
-      subst (λ ls. AreTurns seen found T client n old ls (t ++ []) mid) (sym (append-nil xs)) (subst (λ s. AreTurns seen found T client n old xs s mid) (sym (append-nil t)) first)
+      subst (λ ls. AreTurns disk T client n old ls (t ++ []) mid) (sym (append-nil xs)) (subst (λ s. AreTurns disk T client n old xs s mid) (sym (append-nil t)) first)
   turns-then n old mid xs t _ _ _ first (one_more raws more text answers log new turns turn) =
-      let behind : IsLogTurn seen found T client (number_behind n (xs ++ raws)) more log new answers =
-      subst (λ k. IsLogTurn seen found T client k more log new answers) (sym (number_behind-append n xs raws)) turn in
-      let all : AreTurns seen found T client n old ((xs ++ raws) ++ more) ((t ++ text) ++ answers) new =
+      let behind : IsLogTurn disk T client (number_behind n (xs ++ raws)) more log new answers =
+      subst (λ k. IsLogTurn disk T client k more log new answers) (sym (number_behind-append n xs raws)) turn in
+      let all : AreTurns disk T client n old ((xs ++ raws) ++ more) ((t ++ text) ++ answers) new =
       one_more (xs ++ raws) more (t ++ text) answers log new (turns-then n old mid xs t raws text log first turns) behind in
-      subst (λ ls. AreTurns seen found T client n old ls (t ++ (text ++ answers)) new) (append_assoc xs raws more)
-      (subst (λ s. AreTurns seen found T client n old ((xs ++ raws) ++ more) s new) (append_assoc t text answers) all)
+      subst (λ ls. AreTurns disk T client n old ls (t ++ (text ++ answers)) new) (append_assoc xs raws more)
+      (subst (λ s. AreTurns disk T client n old ((xs ++ raws) ++ more) s new) (append_assoc t text answers) all)
 
   -- a turn of a session whose bench has the log that its file stands for
   pub log_turn : (N : Recording) (n : ℕ) (piece bytes : List ℕ) (old new : KeptLog D) (L : List Entry) (out answers : List ℕ)
-      → N ≡ T → piece ≡ bytes → out ≡ [] → log_of N (lines_of seen new) ≡ L → head_of seen new ≡ head_of seen old
-      → (file : List ℕ) × (found new.device ≡ Some file ∷ found old.device)
-      × IsTurn T client n (slice_split is_line_feed piece) (lines_of seen old) (lines_behind new.start file) (lines_of seen new) L out answers
-      → IsLogTurn seen found T client n (slice_split is_line_feed bytes) old new answers
+      → N ≡ T → piece ≡ bytes → out ≡ [] → log_of N (lines_of disk new) ≡ L → head_of disk new ≡ head_of disk old
+      → (file : List ℕ) × (disk.found new.device ≡ Some file ∷ disk.found old.device)
+      × IsTurn T client n (slice_split is_line_feed piece) (lines_of disk old) (lines_behind new.start file) (lines_of disk new) L out answers
+      → IsLogTurn disk T client n (slice_split is_line_feed bytes) old new answers
   log_turn N n piece bytes old new L out answers same is empty says head (file, once, turn) = record {
     file = file;
     once = once;
     head = head;
     turn =
-        subst (λ b. Turn (slice_split is_line_feed b) [] (log_of T (lines_of seen new))) is
-        (subst (λ M. Turn (slice_split is_line_feed piece) [] M) (sym says ∙ ap (λ t. log_of t (lines_of seen new)) same)
+        subst (λ b. Turn (slice_split is_line_feed b) [] (log_of T (lines_of disk new))) is
+        (subst (λ M. Turn (slice_split is_line_feed piece) [] M) (sym says ∙ ap (λ t. log_of t (lines_of disk new)) same)
         (subst (λ o. Turn (slice_split is_line_feed piece) o L) empty turn));
   }
     where
       Turn : List (List ℕ) → List ℕ → List Entry → Type 0
-      Turn raws o M = IsTurn T client n raws (lines_of seen old) (lines_behind new.start file) (lines_of seen new) M o answers
+      Turn raws o M = IsTurn T client n raws (lines_of disk old) (lines_behind new.start file) (lines_of disk new) M o answers
 
   -- nothing was answered
-  pub no_run : (n : ℕ) (log : KeptLog D) (bytes : List ℕ) → IsRun seen found T client n log log bytes (slice_split is_line_feed bytes) []
+  pub no_run : (n : ℕ) (log : KeptLog D) (bytes : List ℕ) → IsRun disk T client n log log bytes (slice_split is_line_feed bytes) []
   no_run n log bytes = record { asked = []; turns = no_turn; split = refl }
 
   -- behind the lines there stand others
-  pub run-feed : (n : ℕ) (old new : KeptLog D) (front rest bytes : List ℕ) (left : List (List ℕ)) (text : List ℕ) → IsRun seen found T client n old new front left text → bytes ≡ front ++ 10 ∷ rest
-      → IsRun seen found T client n old new bytes (left ++ slice_split is_line_feed rest) text
+  pub run-feed : (n : ℕ) (old new : KeptLog D) (front rest bytes : List ℕ) (left : List (List ℕ)) (text : List ℕ) → IsRun disk T client n old new front left text → bytes ≡ front ++ 10 ∷ rest
+      → IsRun disk T client n old new bytes (left ++ slice_split is_line_feed rest) text
   run-feed n old new front rest bytes left text run is = record {
     asked = run.asked;
     turns = run.turns;
@@ -119,18 +120,18 @@ module _ {D : Type 0} (seen : D → List ℕ) (found : D → List (Option (List 
   }
 
   -- a run, and then one from the line that it left
-  pub run-then : (n k : ℕ) (old mid new : KeptLog D) (bytes begun more : List ℕ) (left : List (List ℕ)) (t u : List ℕ) (first : IsRun seen found T client n old mid bytes (begun ∷ []) t)
-      → k ≡ number_behind n first.asked → IsRun seen found T client k mid new (begun ++ more) left u → IsRun seen found T client n old new (bytes ++ more) left (t ++ u)
+  pub run-then : (n k : ℕ) (old mid new : KeptLog D) (bytes begun more : List ℕ) (left : List (List ℕ)) (t u : List ℕ) (first : IsRun disk T client n old mid bytes (begun ∷ []) t)
+      → k ≡ number_behind n first.asked → IsRun disk T client k mid new (begun ++ more) left u → IsRun disk T client n old new (bytes ++ more) left (t ++ u)
   run-then n k old mid new bytes begun more left t u first next second = record {
     asked = first.asked ++ second.asked;
-    turns = turns-then n old mid first.asked t second.asked u new first.turns (subst (λ j. AreTurns seen found T client j mid second.asked u new) next second.turns);
+    turns = turns-then n old mid first.asked t second.asked u new first.turns (subst (λ j. AreTurns disk T client j mid second.asked u new) next second.turns);
     split = split-more bytes more first.asked begun first.split ∙ ap (λ (ls : List (List ℕ)). first.asked ++ ls) second.split ∙ sym (append_assoc first.asked second.asked left);
   }
 
   -- a turn that was not answered
   pub unanswered : (n : ℕ) (old new : KeptLog D) (bytes : List ℕ) (failed : Bool) (taken : Option (List ℕ)) (fault : SessionFault)
-      → failed ≡ false → LosesNone seen found old new → IsTurnFault T (lines_of seen old) (lines_of seen new) (found old.device) (found new.device) fault
-      → ((why : ReadCause) → fault ≢ Replay (Read 3 why)) → IsHalted seen found T client n old new bytes failed taken taken fault
+      → failed ≡ false → LosesNone disk old new → IsTurnFault T (lines_of disk old) (lines_of disk new) (disk.found old.device) (disk.found new.device) fault
+      → ((why : ReadCause) → fault ≢ Replay (Read 3 why)) → IsHalted disk T client n old new bytes failed taken taken fault
   unanswered n old new bytes failed taken fault working none_lost told other = record {
     log = old;
     text = [];
@@ -142,9 +143,9 @@ module _ {D : Type 0} (seen : D → List ℕ) (found : D → List (Option (List 
 
   -- a turn whose answers were not written whole
   pub unwritten : (n : ℕ) (old new : KeptLog D) (bytes shown answers : List ℕ) (failed : Bool) (before now : Option (List ℕ)) (fault : SessionFault)
-      → IsLogTurn seen found T client n (slice_split is_line_feed bytes) old new answers → shown ≡ answers
+      → IsLogTurn disk T client n (slice_split is_line_feed bytes) old new answers → shown ≡ answers
       → (count : ℕ) × (count < length shown) × Appends before now (take count shown) → failed ≡ true → fault ≡ Replay Write
-      → IsHalted seen found T client n old new bytes failed before now fault
+      → IsHalted disk T client n old new bytes failed before now fault
   unfolding no_run
   unwritten n old new bytes shown answers failed before now fault turn is (count, short, wrote) broken told = record {
     log = old;
@@ -168,8 +169,8 @@ module _ {D : Type 0} (seen : D → List ℕ) (found : D → List (Option (List 
 
   -- a fault that comes before what stands behind these lines
   pub halted-feed : (n : ℕ) (old new : KeptLog D) (front rest bytes : List ℕ) (failed : Bool) (before now : Option (List ℕ)) (fault : SessionFault)
-      → IsHalted seen found T client n old new front failed before now fault → bytes ≡ front ++ 10 ∷ rest → ((why : ReadCause) → fault ≢ Replay (Read 3 why))
-      → IsHalted seen found T client n old new bytes failed before now fault
+      → IsHalted disk T client n old new front failed before now fault → bytes ≡ front ++ 10 ∷ rest → ((why : ReadCause) → fault ≢ Replay (Read 3 why))
+      → IsHalted disk T client n old new bytes failed before now fault
   unfolding run-feed
   halted-feed n old new front rest bytes failed before now fault h is other = record {
     log = h.log;
@@ -180,8 +181,8 @@ module _ {D : Type 0} (seen : D → List ℕ) (found : D → List (Option (List 
     unread = λ why is. absurd (other why is);
   }
     where
-      longer : IsUnwritten seen found T client (number_behind n h.run.asked) h.log new h.text h.left failed before now fault
-          → IsUnwritten seen found T client (number_behind n h.run.asked) h.log new h.text (h.left ++ slice_split is_line_feed rest) failed before now fault
+      longer : IsUnwritten disk T client (number_behind n h.run.asked) h.log new h.text h.left failed before now fault
+          → IsUnwritten disk T client (number_behind n h.run.asked) h.log new h.text (h.left ++ slice_split is_line_feed rest) failed before now fault
       longer w = record {
         more = w.more;
         beyond = w.beyond ++ slice_split is_line_feed rest;
@@ -197,8 +198,8 @@ module _ {D : Type 0} (seen : D → List ℕ) (found : D → List (Option (List 
 
   -- a run, and then a fault
   pub halted-then : (n k : ℕ) (old mid new : KeptLog D) (bytes begun more : List ℕ) (t : List ℕ) (failed : Bool) (before mean now : Option (List ℕ)) (fault : SessionFault)
-      (first : IsRun seen found T client n old mid bytes (begun ∷ []) t) → k ≡ number_behind n first.asked → Appends before mean t
-      → IsHalted seen found T client k mid new (begun ++ more) failed mean now fault → IsHalted seen found T client n old new (bytes ++ more) failed before now fault
+      (first : IsRun disk T client n old mid bytes (begun ∷ []) t) → k ≡ number_behind n first.asked → Appends before mean t
+      → IsHalted disk T client k mid new (begun ++ more) failed mean now fault → IsHalted disk T client n old new (bytes ++ more) failed before now fault
   unfolding run-then
   halted-then n k old mid new bytes begun more t failed before mean now fault first next wrote h = record {
     log = h.log;
@@ -209,7 +210,7 @@ module _ {D : Type 0} (seen : D → List ℕ) (found : D → List (Option (List 
     unread = λ why is. let left = h.unread why is in (left.0, left.1, unreadable_more (begun ++ more) (bytes ++ more) why longer left.2);
   }
     where
-      told : IsUnanswered seen found T client h.log new h.text failed mean now fault → IsUnanswered seen found T client h.log new (t ++ h.text) failed before now fault
+      told : IsUnanswered disk T client h.log new h.text failed mean now fault → IsUnanswered disk T client h.log new (t ++ h.text) failed before now fault
       told u = record { working = u.working; written = Appends-then before mean now t h.text wrote u.written; none_lost = u.none_lost; told = u.told }
 
       longer : length (begun ++ more) ≤ length (bytes ++ more)
@@ -218,15 +219,15 @@ module _ {D : Type 0} (seen : D → List ℕ) (found : D → List (Option (List 
       numbers : number_behind k h.run.asked ≡ number_behind n (first.asked ++ h.run.asked)
       numbers = ap (λ j. number_behind j h.run.asked) next ∙ sym (number_behind-append n first.asked h.run.asked)
 
-      written : IsUnwritten seen found T client (number_behind k h.run.asked) h.log new h.text h.left failed mean now fault
-          → IsUnwritten seen found T client (number_behind n (first.asked ++ h.run.asked)) h.log new (t ++ h.text) h.left failed before now fault
+      written : IsUnwritten disk T client (number_behind k h.run.asked) h.log new h.text h.left failed mean now fault
+          → IsUnwritten disk T client (number_behind n (first.asked ++ h.run.asked)) h.log new (t ++ h.text) h.left failed before now fault
       written w = record {
         more = w.more;
         beyond = w.beyond;
         answers = w.answers;
         count = w.count;
         next = w.next;
-        turn = subst (λ j. IsLogTurn seen found T client j w.more h.log new w.answers) numbers w.turn;
+        turn = subst (λ j. IsLogTurn disk T client j w.more h.log new w.answers) numbers w.turn;
         short = w.short;
         written = subst (Appends before now) (sym (append_assoc t h.text (take w.count w.answers))) (Appends-then before mean now t (h.text ++ take w.count w.answers) wrote w.written);
         broken = w.broken;
@@ -234,7 +235,7 @@ module _ {D : Type 0} (seen : D → List ℕ) (found : D → List (Option (List 
       }
 
   -- what was read has no end of a line
-  pub taken_line : (n k : ℕ) (log : KeptLog D) (bytes begun : List ℕ) (taken : Option (List ℕ)) → IsLine bytes → begun ≡ bytes → k ≡ n → IsTakenIn seen found T client n k log log bytes begun taken taken
+  pub taken_line : (n k : ℕ) (log : KeptLog D) (bytes begun : List ℕ) (taken : Option (List ℕ)) → IsLine bytes → begun ≡ bytes → k ≡ n → IsTakenIn disk T client n k log log bytes begun taken taken
   taken_line n k log bytes begun taken is same next = record {
     text = [];
     run = record { asked = []; turns = no_turn; split = slice_split_none is_line_feed bytes is ∙ ap (λ (b : List ℕ). b ∷ []) (sym same) };
@@ -244,8 +245,8 @@ module _ {D : Type 0} (seen : D → List ℕ) (found : D → List (Option (List 
 
   -- a turn, and behind its lines one whose end has not come
   pub taken_turn : (n k : ℕ) (old new : KeptLog D) (front rest bytes begun : List ℕ) (before now : Option (List ℕ))
-      → (text : List ℕ) × IsLogTurn seen found T client n (slice_split is_line_feed front) old new text × Appends before now text
-      → bytes ≡ front ++ 10 ∷ rest → IsLine rest → begun ≡ rest → k ≡ number_behind n (slice_split is_line_feed front) → IsTakenIn seen found T client n k old new bytes begun before now
+      → (text : List ℕ) × IsLogTurn disk T client n (slice_split is_line_feed front) old new text × Appends before now text
+      → bytes ≡ front ++ 10 ∷ rest → IsLine rest → begun ≡ rest → k ≡ number_behind n (slice_split is_line_feed front) → IsTakenIn disk T client n k old new bytes begun before now
   taken_turn n k old new front rest bytes begun before now (text, turn, wrote) is line same next = record {
     text = text;
     run = record {
@@ -261,28 +262,28 @@ module _ {D : Type 0} (seen : D → List ℕ) (found : D → List (Option (List 
 
   -- a fault behind what was taken in
   pub halted_taken : (n k : ℕ) (old new : KeptLog D) (bytes begun : List ℕ) (failed : Bool) (before now : Option (List ℕ)) (fault : SessionFault)
-      → IsTakenIn seen found T client n k old new bytes begun before now → failed ≡ false → IsInputFault bytes fault → IsHalted seen found T client n old new bytes failed before now fault
+      → IsTakenIn disk T client n k old new bytes begun before now → failed ≡ false → IsInputFault bytes fault → IsHalted disk T client n old new bytes failed before now fault
   halted_taken n k old new bytes begun failed before now fault h working is = record {
     log = new;
     text = h.text;
     left = begun ∷ [];
     run = h.run;
-    behind = inl (record { working = working; written = h.written; none_lost = inl (inl refl); told = input_told T (lines_of seen new) (lines_of seen new) (found new.device) (found new.device) bytes fault is });
+    behind = inl (record { working = working; written = h.written; none_lost = inl (inl refl); told = input_told T (lines_of disk new) (lines_of disk new) (disk.found new.device) (disk.found new.device) bytes fault is });
     unread = λ why unread. (begun, refl, input_unread bytes fault is why unread);
   }
 
   -- a run whose last line was answered too
-  pub run_out : (n k : ℕ) (old mid new : KeptLog D) (bytes begun : List ℕ) (t u : List ℕ) (first : IsRun seen found T client n old mid bytes (begun ∷ []) t) → k ≡ number_behind n first.asked → IsLine begun
-      → IsLogTurn seen found T client k (slice_split is_line_feed begun) mid new u → IsRun seen found T client n old new bytes [] (t ++ u)
+  pub run_out : (n k : ℕ) (old mid new : KeptLog D) (bytes begun : List ℕ) (t u : List ℕ) (first : IsRun disk T client n old mid bytes (begun ∷ []) t) → k ≡ number_behind n first.asked → IsLine begun
+      → IsLogTurn disk T client k (slice_split is_line_feed begun) mid new u → IsRun disk T client n old new bytes [] (t ++ u)
   run_out n k old mid new bytes begun t u first next is turn = record {
     asked = first.asked ++ slice_split is_line_feed begun;
-    turns = one_more first.asked (slice_split is_line_feed begun) t u mid new first.turns (subst (λ j. IsLogTurn seen found T client j (slice_split is_line_feed begun) mid new u) next turn);
+    turns = one_more first.asked (slice_split is_line_feed begun) t u mid new first.turns (subst (λ j. IsLogTurn disk T client j (slice_split is_line_feed begun) mid new u) next turn);
     split = first.split ∙ ap (λ (ls : List (List ℕ)). first.asked ++ ls) (sym (slice_split_none is_line_feed begun is)) ∙ sym (append-nil (first.asked ++ slice_split is_line_feed begun));
   }
 
   -- what was taken in, and then more
-  pub taken-then : (n k m : ℕ) (old mid new : KeptLog D) (bytes begun more left : List ℕ) (before mean now : Option (List ℕ)) → IsTakenIn seen found T client n k old mid bytes begun before mean
-      → IsTakenIn seen found T client k m mid new (begun ++ more) left mean now → IsTakenIn seen found T client n m old new (bytes ++ more) left before now
+  pub taken-then : (n k m : ℕ) (old mid new : KeptLog D) (bytes begun more left : List ℕ) (before mean now : Option (List ℕ)) → IsTakenIn disk T client n k old mid bytes begun before mean
+      → IsTakenIn disk T client k m mid new (begun ++ more) left mean now → IsTakenIn disk T client n m old new (bytes ++ more) left before now
   unfolding run-then
   taken-then n k m old mid new bytes begun more left before mean now h next = record {
     text = h.text ++ next.text;
@@ -292,7 +293,7 @@ module _ {D : Type 0} (seen : D → List ℕ) (found : D → List (Option (List 
   }
 
   module _ (old : KeptLog D) where
-    pub underway-start : (begun : List ℕ) (rest taken : Option (List ℕ)) → begun ≡ [] → IsUnderway seen found T client 0 1 old old begun rest rest taken taken
+    pub underway-start : (begun : List ℕ) (rest taken : Option (List ℕ)) → begun ≡ [] → IsUnderway disk T client 0 1 old old begun rest rest taken taken
     underway-start begun rest taken none = record {
       bytes = [];
       read = Consumes-nothing rest;
@@ -300,48 +301,48 @@ module _ {D : Type 0} (seen : D → List ℕ) (found : D → List (Option (List 
       taken_in = taken_line 1 1 old [] begun taken (All-nil (λ b. is_line_feed b ≡ false)) none refl;
     }
 
-    module _ (reads k : ℕ) (mid new : KeptLog D) (begun : List ℕ) (r0 r1 r2 t0 t1 t2 : Option (List ℕ)) (h : IsUnderway seen found T client reads k old mid begun r0 r1 t0 t1) where
-      pub underway-more : (N : Recording) (m : ℕ) (more left : List ℕ) → N ≡ T → Consumes r1 r2 more → 0 < length more → IsTakenIn seen found N client k m mid new (begun ++ more) left t1 t2
-          → IsUnderway seen found T client (reads + 1) m old new left r0 r2 t0 t2
+    module _ (reads k : ℕ) (mid new : KeptLog D) (begun : List ℕ) (r0 r1 r2 t0 t1 t2 : Option (List ℕ)) (h : IsUnderway disk T client reads k old mid begun r0 r1 t0 t1) where
+      pub underway-more : (N : Recording) (m : ℕ) (more left : List ℕ) → N ≡ T → Consumes r1 r2 more → 0 < length more → IsTakenIn disk N client k m mid new (begun ++ more) left t1 t2
+          → IsUnderway disk T client (reads + 1) m old new left r0 r2 t0 t2
       underway-more N m more left same read one next = record {
         bytes = h.bytes ++ more;
         read = Consumes-then r0 r1 r2 h.bytes more h.read read;
         some = omega (arith, h.some, one, length-append h.bytes more);
-        taken_in = taken-then 1 k m old mid new h.bytes begun more left t0 t1 t2 h.taken_in (subst (λ t. IsTakenIn seen found t client k m mid new (begun ++ more) left t1 t2) same next);
+        taken_in = taken-then 1 k m old mid new h.bytes begun more left t0 t1 t2 h.taken_in (subst (λ t. IsTakenIn disk t client k m mid new (begun ++ more) left t1 t2) same next);
       }
 
       -- a fault of what was read last
-      pub underway-fault : (N : Recording) (more : List ℕ) (failed : Bool) (fault : SessionFault) → N ≡ T → Consumes r1 r2 more → IsHalted seen found N client k mid new (begun ++ more) failed t1 t2 fault
-          → (bytes : List ℕ) × Consumes r0 r2 bytes × IsHalted seen found T client 1 old new bytes failed t0 t2 fault
+      pub underway-fault : (N : Recording) (more : List ℕ) (failed : Bool) (fault : SessionFault) → N ≡ T → Consumes r1 r2 more → IsHalted disk N client k mid new (begun ++ more) failed t1 t2 fault
+          → (bytes : List ℕ) × Consumes r0 r2 bytes × IsHalted disk T client 1 old new bytes failed t0 t2 fault
       underway-fault N more failed fault same read halted = (
         h.bytes ++ more,
         Consumes-then r0 r1 r2 h.bytes more h.read read,
-        halted-then 1 k old mid new h.bytes begun more h.taken_in.text failed t0 t1 t2 fault h.taken_in.run h.taken_in.numbers h.taken_in.written (subst (λ t. IsHalted seen found t client k mid new (begun ++ more) failed t1 t2 fault) same halted),
+        halted-then 1 k old mid new h.bytes begun more h.taken_in.text failed t0 t1 t2 fault h.taken_in.run h.taken_in.numbers h.taken_in.written (subst (λ t. IsHalted disk t client k mid new (begun ++ more) failed t1 t2 fault) same halted),
       )
 
       -- a fault of the last line
-      pub underway-last_fault : (N : Recording) (failed : Bool) (fault : SessionFault) → N ≡ T → Consumes r1 r2 [] → IsHalted seen found N client k mid new begun failed t1 t2 fault
-          → (bytes : List ℕ) × Consumes r0 r2 bytes × IsHalted seen found T client 1 old new bytes failed t0 t2 fault
-      underway-last_fault N failed fault same read halted = underway-fault N [] failed fault same read (subst (λ b. IsHalted seen found N client k mid new b failed t1 t2 fault) (sym (append-nil begun)) halted)
+      pub underway-last_fault : (N : Recording) (failed : Bool) (fault : SessionFault) → N ≡ T → Consumes r1 r2 [] → IsHalted disk N client k mid new begun failed t1 t2 fault
+          → (bytes : List ℕ) × Consumes r0 r2 bytes × IsHalted disk T client 1 old new bytes failed t0 t2 fault
+      underway-last_fault N failed fault same read halted = underway-fault N [] failed fault same read (subst (λ b. IsHalted disk N client k mid new b failed t1 t2 fault) (sym (append-nil begun)) halted)
 
       -- the last line was answered
-      pub underway-out : (N : Recording) → N ≡ T → Consumes r1 r2 [] → IsLine begun → (text : List ℕ) × IsLogTurn seen found N client k (slice_split is_line_feed begun) mid new text × Appends t1 t2 text
-          → (bytes : List ℕ) × Consumes r0 r2 bytes × IsFinished seen found T client 1 old new bytes t0 t2
+      pub underway-out : (N : Recording) → N ≡ T → Consumes r1 r2 [] → IsLine begun → (text : List ℕ) × IsLogTurn disk N client k (slice_split is_line_feed begun) mid new text × Appends t1 t2 text
+          → (bytes : List ℕ) × Consumes r0 r2 bytes × IsFinished disk T client 1 old new bytes t0 t2
       underway-out N same read is (text, turn, wrote) = (
         h.bytes,
         subst (Consumes r0 r2) (append-nil h.bytes) (Consumes-then r0 r1 r2 h.bytes [] h.read read),
         record {
           text = h.taken_in.text ++ text;
           left = [];
-          run = run_out 1 k old mid new h.bytes begun h.taken_in.text text h.taken_in.run h.taken_in.numbers is (subst (λ t. IsLogTurn seen found t client k (slice_split is_line_feed begun) mid new text) same turn);
+          run = run_out 1 k old mid new h.bytes begun h.taken_in.text text h.taken_in.run h.taken_in.numbers is (subst (λ t. IsLogTurn disk t client k (slice_split is_line_feed begun) mid new text) same turn);
           whole = inl refl;
           written = Appends-then t0 t1 t2 h.taken_in.text text h.taken_in.written wrote;
         },
       )
 
-    module _ (reads k : ℕ) (new : KeptLog D) (begun : List ℕ) (r0 r1 r2 t0 t1 : Option (List ℕ)) (h : IsUnderway seen found T client reads k old new begun r0 r1 t0 t1) where
+    module _ (reads k : ℕ) (new : KeptLog D) (begun : List ℕ) (r0 r1 r2 t0 t1 : Option (List ℕ)) (h : IsUnderway disk T client reads k old new begun r0 r1 t0 t1) where
       -- no line is begun at the end
-      pub underway-end : Consumes r1 r2 [] → begun ≡ [] → (bytes : List ℕ) × Consumes r0 r2 bytes × IsFinished seen found T client 1 old new bytes t0 t1
+      pub underway-end : Consumes r1 r2 [] → begun ≡ [] → (bytes : List ℕ) × Consumes r0 r2 bytes × IsFinished disk T client 1 old new bytes t0 t1
       underway-end read none = (
         h.bytes,
         subst (Consumes r0 r2) (append-nil h.bytes) (Consumes-then r0 r1 r2 h.bytes [] h.read read),
@@ -349,7 +350,7 @@ module _ {D : Type 0} (seen : D → List ℕ) (found : D → List (Option (List 
       )
 
       -- nothing more was read
-      pub underway-unread : (failed : Bool) (why : ReadCause) (fault : SessionFault) → Keeps r1 r2 → failed ≡ false → fault ≡ Replay (Read 3 why) → (reads ≤ length h.bytes → IsUnreadable h.bytes why) → (bytes : List ℕ) × Consumes r0 r2 bytes × IsHalted seen found T client 1 old new bytes failed t0 t1 fault
+      pub underway-unread : (failed : Bool) (why : ReadCause) (fault : SessionFault) → Keeps r1 r2 → failed ≡ false → fault ≡ Replay (Read 3 why) → (reads ≤ length h.bytes → IsUnreadable h.bytes why) → (bytes : List ℕ) × Consumes r0 r2 bytes × IsHalted disk T client 1 old new bytes failed t0 t1 fault
       underway-unread failed why fault keeps working unread is = (
         h.bytes,
         Consumes-keeps r0 r1 r2 h.bytes h.read keeps,

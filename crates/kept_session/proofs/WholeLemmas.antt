@@ -4,52 +4,54 @@ use Rattle.std.proofs.lemmas.List.{length-take-le}
 use Rattle.std.specs.Result.{IfOk, IfErr}
 use Rattle.rapid_text.specs.Recording.{Recording}
 use Rattle.inverse_log.specs.declared.entry.Entry.{Entry}
-use Rattle.kept_log.specs.Device.{Elapses, LeavesOnly, AfterOthers}
+use Rattle.kept_log.specs.Device.{Elapses, AfterOthers}
+use Rattle.kept_log.specs.Moments.{LeavesOnly}
 use Rattle.kept_log.specs.Lines.{kept_lines}
 use Rattle.kept_log.specs.Log.{StandsFor, IsOldOrNew, BeginsWith, HasTurn, IsAtRest, head_of, lines_of, lines_behind}
+use Rattle.kept_log.specs.declared.device.Device.{Ghosts}
 use Rattle.kept_log.specs.declared.log.KeptLog.{KeptLog}
 use Rattle.kept_log.proofs.MomentLemmas.{started, goes_on, then_on, weaker}
 use Rattle.kept_session.specs.Sessions.{AreGained, IsAllOrNone, IsUntaken, IsTaken, BeforeLock, KeepsLines, log_of}
 use Rattle.kept_session.specs.Steps.{IsPut, PieceAnswered}
 
-module _ {D : Type 0} (seen : D → List ℕ) (may_leave : D → List ℕ → Type 0) (moment : D → ℕ) (left_since : D → ℕ → List ℕ → Type 0) where
+module _ {D : Type 0} (disk : Ghosts D) where
   -- a log at rest stands for its lines
-  pub rest_stands : (log : KeptLog D) → IsAtRest seen may_leave log → StandsFor (head_of seen log) (lines_of seen log) (seen log.device)
+  pub rest_stands : (log : KeptLog D) → IsAtRest disk log → StandsFor (head_of disk log) (lines_of disk log) (disk.seen log.device)
   rest_stands log s =
-      let size = length-take-le log.start (seen log.device) s.start in
-      record { front = ap (λ (n : ℕ). take n (seen log.device)) size; counts = ap (λ (n : ℕ). kept_lines (drop n (seen log.device))) size }
+      let size = length-take-le log.start (disk.seen log.device) s.start in
+      record { front = ap (λ (n : ℕ). take n (disk.seen log.device)) size; counts = ap (λ (n : ℕ). kept_lines (drop n (disk.seen log.device))) size }
 
   -- and so does what a crash leaves of it
-  pub rest_leaves : (log : KeptLog D) (P : List ℕ → Type 0) → IsAtRest seen may_leave log → ((c : List ℕ) → left_since log.device (moment log.device) c → may_leave log.device c) → P (seen log.device)
-      → LeavesOnly moment left_since log.device log.device P
-  rest_leaves log P s only holds = started moment left_since log.device P (λ c left. subst P (sym (s.durable c (only c left))) holds)
+  pub rest_leaves : (log : KeptLog D) (P : List ℕ → Type 0) → IsAtRest disk log → ((c : List ℕ) → disk.left_since log.device (disk.moment log.device) c → disk.may_leave log.device c) → P (disk.seen log.device)
+      → LeavesOnly disk log.device log.device P
+  rest_leaves log P s only holds = started disk log.device P (λ c left. subst P (sym (s.durable c (only c left))) holds)
 
-  pub rest_begins : (log : KeptLog D) → IsAtRest seen may_leave log → ((c : List ℕ) → left_since log.device (moment log.device) c → may_leave log.device c)
-      → LeavesOnly moment left_since log.device log.device (BeginsWith (head_of seen log) (lines_of seen log))
+  pub rest_begins : (log : KeptLog D) → IsAtRest disk log → ((c : List ℕ) → disk.left_since log.device (disk.moment log.device) c → disk.may_leave log.device c)
+      → LeavesOnly disk log.device log.device (BeginsWith (head_of disk log) (lines_of disk log))
   rest_begins log s only =
-      rest_leaves log (BeginsWith (head_of seen log) (lines_of seen log)) s only ([], subst (λ ls. StandsFor (head_of seen log) ls (seen log.device)) (sym (append-nil (lines_of seen log))) (rest_stands log s))
+      rest_leaves log (BeginsWith (head_of disk log) (lines_of disk log)) s only ([], subst (λ ls. StandsFor (head_of disk log) ls (disk.seen log.device)) (sym (append-nil (lines_of disk log))) (rest_stands log s))
 
   -- nothing of a piece was put into the file
-  pub put-nothing : (T : Recording) (client : Option ℕ) (first : ℕ) (raws : List (List ℕ)) (L : List Entry) (log : KeptLog D) → IsAtRest seen may_leave log
-      → ((c : List ℕ) → left_since log.device (moment log.device) c → may_leave log.device c) → IsPut seen moment left_since T client first raws L log log []
+  pub put-nothing : (T : Recording) (client : Option ℕ) (first : ℕ) (raws : List (List ℕ)) (L : List Entry) (log : KeptLog D) → IsAtRest disk log
+      → ((c : List ℕ) → disk.left_since log.device (disk.moment log.device) c → disk.may_leave log.device c) → IsPut disk T client first raws L log log []
   unfolding rest_stands rest_leaves
   put-nothing T client first raws L log s only = record {
     calls = inl refl;
-    moments = rest_leaves log (IsOldOrNew (head_of seen log) (lines_of seen log) []) s only (inl (rest_stands log s));
+    moments = rest_leaves log (IsOldOrNew (head_of disk log) (lines_of disk log) []) s only (inl (rest_stands log s));
     shown = inl (rest_stands log s);
   }
 
 -- the calls of a piece were made, and its block was added or was not
-pub put-block : {D : Type 0} (seen : D → List ℕ) (moment : D → ℕ) (left_since : D → ℕ → List ℕ → Type 0) (T : Recording) (client : Option ℕ) (first : ℕ) (raws : List (List ℕ)) (L M : List Entry) (out_old out_new : List ℕ)
+pub put-block : {D : Type 0} (disk : Ghosts D) (T : Recording) (client : Option ℕ) (first : ℕ) (raws : List (List ℕ)) (L M : List Entry) (out_old out_new : List ℕ)
     (block_old block_new : List (List ℕ)) (old new : KeptLog D) → (h : PieceAnswered T client first raws L M out_old out_new block_old block_new) → block_old ≡ []
-    → LeavesOnly moment left_since old.device new.device (IsOldOrNew (head_of seen old) (lines_of seen old) block_new) → IsOldOrNew (head_of seen old) (lines_of seen old) block_new (seen new.device)
-    → IsPut seen moment left_since T client first raws L old new h.lines
-put-block seen moment left_since T client first raws L M out_old out_new block_old block_new old new h none moments shown =
+    → LeavesOnly disk old.device new.device (IsOldOrNew (head_of disk old) (lines_of disk old) block_new) → IsOldOrNew (head_of disk old) (lines_of disk old) block_new (disk.seen new.device)
+    → IsPut disk T client first raws L old new h.lines
+put-block disk T client first raws L M out_old out_new block_old block_new old new h none moments shown =
     let block : block_new ≡ h.lines = h.kept ∙ ap (λ (b : List (List ℕ)). b ++ h.lines) none in
     record {
       calls = inr (h.text, M, h.answered, h.gained, h.logged);
-      moments = subst (λ b. LeavesOnly moment left_since old.device new.device (IsOldOrNew (head_of seen old) (lines_of seen old) b)) block moments;
-      shown = subst (λ b. IsOldOrNew (head_of seen old) (lines_of seen old) b (seen new.device)) block shown;
+      moments = subst (λ b. LeavesOnly disk old.device new.device (IsOldOrNew (head_of disk old) (lines_of disk old) b)) block moments;
+      shown = subst (λ b. IsOldOrNew (head_of disk old) (lines_of disk old) b (disk.seen new.device)) block shown;
     }
 
 -- two facts of a success, or of a failure
@@ -69,81 +71,81 @@ pub old_or_more : (head : List ℕ) (lines gained : List (List ℕ)) (c : List �
 old_or_more head lines gained c (inl old) = inl old
 old_or_more head lines gained c (inr new) = inr ([], subst (λ ls. StandsFor head ls c) (sym (append-nil (lines ++ gained))) new)
 
-module _ {D : Type 0} (seen : D → List ℕ) (may_leave : D → List ℕ → Type 0) (moment : D → ℕ) (left_since : D → ℕ → List ℕ → Type 0) (found : D → List (Option (List ℕ)))
+module _ {D : Type 0} (disk : Ghosts D)
     (T N : Recording) (client : Option ℕ) (first : ℕ) (raws : List (List ℕ)) (L : List Entry) (old mid made new : KeptLog D) (gained : List (List ℕ)) where
   -- a piece behind what others added, which was put or was not
-  pub all_or_none : N ≡ T → log_of N (lines_of seen mid) ≡ L → IsAtRest seen may_leave mid → HasTurn seen found old mid [] → LeavesOnly moment left_since old.device mid.device (BeginsWith (head_of seen old) (lines_of seen old))
-      → IsPut seen moment left_since N client first raws L mid made gained → seen new.device ≡ seen made.device
-      → LeavesOnly moment left_since mid.device new.device (IsOldOrMore (head_of seen mid) (lines_of seen mid) gained)
-      → IsAllOrNone seen may_leave moment left_since found T client first raws old new
+  pub all_or_none : N ≡ T → log_of N (lines_of disk mid) ≡ L → IsAtRest disk mid → HasTurn disk old mid [] → LeavesOnly disk old.device mid.device (BeginsWith (head_of disk old) (lines_of disk old))
+      → IsPut disk N client first raws L mid made gained → disk.seen new.device ≡ disk.seen made.device
+      → LeavesOnly disk mid.device new.device (IsOldOrMore (head_of disk mid) (lines_of disk mid) gained)
+      → IsAllOrNone disk T client first raws old new
   all_or_none same says rest turn until put shown since = record {
     mid = mid;
     gained = gained;
-    calls = subst (λ t. (gained ≡ []) ⊎ AreGained t client first raws (log_of t (lines_of seen mid)) gained) same (subst (λ X. (gained ≡ []) ⊎ AreGained N client first raws X gained) (sym says) put.calls);
+    calls = subst (λ t. (gained ≡ []) ⊎ AreGained t client first raws (log_of t (lines_of disk mid)) gained) same (subst (λ X. (gained ≡ []) ⊎ AreGained N client first raws X gained) (sym says) put.calls);
     at_rest = rest;
     turn = turn;
     until = until;
     since = since;
-    shown = subst (IsOldOrNew (head_of seen mid) (lines_of seen mid) gained) (sym shown) put.shown;
+    shown = subst (IsOldOrNew (head_of disk mid) (lines_of disk mid) gained) (sym shown) put.shown;
   }
 
   -- what it leaves until its lock is let go
-  pub put-since : IsPut seen moment left_since N client first raws L mid made gained → LeavesOnly moment left_since mid.device made.device (IsOldOrMore (head_of seen mid) (lines_of seen mid) gained)
-  put-since put = weaker moment left_since mid.device made.device _ _ put.moments (old_or_more (head_of seen mid) (lines_of seen mid) gained)
+  pub put-since : IsPut disk N client first raws L mid made gained → LeavesOnly disk mid.device made.device (IsOldOrMore (head_of disk mid) (lines_of disk mid) gained)
+  put-since put = weaker disk mid.device made.device _ _ put.moments (old_or_more (head_of disk mid) (lines_of disk mid) gained)
 
   -- and from then on
-  pub put-released : IsPut seen moment left_since N client first raws L mid made gained → head_of seen made ≡ head_of seen mid → lines_of seen made ≡ lines_of seen mid ++ gained
-      → LeavesOnly moment left_since made.device new.device (BeginsWith (head_of seen made) (lines_of seen made)) → LeavesOnly moment left_since mid.device new.device (IsOldOrMore (head_of seen mid) (lines_of seen mid) gained)
+  pub put-released : IsPut disk N client first raws L mid made gained → head_of disk made ≡ head_of disk mid → lines_of disk made ≡ lines_of disk mid ++ gained
+      → LeavesOnly disk made.device new.device (BeginsWith (head_of disk made) (lines_of disk made)) → LeavesOnly disk mid.device new.device (IsOldOrMore (head_of disk mid) (lines_of disk mid) gained)
   put-released put head lines released =
-      then_on moment left_since mid.device made.device new.device _ _ (IsOldOrMore (head_of seen mid) (lines_of seen mid) gained) put.moments released (old_or_more (head_of seen mid) (lines_of seen mid) gained)
-      (λ c b. inr (subst (λ h. BeginsWith h (lines_of seen mid ++ gained) c) head (subst (λ ls. BeginsWith (head_of seen made) ls c) lines b)))
+      then_on disk mid.device made.device new.device _ _ (IsOldOrMore (head_of disk mid) (lines_of disk mid) gained) put.moments released (old_or_more (head_of disk mid) (lines_of disk mid) gained)
+      (λ c b. inr (subst (λ h. BeginsWith h (lines_of disk mid ++ gained) c) head (subst (λ ls. BeginsWith (head_of disk made) ls c) lines b)))
 
-module _ {D : Type 0} (seen : D → List ℕ) (may_leave : D → List ℕ → Type 0) (moment : D → ℕ) (left_since : D → ℕ → List ℕ → Type 0) (found : D → List (Option (List ℕ))) where
+module _ {D : Type 0} (disk : Ghosts D) where
   -- the lock of a file is waited for
-  pub waited : (old new : D) → ((c : List ℕ) → left_since old (moment old) c → may_leave old c) → Elapses (moment old) (moment new) (left_since old) (left_since new) (AfterOthers 0 (may_leave old))
-      → LeavesOnly moment left_since old new (BeforeLock may_leave old)
-  waited old new only time = goes_on moment left_since old old new (BeforeLock may_leave old) (AfterOthers 0 (may_leave old)) (started moment left_since old (BeforeLock may_leave old) (λ c left. inl (only c left))) time (λ c after. inr after)
+  pub waited : (old new : D) → ((c : List ℕ) → disk.left_since old (disk.moment old) c → disk.may_leave old c) → Elapses (disk.moment old) (disk.moment new) (disk.left_since old) (disk.left_since new) (AfterOthers 0 (disk.may_leave old))
+      → LeavesOnly disk old new (BeforeLock disk old)
+  waited old new only time = goes_on disk old old new (BeforeLock disk old) (AfterOthers 0 (disk.may_leave old)) (started disk old (BeforeLock disk old) (λ c left. inl (only c left))) time (λ c after. inr after)
 
   -- nothing is done before it is
-  pub not_waited : (old : D) → ((c : List ℕ) → left_since old (moment old) c → may_leave old c) → IsUntaken may_leave moment left_since found old old
-  not_waited old only = record { none = refl; moments = started moment left_since old (BeforeLock may_leave old) (λ c left. inl (only c left)) }
+  pub not_waited : (old : D) → ((c : List ℕ) → disk.left_since old (disk.moment old) c → disk.may_leave old c) → IsUntaken disk old old
+  not_waited old only = record { none = refl; moments = started disk old (BeforeLock disk old) (λ c left. inl (only c left)) }
 
   -- it was taken, and nothing more was done
-  pub taken-only : (P : List ℕ → List ℕ → Type 0) (old mid : D) → found mid ≡ Some (seen mid) ∷ found old → LeavesOnly moment left_since old mid (BeforeLock may_leave old)
-      → ((c : List ℕ) → left_since mid (moment mid) c → may_leave mid c) → IsTaken seen may_leave moment left_since found P old mid
-  taken-only P old mid once until only = record { mid = mid; once = once; last = refl; until = until; since = started moment left_since mid (λ c. may_leave mid c ⊎ P (seen mid) c) (λ c left. inl (only c left)) }
+  pub taken-only : (P : List ℕ → List ℕ → Type 0) (old mid : D) → disk.found mid ≡ Some (disk.seen mid) ∷ disk.found old → LeavesOnly disk old mid (BeforeLock disk old)
+      → ((c : List ℕ) → disk.left_since mid (disk.moment mid) c → disk.may_leave mid c) → IsTaken disk P old mid
+  taken-only P old mid once until only = record { mid = mid; once = once; last = refl; until = until; since = started disk mid (λ c. disk.may_leave mid c ⊎ P (disk.seen mid) c) (λ c left. inl (only c left)) }
 
   -- it was taken, and then more was done
-  pub taken-then : (P : List ℕ → List ℕ → Type 0) (old mid new : D) → found mid ≡ Some (seen mid) ∷ found old → found new ≡ found mid → LeavesOnly moment left_since old mid (BeforeLock may_leave old)
-      → LeavesOnly moment left_since mid new (λ c. may_leave mid c ⊎ P (seen mid) c) → IsTaken seen may_leave moment left_since found P old new
+  pub taken-then : (P : List ℕ → List ℕ → Type 0) (old mid new : D) → disk.found mid ≡ Some (disk.seen mid) ∷ disk.found old → disk.found new ≡ disk.found mid → LeavesOnly disk old mid (BeforeLock disk old)
+      → LeavesOnly disk mid new (λ c. disk.may_leave mid c ⊎ P (disk.seen mid) c) → IsTaken disk P old new
   taken-then P old mid new once last until since = record { mid = mid; once = once; last = last; until = until; since = since }
 
   found_same : (xs ys : List (Option (List ℕ))) (a b : List ℕ) → Some a ∷ xs ≡ Some b ∷ ys → a ≡ b
   found_same xs ys a b e = cc
 
   -- a file that was opened, and then its lines were made, and perhaps its lock let go
-  pub taken-begun : (head file begins : List ℕ) (lines : List (List ℕ)) (old opened new : D) → IsTaken seen may_leave moment left_since found (λ f c. StandsFor head (lines_behind (length head) f) c) old opened
-      → found opened ≡ Some file ∷ found old → begins ≡ head → lines ≡ lines_behind (length head) file → found new ≡ found opened → LeavesOnly moment left_since opened new (BeginsWith begins lines)
-      → IsTaken seen may_leave moment left_since found (KeepsLines head) old new
+  pub taken-begun : (head file begins : List ℕ) (lines : List (List ℕ)) (old opened new : D) → IsTaken disk (λ f c. StandsFor head (lines_behind (length head) f) c) old opened
+      → disk.found opened ≡ Some file ∷ disk.found old → begins ≡ head → lines ≡ lines_behind (length head) file → disk.found new ≡ disk.found opened → LeavesOnly disk opened new (BeginsWith begins lines)
+      → IsTaken disk (KeepsLines head) old new
   taken-begun head file begins lines old opened new h once same is last more =
-      let stood : seen h.mid ≡ file = found_same (found old) (found old) (seen h.mid) file (sym h.once ∙ sym h.last ∙ once) in
-      let all : lines ≡ lines_behind (length head) (seen h.mid) = is ∙ ap (lines_behind (length head)) (sym stood) in
+      let stood : disk.seen h.mid ≡ file = found_same (disk.found old) (disk.found old) (disk.seen h.mid) file (sym h.once ∙ sym h.last ∙ once) in
+      let all : lines ≡ lines_behind (length head) (disk.seen h.mid) = is ∙ ap (lines_behind (length head)) (sym stood) in
       record {
         mid = h.mid;
         once = h.once;
         last = last ∙ h.last;
         until = h.until;
-        since = then_on moment left_since h.mid opened new _ _ (λ c. may_leave h.mid c ⊎ KeepsLines head (seen h.mid) c) h.since more
-            (λ c left. ⊎_elim (λ now. inl now) (λ s. inr ([], subst (λ ls. StandsFor head ls c) (sym (append-nil (lines_behind (length head) (seen h.mid)))) s)) left)
-            (λ c b. inr (subst (λ x. BeginsWith x (lines_behind (length head) (seen h.mid)) c) same (subst (λ ls. BeginsWith begins ls c) all b)));
+        since = then_on disk h.mid opened new _ _ (λ c. disk.may_leave h.mid c ⊎ KeepsLines head (disk.seen h.mid) c) h.since more
+            (λ c left. ⊎_elim (λ now. inl now) (λ s. inr ([], subst (λ ls. StandsFor head ls c) (sym (append-nil (lines_behind (length head) (disk.seen h.mid)))) s)) left)
+            (λ c b. inr (subst (λ x. BeginsWith x (lines_behind (length head) (disk.seen h.mid)) c) same (subst (λ ls. BeginsWith begins ls c) all b)));
       }
 
   -- a file whose head was refused, or which was opened in vain, has its lines
-  pub taken-kept : (head : List ℕ) (old new : D) → IsTaken seen may_leave moment left_since found (λ f c. StandsFor head (lines_behind (length head) f) c) old new → IsTaken seen may_leave moment left_since found (KeepsLines head) old new
+  pub taken-kept : (head : List ℕ) (old new : D) → IsTaken disk (λ f c. StandsFor head (lines_behind (length head) f) c) old new → IsTaken disk (KeepsLines head) old new
   taken-kept head old new h = record {
     mid = h.mid;
     once = h.once;
     last = h.last;
     until = h.until;
-    since = weaker moment left_since h.mid new _ _ h.since (λ c left. ⊎_elim (λ now. inl now) (λ s. inr ([], subst (λ ls. StandsFor head ls c) (sym (append-nil (lines_behind (length head) (seen h.mid)))) s)) left);
+    since = weaker disk h.mid new _ _ h.since (λ c left. ⊎_elim (λ now. inl now) (λ s. inr ([], subst (λ ls. StandsFor head ls c) (sym (append-nil (lines_behind (length head) (disk.seen h.mid)))) s)) left);
   }

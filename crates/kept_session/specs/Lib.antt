@@ -1,6 +1,7 @@
 pub mod FaultTexts
 pub mod Faults
 pub mod Heads
+pub mod InStep
 pub mod Laws
 pub mod Lines
 pub mod Runs

@@ -9,20 +9,21 @@ use Rattle.client_scripts.specs.Replay.{IsUnreadable}
 use Rattle.client_scripts.specs.declared.fault.ReadCause.{ReadCause}
 use Rattle.client_scripts.specs.declared.fault.ReplayFault.TheVariants.{Read, Write}
 use Rattle.kept_log.specs.Log.{LosesNone, head_of, lines_of, lines_behind}
+use Rattle.kept_log.specs.declared.device.Device.{Ghosts}
 use Rattle.kept_log.specs.declared.log.KeptLog.{KeptLog}
 use Rattle.kept_session.specs.Faults.{IsTurnFault}
 use Rattle.kept_session.specs.Sessions.{IsTurn, log_of, number_behind}
 use Rattle.kept_session.specs.declared.fault.SessionFault.{SessionFault}
 use Rattle.kept_session.specs.declared.fault.SessionFault.TheVariants.{Replay}
 
-module _ {D : Type 0} (seen : D → List ℕ) (found : D → List (Option (List ℕ))) (T : Recording) (client : Option ℕ) where
+module _ {D : Type 0} (disk : Ghosts D) (T : Recording) (client : Option ℕ) where
   -- A turn of a log: these lines, of which the first has this number, were answered by these texts together. The file's lock was taken once,
   -- when the file held this; the head stands.
   pub record IsLogTurn (number : ℕ) (raws : List (List ℕ)) (old new : KeptLog D) (text : List ℕ) : Type 0 where
     pub file : List ℕ
-    pub once : found new.device ≡ Some file ∷ found old.device
-    pub head : head_of seen new ≡ head_of seen old
-    pub turn : IsTurn T client number raws (lines_of seen old) (lines_behind new.start file) (lines_of seen new) (log_of T (lines_of seen new)) [] text
+    pub once : disk.found new.device ≡ Some file ∷ disk.found old.device
+    pub head : head_of disk new ≡ head_of disk old
+    pub turn : IsTurn T client number raws (lines_of disk old) (lines_behind new.start file) (lines_of disk new) (log_of T (lines_of disk new)) [] text
 
   -- Turns, one after another: from the log `old` on these lines, of which the first has this number, were answered by these texts together,
   -- each line in one turn, and left the log as it is last.
@@ -49,8 +50,8 @@ module _ {D : Type 0} (seen : D → List ℕ) (found : D → List (Option (List 
   pub record IsUnanswered (log new : KeptLog D) (text : List ℕ) (failed : Bool) (taken_old taken_new : Option (List ℕ)) (fault : SessionFault) : Type 0 where
     pub working : failed ≡ false
     pub written : Appends taken_old taken_new text
-    pub none_lost : LosesNone seen found log new
-    pub told : IsTurnFault T (lines_of seen log) (lines_of seen new) (found log.device) (found new.device) fault
+    pub none_lost : LosesNone disk log new
+    pub told : IsTurnFault T (lines_of disk log) (lines_of disk new) (disk.found log.device) (disk.found new.device) fault
         ⊎ ((why : ReadCause) × (fault ≡ Replay (Read 3 why)))
 
   -- A failed write behind turns that left `log`, whose answers are these texts: the first of the lines that are left were answered in one more

@@ -13,8 +13,10 @@ use Rattle.script_language.specs.declared.question.Question.{Question}
 use Rattle.script_language.specs.declared.refusal.ScriptCause.{ScriptCause}
 use Rattle.client_scripts.specs.FaultTexts.{script_cause_words}
 use Rattle.client_scripts.specs.Replay.{answer_text}
-use Rattle.kept_log.specs.Device.{LeavesOnly, AfterOthers}
+use Rattle.kept_log.specs.Device.{AfterOthers}
+use Rattle.kept_log.specs.Moments.{LeavesOnly}
 use Rattle.kept_log.specs.Log.{StandsFor, IsOldOrNew, BeginsWith, HasTurn, IsAtRest, IsLeft, head_of, lines_of, lines_behind}
+use Rattle.kept_log.specs.declared.device.Device.{Ghosts}
 use Rattle.kept_log.specs.declared.log.KeptLog.{KeptLog}
 use Rattle.session_questions.specs.Answers.{IsAnswer}
 use Rattle.kept_session.specs.Lines.{line_for}
@@ -91,16 +93,16 @@ AreAnswered T client number (raw ∷ more) L text M =
     × (text ≡ first ++ rest)
 
 -- The log is left between two turns, and its lines, each of which added an entry, stand for the log L of the bench.
-pub record IsInStep {D : Type 0} (seen : D → List ℕ) (may_leave : D → List ℕ → Type 0) (T : Recording) (log : KeptLog D) (L : List Entry) : Type 0 where
-  pub left : IsLeft seen may_leave log
-  pub says : log_of T (lines_of seen log) ≡ L
-  pub logged : AreLogged T [] (lines_of seen log)
+pub record IsInStep {D : Type 0} (disk : Ghosts D) (T : Recording) (log : KeptLog D) (L : List Entry) : Type 0 where
+  pub left : IsLeft disk log
+  pub says : log_of T (lines_of disk log) ≡ L
+  pub logged : AreLogged T [] (lines_of disk log)
 
 -- The lock is held, the file is at rest, and its lines, each of which added an entry, stand for the log L of the bench.
-pub record IsAtWork {D : Type 0} (seen : D → List ℕ) (may_leave : D → List ℕ → Type 0) (T : Recording) (log : KeptLog D) (L : List Entry) : Type 0 where
-  pub at_rest : IsAtRest seen may_leave log
-  pub says : log_of T (lines_of seen log) ≡ L
-  pub logged : AreLogged T [] (lines_of seen log)
+pub record IsAtWork {D : Type 0} (disk : Ghosts D) (T : Recording) (log : KeptLog D) (L : List Entry) : Type 0 where
+  pub at_rest : IsAtRest disk log
+  pub says : log_of T (lines_of disk log) ≡ L
+  pub logged : AreLogged T [] (lines_of disk log)
 
 -- Lines were answered under one lock. The file stood for `before` when it was known last, and for `stood` when the lock was taken, since others had
 -- added lines; each answer is given at the log that all these stand for. They all stand still, and behind them the lines of the calls that the log gained.
@@ -121,37 +123,37 @@ AreGained T client first raws L gained =
 -- A piece counts whole or not at all. `mid` is the log once the lock was taken and what stood in the file is on the disk: its lines are those that
 -- stood there. From then on a crash at any moment leaves these lines alone, or those with `gained` behind them, which are the lines of all calls of
 -- the piece, and then perhaps what others added; so does the file that is seen in the end.
-pub record IsAllOrNone {D : Type 0} (seen : D → List ℕ) (may_leave : D → List ℕ → Type 0) (moment : D → ℕ) (left_since : D → ℕ → List ℕ → Type 0) (found : D → List (Option (List ℕ)))
+pub record IsAllOrNone {D : Type 0} (disk : Ghosts D)
     (T : Recording) (client : Option ℕ) (first : ℕ) (raws : List (List ℕ)) (old new : KeptLog D) : Type 0 where
   pub mid : KeptLog D
   pub gained : List (List ℕ)
-  pub calls : (gained ≡ []) ⊎ AreGained T client first raws (log_of T (lines_of seen mid)) gained
-  pub at_rest : IsAtRest seen may_leave mid
-  pub turn : HasTurn seen found old mid []
-  pub until : LeavesOnly moment left_since old.device mid.device (BeginsWith (head_of seen old) (lines_of seen old))
-  pub since : LeavesOnly moment left_since mid.device new.device
-      (λ c. StandsFor (head_of seen mid) (lines_of seen mid) c ⊎ BeginsWith (head_of seen mid) (lines_of seen mid ++ gained) c)
-  pub shown : IsOldOrNew (head_of seen mid) (lines_of seen mid) gained (seen new.device)
+  pub calls : (gained ≡ []) ⊎ AreGained T client first raws (log_of T (lines_of disk mid)) gained
+  pub at_rest : IsAtRest disk mid
+  pub turn : HasTurn disk old mid []
+  pub until : LeavesOnly disk old.device mid.device (BeginsWith (head_of disk old) (lines_of disk old))
+  pub since : LeavesOnly disk mid.device new.device
+      (λ c. StandsFor (head_of disk mid) (lines_of disk mid) c ⊎ BeginsWith (head_of disk mid) (lines_of disk mid ++ gained) c)
+  pub shown : IsOldOrNew (head_of disk mid) (lines_of disk mid) gained (disk.seen new.device)
 
 -- what a crash may leave of a file whose lock is waited for
-abbrev pub BeforeLock : {D : Type 0} → (D → List ℕ → Type 0) → D → List ℕ → Type 0
-BeforeLock may_leave old c = may_leave old c ⊎ AfterOthers 0 (may_leave old) c
+abbrev pub BeforeLock : {D : Type 0} → Ghosts D → D → List ℕ → Type 0
+BeforeLock disk old c = disk.may_leave old c ⊎ AfterOthers 0 (disk.may_leave old) c
 
 -- The lock was not taken: a crash at any moment leaves what it may leave while the lock is waited for.
-pub record IsUntaken {D : Type 0} (may_leave : D → List ℕ → Type 0) (moment : D → ℕ) (left_since : D → ℕ → List ℕ → Type 0) (found : D → List (Option (List ℕ)))
+pub record IsUntaken {D : Type 0} (disk : Ghosts D)
     (old new : D) : Type 0 where
-  pub none : found new ≡ found old
-  pub moments : LeavesOnly moment left_since old new (BeforeLock may_leave old)
+  pub none : disk.found new ≡ disk.found old
+  pub moments : LeavesOnly disk old new (BeforeLock disk old)
 
 -- The lock was taken once; `mid` is the device then. From then on a crash at any moment leaves what it might have left then, or a file
 -- that has P of what stood in the file then.
-pub record IsTaken {D : Type 0} (seen : D → List ℕ) (may_leave : D → List ℕ → Type 0) (moment : D → ℕ) (left_since : D → ℕ → List ℕ → Type 0) (found : D → List (Option (List ℕ)))
+pub record IsTaken {D : Type 0} (disk : Ghosts D)
     (P : List ℕ → List ℕ → Type 0) (old new : D) : Type 0 where
   pub mid : D
-  pub once : found mid ≡ Some (seen mid) ∷ found old
-  pub last : found new ≡ found mid
-  pub until : LeavesOnly moment left_since old mid (BeforeLock may_leave old)
-  pub since : LeavesOnly moment left_since mid new (λ c. may_leave mid c ⊎ P (seen mid) c)
+  pub once : disk.found mid ≡ Some (disk.seen mid) ∷ disk.found old
+  pub last : disk.found new ≡ disk.found mid
+  pub until : LeavesOnly disk old mid (BeforeLock disk old)
+  pub since : LeavesOnly disk mid new (λ c. disk.may_leave mid c ⊎ P (disk.seen mid) c)
 
 -- the file begins with the lines that stood behind the head
 abbrev pub KeepsLines : List ℕ → List ℕ → List ℕ → Type 0
@@ -162,11 +164,11 @@ abbrev pub HasNoLines : List ℕ → List ℕ → List ℕ → Type 0
 HasNoLines head file c = lines_behind (length head) c ≡ []
 
 -- The lock was taken once, when the file held this. That begins with the head, and its lines are those of the log.
-pub record IsOpened {D : Type 0} (seen : D → List ℕ) (found : D → List (Option (List ℕ))) (head : List ℕ) (device : D) (log : KeptLog D) : Type 0 where
+pub record IsOpened {D : Type 0} (disk : Ghosts D) (head : List ℕ) (device : D) (log : KeptLog D) : Type 0 where
   pub file : List ℕ
-  pub once : found log.device ≡ Some file ∷ found device
+  pub once : disk.found log.device ≡ Some file ∷ disk.found device
   pub begins : take (length head) file ≡ head
-  pub lines : lines_of seen log ≡ lines_behind (length head) file
+  pub lines : lines_of disk log ≡ lines_behind (length head) file
 
 -- A file is as it was when it held this; or, where that begins with the head, it has the same lines at least.
 pub record IsSpared (head file seen : List ℕ) : Type 0 where
@@ -174,5 +176,5 @@ pub record IsSpared (head file seen : List ℕ) : Type 0 where
   pub lines : take (length head) file ≡ head → StandsFor head (lines_behind (length head) file) seen
 
 -- A device that is handed back: its lock was not taken, or once, and the file that was found is spared.
-abbrev pub IsHandedBack : {D : Type 0} → (D → List ℕ) → (D → List (Option (List ℕ))) → List ℕ → D → D → Type 0
-IsHandedBack seen found head old new = (found new ≡ found old) ⊎ ((file : List ℕ) × (found new ≡ Some file ∷ found old) × IsSpared head file (seen new))
+abbrev pub IsHandedBack : {D : Type 0} → Ghosts D → List ℕ → D → D → Type 0
+IsHandedBack disk head old new = (disk.found new ≡ disk.found old) ⊎ ((file : List ℕ) × (disk.found new ≡ Some file ∷ disk.found old) × IsSpared head file (disk.seen new))

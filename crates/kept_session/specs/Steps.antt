@@ -14,8 +14,9 @@ use Rattle.script_language.specs.declared.refusal.ScriptCause.{ScriptCause}
 use Rattle.client_scripts.specs.Replay.{answer_text, IsUnreadable}
 use Rattle.client_scripts.specs.declared.fault.ReadCause.TheVariants.{TooLong}
 use Rattle.client_scripts.specs.declared.fault.ReplayFault.TheVariants.{Read, OutOfMemory as NoMemory}
-use Rattle.kept_log.specs.Device.{LeavesOnly}
+use Rattle.kept_log.specs.Moments.{LeavesOnly}
 use Rattle.kept_log.specs.Log.{IsOldOrNew, head_of, lines_of}
+use Rattle.kept_log.specs.declared.device.Device.{Ghosts}
 use Rattle.kept_log.specs.declared.log.KeptLog.{KeptLog}
 use Rattle.kept_session.specs.Runs.{IsRun}
 use Rattle.kept_session.specs.Sessions.{log_behind, AreLogged, AreGained, IsAnswered, IsLineAnswered, AreAnswered, number_behind}
@@ -70,17 +71,17 @@ pub record PieceAnswered (T : Recording) (client : Option ℕ) (first : ℕ) (ra
 
 -- A piece was put into the file, or was not, whole: a crash at any moment, and the file that is seen, have the lines from before, with these or
 -- without them; and these are the lines of all its calls, or there are none.
-pub record IsPut {D : Type 0} (seen : D → List ℕ) (moment : D → ℕ) (left_since : D → ℕ → List ℕ → Type 0) (T : Recording) (client : Option ℕ) (first : ℕ) (raws : List (List ℕ))
+pub record IsPut {D : Type 0} (disk : Ghosts D) (T : Recording) (client : Option ℕ) (first : ℕ) (raws : List (List ℕ))
     (L : List Entry) (old new : KeptLog D) (gained : List (List ℕ)) : Type 0 where
   pub calls : (gained ≡ []) ⊎ AreGained T client first raws L gained
-  pub moments : LeavesOnly moment left_since old.device new.device (IsOldOrNew (head_of seen old) (lines_of seen old) gained)
-  pub shown : IsOldOrNew (head_of seen old) (lines_of seen old) gained (seen new.device)
+  pub moments : LeavesOnly disk old.device new.device (IsOldOrNew (head_of disk old) (lines_of disk old) gained)
+  pub shown : IsOldOrNew (head_of disk old) (lines_of disk old) gained (disk.seen new.device)
 
 -- Bytes were taken in: their whole lines were answered, of which the first had this number, and the answers written. What is begun, the line of
 -- number `next`, is left.
-pub record IsTakenIn {D : Type 0} (seen : D → List ℕ) (found : D → List (Option (List ℕ))) (T : Recording) (client : Option ℕ) (number next : ℕ) (old new : KeptLog D) (bytes begun : List ℕ) (taken_old taken_new : Option (List ℕ)) : Type 0 where
+pub record IsTakenIn {D : Type 0} (disk : Ghosts D) (T : Recording) (client : Option ℕ) (number next : ℕ) (old new : KeptLog D) (bytes begun : List ℕ) (taken_old taken_new : Option (List ℕ)) : Type 0 where
   pub text : List ℕ
-  pub run : IsRun seen found T client number old new bytes (begun ∷ []) text
+  pub run : IsRun disk T client number old new bytes (begun ∷ []) text
   pub numbers : next ≡ number_behind number run.asked
   pub written : Appends taken_old taken_new text
 
@@ -89,8 +90,8 @@ abbrev pub IsKeepFault : List ℕ → SessionFault → Type 0
 IsKeepFault bytes fault = (fault ≡ Replay NoMemory) ⊎ ((fault ≡ Replay (Read 3 TooLong)) × IsUnreadable bytes TooLong)
 
 -- A session is underway with its input: it has taken in what it has read, which was something each time.
-pub record IsUnderway {D : Type 0} (seen : D → List ℕ) (found : D → List (Option (List ℕ))) (T : Recording) (client : Option ℕ) (reads next : ℕ) (old new : KeptLog D) (begun : List ℕ) (rest_old rest_new taken_old taken_new : Option (List ℕ)) : Type 0 where
+pub record IsUnderway {D : Type 0} (disk : Ghosts D) (T : Recording) (client : Option ℕ) (reads next : ℕ) (old new : KeptLog D) (begun : List ℕ) (rest_old rest_new taken_old taken_new : Option (List ℕ)) : Type 0 where
   pub bytes : List ℕ
   pub read : Consumes rest_old rest_new bytes
   pub some : reads ≤ length bytes
-  pub taken_in : IsTakenIn seen found T client 1 next old new bytes begun taken_old taken_new
+  pub taken_in : IsTakenIn disk T client 1 next old new bytes begun taken_old taken_new

@@ -8,7 +8,7 @@ ghost use Rattle.client_scripts.specs.declared.fault.ReplayFault.TheVariants.{Re
 ghost use Rattle.std.specs.List.{slice_split};
 ghost use Rattle.kept_log.specs.Lines.{IsLine};
 ghost use Rattle.kept_session.specs.Runs.{IsLogTurn, IsFinished, IsHalted};
-ghost use Rattle.kept_session.specs.Sessions.{IsInStep, number_behind};
+ghost use Rattle.kept_session.specs.Sessions.{number_behind};
 ghost use Rattle.kept_session.specs.Steps.{IsKeepFault, IsTakenIn};
 ghost use Rattle.kept_session.specs.declared.fault.SessionFault.TheVariants.{Replay};
 
@@ -47,16 +47,16 @@ fn answer_begun<D: Device + Drop, K: Sink>(
     pending: &mut Pending,
     writer: &mut K,
 ) -> Result<(), SessionFault>
-    requires in_step { IsInStep D.seen D.may_leave session.old.bench.trace session.old.log session.old.bench.log }
+    requires in_step { session.old.is_in_step ≡ true }
     requires writer { K.has_failed writer.old ≡ false }
-    ensures in_step { OnOk result (IsInStep D.seen D.may_leave session.new.bench.trace session.new.log session.new.bench.log) }
+    ensures in_step { OnOk result (session.new.is_in_step ≡ true) }
     ensures trace { session.new.bench.trace ≡ session.old.bench.trace }
     ensures working { OnOk result (K.has_failed writer.new ≡ false) }
     ensures begun { OnOk result (pending.new.begun.items ≡ []) }
     ensures next { OnOk result (pending.new.number ≡ number_behind pending.old.number (slice_split is_line_feed pending.old.begun.items)) }
-    ensures answered { OnOk result ((text : List ℕ) × IsLogTurn D.seen D.found session.old.bench.trace client pending.old.number
+    ensures answered { OnOk result ((text : List ℕ) × IsLogTurn D.Device session.old.bench.trace client pending.old.number
         (slice_split is_line_feed pending.old.begun.items) session.old.log session.new.log text × Appends (K.taken writer.old) (K.taken writer.new) text) }
-    ensures halted { IfErr result (λ fault. IsHalted D.seen D.found session.old.bench.trace client pending.old.number session.old.log session.new.log
+    ensures halted { IfErr result (λ fault. IsHalted D.Device session.old.bench.trace client pending.old.number session.old.log session.new.log
         pending.old.begun.items (K.has_failed writer.new) (K.taken writer.old) (K.taken writer.new) fault) }
     ensures lines_read { IfErr result (λ fault. (why : ReadCause) → fault ≢ Replay (Read 3 why)) }
 {
@@ -100,16 +100,16 @@ fn take_in<D: Device + Drop, K: Sink>(
     bytes: &[u8],
     writer: &mut K,
 ) -> Result<(), SessionFault>
-    requires in_step { IsInStep D.seen D.may_leave session.old.bench.trace session.old.log session.old.bench.log }
+    requires in_step { session.old.is_in_step ≡ true }
     requires writer { K.has_failed writer.old ≡ false }
     requires begun { IsLine pending.old.begun.items }
-    ensures in_step { OnOk result (IsInStep D.seen D.may_leave session.new.bench.trace session.new.log session.new.bench.log) }
+    ensures in_step { OnOk result (session.new.is_in_step ≡ true) }
     ensures trace { session.new.bench.trace ≡ session.old.bench.trace }
     ensures working { OnOk result (K.has_failed writer.new ≡ false) }
     ensures begun { OnOk result (IsLine pending.new.begun.items) }
-    ensures taken_in { OnOk result (IsTakenIn D.seen D.found session.old.bench.trace client pending.old.number pending.new.number session.old.log session.new.log
+    ensures taken_in { OnOk result (IsTakenIn D.Device session.old.bench.trace client pending.old.number pending.new.number session.old.log session.new.log
         (pending.old.begun.items ++ bytes.now) pending.new.begun.items (K.taken writer.old) (K.taken writer.new)) }
-    ensures halted { IfErr result (λ fault. IsHalted D.seen D.found session.old.bench.trace client pending.old.number session.old.log session.new.log
+    ensures halted { IfErr result (λ fault. IsHalted D.Device session.old.bench.trace client pending.old.number session.old.log session.new.log
         (pending.old.begun.items ++ bytes.now) (K.has_failed writer.new) (K.taken writer.old) (K.taken writer.new) fault) }
     ensures reader { IfErr result (λ fault. fault ≢ Replay (Read 3 DeviceFailed)) }
 {
@@ -130,19 +130,19 @@ fn run_pieces<D: Device + Drop, S: Source, K: Sink>(
     piece: &mut [u8],
     writer: &mut K,
 ) -> Result<(), SessionFault>
-    requires in_step { IsInStep D.seen D.may_leave session.old.bench.trace session.old.log session.old.bench.log }
+    requires in_step { session.old.is_in_step ≡ true }
     requires writer { K.has_failed writer.old ≡ false }
     requires room { 0 < length piece.old }
-    ensures in_step { OnOk result (IsInStep D.seen D.may_leave session.new.bench.trace session.new.log session.new.bench.log) }
+    ensures in_step { OnOk result (session.new.is_in_step ≡ true) }
     ensures trace { session.new.bench.trace ≡ session.old.bench.trace }
 
     // It ends without a fault only at the end of the input, and where the reader has not failed meanwhile.
     ensures end { OnOk result (IsAtEnd (S.rest reader.new)) }
     ensures read { OnOk result (S.has_failed reader.new ≡ S.has_failed reader.old) }
     ensures device { IfErr result (λ fault. fault ≡ Replay (Read 3 DeviceFailed) → S.has_failed reader.new ≡ true) }
-    ensures answered { OnOk result ((bytes : List ℕ) × Consumes (S.rest reader.old) (S.rest reader.new) bytes × IsFinished D.seen D.found session.old.bench.trace
+    ensures answered { OnOk result ((bytes : List ℕ) × Consumes (S.rest reader.old) (S.rest reader.new) bytes × IsFinished D.Device session.old.bench.trace
         client 1 session.old.log session.new.log bytes (K.taken writer.old) (K.taken writer.new)) }
-    ensures halted { IfErr result (λ fault. (bytes : List ℕ) × Consumes (S.rest reader.old) (S.rest reader.new) bytes × IsHalted D.seen D.found session.old.bench.trace
+    ensures halted { IfErr result (λ fault. (bytes : List ℕ) × Consumes (S.rest reader.old) (S.rest reader.new) bytes × IsHalted D.Device session.old.bench.trace
         client 1 session.old.log session.new.log bytes (K.has_failed writer.new) (K.taken writer.old) (K.taken writer.new) fault) }
 {
     let mut pending = Pending {
@@ -181,9 +181,9 @@ pub fn run_session<D: Device + Drop, S: Source, K: Sink>(
     reader: &mut S,
     writer: &mut K,
 ) -> Result<(), SessionFault>
-    requires in_step { IsInStep D.seen D.may_leave session.old.bench.trace session.old.log session.old.bench.log }
+    requires in_step { session.old.is_in_step ≡ true }
     requires writer { K.has_failed writer.old ≡ false }
-    ensures in_step { OnOk result (IsInStep D.seen D.may_leave session.new.bench.trace session.new.log session.new.bench.log) }
+    ensures in_step { OnOk result (session.new.is_in_step ≡ true) }
     ensures trace { session.new.bench.trace ≡ session.old.bench.trace }
 
     // It ends without a fault only at the end of the input, and where the reader has not failed meanwhile.
@@ -194,11 +194,11 @@ pub fn run_session<D: Device + Drop, S: Source, K: Sink>(
     ensures device { IfErr result (λ fault. fault ≡ Replay (Read 3 DeviceFailed) → S.has_failed reader.new ≡ true) }
 
     // Each line that was read is answered once and in order, in turns, and what was written is the answers, in order, and nothing else.
-    ensures answered { OnOk result ((bytes : List ℕ) × Consumes (S.rest reader.old) (S.rest reader.new) bytes × IsFinished D.seen D.found session.old.bench.trace
+    ensures answered { OnOk result ((bytes : List ℕ) × Consumes (S.rest reader.old) (S.rest reader.new) bytes × IsFinished D.Device session.old.bench.trace
         client 1 session.old.log session.new.log bytes (K.taken writer.old) (K.taken writer.new)) }
 
     // At a fault that is so of the first lines. Of the answers of one turn more a part may be written, where the writer failed.
-    ensures halted { IfErr result (λ fault. (bytes : List ℕ) × Consumes (S.rest reader.old) (S.rest reader.new) bytes × IsHalted D.seen D.found session.old.bench.trace
+    ensures halted { IfErr result (λ fault. (bytes : List ℕ) × Consumes (S.rest reader.old) (S.rest reader.new) bytes × IsHalted D.Device session.old.bench.trace
         client 1 session.old.log session.new.log bytes (K.has_failed writer.new) (K.taken writer.old) (K.taken writer.new) fault) }
 {
     let mut piece = vec![in alloc; 0u8; PIECE]?;

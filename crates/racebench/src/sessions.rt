@@ -1,6 +1,5 @@
 //! What the program does at the words `session` and `log`: it opens the inputs and the file of a log, which it makes where it is missing.
-ghost use Rattle.std.specs.Prelude.{◌≡◌, false};
-ghost use Rattle.kept_session.specs.Sessions.{IsInStep};
+ghost use Rattle.std.specs.Prelude.{◌≡◌, true, false};
 
 use crate::doing::finish;
 use crate::input::input_at;
@@ -174,7 +173,7 @@ fn answer_lines<D: Device + Drop, K: Sink>(
     client: Option<u32>,
     writer: &mut K,
 ) -> Result<(), SessionFault>
-    requires in_step { IsInStep D.seen D.may_leave session.old.bench.trace session.old.log session.old.bench.log }
+    requires in_step { session.old.is_in_step ≡ true }
     requires writer { K.has_failed writer.old ≡ false }
 {
     let mut reader = FromRead::new(rt.reader());

@@ -1,11 +1,5 @@
 -- A question leaves the log and the block as they were; any other line is one of a script.
-use Rattle.std.proofs.Common.{◌≡◌, List, ℕ, [], Option, Some, None, Result, refl, sym, subst, ap, ◌∙◌, append-nil}
-use Rattle.script_language.specs.Questions.{question_reading}
-use Rattle.script_language.specs.Scripts.{script_line_reading}
-use Rattle.script_language.specs.declared.question.Question.{Question}
-use Rattle.script_language.specs.declared.refusal.ScriptCause.{ScriptCause}
-use Rattle.kept_session.specs.Lines.{line_for}
-use Rattle.kept_session.specs.Sessions.{IsAnsweredAs}
+use Rattle.std.proofs.Common.{sym, ◌∙◌}
 use Rattle.kept_session.proofs.QuestionLemmas.{question-answered, reading-answered}
 use Rattle.kept_session.proofs.answering.answer_line.Goals as goal
 

@@ -1,7 +1,5 @@
 use Rattle.std.proofs.Common.{◌∙◌, subst}
 use Rattle.rapid_text.specs.Recording.{Recording}
-use Rattle.script_language.specs.Scripts.{script_line_reading}
-use Rattle.kept_session.specs.Lines.{line_for}
 use Rattle.kept_session.specs.Steps.{LineAnswered}
 use Rattle.kept_session.proofs.LineLemmas.{parts_lines}
 use Rattle.kept_session.proofs.PieceLemmas.{underway-line, underway-more}

@@ -10,14 +10,14 @@ returns-in_err-pending-clause-halted g c =
     let one = c.in_err-pending.ensures in
     let same : c.from_residual.result ≡ Err fault = search rules in
     subst
-    (λ r. IfErr r (IsHalted g.D.Device.seen g.D.Device.found c.args.session.now.bench.trace c.args.client c.args.pending.now.number c.args.session.now.log c.answer.new.self.log c.args.pending.now.begun.items (g.K.Sink.has_failed c.args.writer.now) (g.K.Sink.taken c.args.writer.now) (g.K.Sink.taken c.args.writer.now)))
+    (λ r. IfErr r (IsHalted g.D.Device c.args.session.now.bench.trace c.args.client c.args.pending.now.number c.args.session.now.log c.answer.new.self.log c.args.pending.now.begun.items (g.K.Sink.has_failed c.args.writer.now) (g.K.Sink.taken c.args.writer.now) (g.K.Sink.taken c.args.writer.now)))
     (sym same)
-    (unanswered _ _ _ _ c.args.pending.now.number c.args.session.now.log c.answer.new.self.log c.args.pending.now.begun.items _ (g.K.Sink.taken c.args.writer.now) fault c.requires.writer one.none_lost one.fault (λ why is. absurd (let e = one.input 3 why is in cc)))
+    (unanswered _ _ _ c.args.pending.now.number c.args.session.now.log c.answer.new.self.log c.args.pending.now.begun.items _ (g.K.Sink.taken c.args.writer.now) fault c.requires.writer one.none_lost one.fault (λ why is. absurd (let e = one.input 3 why is in cc)))
 
 pub returns-clause-halted : goal.returns-clause-halted
 returns-clause-halted g c =
     let one = c.in_ok-pending.ensures in
     let wrote = c.in-Err.ensures in
-    let turn = log_turn g.D.Device.seen g.D.Device.found c.args.session.now.bench.trace c.args.client _ c.args.pending.now.number _ c.args.pending.now.begun.items c.args.session.now.log c.answer.new.self.log
-    _ _ c.answer.new.out.items one.trace c.deref.ensures.value c.new-out.ensures.items one.in_step.says one.head one.answers in
-    unwritten _ _ _ _ _ _ _ c.args.pending.now.begun.items _ c.answer.new.out.items _ _ _ _ turn c.deref-2.ensures.value wrote.err wrote.failed c.from.ensures
+    let turn = log_turn g.D.Device c.args.session.now.bench.trace c.args.client _ c.args.pending.now.number _ c.args.pending.now.begun.items c.args.session.now.log c.answer.new.self.log
+    _ _ c.answer.new.out.items one.trace c.deref.ensures.value c.new-out.ensures.items (c.answer.new.self.in_step one.in_step).says one.head one.answers in
+    unwritten _ _ _ _ _ _ c.args.pending.now.begun.items _ c.answer.new.out.items _ _ _ _ turn c.deref-2.ensures.value wrote.err wrote.failed c.from.ensures

@@ -13,9 +13,9 @@ returns-in_err-piece-clause-halted g c =
     subst
     (λ r. IfErr r
     (λ fault. (bytes : List ℕ) × Consumes (g.S.Source.rest c.args.reader.now) (g.S.Source.rest c.args.reader.now) bytes
-    × IsHalted g.D.Device.seen g.D.Device.found c.args.session.now.bench.trace c.args.client 1 c.args.session.now.log c.args.session.now.log bytes (g.K.Sink.has_failed c.args.writer.now) (g.K.Sink.taken c.args.writer.now) (g.K.Sink.taken c.args.writer.now) fault))
+    × IsHalted g.D.Device c.args.session.now.bench.trace c.args.client 1 c.args.session.now.log c.args.session.now.log bytes (g.K.Sink.has_failed c.args.writer.now) (g.K.Sink.taken c.args.writer.now) (g.K.Sink.taken c.args.writer.now) fault))
     (sym same) (
       [],
       Consumes-nothing (g.S.Source.rest c.args.reader.now),
-      unanswered _ _ _ _ 1 c.args.session.now.log c.args.session.now.log [] _ (g.K.Sink.taken c.args.writer.now) (Replay NoMemory) c.requires.writer (inl (inl refl)) tt (λ why is. absurd cc),
+      unanswered _ _ _ 1 c.args.session.now.log c.args.session.now.log [] _ (g.K.Sink.taken c.args.writer.now) (Replay NoMemory) c.requires.writer (inl (inl refl)) tt (λ why is. absurd cc),
     )

@@ -8,33 +8,33 @@ use Rattle.kept_log.proofs.log.KeptLog.enter.Goals as goal
 
 pub returns-in-Err-clause-any_moment : goal.returns-in-Err-clause-any_moment
 returns-in-Err-clause-any_moment g c =
-    weaker g.D.Device.moment g.D.Device.left_since _ _ _ _ c.take_over.ensures.any_moment (left_begins g.D.Device.seen g.D.Device.may_leave c.args.self.now c.requires.left)
+    weaker g.D.Device _ _ _ _ c.take_over.ensures.any_moment (left_begins g.D.Device c.args.self.now c.requires.left)
 
 pub returns-in-Ok-catch_up-clause-lines : goal.returns-in-Ok-catch_up-clause-lines
 returns-in-Ok-catch_up-clause-lines g c =
     let entered = c.take_over.ensures in
     c.in-Ok-catch_up.ensures.lines
-    ∙ enter_lines g.D.Device.seen g.D.Device.may_leave c.args.self.now c.take_over.new.self c.requires.left entered.places.0 entered.places.1 entered.front entered.known
-    ∙ ap (λ (t : List ℕ). lines_of g.D.Device.seen c.args.self.now ++ kept_lines t) c.in-Ok.ensures.bytes
+    ∙ enter_lines g.D.Device c.args.self.now c.take_over.new.self c.requires.left entered.places.0 entered.places.1 entered.front entered.known
+    ∙ ap (λ (t : List ℕ). lines_of g.D.Device c.args.self.now ++ kept_lines t) c.in-Ok.ensures.bytes
 
 pub returns-in-Ok-catch_up-clause-any_moment : goal.returns-in-Ok-catch_up-clause-any_moment
 returns-in-Ok-catch_up-clause-any_moment g c =
     let entered = c.take_over.ensures in
-    let begins : (f : List ℕ) → g.D.Device.may_leave c.args.self.now.device f ⊎ AfterOthers c.args.self.now.end (g.D.Device.may_leave c.args.self.now.device) f → BeginsWith (head_of g.D.Device.seen c.args.self.now) (lines_of g.D.Device.seen c.args.self.now) f =
-    left_begins g.D.Device.seen g.D.Device.may_leave c.args.self.now c.requires.left in
-    then_on g.D.Device.moment g.D.Device.left_since _ _ _ _ _ _ entered.any_moment c.catch_up.ensures.any_moment begins
+    let begins : (f : List ℕ) → g.D.Device.may_leave c.args.self.now.device f ⊎ AfterOthers c.args.self.now.end (g.D.Device.may_leave c.args.self.now.device) f → BeginsWith (head_of g.D.Device c.args.self.now) (lines_of g.D.Device c.args.self.now) f =
+    left_begins g.D.Device c.args.self.now c.requires.left in
+    then_on g.D.Device _ _ _ _ _ _ entered.any_moment c.catch_up.ensures.any_moment begins
     (λ f left. ⊎_elim
     (λ now. begins f (entered.any_moment.each f (g.met.D.Device.counts_now c.take_over.new.self.device (g.D.Device.moment c.args.self.now.device) f entered.any_moment.later now)))
-    (λ stands. enter_begins g.D.Device.seen g.D.Device.may_leave c.args.self.now c.take_over.new.self c.requires.left entered.places.0 entered.places.1 entered.front entered.known f stands)
+    (λ stands. enter_begins g.D.Device c.args.self.now c.take_over.new.self c.requires.left entered.places.0 entered.places.1 entered.front entered.known f stands)
     left)
 
 pub returns-in-Err-catch_up-clause-any_moment : goal.returns-in-Err-catch_up-clause-any_moment
 returns-in-Err-catch_up-clause-any_moment g c =
     let entered = c.take_over.ensures in
-    let begins : (f : List ℕ) → g.D.Device.may_leave c.args.self.now.device f ⊎ AfterOthers c.args.self.now.end (g.D.Device.may_leave c.args.self.now.device) f → BeginsWith (head_of g.D.Device.seen c.args.self.now) (lines_of g.D.Device.seen c.args.self.now) f =
-    left_begins g.D.Device.seen g.D.Device.may_leave c.args.self.now c.requires.left in
-    then_on g.D.Device.moment g.D.Device.left_since _ _ _ _ _ _ entered.any_moment c.catch_up.ensures.any_moment begins
+    let begins : (f : List ℕ) → g.D.Device.may_leave c.args.self.now.device f ⊎ AfterOthers c.args.self.now.end (g.D.Device.may_leave c.args.self.now.device) f → BeginsWith (head_of g.D.Device c.args.self.now) (lines_of g.D.Device c.args.self.now) f =
+    left_begins g.D.Device c.args.self.now c.requires.left in
+    then_on g.D.Device _ _ _ _ _ _ entered.any_moment c.catch_up.ensures.any_moment begins
     (λ f left. ⊎_elim
     (λ now. begins f (entered.any_moment.each f (g.met.D.Device.counts_now c.take_over.new.self.device (g.D.Device.moment c.args.self.now.device) f entered.any_moment.later now)))
-    (λ stands. enter_begins g.D.Device.seen g.D.Device.may_leave c.args.self.now c.take_over.new.self c.requires.left entered.places.0 entered.places.1 entered.front entered.known f stands)
+    (λ stands. enter_begins g.D.Device c.args.self.now c.take_over.new.self c.requires.left entered.places.0 entered.places.1 entered.front entered.known f stands)
     left)

@@ -17,15 +17,15 @@ returns-in_ok-make_all-in-Ok-clause-at_work g c =
     subst (λ (t : List ℕ). AreLogged c.args.self.now.bench.trace c.args.self.now.bench.log (kept_lines t)) c.deref.ensures.value c.in_ok-make_all-in-Ok.ensures.logged in
     record {
       at_rest = c.in-Ok.ensures.at_rest;
-      says = grown_log _ _ (lines_of g.D.Device.seen c.args.self.now.log) (kept_lines c.in-Ok.text.items) _ _ _ c.in_ok-make_all-in-Ok.ensures.trace c.in-Ok.ensures.lines c.requires.in_step.says made;
-      logged = grown_logged _ _ (lines_of g.D.Device.seen c.args.self.now.log) (kept_lines c.in-Ok.text.items) _ _ c.in_ok-make_all-in-Ok.ensures.trace c.in-Ok.ensures.lines c.requires.in_step.says c.requires.in_step.logged more;
+      says = grown_log _ _ (lines_of g.D.Device c.args.self.now.log) (kept_lines c.in-Ok.text.items) _ _ _ c.in_ok-make_all-in-Ok.ensures.trace c.in-Ok.ensures.lines c.requires.in_step.says made;
+      logged = grown_logged _ _ (lines_of g.D.Device c.args.self.now.log) (kept_lines c.in-Ok.text.items) _ _ c.in_ok-make_all-in-Ok.ensures.trace c.in-Ok.ensures.lines c.requires.in_step.says c.requires.in_step.logged more;
     }
 
 pub returns-in_err-make_all-in-Ok-clause-fault : goal.returns-in_err-make_all-in-Ok-clause-fault
 returns-in_err-make_all-in-Ok-clause-fault g c =
     let fault = c.in_err-make_all-in-Ok.field-0.0 in
-    let known = lines_of g.D.Device.seen c.args.self.now.log in
-    let seen = lines_of g.D.Device.seen c.enter.new.self in
+    let known = lines_of g.D.Device c.args.self.now.log in
+    let seen = lines_of g.D.Device c.enter.new.self in
     let same : c.from_residual.result ≡ Err fault = search rules in
     let refused : IsLinesFault c.args.self.now.bench.trace c.args.self.now.bench.log (kept_lines c.in-Ok.text.items) fault =
     subst (λ (t : List ℕ). IsLinesFault c.args.self.now.bench.trace c.args.self.now.bench.log (kept_lines t) fault) c.deref.ensures.value c.in_err-make_all-in-Ok.ensures.refused in
