@@ -11,6 +11,7 @@ use Rattle.kept_log.specs.Log.{StandsFor, IsOldOrNew, BeginsWith, HasTurn, IsAtR
 use Rattle.kept_log.specs.declared.device.Device.{Ghosts}
 use Rattle.kept_log.specs.declared.log.KeptLog.{KeptLog}
 use Rattle.kept_log.proofs.MomentLemmas.{started, goes_on, then_on, weaker}
+use Rattle.kept_session.proofs.FrontLemmas.{in_front, old_or_new_front}
 use Rattle.kept_session.specs.Sessions.{AreGained, IsAllOrNone, IsUntaken, IsTaken, BeforeLock, KeepsLines, log_of}
 use Rattle.kept_session.specs.Steps.{IsPut, PieceAnswered}
 
@@ -99,6 +100,24 @@ module _ {D : Type 0} (disk : Ghosts D)
   put-released put head lines released =
       then_on disk mid.device made.device new.device _ _ (IsOldOrMore (head_of disk mid) (lines_of disk mid) gained) put.moments released (old_or_more (head_of disk mid) (lines_of disk mid) gained)
       (λ c b. inr (subst (λ h. BeginsWith h (lines_of disk mid ++ gained) c) head (subst (λ ls. BeginsWith (head_of disk made) ls c) lines b)))
+
+module _ {D : Type 0} (disk : Ghosts D) (old mid made : KeptLog D) (others gained : List (List ℕ)) (head : head_of disk mid ≡ head_of disk old) (lines : lines_of disk mid ≡ lines_of disk old ++ others) where
+  behind_others : (c : List ℕ) → BeginsWith (head_of disk mid) (lines_of disk mid) c → BeginsWith (head_of disk old) (lines_of disk old) c
+  behind_others c = in_front (head_of disk old) (head_of disk mid) (lines_of disk old) others (lines_of disk mid) c head lines
+
+  -- a turn in which the lines of others were taken in, and then a piece was put or was not
+  pub turn-put : LeavesOnly disk old.device mid.device (BeginsWith (head_of disk old) (lines_of disk old)) → LeavesOnly disk mid.device made.device (IsOldOrNew (head_of disk mid) (lines_of disk mid) gained)
+      → LeavesOnly disk old.device made.device (BeginsWith (head_of disk old) (lines_of disk old))
+  turn-put first second =
+      then_on disk old.device mid.device made.device (BeginsWith (head_of disk old) (lines_of disk old)) (IsOldOrNew (head_of disk mid) (lines_of disk mid) gained) (BeginsWith (head_of disk old) (lines_of disk old))
+      first second (λ c b. b) (λ c b. behind_others c (old_or_new_front (head_of disk mid) (lines_of disk mid) gained c b))
+
+  -- and then its lock was let go
+  pub turn-released : (new : KeptLog D) → LeavesOnly disk old.device made.device (BeginsWith (head_of disk old) (lines_of disk old)) → head_of disk made ≡ head_of disk mid → lines_of disk made ≡ lines_of disk mid ++ gained
+      → LeavesOnly disk made.device new.device (BeginsWith (head_of disk made) (lines_of disk made)) → LeavesOnly disk old.device new.device (BeginsWith (head_of disk old) (lines_of disk old))
+  turn-released new worked same more released =
+      then_on disk old.device made.device new.device (BeginsWith (head_of disk old) (lines_of disk old)) (BeginsWith (head_of disk made) (lines_of disk made)) (BeginsWith (head_of disk old) (lines_of disk old))
+      worked released (λ c b. b) (λ c b. behind_others c (in_front (head_of disk mid) (head_of disk made) (lines_of disk mid) gained (lines_of disk made) c same more b))
 
 module _ {D : Type 0} (disk : Ghosts D) where
   -- the lock of a file is waited for
