@@ -168,6 +168,38 @@ def scattered_places(events, threads):
     return lines
 
 
+def scattered_widely(events, threads):
+    """The same at 1,400 places, so that nearly each open pair is of other places than the others."""
+    chance = random.Random(12)
+    lines = []
+    while len(lines) + 6 <= events:
+        thread, lock = chance.randrange(threads), chance.randrange(64)
+        accesses = [f"T{thread}|{chance.choice('rw')}(x{chance.randrange(4_096)})|p{chance.randrange(1_400)}" for _ in range(4)]
+        lines += [f"T{thread}|acq(l{lock})|p", *accesses, f"T{thread}|rel(l{lock})|p"]
+    return lines
+
+
+def own_locks(events, threads):
+    """Each thread takes one of 16 locks of its own before each write of one variable, or lets it go: nearly each write is under other locks."""
+    chance = random.Random(11)
+    held = [set() for _ in range(threads)]
+    lines = []
+    while len(lines) + 2 <= events:
+        thread, lock = chance.randrange(threads), chance.randrange(16)
+        word = "rel" if lock in held[thread] else "acq"
+        held[thread] ^= {lock}
+        lines += [f"T{thread}|{word}(l{thread}_{lock})|p", f"T{thread}|w(x)|p{chance.randrange(200)}"]
+    return lines
+
+
+def told_to_all(events, threads):
+    """One thread writes a variable, and then all others read it, again and again: each event learns something."""
+    lines = []
+    while len(lines) + threads <= events:
+        lines += ["T0|w(x)|w", *(f"T{thread}|r(x)|r{thread}" for thread in range(1, threads))]
+    return lines
+
+
 def crowded_places(events, threads):
     """Reads and writes of one variable at 1,400 places."""
     chance = random.Random(8)
@@ -188,6 +220,10 @@ def write_places(folder):
         write_trace(folder, f"scattered_{threads}_{events}", scattered_places(events, threads))
     for events in (EVENTS, MOST_EVENTS):
         write_trace(folder, f"crowded_16_{events}", crowded_places(events, 16))
+    write_trace(folder, f"scattered_16_{4 * EVENTS}", scattered_places(4 * EVENTS, 16))
+    write_trace(folder, f"scattered_widely_16_{EVENTS}", scattered_widely(EVENTS, 16))
+    write_trace(folder, f"own_locks_16_{4 * EVENTS}", own_locks(4 * EVENTS, 16))
+    write_trace(folder, f"told_to_all_256_{MOST_EVENTS}", told_to_all(MOST_EVENTS, 256))
     write_trace(folder, f"one_writing_{sized(100_000)}", one_writing_place(sized(100_000)))
     write_trace(folder, f"written_everywhere_{sized(40_000)}", [f"T0|w(x)|p{i}" for i in range(sized(40_000))])
 

@@ -16,7 +16,7 @@ use Rattle.event_index.specs.Lookups.{before}
 use Rattle.event_index.specs.Relations.{is_access}
 use Rattle.event_index.proofs.CallerLemmas.{filter_more_before, op_event}
 use Rattle.trace_rules.proofs.Counts.{slice_get-set}
-use Rattle.race_groups.specs.Building.{AreNumbered, AreMembersBelow, IsGrown}
+use Rattle.race_groups.specs.Building.{AreAlike, AreNumbered, AreMembersBelow, IsGrown, IsRenumbered}
 use Rattle.race_groups.specs.Holding.{AreLocksOf}
 use Rattle.race_groups.specs.Classes.{accesses, AreClasses, AreLocks}
 use Rattle.race_groups.specs.declared.class.Class.{Class}
@@ -47,7 +47,7 @@ get_either (z ∷ xs) y (suc k) x at = get_either xs y k x at
 
 -- the locks of an event stay in a list of lists that grows
 AreLocksOf-grown : (T : List Event) (lists further : List (Vec ℕ Global)) (e n : ℕ) → IsGrown lists further → AreLocksOf T lists e n → AreLocksOf T further e n
-AreLocksOf-grown T lists further e n grown of = record { locks = of.locks; at = grown.kept n of.locks of.at; held = of.held }
+AreLocksOf-grown T lists further e n grown of = record { locks = of.locks; at = grown.kept n of.locks of.at; held = of.held; lent = of.lent }
 
 module _ (T : List Event) (place : ℕ → ℕ) (n : ℕ) (numbers : List ℕ) (infos after : List Class) (lists further : List (Vec ℕ Global)) (c : ℕ) (class : Class) (are : AreNumbered T place n numbers infos lists) (found : slice_get after c ≡ Some class) (op : op_at T n ≡ Some class.op) (located : class.place ≡ place n) (grown : IsGrown lists further) (locks : (x : ℕ) → is_access x class.op ≡ true → AreLocksOf T further n class.held) where
   -- the classes after one more event
@@ -152,6 +152,42 @@ module _ (T : List Event) (place : ℕ → ℕ) (numbers : List ℕ) (infos : Li
   AreLocks-from = λ e x i lt info accessed.
       let old = are.classes e lt in
       locks_of T lists e x old.info i (sym old.at ∙ info) old.locks accessed
+
+-- one more event has the same class by both
+pub AreAlike-push : (numbers : List ℕ) (infos : List Class) (after : List ℕ) (made : List Class) (n c : ℕ) (i : Class) → length after ≡ n → AreAlike numbers infos after made n
+    → slice_get infos (slice_index numbers n) ≡ Some i → slice_get made c ≡ Some i → AreAlike numbers infos (after ++ c ∷ []) made (n + 1)
+AreAlike-push numbers infos after made n c i long are one other e lt =
+    elim (cases_eq e n) [
+      | inl is ↦ (
+        i,
+        ap (λ k. slice_get infos (slice_index numbers k)) is ∙ one,
+        ap (slice_get made) (ap (slice_index (after ++ c ∷ [])) (is ∙ sym long) ∙ index_last after c) ∙ other,
+      )
+      | inr ne ↦
+          let old = are e (omega (arith, lt, ne)) in
+          (old.0, old.1, ap (slice_get made) (index_before after c e (omega (arith, lt, ne, long))) ∙ old.2)
+    ]
+
+-- the same classes in another order
+pub AreNumbered-again : (T : List Event) (place : ℕ → ℕ) (n : ℕ) (numbers : List ℕ) (infos : List Class) (lists : List (Vec ℕ Global)) (after : List ℕ) (made : List Class)
+    → AreNumbered T place n numbers infos lists → IsRenumbered numbers infos after made → AreNumbered T place n after made lists
+AreNumbered-again T place n numbers infos lists after made are again = record {
+  len = again.len ∙ are.len;
+  few = omega (arith, are.few, again.few);
+  few_lists = are.few_lists;
+  classes = λ e lt.
+      let old = are.classes e lt in
+      let both = again.alike e (omega (arith, lt, are.len)) in
+      let same : old.info ≡ both.0 = same_Some old.info both.0 (sym old.at ∙ both.1) in
+      record {
+        info = old.info;
+        at = both.2 ∙ ap Some (sym same);
+        op = old.op;
+        located = old.located;
+        locks = old.locks;
+      };
+  used = λ k i at. let found = again.elements k i at in are.used found.0 i found.1;
+}
 
 -- the members of a class's variable with it, those of others without
 pub members_with : (infos : List Class) (n : ℕ) (x : ℕ) (i : Class) → slice_get infos n ≡ Some i → is_access x i.op ≡ true

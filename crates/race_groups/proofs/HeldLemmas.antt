@@ -1,9 +1,9 @@
 -- The locks that threads hold, as lists: event by event, and what two lists have in common.
-use Rattle.std.proofs.Common.{◌≡◌, ◌≢◌, ℕ, ◌+◌, ◌<◌, ◌⊎◌, ◌==◌, Bool, true, false, cond, List, [], ◌∷◌, ◌++◌, Vec, take, set, count_by, Option, Some, None, refl, sym, ap, ◌∙◌, subst, arith, inl, inr, eq-eqb, eqb-true}
+use Rattle.std.proofs.Common.{◌≡◌, ◌≢◌, ℕ, ◌+◌, ◌<◌, ◌⊎◌, ◌==◌, Bool, true, false, cond, List, [], ◌∷◌, ◌++◌, Vec, take, set, count_by, filter, not, slice_index, Option, Some, None, refl, sym, ap, ◌∙◌, subst, arith, inl, inr, eq-eqb, eqb-true}
 use Rattle.std.specs.List.{list_any, slice_get}
 use Rattle.std.specs.Option.{option_map}
 use Rattle.std.specs.declared.alloc.Global.{Global}
-use Rattle.std.proofs.lemmas.Bool.{true≢false, or_cases, or_left, or_right, and_right, cases_eq, ne_eqb}
+use Rattle.std.proofs.lemmas.Bool.{true≢false, or_cases, or_left, or_right, and_right, cases_eq, cases_lt, le-ltb, ne_eqb}
 use Rattle.std.proofs.lemmas.List.Sums.{sum_by-cons, sum_by_push}
 use Rattle.std.proofs.lemmas.Option.{same_Some, slice_get_within}
 use Rattle.rapid_text.specs.Operations.{is_acquire, is_release}
@@ -15,8 +15,9 @@ use Rattle.event_index.proofs.CallerLemmas.{hold_same, hold_taken, hold_freed, t
 use Rattle.event_index.proofs.HoldLemmas.{takes_from, frees_from, acquire_frees_not, release_takes_not, takes_not_lock, frees_not_lock}
 use Rattle.race_groups.proofs.BuildLemmas.{get_either}
 use Rattle.race_groups.specs.Building.{text_at}
-use Rattle.race_groups.specs.Holding.{times, AreHeld, AreLocksOf}
+use Rattle.race_groups.specs.Holding.{times, AreHeld, AreLocksOf, IsLent}
 use Rattle.race_groups.specs.Shared.{is_meeting}
+use Rattle.race_groups.specs.Takers.{AreTakers, is_lent}
 
 one_by : (b : Bool) → b ≡ true → (n : ℕ) → 0 < cond b 1 0 + n
 one_by true is n = omega arith
@@ -122,26 +123,65 @@ found_list : (o : Option (Vec ℕ Global)) (items : List ℕ) → option_map (λ
 found_list None items h = cc
 found_list (Some w) items h = (w, refl, same_Some w.items items h)
 
+-- what some element of a filtered list passes, one of the list does
+module _ (p : ℕ → Bool) (x : ℕ) (xs ys : List ℕ) (inside : list_any p ys ≡ true → list_any p xs ≡ true) where
+  any_kept : (b : Bool) → list_any p (cond b (x ∷ ys) ys) ≡ true → list_any p (x ∷ xs) ≡ true
+  any_kept true h = elim (or_cases (p x) (list_any p ys) h) [
+    | inl passes ↦ or_left (p x) (list_any p xs) passes
+    | inr rest ↦ or_right (p x) (list_any p xs) (inside rest)
+  ]
+  any_kept false h = or_right (p x) (list_any p xs) (inside h)
+
+any_of_filter : (q p : ℕ → Bool) (xs : List ℕ) → list_any p (filter q xs) ≡ true → list_any p xs ≡ true
+any_of_filter q p [] h = h
+any_of_filter q p (x ∷ xs) h = any_kept p x xs (filter q xs) (any_of_filter q p xs) (q x) h
+
+-- an element that passes stands in the filtered list
+kept_there : (p : ℕ → Bool) (x : ℕ) (ys : List ℕ) (b : Bool) → b ≡ true → p x ≡ true → list_any p (cond b (x ∷ ys) ys) ≡ true
+kept_there p x ys true is passes = or_left (p x) (list_any p ys) passes
+kept_there p x ys false is passes = absurd (true≢false (sym is))
+
+kept_behind : (p : ℕ → Bool) (x : ℕ) (ys : List ℕ) (b : Bool) → list_any p ys ≡ true → list_any p (cond b (x ∷ ys) ys) ≡ true
+kept_behind p x ys true rest = or_right (p x) (list_any p ys) rest
+kept_behind p x ys false rest = rest
+
+any_in_filter : (q : ℕ → Bool) (l : ℕ) (xs : List ℕ) → q l ≡ true → list_any (λ k. k == l) xs ≡ true → list_any (λ k. k == l) (filter q xs) ≡ true
+any_in_filter q l [] passes h = h
+any_in_filter q l (x ∷ xs) passes h =
+    elim (or_cases (x == l) (list_any (λ k. k == l) xs) h) [
+      | inl same ↦ kept_there (λ k. k == l) x (filter q xs) (q x) (ap q (eqb-true x l same) ∙ passes) same
+      | inr rest ↦ kept_behind (λ k. k == l) x (filter q xs) (q x) (any_in_filter q l xs passes rest)
+    ]
+
+-- a lock that more than one thread takes is nobody's
+lent_passes : (T : List Event) (threads : ℕ) (takers : List ℕ) → AreTakers T threads takers → (l : ℕ) → IsLent T l → is_lent takers threads l ≡ true
+lent_passes T threads takers are l lent =
+    let (t, u, ne, one, other) = lent in
+    elim (cases_lt (slice_index takers l) threads) [
+      | inl lt ↦ absurd (ne (sym (are one.0 t l one.1 one.2 lt) ∙ are other.0 u l other.1 other.2 lt))
+      | inr ge ↦ ap not (le-ltb (slice_index takers l) threads ge)
+    ]
+
 -- a list that is numbered has the locks that it was numbered for
-pub AreLocksOf-from : (T : List Event) (lists held : List (Vec ℕ Global)) (n k : ℕ) (v : Event) (u : Vec ℕ Global) → slice_get T n ≡ Some v → AreHeld T n held
-    → slice_get held v.thread ≡ Some u → text_at lists k ≡ Some u.items → AreLocksOf T lists n k
-AreLocksOf-from T lists held n k v u at are is listed =
-    let found = found_list (slice_get lists k) u.items listed in
-    let counts : (l : ℕ) → times l found.0.items ≡ hold_count (take n T) v.thread l = λ l. ap (times l) found.2 ∙ are v.thread u l is in
+pub AreLocksOf-from : (T : List Event) (lists held : List (Vec ℕ Global)) (threads : ℕ) (takers : List ℕ) (n k : ℕ) (v : Event) (u : Vec ℕ Global) → AreTakers T threads takers
+    → slice_get T n ≡ Some v → AreHeld T n held → slice_get held v.thread ≡ Some u → text_at lists k ≡ Some (filter (is_lent takers threads) u.items) → AreLocksOf T lists n k
+AreLocksOf-from T lists held threads takers n k v u are_takers at are is listed =
+    let kept = is_lent takers threads in
+    let found = found_list (slice_get lists k) (filter kept u.items) listed in
     record {
       locks = found.0;
       at = found.1;
-      held = λ l. (
-        (λ stands.
-            let some = count_from_any (λ m. m == l) found.0.items stands in
-            let same = counts l in
-            (v.thread, thread_here T n v at, omega (arith, some, same))),
-        λ holds.
-            let one : v.thread ≡ holds.0 = same_Some v.thread holds.0 (sym (thread_here T n v at) ∙ holds.1) in
-            let above : 0 < hold_count (take n T) v.thread l = subst (λ t. 0 < hold_count (take n T) t l) (sym one) holds.2 in
-            let same = counts l in
-            list_any-from_count (λ m. m == l) (λ m. m == l) found.0.items (λ m passes. passes) (omega (arith, above, same)),
-      );
+      held = λ l stands.
+          let there = any_of_filter kept (λ m. m == l) u.items (ap (list_any (λ m. m == l)) (sym found.2) ∙ stands) in
+          let some = count_from_any (λ m. m == l) u.items there in
+          let same : times l u.items ≡ hold_count (take n T) v.thread l = are v.thread u l is in
+          (v.thread, thread_here T n v at, omega (arith, some, same));
+      lent = λ l holds lent.
+          let one : v.thread ≡ holds.0 = same_Some v.thread holds.0 (sym (thread_here T n v at) ∙ holds.1) in
+          let above : 0 < hold_count (take n T) v.thread l = subst (λ t. 0 < hold_count (take n T) t l) (sym one) holds.2 in
+          let same : times l u.items ≡ hold_count (take n T) v.thread l = are v.thread u l is in
+          let there = list_any-from_count (λ m. m == l) (λ m. m == l) u.items (λ m passes. passes) (omega (arith, above, same)) in
+          ap (list_any (λ m. m == l)) found.2 ∙ any_in_filter kept l u.items (lent_passes T threads takers are_takers l lent) there;
     }
 
 -- a list more, of a thread that holds nothing

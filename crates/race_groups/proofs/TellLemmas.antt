@@ -5,7 +5,7 @@ use Rattle.std.proofs.Math.Nat.{mul-div_cancel_left}
 use Rattle.std.proofs.lemmas.List.Sums.{sum_by-cons}
 use Rattle.std.specs.declared.alloc.Global.{Global}
 use Rattle.std.proofs.lemmas.Bool.{true≢false, cases_Bool}
-use Rattle.std.proofs.lemmas.Option.{slice_get_within, slice_get-get_or, get_or_from_slice_get}
+use Rattle.std.proofs.lemmas.Option.{same_Some, slice_get_within, slice_get-get_or, get_or_from_slice_get}
 use Rattle.std.proofs.lemmas.List.Elements.{All-filter, All-weaker, All-get_or, filter_passes, All-nil, All-cons, All-head, All-tail, All-append, All-map}
 use Rattle.rapid_text.specs.Recording.{Recording, IsWellFormed, IsNamed, IsNamedOp}
 use Rattle.rapid_text.specs.declared.event.Event.{Event}
@@ -26,7 +26,7 @@ use Rattle.race_groups.specs.Counts.{AreCounted}
 use Rattle.race_groups.specs.Cuts.{is_cut_off}
 use Rattle.race_groups.specs.Ends.{IsKnownBefore, known_before}
 use Rattle.race_groups.specs.Groups.{pairs_below, conflicts, group_of, is_between, kind_by, IsCountOf}
-use Rattle.race_groups.specs.Holding.{AreLocksOf}
+use Rattle.race_groups.specs.Holding.{AreLocksOf, IsLent, IsTakenBy}
 use Rattle.race_groups.specs.Kinds.{is_kind, kind_count, IsRowAt, IsDifference}
 use Rattle.race_groups.specs.Rows.{Part, of_all, of_candidates, of_ordered, of_guarded, part, count_at, same_places}
 use Rattle.race_groups.specs.declared.rows.Sums.{Sums}
@@ -93,6 +93,20 @@ module _ (r : Recording) (formed : IsWellFormed r) (rules : IsDisciplined r.even
       subst (IsNamed r) (get_or_from_slice_get r.events since.0 v.0 v.0 v.1) (All-get_or (IsNamed r) r.events since.0 v.0 (slice_get_within r.events since.0 v.0 v.1) formed.named)
       in subst (IsNamedOp r) v.2 named.1
 
+  -- who holds a lock has taken it
+  taken_by : (e l : ℕ) (holds : IsHeldBefore r.events e l) → IsTakenBy r.events holds.0 l
+  taken_by e l holds =
+      let within = thread_within r.events e holds.0 holds.1 in
+      let since = held_since r.events rules e holds.0 l (omega (arith, within)) holds.2 in
+      (since.0, since.1.outer.of, since.1.outer.acquires)
+
+  -- more than one thread takes a lock that two events hold which conflict
+  lent_by : (a b l : ℕ) → IsConflicting r.events a b → IsSharedBefore r.events a b l → IsLent r.events l
+  lent_by a b l conflict both =
+      let one : conflict.v.thread ≡ both.0.0 = same_Some conflict.v.thread both.0.0 (sym (thread_here r.events a conflict.v conflict.first) ∙ both.0.1) in
+      let other : conflict.w.thread ≡ both.1.0 = same_Some conflict.w.thread both.1.0 (sym (thread_here r.events b conflict.w conflict.second) ∙ both.1.1) in
+      (both.0.0, both.1.0, λ same. conflict.clash.threads (one ∙ same ∙ sym other), taken_by a l both.0, taken_by b l both.1)
+
   -- no lock is shared, said of all locks that have a name
   pub shared_by_none : (a b : ℕ) → ((l : ℕ) → l < length r.locks → ¬ IsSharedBefore r.events a b l) ↔ (¬ IsGuarded r.events a b)
   shared_by_none a b = (
@@ -125,10 +139,11 @@ module _ (r : Recording) (formed : IsWellFormed r) (rules : IsDisciplined r.even
         in (
           (λ holds.
               let found = meeting_has mine.locks.items theirs.locks.items (sym is ∙ holds) in
-              (found.0, ((mine.held found.0).0 found.1, (theirs.held found.0).0 found.2))),
+              (found.0, (mine.held found.0 found.1, theirs.held found.0 found.2))),
           λ guarded.
               let both : IsSharedBefore r.events a b guarded.0 = guarded.1 in
-              is ∙ has_meeting mine.locks.items theirs.locks.items guarded.0 ((mine.held guarded.0).1 both.0) ((theirs.held guarded.0).1 both.1),
+              let lent = lent_by a b guarded.0 conflict both in
+              is ∙ has_meeting mine.locks.items theirs.locks.items guarded.0 (mine.lent guarded.0 both.0 lent) (theirs.lent guarded.0 both.1 lent),
         )
 
 All-flat_map : {X Y : Type 0} (P : Y → Type 0) (g : X → List Y) (xs : List X) → All (λ x. All P (g x)) xs → All P (flat_map g xs)

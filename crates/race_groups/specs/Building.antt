@@ -40,3 +40,19 @@ AreMembersBelow infos n members =
 -- the texts of a numbered set
 abbrev pub text_at : List (Vec ℕ Global) → ℕ → Option (List ℕ)
 text_at keys n = option_map (λ v. v.items) (slice_get keys n)
+
+-- each element of the second list stands in the first
+abbrev pub AreElements : List Class → List Class → Type 0
+AreElements infos made = (k : ℕ) (i : Class) → slice_get made k ≡ Some i → (c : ℕ) × (slice_get infos c ≡ Some i)
+
+-- the first n events have the same class by both
+abbrev pub AreAlike : List ℕ → List Class → List ℕ → List Class → ℕ → Type 0
+AreAlike numbers infos after made n =
+    (e : ℕ) → e < n → (i : Class) × (slice_get infos (slice_index numbers e) ≡ Some i) × (slice_get made (slice_index after e) ≡ Some i)
+
+-- All events have the same class by both, and no class is new.
+pub record IsRenumbered (numbers : List ℕ) (infos : List Class) (after : List ℕ) (made : List Class) : Type 0 where
+  pub len : length after ≡ length numbers
+  pub few : length made ≤ length infos
+  pub alike : AreAlike numbers infos after made (length numbers)
+  pub elements : AreElements infos made

@@ -1,10 +1,20 @@
 -- The locks that threads hold, as lists, and the lists that classes name. `T` is the events of a trace.
-use Rattle.std.specs.Prelude.{◌≡◌, ◌↔◌, ℕ, ◌==◌, true, List, take, count_by, Some, slice_get, Vec}
+use Rattle.std.specs.Prelude.{◌≡◌, ◌≢◌, ℕ, ◌==◌, true, List, take, count_by, Some, slice_get, Vec}
 use Rattle.std.specs.List.{list_any}
 use Rattle.std.specs.declared.alloc.Global.{Global}
 use Rattle.rapid_text.specs.declared.event.Event.{Event}
+use Rattle.rapid_text.specs.declared.event.Op.TheVariants.{Acquire}
+use Rattle.event_index.specs.Events.{op_at, thread_at}
 use Rattle.trace_rules.specs.Rules.{hold_count}
 use Rattle.must_order.specs.MustBefore.{IsHeldBefore}
+
+-- the thread takes the lock
+abbrev pub IsTakenBy : List Event → ℕ → ℕ → Type 0
+IsTakenBy T t l = (e : ℕ) × (thread_at T e ≡ Some t) × (op_at T e ≡ Some (Acquire l))
+
+-- more than one thread takes the lock
+abbrev pub IsLent : List Event → ℕ → Type 0
+IsLent T l = (t u : ℕ) × (t ≢ u) × IsTakenBy T t l × IsTakenBy T u l
 
 -- how often the lock stands in the list
 abbrev pub times : ℕ → List ℕ → ℕ
@@ -14,8 +24,10 @@ times l locks = count_by (λ k. k == l) locks
 abbrev pub AreHeld : List Event → ℕ → List (Vec ℕ Global) → Type 0
 AreHeld T n held = (t : ℕ) (v : Vec ℕ Global) (l : ℕ) → slice_get held t ≡ Some v → times l v.items ≡ hold_count (take n T) t l
 
--- List n is there, and has exactly the locks that event e's thread holds before it.
+-- List n is there. It has locks that event e's thread holds before it, and of those all that more than one thread takes: two threads can hold
+-- no other in common.
 pub record AreLocksOf (T : List Event) (lists : List (Vec ℕ Global)) (e n : ℕ) : Type 0 where
   pub locks : Vec ℕ Global
   pub at : slice_get lists n ≡ Some locks
-  pub held : (l : ℕ) → (list_any (λ k. k == l) locks.items ≡ true) ↔ IsHeldBefore T e l
+  pub held : (l : ℕ) → list_any (λ k. k == l) locks.items ≡ true → IsHeldBefore T e l
+  pub lent : (l : ℕ) → IsHeldBefore T e l → IsLent T l → list_any (λ k. k == l) locks.items ≡ true

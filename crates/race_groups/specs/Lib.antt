@@ -10,6 +10,7 @@ pub mod Kinds
 pub mod Ends
 pub mod Shared
 pub mod Holding
+pub mod Takers
 pub mod Building
 pub mod Counts
 pub mod Found

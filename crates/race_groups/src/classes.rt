@@ -4,9 +4,12 @@ ghost use Rattle.event_index.specs.Relations.{is_access};
 ghost use Rattle.race_groups.specs.Building.{AreNumbered, AreMembersBelow, IsGrown, text_at};
 ghost use Rattle.race_groups.specs.Classes.{AreClasses, AreLocks, AreMembers};
 ghost use Rattle.race_groups.specs.Holding.{AreHeld};
+ghost use Rattle.race_groups.specs.Takers.{AreTakers};
 
 use crate::class::Class;
+use crate::grouping::{Regrouped, grouped};
 use crate::holding::{begin, note, number_of};
+use crate::takers::{keep_lent, takers_of};
 use event_index::Indexed;
 use indexmap::IndexSet;
 use rapid_text::{Op, OutOfMemory};
@@ -36,17 +39,56 @@ impl Classes {
             (λ made. AreClasses indexed.now.events (slice_index places.now) made.numbers.items made.infos.items) }
         ensures few { IfOk result (λ made. length made.infos.items ≤ 1048576) }
         ensures members { IfOk result (λ made. AreMembers made.infos.items made.members.items) }
-        // The locks of a class are those that the threads of its accesses hold before them.
+        // The locks of a class are held by the threads of its accesses before them. None is left out that more than one thread takes.
         ensures locks { IfOk result (λ made. AreLocks indexed.now.events made.lists.keys made.numbers.items made.infos.items) }
     {
         let _len = indexed.len();
-        let numbering = numbering_of(alloc, indexed, places)?;
+        let takers = takers_of(alloc, indexed)?;
+        let numbering = numbering_of(alloc, indexed, places, takers.as_slice())?;
         let Numbering {
             numbers,
             infos,
             lists,
             ..
         } = numbering;
+        let members = members_of(alloc, indexed, infos.as_slice())?;
+        let made = grouped(
+            alloc,
+            numbers.as_slice(),
+            infos.as_slice(),
+            members.as_slice(),
+        )?;
+        match made {
+            Some(made) => made.with_members(alloc, indexed, places, lists),
+            None => Ok(Classes {
+                numbers,
+                infos,
+                members,
+                lists,
+            }),
+        }
+    }
+}
+
+impl Regrouped {
+    // The classes, with the members of each variable.
+    fn with_members(
+        self,
+        alloc: Global,
+        indexed: &Indexed,
+        _places: &[u32],
+        lists: IndexSet<Vec<u32>>,
+    ) -> Result<Classes, OutOfMemory>
+        requires numbered { AreNumbered indexed.now.events (slice_index _places.now) (length indexed.now.events)
+            self.numbers.items self.infos.items lists.keys }
+        ensures classes { IfOk result
+            (λ made. AreClasses indexed.now.events (slice_index _places.now) made.numbers.items made.infos.items) }
+        ensures few { IfOk result (λ made. length made.infos.items ≤ 1048576) }
+        ensures members { IfOk result (λ made. AreMembers made.infos.items made.members.items) }
+        ensures locks { IfOk result (λ made. AreLocks indexed.now.events made.lists.keys made.numbers.items made.infos.items) }
+    {
+        let _len = indexed.len();
+        let Regrouped { numbers, infos } = self;
         let members = members_of(alloc, indexed, infos.as_slice())?;
         Ok(Classes {
             numbers,
@@ -64,11 +106,19 @@ struct Numbering {
     numbers: Vec<u32>,
     infos: Vec<Class>,
     lists: IndexSet<Vec<u32>>,
+    // Those of the locks that a thread holds which more than one thread takes.
+    lent: Vec<u32>,
 }
 
 // The classes of all events.
-fn numbering_of(alloc: Global, indexed: &Indexed, places: &[u32]) -> Result<Numbering, OutOfMemory>
+fn numbering_of(
+    alloc: Global,
+    indexed: &Indexed,
+    places: &[u32],
+    takers: &[u32],
+) -> Result<Numbering, OutOfMemory>
     requires places { length places.now ≡ length indexed.now.events }
+    requires takers { AreTakers indexed.now.events (length indexed.now.threads) takers.now }
     ensures { IfOk result (λ made. AreNumbered indexed.now.events (slice_index places.now) (length indexed.now.events)
         made.numbers.items made.infos.items made.lists.keys) }
 {
@@ -77,10 +127,11 @@ fn numbering_of(alloc: Global, indexed: &Indexed, places: &[u32]) -> Result<Numb
         numbers: Vec::with_capacity(alloc, indexed.len() as usize)?,
         infos: Vec::new(alloc),
         lists: IndexSet::new(alloc),
+        lent: Vec::new(alloc),
     };
     let mut held = begin(alloc, indexed)?;
     for event in 0..indexed.len() {
-        numbering.add(alloc, indexed, places, held.as_slice(), event)?;
+        numbering.add(alloc, indexed, places, takers, held.as_slice(), event)?;
         note(&mut held, indexed, event)?;
     }
     Ok(numbering)
@@ -93,11 +144,13 @@ impl Numbering {
         alloc: Global,
         indexed: &Indexed,
         places: &[u32],
+        takers: &[u32],
         held: &[Vec<u32>],
         event: u32,
     ) -> Result<(), OutOfMemory>
         requires event { event < length indexed.now.events }
         requires places { length places.now ≡ length indexed.now.events }
+        requires takers { AreTakers indexed.now.events (length indexed.now.threads) takers.now }
         requires held { AreHeld indexed.now.events event held.now }
         requires len { length held.now ≡ length indexed.now.threads }
         requires numbered { AreNumbered indexed.now.events (slice_index places.now) event self.old.numbers.items self.old.infos.items self.old.lists.keys }
@@ -106,10 +159,11 @@ impl Numbering {
     {
         let found = indexed.event(event);
         let locks = held[found.thread as usize].as_slice();
+        keep_lent(&mut self.lent, locks, takers, indexed.threads())?;
         let class = Class {
             place: places[event as usize],
             op: found.op,
-            held: list_number(&mut self.lists, alloc, locks, found.op)?,
+            held: list_number(&mut self.lists, alloc, self.lent.as_slice(), found.op)?,
         };
         let number = class_number(&mut self.keys, &mut self.infos, class)?;
         self.numbers.push(number)?;
@@ -156,8 +210,8 @@ fn class_number(
     Ok(at)
 }
 
-// Whether the class stands at this place.
-fn is_at(infos: &[Class], at: usize, class: Class) -> bool
+/// Whether the class stands at this place.
+pub(crate) fn is_at(infos: &[Class], at: usize, class: Class) -> bool
     ensures within { result ≡ true → at < length infos.now }
     ensures found { result ≡ true → slice_get infos.now at ≡ Some class }
 {

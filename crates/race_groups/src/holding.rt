@@ -78,8 +78,8 @@ fn free(held: &mut Held, indexed: &Indexed, event: u32, found: Event, lock: u32)
     let_go(&mut held[found.thread as usize], lock);
 }
 
-// The lock that the operation takes, where it takes one.
-fn acquired(op: Op) -> Option<u32>
+/// The lock that the operation takes, where it takes one.
+pub(crate) fn acquired(op: Op) -> Option<u32>
     ensures some { IfSome result (λ l. op ≡ Acquire l) }
     ensures none { result ≡ None → (l : ℕ) → is_acquire l op ≡ false }
 {

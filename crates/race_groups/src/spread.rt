@@ -30,7 +30,21 @@ pub(crate) fn spread_of(
     for thread in 0..indexed.threads() {
         note_thread(&mut spread, indexed, numbers, thread)?;
     }
-    Ok(spread)
+    let made = packed(alloc, spread.as_slice())?;
+    Ok(made)
+}
+
+// The same, copied class by class, so that the entries of one class stand behind those of the class before it.
+fn packed(alloc: Global, spread: &[Vec<(u32, u32)>]) -> Result<Spread, OutOfMemory>
+    ensures len { IfOk result (λ made. length made.items ≡ length spread.now) }
+    ensures same { IfOk result (λ made. (c : ℕ) → entries_at made.items c ≡ entries_at spread.now c) }
+{
+    let mut made = Vec::with_capacity(alloc, spread.len())?;
+    for class in 0..spread.len() {
+        let entries = Vec::from_slice(alloc, spread[class].as_slice())?;
+        made.push(entries)?;
+    }
+    Ok(made)
 }
 
 // No events yet.
