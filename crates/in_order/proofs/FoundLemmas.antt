@@ -1,5 +1,5 @@
 -- What a search by counts finds.
-use Rattle.std.proofs.Common.{◌≡◌, ℕ, ◌<◌, ◌≤◌, List, length, get_or, Option, Some, None, sym, ap, ◌∙◌, arith, inl}
+use Rattle.std.proofs.Common.{◌≡◌, ℕ, ◌+◌, ◌<◌, ◌≤◌, List, length, get_or, Option, Some, None, sym, ap, ◌∙◌, arith, inl}
 use Rattle.std.proofs.lemmas.List.FromFn.{length-map-range_with_len}
 use Rattle.std.proofs.lemmas.Option.{slice_get-get_or}
 use Rattle.rapid_text.specs.Recording.{Recording, IsWellFormed}
@@ -9,12 +9,12 @@ use Rattle.event_index.specs.Lookups.{events_of}
 use Rattle.event_index.specs.Relations.{IsConflicting}
 use Rattle.event_index.proofs.CallerLemmas.{one_thread, place_of-events_of}
 use Rattle.shb_clocks.proofs.ReadLemmas.{thread_named}
-use Rattle.witness_search.specs.Greedy.{first_shown}
+use Rattle.witness_search.specs.Greedy.{after_steps, first_shown}
 use Rattle.witness_search.specs.Searches.{TellWanted, marked_events}
 use Rattle.witness_search.proofs.RisingLemmas.{rising-unique}
 use Rattle.witness_search.proofs.StepLemmas.{AreWanted-marked, Shows-does_show, first_shown-some}
 use Rattle.in_order.specs.Aims.{IsAimFor}
-use Rattle.in_order.specs.Counting.{counts, counted_events, marks_of, IsAt, IsTurnedOfSize, IsWantedRow}
+use Rattle.in_order.specs.Counting.{counts, counted_events, marks_of, IsAt, IsLeft, IsTurnedOfSize, IsWantedRow}
 use Rattle.in_order.specs.Laws.{IsBaseOf}
 use Rattle.in_order.specs.Layout.{IsListLength, IsNeededRow, IsThreadCount}
 use Rattle.in_order.specs.Orders.{IsTurned}
@@ -102,6 +102,15 @@ module _ (T : List Event) (rules : IsDisciplined T) (a b budget : ℕ) (conflict
         size = has;
       }
 
+  pub IsLeft-search : (left : ℕ) → length (after_steps T a b N S budget) + left ≡ length S + budget → IsLeft T a b budget left
+  IsLeft-search left is = record {
+    start = S;
+    are_needed = AreNeeded-events T rules start b low needs within;
+    wanted = N;
+    are_wanted = AreWanted-marked T rules a b (marks_of T wanted) TellWanted-row;
+    steps = is;
+  }
+
 -- the same, by what the search starts from
 module _ (r : Recording) (rules : IsDisciplined r.events) (a b budget : ℕ) (conflict : IsConflicting r.events a b) (low : b < length r.events) (aim : Aim) (is : IsAimFor r a b aim) where
   abbrev from : ℕ → ℕ
@@ -120,6 +129,14 @@ module _ (r : Recording) (rules : IsDisciplined r.events) (a b budget : ℕ) (co
 
   pub aim_none : answer None → IsTurned r.events a b budget None
   aim_none h = IsTurned-search r.events rules a b budget conflict low from to is.needs is.within is.wants None (told None h)
+
+  abbrev after : ℕ → ℕ → List ℕ
+  after x y = after_steps r.events x y (marked_events r.events (marks_of r.events to)) (counted_events r.events from) budget
+
+  pub aim_left : (left : ℕ) → length (after aim.first aim.second) + left ≡ length (counted_events r.events from) + budget → IsLeft r.events a b budget left
+  aim_left left h =
+      IsLeft-search r.events rules a b budget conflict low from to is.needs is.within is.wants left
+      (ap (λ x. length (after x b) + left) (sym is.first) ∙ ap (λ y. length (after aim.first y) + left) (sym is.second) ∙ h)
 
   module _ (well : IsWellFormed r) (row : List ℕ) (last : ℕ → Option (Option ℕ))
       (found : (P : List ℕ) × IsAt r.events from (λ t. get_or row t 0) last P × answer (Some P)) where

@@ -21,3 +21,4 @@ pub mod TakeLemmas
 pub mod TurnLemmas
 pub mod WantLemmas
 pub mod WriteLemmas
+pub mod LeftLemmas

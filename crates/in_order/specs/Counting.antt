@@ -11,10 +11,12 @@ use Rattle.must_order.specs.Layout.{IsCounted}
 use Rattle.schedule.specs.Refusals.{next_of}
 use Rattle.schedule.specs.Reordering.{IsCorrectReordering, StandsAfterFork, SeesItsWriter, FindsLockFree, JoinsEnded}
 use Rattle.witness_search.specs.Layout.{kept}
-use Rattle.witness_search.specs.Wanted.{IsWanted}
+use Rattle.witness_search.specs.Greedy.{after_steps}
+use Rattle.witness_search.specs.Wanted.{AreWanted, IsWanted}
 use Rattle.in_order.specs.Acquires.{IsTaken}
-use Rattle.in_order.specs.InOrder.{IsBaseOfPair}
+use Rattle.in_order.specs.InOrder.{AreNeeded, IsBaseOfPair}
 use Rattle.in_order.specs.Joining.{IsDownClosed}
+use Rattle.in_order.specs.Laws.{IsBaseOf}
 use Rattle.in_order.specs.Layout.{IsListLength}
 use Rattle.in_order.specs.Orders.{IsTurned}
 use Rattle.in_order.specs.Sizes.{HasSize}
@@ -105,6 +107,15 @@ pub record IsTurnedOfSize (T : List Event) (a b budget : ℕ) (told : ℕ × ℕ
   pub reordering : IsCorrectReordering T list
   pub shows : Shows T list a b
   pub size : HasSize T list told.0 told.1
+
+-- Of so many steps so many are left when the search from the least list after which b is ready can take no more: by those that it takes, the list
+-- grows by an event each.
+pub record IsLeft (T : List Event) (a b budget left : ℕ) : Type 0 where
+  pub start : List ℕ
+  pub are_needed : AreNeeded T (IsBaseOf T b) start
+  pub wanted : List ℕ
+  pub are_wanted : AreWanted T a b wanted
+  pub steps : length (after_steps T a b wanted start budget) + left ≡ length start + budget
 
 -- what event e does may be done after P
 pub record IsFree (T : List Event) (P : List ℕ) (e : ℕ) : Type 0 where

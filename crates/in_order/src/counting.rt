@@ -7,7 +7,7 @@ ghost use Rattle.event_index.specs.Lookups.{events_of};
 ghost use Rattle.event_index.specs.Relations.{IsConflicting};
 ghost use Rattle.schedule.specs.Refusals.{refusal_of};
 ghost use Rattle.schedule.specs.Shows.{does_show};
-ghost use Rattle.witness_search.specs.Greedy.{next_step, first_shown};
+ghost use Rattle.witness_search.specs.Greedy.{after_steps, next_step, first_shown};
 ghost use Rattle.witness_search.specs.Searches.{IsStepOf, lesser, marked_events};
 ghost use Rattle.in_order.specs.Counting.{IsAt, IsNoted, IsUp, counted_events, marks_of};
 
@@ -19,13 +19,14 @@ use event_index::Indexed;
 use rapid_text::OutOfMemory;
 use std::collections::HashMap;
 
-/// Takes steps until the pair is shown, or there is none to take. Answers whether it is shown.
+/// Takes steps until the pair is shown, or there is none to take; no more than are left. Answers whether it is shown; where it is not,
+/// as many fewer are left as were taken.
 pub(crate) fn search(
     reached: &mut Reached,
     indexed: &Indexed,
     acquires: &Acquires,
     aim: &Aim,
-    budget: u32,
+    left: &mut u32,
 ) -> Result<bool, OutOfMemory>
     requires acquires { acquires.now ≡ indexed.now }
     requires conflict { IsConflicting indexed.now.events aim.now.first aim.now.second }
@@ -43,13 +44,20 @@ pub(crate) fn search(
         (λ t. slice_index reached.new.row.items t) (get nat_eq reached.new.last) P
         × (first_shown indexed.now.events aim.now.first aim.now.second
         (marked_events indexed.now.events (marks_of indexed.now.events (λ t. slice_index aim.now.wanted.items t)))
-        (counted_events indexed.now.events (λ t. slice_index aim.now.start.items t)) budget ≡ Some P) }
+        (counted_events indexed.now.events (λ t. slice_index aim.now.start.items t)) left.old ≡ Some P) }
     ensures none { result ≡ Ok false
         → first_shown indexed.now.events aim.now.first aim.now.second
         (marked_events indexed.now.events (marks_of indexed.now.events (λ t. slice_index aim.now.wanted.items t)))
-        (counted_events indexed.now.events (λ t. slice_index aim.now.start.items t)) budget ≡ None }
+        (counted_events indexed.now.events (λ t. slice_index aim.now.start.items t)) left.old ≡ None }
+    ensures left { result ≡ Ok false
+        → length (after_steps indexed.now.events aim.now.first aim.now.second
+        (marked_events indexed.now.events (marks_of indexed.now.events (λ t. slice_index aim.now.wanted.items t)))
+        (counted_events indexed.now.events (λ t. slice_index aim.now.start.items t)) left.old) + left.new
+        ≡ length (counted_events indexed.now.events (λ t. slice_index aim.now.start.items t)) + left.old }
+    ensures fewer { left.new ≤ left.old }
 {
-    for _step in 0..budget {
+    let budget = *left;
+    for step in 0..budget {
         if is_shown(indexed, aim, reached.row.as_slice()) {
             return Ok(true);
         }
@@ -61,10 +69,12 @@ pub(crate) fn search(
             reached.row.as_slice(),
         )?;
         let Some(event) = next_step(indexed, acquires, aim, reached) else {
+            *left = budget - step;
             return Ok(false);
         };
         take_step(reached, indexed, event)?;
     }
+    *left = 0;
     Ok(is_shown(indexed, aim, reached.row.as_slice()))
 }
 

@@ -1,11 +1,11 @@
 //! A search beyond the order of the trace.
-ghost use Rattle.std.specs.Prelude.{◌≡◌, ◌<◌, ◌↔◌, length, nat_eq, slice_index, IsTrue, IfOk, IfSome, None, true};
+ghost use Rattle.std.specs.Prelude.{◌≡◌, ◌<◌, ◌≤◌, ◌↔◌, length, nat_eq, slice_index, IsTrue, IfOk, IfSome, None, true};
 ghost use Rattle.std.specs.HashMap.{get};
 ghost use Rattle.event_index.specs.Relations.{IsConflicting};
 ghost use Rattle.schedule.specs.Reordering.{IsCorrectReordering};
 ghost use Rattle.schedule.specs.Shows.{IsReady, Shows};
 ghost use Rattle.trace_rules.specs.Rules.{IsDisciplined};
-ghost use Rattle.in_order.specs.Counting.{IsAt, IsTurnedOfSize, counted_events};
+ghost use Rattle.in_order.specs.Counting.{IsAt, IsLeft, IsTurnedOfSize, counted_events};
 ghost use Rattle.in_order.specs.Aims.{IsAimFor};
 ghost use Rattle.in_order.specs.InOrder.{AreNeeded};
 ghost use Rattle.in_order.specs.Laws.{IsBaseOf};
@@ -52,21 +52,24 @@ pub fn turned(
     Ok(found)
 }
 
-/// Looks for such a schedule, and makes none: how many events it has, and of how many threads. It costs steps
-/// by threads, by acquires and by the events that it takes.
+/// Looks for such a schedule by no more steps than are left, and makes none: how many events it has, and of how many threads. Where none is
+/// found, as many fewer steps are left as were taken. It costs steps by threads, by acquires and by the events that it takes.
 pub fn turned_size(
     alloc: Global,
     indexed: &Indexed,
     must: &Must,
     acquires: &Acquires,
     pair: (u32, u32),
-    budget: u32,
+    left: &mut u32,
 ) -> Result<Option<(u32, u32)>, OutOfMemory>
     requires must { must.now ≡ indexed.now }
     requires acquires { acquires.now ≡ indexed.now }
     ensures size { IfOk result
-        (λ found. IfSome found (IsTurnedOfSize indexed.now.events pair.0 pair.1 budget)) }
-    ensures none { IfOk result (λ found. found ≡ None → IsTurned indexed.now.events pair.0 pair.1 budget None) }
+        (λ found. IfSome found (IsTurnedOfSize indexed.now.events pair.0 pair.1 left.old)) }
+    ensures none { IfOk result (λ found. found ≡ None → IsTurned indexed.now.events pair.0 pair.1 left.old None) }
+    ensures left { IfOk result (λ found. found ≡ None → IsConflicting indexed.now.events pair.0 pair.1
+        → IsLeft indexed.now.events pair.0 pair.1 left.old left.new) }
+    ensures fewer { left.new ≤ left.old }
 {
     if !are_conflicting(indexed, pair.0, pair.1) {
         return Ok(None);
@@ -74,7 +77,7 @@ pub fn turned_size(
     let _len = indexed.len();
     let aim = aim_for(alloc, indexed, must, acquires, pair)?;
     let mut reached = reached_from(alloc, indexed, &aim)?;
-    if !search(&mut reached, indexed, acquires, &aim, budget)? {
+    if !search(&mut reached, indexed, acquires, &aim, left)? {
         return Ok(None);
     }
     Ok(Some((

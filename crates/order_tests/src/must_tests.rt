@@ -103,8 +103,9 @@ fn is_turned_sized(
 ) -> Option<bool>
     requires { must.now ≡ indexed.now }
 {
+    let mut left = 9;
     match Acquires::new(alloc, indexed) {
-        Ok(acquires) => match turned_size(alloc, indexed, must, &acquires, pair, 9) {
+        Ok(acquires) => match turned_size(alloc, indexed, must, &acquires, pair, &mut left) {
             Ok(size) => Some(size == Some(wanted)),
             Err(_) => None,
         },

@@ -7,6 +7,7 @@ mod KnownLemmas
 mod ListLemmas
 pub mod NumberLemmas
 mod OnceLemmas
+mod BudgetLemmas
 mod OneLemmas
 mod OpenLemmas
 mod OutcomeLemmas

@@ -1,8 +1,9 @@
 -- A right verdict on two places is one, whichever call finds it.
-use Rattle.std.proofs.Common.{◌≡◌, ◌≢◌, ℕ, ◌+◌, ◌<◌, ◌≤◌, ◌==◌, ◌⊎◌, ◌↔◌, max, Bool, true, false, cond, IsTrue, List, [], ◌∷◌, ◌++◌, All, AllPairs, Any, Contains, length, take, filter, count_by, get_or, Option, Some, None, refl, sym, ap, ◌∙◌, subst, arith, inl, inr}
+use Rattle.std.proofs.Common.{◌≡◌, ◌≢◌, ℕ, zero, suc, ◌+◌, ◌<◌, ◌≤◌, ◌==◌, ◌⊎◌, ◌↔◌, max, Bool, true, false, cond, IsTrue, List, [], ◌∷◌, ◌++◌, All, AllPairs, Any, Contains, length, take, filter, count_by, get_or, Option, Some, None, refl, sym, ap, ◌∙◌, subst, arith, inl, inr}
+use Rattle.std.specs.Prelude.{option_map, find}
 use Rattle.std.specs.List.{slice_get}
-use Rattle.std.proofs.lemmas.Bool.{cases_Bool, cases_order, eqb-true, or_cases, true≢false}
-use Rattle.std.proofs.lemmas.List.{get_or-take, get_or_default, length-take}
+use Rattle.std.proofs.lemmas.Bool.{cases_Bool, cases_lt, cases_order, eqb-true, or_cases, true≢false}
+use Rattle.std.proofs.lemmas.List.{get_or-take, get_or_default, length-take, take_all}
 use Rattle.std.proofs.lemmas.List.Kept.{AllPairs-cons}
 use Rattle.std.proofs.lemmas.List.Elements.{All-contains, All-cons, All-get_or, All-head, All-nil, All-tail, All-weaker}
 use Rattle.std.proofs.lemmas.List.Sums.{sum_by-cons}
@@ -12,11 +13,15 @@ use Rattle.rapid_text.specs.declared.event.Event.{Event}
 use Rattle.rapid_text.specs.declared.event.Op.{Op}
 use Rattle.rapid_text.specs.declared.event.Op.TheVariants.{Read, Write, Acquire, Release, Fork, Join}
 use Rattle.event_index.specs.Events.{passes_by, thread_at}
+use Rattle.event_index.specs.Least.{IsLeastOf as IsLeastNumber}
 use Rattle.event_index.specs.Lookups.{before}
+use Rattle.event_index.proofs.CallerLemmas.{find_cases, find-least}
 use Rattle.event_index.specs.Relations.{is_access}
-use Rattle.witness_search.specs.Greedy.{IsGreedyAnswer}
+use Rattle.schedule.specs.Shows.{does_show}
+use Rattle.witness_search.specs.Greedy.{after_steps, first_shown, IsGreedyAnswer}
 use Rattle.witness_search.proofs.CallerLemmas.{IsGreedyAnswer-unique}
 use Rattle.witness_search.proofs.RisingLemmas.{rising-unique}
+use Rattle.in_order.specs.Counting.{IsLeft}
 use Rattle.in_order.specs.InOrder.{AreNeeded, IsInOrder}
 use Rattle.in_order.specs.Orders.{IsTurned}
 use Rattle.in_order.specs.Refusals.{IsNeverShownInOrder}
@@ -39,36 +44,13 @@ use Rattle.least_notes.specs.declared.tries.Try.{Try}
 use Rattle.least_pairs.specs.Pairs.{AreFirstTries, HasPair, IsFit, IsLeastPair, IsOf, IsOpenOf, is_access_at}
 use Rattle.least_pairs.specs.declared.wanted.Wanted.{Wanted}
 use Rattle.least_pairs.specs.declared.wanted.Wanted.TheVariants.{Candidate as CandidatePair, Open as OpenPair, Any as AnyPair}
-use Rattle.race_triage.specs.Verdicts.{AreNotFound, AreTriedInVain, HasOpen, IsFirstFound, IsFirstOfTried, IsNotFound, IsOutcome, IsOutcomeFor, IsPairApart, IsPairFor, IsShownBy, IsVerdict}
+use Rattle.race_triage.specs.Verdicts.{AreMissed, AreTriedInVain, HasOpen, IsFirstFound, IsFirstOfTried, IsFoundBy, IsMissed, IsOutcome, IsOutcomeFor, IsPairApart, IsPairFor, IsShownBy, IsVerdict}
 use Rattle.race_triage.specs.declared.verdicts.Outcome.{Outcome}
 use Rattle.race_triage.specs.declared.verdicts.Outcome.TheVariants.{Race, Undecided, Apart}
 use Rattle.race_triage.specs.declared.verdicts.Verdict.{Verdict}
+use Rattle.race_triage.proofs.BudgetLemmas.{IsBudget-unique, IsCountOf-unique, counts_same, row_of}
 use Rattle.race_triage.proofs.ListLemmas.{one_rising, some_or_all, stands_behind, first_or_behind}
 use Rattle.race_triage.proofs.OnceLemmas.{distinct-le, stands_here}
-
--- two counts of one property are one
-same_tests : {X : Type 0} (P : X → Type 0) (f g : X → Bool) (xs : List X) → All (λ (x : X). IsTrue (f x) ↔ P x) xs → All (λ (x : X). IsTrue (g x) ↔ P x) xs → count_by f xs ≡ count_by g xs
-same_tests P f g [] one other = refl
-same_tests P f g (x ∷ xs) one other =
-    let rest = same_tests P f g xs (All-tail (λ y. IsTrue (f y) ↔ P y) x xs one) (All-tail (λ y. IsTrue (g y) ↔ P y) x xs other) in
-    let a = All-head (λ y. IsTrue (f y) ↔ P y) x xs one in
-    let b = All-head (λ y. IsTrue (g y) ↔ P y) x xs other in
-    let here : f x ≡ g x =
-    elim (cases_Bool (f x)) [
-      | inl is ↦ is ∙ sym (b.1 (a.0 is))
-      | inr not_so ↦ elim (cases_Bool (g x)) [
-        | inl is ↦ absurd (true≢false (sym (a.1 (b.0 is)) ∙ not_so))
-        | inr also ↦ not_so ∙ sym also
-      ]
-    ]
-    in
-    let c1 = sum_by-cons (λ y. cond (f y) 1 0) x xs in
-    let c2 = sum_by-cons (λ y. cond (g y) 1 0) x xs in
-    let same : ◌≡◌ {A = ℕ} (cond (f x) 1 0) (cond (g x) 1 0) = ap (λ (t : Bool). cond t 1 0) here in
-    omega (arith, rest, c1, c2, same)
-
-pub IsCountOf-unique : {X : Type 0} (P : X → Type 0) (xs : List X) (n m : ℕ) → IsCountOf P xs n → IsCountOf P xs m → n ≡ m
-IsCountOf-unique P xs n m one other = one.count ∙ same_tests P one.test other.test xs one.tells other.tells ∙ sym other.count
 
 pair_same : (p q : ℕ × ℕ) → p.0 ≡ q.0 → p.1 ≡ q.1 → p ≡ q
 pair_same p q one other = ap (λ x. (x, p.1)) one ∙ ap (λ y. (q.0, y)) other
@@ -99,6 +81,27 @@ not_both_ways p q ahead up = elim (up_or_same q p up) [
   | inr back ↦ ahead_apart p q ahead back
 ]
 
+-- the first list that shows the pair is the first of more lists, too
+module _ (T : List Event) (a b : ℕ) (N P : List ℕ) (budget more : ℕ) (Q : List ℕ) (le : budget ≤ more) where
+  abbrev shown : ℕ → Bool
+  shown j = does_show T (after_steps T a b N P j) a b
+
+  found_among : (o : Option ℕ) → IsLeastNumber (λ e. (e < budget + 1) × (shown e ≡ true)) o → option_map (after_steps T a b N P) o ≡ Some Q → find shown (before (more + 1)) ≡ o
+  found_among None least none = cc none
+  found_among (Some j) least some =
+      find-least shown (more + 1) (Some j) (
+        (omega (arith, least.0.0, le), least.0.1),
+        λ e h. elim (cases_lt e j) [
+          | inl early ↦ let up = least.1 e (omega (arith, early, least.0.0), h.1) in absurd (omega (arith, early, up))
+          | inr late ↦ late
+        ],
+      )
+
+  pub first_shown-more : first_shown T a b N P budget ≡ Some Q → first_shown T a b N P more ≡ Some Q
+  first_shown-more is =
+      let found : Option ℕ = find shown (before (budget + 1)) in
+      ap (option_map (after_steps T a b N P)) (found_among found (find_cases shown (budget + 1) found refl) is) ∙ is
+
 -- a list that is found is one
 module _ (T : List Event) where
   pub AreNeeded-unique : (start : ℕ → Type 0) (P Q : List ℕ) → AreNeeded T start P → AreNeeded T start Q → P ≡ Q
@@ -122,6 +125,33 @@ module _ (T : List Event) where
     IsTurned-unique budget f g (inr one) (inl other) = absurd (one.0 other.0)
     IsTurned-unique budget f g (inr one) (inr other) = one.1 ∙ sym other.1
 
+    -- what is found by fewer steps is found by more
+    pub IsTurned-more : (budget more : ℕ) (P : List ℕ) → IsTurned T a b budget (Some P) → budget ≤ more → IsTurned T a b more (Some P)
+    IsTurned-more budget more P (inl (conflict, S, from)) le =
+        let answer = from.answer in
+        inl (
+          conflict,
+          S,
+          record {
+            start = from.start;
+            ready = from.ready;
+            answer = record { wanted = answer.wanted; are_wanted = answer.are_wanted; is = sym (first_shown-more T a b answer.wanted S budget more P le (sym answer.is)) };
+          },
+        )
+    IsTurned-more budget more P (inr one) le = cc one.1
+
+    IsLeft-unique : (budget m n : ℕ) → IsLeft T a b budget m → IsLeft T a b budget n → m ≡ n
+    IsLeft-unique budget m n one other =
+        let start : one.start ≡ other.start = AreNeeded-unique _ one.start other.start one.are_needed other.are_needed in
+        let wanted : one.wanted ≡ other.wanted =
+        rising-unique one.wanted other.wanted one.are_wanted.rising other.are_wanted.rising (λ e has. (other.are_wanted.members e).1 ((one.are_wanted.members e).0 has))
+        (λ e has. (one.are_wanted.members e).1 ((other.are_wanted.members e).0 has))
+        in
+        let long : length (after_steps T a b one.wanted one.start budget) ≡ length (after_steps T a b other.wanted other.start budget) =
+        ap (λ (N : List ℕ). length (after_steps T a b N one.start budget)) wanted ∙ ap (λ (S : List ℕ). length (after_steps T a b other.wanted S budget)) start in
+        let size : length one.start ≡ length other.start = ap (λ (S : List ℕ). length S) start in
+        omega (arith, one.steps, other.steps, long, size)
+
     pub IsFoundAs-unique : (how : How) (P Q : List ℕ) → IsFoundAs T a b how P → IsFoundAs T a b how Q → P ≡ Q
     IsFoundAs-unique Candidate P Q one other = AreNeeded-unique _ P Q one other
     IsFoundAs-unique Beyond P Q one other = AreNeeded-unique _ P Q one other
@@ -132,12 +162,51 @@ module _ (T : List Event) where
         let same = IsFoundAs-unique how one.schedule other.schedule one.found other.found in
         HasSize-unique other.schedule n k m l (subst (λ (P : List ℕ). HasSize T P n k) same one.size) other.size
 
-    -- what was found was not missed
-    found_beyond : IsShownInOrder T a b → ¬ IsNotFound T a b
-    found_beyond shown missed = missed.0 shown.0 shown.1.0 shown.1.1 shown.1.2
+    -- what is found is not missed
+    pub found_not_missed : (budget left : ℕ) → IsFoundBy T a b budget → IsMissed T a b budget left → ⊥
+    found_not_missed budget left (inl shown) missed = missed.0 shown.0 shown.1.0 shown.1.1 shown.1.2
+    found_not_missed budget left (inr (P, found)) missed = cc (IsTurned-unique budget (Some P) None found missed.1)
 
-    found_turned : (n k : ℕ) → IsShownBy T a b Turned n k → ¬ IsNotFound T a b
-    found_turned n k shown missed = cc (IsTurned-unique BUDGET (Some shown.schedule) None shown.found missed.1)
+  -- what is left of a budget is one
+  pub AreMissed-unique : (ts : List Try) (budget m n : ℕ) → AreMissed T budget ts m → AreMissed T budget ts n → m ≡ n
+  AreMissed-unique [] budget m n one other = one ∙ sym other
+  AreMissed-unique (t ∷ ts) budget m n (k, (never, turned, left), rest) (l, (shown, also, more), behind) =
+      let same : k ≡ l = IsLeft-unique t.pair.1 t.pair.0 budget k l left more in
+      AreMissed-unique ts l m n (subst (λ j. AreMissed T j ts m) same rest) behind
+
+  -- one more that is missed
+  pub AreMissed-more : (ts : List Try) (t : Try) (budget m n : ℕ) → AreMissed T budget ts m → IsMissed T t.pair.1 t.pair.0 m n → AreMissed T budget (ts ++ t ∷ []) n
+  AreMissed-more [] t budget m n is missed = (n, subst (λ k. IsMissed T t.pair.1 t.pair.0 k n) is missed, refl)
+  AreMissed-more (u ∷ ts) t budget m n (k, one, rest) missed = (k, one, AreMissed-more ts t k m n rest missed)
+
+  -- each of them is
+  missed_at : (tried : List Try) (k at : ℕ) (t : Try) (budget left : ℕ) → AreMissed T budget (take k tried) left → at < k → slice_get tried at ≡ Some t
+      → (m n : ℕ) × AreMissed T budget (take at tried) m × IsMissed T t.pair.1 t.pair.0 m n
+  missed_at [] k at t budget left missed lt is = cc is
+  missed_at (u ∷ us) zero at t budget left missed lt is = absurd (omega (arith, lt))
+  missed_at (u ∷ us) (suc k) zero t budget left (m, one, rest) lt is =
+      (budget, m, refl, subst (λ (x : Try). IsMissed T x.pair.1 x.pair.0 budget m) (same_Some u t is) one)
+  missed_at (u ∷ us) (suc k) (suc at) t budget left (m, one, rest) lt is =
+      let (i, j, before, missed) = missed_at us k at t m left rest (omega (arith, lt)) is in
+      (i, j, (m, one, before), missed)
+
+  -- one of two that were found first does not stand before the other
+  pub found_before : (budget : ℕ) (tried : List Try) (p q : ℕ × ℕ) (mine : IsFirstFound T budget tried p) (its : IsFirstFound T budget tried q) → mine.at < its.at → ⊥
+  found_before budget tried p q mine its lt =
+      let (m, n, before, missed) = missed_at tried its.at mine.at mine.one budget its.left its.earlier lt mine.one_is in
+      let same : m ≡ mine.left = AreMissed-unique (take mine.at tried) budget m mine.left before mine.earlier in
+      let here : IsMissed T p.1 p.0 m n = subst (λ (x : ℕ × ℕ). IsMissed T x.1 x.0 m n) mine.told missed in
+      found_not_missed p.1 p.0 mine.left n mine.found (subst (λ k. IsMissed T p.1 p.0 k n) same here)
+
+  -- nor does one stand among those that were missed
+  pub found_or_missed : (budget : ℕ) (tried : List Try) (p : ℕ × ℕ) (mine : IsFirstFound T budget tried p) (left : ℕ) → AreMissed T budget tried left → ⊥
+  found_or_missed budget tried p mine left all =
+      let lt = slice_get_within tried mine.at mine.one mine.one_is in
+      let whole : AreMissed T budget (take (length tried) tried) left = subst (λ (ts : List Try). AreMissed T budget ts left) (sym (take_all (length tried) tried (omega arith))) all in
+      let (m, n, before, missed) = missed_at tried (length tried) mine.at mine.one budget left whole lt mine.one_is in
+      let same : m ≡ mine.left = AreMissed-unique (take mine.at tried) budget m mine.left before mine.earlier in
+      let here : IsMissed T p.1 p.0 m n = subst (λ (x : ℕ × ℕ). IsMissed T x.1 x.0 m n) mine.told missed in
+      found_not_missed p.1 p.0 mine.left n mine.found (subst (λ k. IsMissed T p.1 p.0 k n) same here)
 
 -- the variable of an access
 variable_same : (x y : ℕ) (op : Op) → is_access x op ≡ true → is_access y op ≡ true → x ≡ y
@@ -284,37 +353,28 @@ module _ (r : Recording) (place : ℕ → ℕ) (tries : ℕ) (apart : Bool) (pla
   apart_same true p q one other = least_same AnyPair p q one other
   apart_same false p q one other = one ∙ sym other
 
-  abbrev IsMissed : ℕ × ℕ → Type 0
-  IsMissed p = IsNotFound T p.1 p.0
-
-  missed_at : (tried : List Try) (k at : ℕ) (t : Try) → AreNotFound T (take k tried) → at < k → slice_get tried at ≡ Some t → IsMissed t.pair
-  missed_at tried k at t missed lt is =
-      let within = slice_get_within tried at t is in
-      let size = length-take k tried in
-      let here : get_or (take k tried) at t ≡ t = get_or-take k tried at t lt ∙ get_or_from_slice_get tried at t t is in
-      subst (λ (u : Try). IsMissed u.pair) here (All-get_or (λ (u : Try). IsMissed u.pair) (take k tried) at t (omega (arith, within, size, lt)) missed)
-
-  first_same : (p q : ℕ × ℕ) → ¬ IsMissed p → ¬ IsMissed q → IsFirstOfTried r place tries places p → IsFirstOfTried r place tries places q → p ≡ q
-  first_same p q found also one other =
+  first_same : (p q : ℕ × ℕ) → IsFirstOfTried r place tries places p → IsFirstOfTried r place tries places q → p ≡ q
+  first_same p q one other =
       let tried : one.tried ≡ other.tried = AreFirstTries-unique r place places tries one.tried other.tried one.first other.first in
-      let mine : IsFirstFound T other.tried p = subst (λ (ts : List Try). IsFirstFound T ts p) tried one.found in
-      let its : IsFirstFound T other.tried q = other.found in
+      let budget : one.budget ≡ other.budget = IsBudget-unique r place one.budget other.budget one.shared other.shared in
+      let mine : IsFirstFound T other.budget other.tried p =
+      subst (λ (n : ℕ). IsFirstFound T n other.tried p) budget (subst (λ (ts : List Try). IsFirstFound T one.budget ts p) tried one.found) in
+      let its : IsFirstFound T other.budget other.tried q = other.found in
       elim (cases_order mine.at its.at) [
         | inl same ↦
             let one_try : mine.one ≡ its.one = same_Some mine.one its.one (sym mine.one_is ∙ ap (slice_get other.tried) same ∙ its.one_is) in
             sym mine.told ∙ ap (λ (t : Try). t.pair) one_try ∙ its.told
-        | inr (inl lt) ↦ absurd (found (subst IsMissed mine.told (missed_at other.tried its.at mine.at mine.one its.earlier lt mine.one_is)))
-        | inr (inr gt) ↦ absurd (also (subst IsMissed its.told (missed_at other.tried mine.at its.at its.one mine.earlier gt its.one_is)))
+        | inr (inl lt) ↦ absurd (found_before T other.budget other.tried p q mine its lt)
+        | inr (inr gt) ↦ absurd (found_before T other.budget other.tried q p its mine gt)
       ]
 
-  not_vain : (p : ℕ × ℕ) (count : ℕ) → ¬ IsMissed p → IsFirstOfTried r place tries places p → AreTriedInVain r place tries places count → ⊥
-  not_vain p count found one other =
+  not_vain : (p : ℕ × ℕ) (count : ℕ) → IsFirstOfTried r place tries places p → AreTriedInVain r place tries places count → ⊥
+  not_vain p count one other =
       let tried : one.tried ≡ other.tried = AreFirstTries-unique r place places tries one.tried other.tried one.first other.first in
-      let mine : IsFirstFound T other.tried p = subst (λ (ts : List Try). IsFirstFound T ts p) tried one.found in
-      let missed : AreNotFound T other.tried = other.none in
-      let here = All-contains (λ (t : Try). IsMissed t.pair) other.tried mine.one missed
-      (mine.at, slice_get_within other.tried mine.at mine.one mine.one_is, get_or_from_slice_get other.tried mine.at mine.one mine.one mine.one_is) in
-      found (subst IsMissed mine.told here)
+      let budget : one.budget ≡ other.budget = IsBudget-unique r place one.budget other.budget one.shared other.shared in
+      let mine : IsFirstFound T other.budget other.tried p =
+      subst (λ (n : ℕ). IsFirstFound T n other.tried p) budget (subst (λ (ts : List Try). IsFirstFound T one.budget ts p) tried one.found) in
+      found_or_missed T other.budget other.tried p mine other.left other.none
 
   vain_same : (n m : ℕ) → AreTriedInVain r place tries places n → AreTriedInVain r place tries places m → n ≡ m
   vain_same n m one other =
@@ -324,12 +384,6 @@ module _ (r : Recording) (place : ℕ → ℕ) (tries : ℕ) (apart : Bool) (pla
   race_same how n k m l p q same one other =
       let sizes = sizes_same T p.1 p.0 how n k m l one (subst (λ (x : ℕ × ℕ). IsShownBy T x.1 x.0 how m l) (sym same) other) in
       ap (λ x. Race how x k) sizes.0 ∙ ap (λ y. Race how m y) sizes.1
-
-  beyond_found : (p : ℕ × ℕ) → IsShownAs r p.1 p.0 Beyond → ¬ IsMissed p
-  beyond_found p shown = found_beyond T p.1 p.0 shown.1
-
-  turned_found : (p : ℕ × ℕ) (n k : ℕ) → IsShownBy T p.1 p.0 Turned n k → ¬ IsMissed p
-  turned_found p n k shown = found_turned T p.1 p.0 n k shown
 
   -- what no list in order shows is not shown by one
   beyond_or_turned : (p q : ℕ × ℕ) → p ≡ q → IsShownAs r p.1 p.0 Beyond → IsShownAs r q.1 q.0 Turned → ⊥
@@ -359,25 +413,25 @@ module _ (r : Recording) (place : ℕ → ℕ) (tries : ℕ) (apart : Bool) (pla
   outcome_same p q (Race Candidate n k) Apart one other = absurd (omega (arith, one.1, other.1.0))
   outcome_same p q (Race Beyond n k) (Race Candidate m l) one other = absurd (some_or_none other.1 one.1)
   outcome_same p q (Race Beyond n k) (Race Beyond m l) one other =
-      let same = first_same p q (beyond_found p one.0.1) (beyond_found q other.0.1) one.2 other.2 in
+      let same = first_same p q one.2 other.2 in
       (same, race_same Beyond n k m l p q same one.0.0 other.0.0)
   outcome_same p q (Race Beyond n k) (Race Turned m l) one other =
-      let same = first_same p q (beyond_found p one.0.1) (turned_found q m l other.0.0) one.2 other.2 in
+      let same = first_same p q one.2 other.2 in
       absurd (beyond_or_turned p q same one.0.1 other.0.1)
-  outcome_same p q (Race Beyond n k) (Undecided m) one other = absurd (not_vain p m (beyond_found p one.0.1) one.2 other.2.1)
+  outcome_same p q (Race Beyond n k) (Undecided m) one other = absurd (not_vain p m one.2 other.2.1)
   outcome_same p q (Race Beyond n k) Apart one other = absurd (open_or_none one.1 other.1)
   outcome_same p q (Race Turned n k) (Race Candidate m l) one other = absurd (some_or_none other.1 one.1)
   outcome_same p q (Race Turned n k) (Race Beyond m l) one other =
-      let same = first_same p q (turned_found p n k one.0.0) (beyond_found q other.0.1) one.2 other.2 in
+      let same = first_same p q one.2 other.2 in
       absurd (beyond_or_turned q p (sym same) other.0.1 one.0.1)
   outcome_same p q (Race Turned n k) (Race Turned m l) one other =
-      let same = first_same p q (turned_found p n k one.0.0) (turned_found q m l other.0.0) one.2 other.2 in
+      let same = first_same p q one.2 other.2 in
       (same, race_same Turned n k m l p q same one.0.0 other.0.0)
-  outcome_same p q (Race Turned n k) (Undecided m) one other = absurd (not_vain p m (turned_found p n k one.0.0) one.2 other.2.1)
+  outcome_same p q (Race Turned n k) (Undecided m) one other = absurd (not_vain p m one.2 other.2.1)
   outcome_same p q (Race Turned n k) Apart one other = absurd (open_or_none one.1 other.1)
   outcome_same p q (Undecided n) (Race Candidate m l) one other = absurd (some_or_none other.1 one.1)
-  outcome_same p q (Undecided n) (Race Beyond m l) one other = absurd (not_vain q n (beyond_found q other.0.1) other.2 one.2.1)
-  outcome_same p q (Undecided n) (Race Turned m l) one other = absurd (not_vain q n (turned_found q m l other.0.0) other.2 one.2.1)
+  outcome_same p q (Undecided n) (Race Beyond m l) one other = absurd (not_vain q n other.2 one.2.1)
+  outcome_same p q (Undecided n) (Race Turned m l) one other = absurd (not_vain q n other.2 one.2.1)
   outcome_same p q (Undecided n) (Undecided m) one other = (least_same OpenPair p q one.2.0 other.2.0, ap (λ x. Undecided x) (vain_same n m one.2.1 other.2.1))
   outcome_same p q (Undecided n) Apart one other = absurd (open_or_none one.1 other.1)
   outcome_same p q Apart (Race Candidate m l) one other = absurd (omega (arith, other.1, one.1.0))
@@ -385,23 +439,6 @@ module _ (r : Recording) (place : ℕ → ℕ) (tries : ℕ) (apart : Bool) (pla
   outcome_same p q Apart (Race Turned m l) one other = absurd (open_or_none other.1 one.1)
   outcome_same p q Apart (Undecided m) one other = absurd (open_or_none other.1 one.1)
   outcome_same p q Apart Apart one other = (apart_same apart p q one.2 other.2, refl)
-
-abbrev counts_of : ℕ → ℕ → ℕ → ℕ → Counts
-counts_of c o g f = record { candidates = c; open_pairs = o; guarded = g; forced = f }
-
-counts_same : (r : Recording) (place : ℕ → ℕ) (places : ℕ × ℕ) (c d : Counts) → IsRowAt r place places c → IsRowAt r place places d → c ≡ d
-counts_same r place places c d one other =
-    let group = group_of r.events place places.0 places.1 in
-    let each : (k : Kind) (n m : ℕ) → IsCountOf (λ e. IsKind r e.0 e.1 k) group n → IsCountOf (λ e. IsKind r e.0 e.1 k) group m → n ≡ m =
-    λ k n m a b. IsCountOf-unique (λ e. IsKind r e.0 e.1 k) group n m a b
-    in
-    ap (λ n. counts_of n c.open_pairs c.guarded c.forced) (each CandidateKind c.candidates d.candidates one.candidates other.candidates)
-    ∙ ap (λ n. counts_of d.candidates n c.guarded c.forced) (each OpenKind c.open_pairs d.open_pairs one.open_pairs other.open_pairs)
-    ∙ ap (λ n. counts_of d.candidates d.open_pairs n c.forced) (each GuardedKind c.guarded d.guarded one.guarded other.guarded)
-    ∙ ap (λ n. counts_of d.candidates d.open_pairs d.guarded n) (each ForcedKind c.forced d.forced one.forced other.forced)
-
-abbrev row_of : ℕ × ℕ → Counts → Row
-row_of p c = record { places = p; counts = c }
 
 -- a verdict of these parts
 abbrev made : ℕ → ℕ → Row → ℕ → Outcome → Verdict

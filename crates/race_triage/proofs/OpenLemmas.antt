@@ -37,8 +37,8 @@ module _
   none_left without = no_open r place row is (none_to_try r place row.places (max tries 1) l.tries.items kept (omega arith) without)
 
   -- the pair that was found
-  pub found_fits : (pair : ℕ × ℕ) → IsFirstFound r.events (take tries l.tries.items) pair → IsFit r place row.places Open pair.1 pair.0
-  found_fits pair found =
+  pub found_fits : (budget : ℕ) (pair : ℕ × ℕ) → IsFirstFound r.events budget (take tries l.tries.items) pair → IsFit r place row.places Open pair.1 pair.0
+  found_fits budget pair found =
       let ts = take tries l.tries.items in
       let here : get_or ts found.at found.one ≡ found.one = get_or_from_slice_get ts found.at found.one found.one found.one_is in
       let opens = tried_first.each found.at found.one (slice_get_within ts found.at found.one found.one_is) in

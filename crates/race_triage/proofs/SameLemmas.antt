@@ -31,7 +31,8 @@ use Rattle.race_triage.specs.declared.verdicts.Verdict.{Verdict}
 use Rattle.race_triage.proofs.CountLemmas.{totals_law}
 use Rattle.race_triage.proofs.ListLemmas.{from_filter, into_filter, one_rising}
 use Rattle.race_triage.proofs.OnceLemmas.{distinct-le}
-use Rattle.race_triage.proofs.OneLemmas.{IsCountOf-unique, IsVerdict-unique}
+use Rattle.race_triage.proofs.BudgetLemmas.{IsCountOf-unique}
+use Rattle.race_triage.proofs.OneLemmas.{IsVerdict-unique}
 
 -- v stands before w: by the later event, and then by the earlier
 abbrev IsBefore : Verdict → Verdict → Type 0

@@ -1,11 +1,12 @@
 -- What is said of a pair of places, and of the pair of events that is told of it. `T` is the events of a trace, `r` its recording, `place`
 -- tells the place of each event. All notions here are this project's own.
-use Rattle.std.specs.Prelude.{◌≡◌, ◌≢◌, ◌⊎◌, ℕ, ◌<◌, ◌≤◌, ◌%◌, max, Bool, true, false, List, [], ◌∷◌, ◌++◌, All, AllPairs, Contains, length, take, slice_get, slice_index_or, Option, Some, None, ⊤}
+use Rattle.std.specs.Prelude.{◌≡◌, ◌≢◌, ◌⊎◌, ℕ, ◌<◌, ◌≤◌, ◌%◌, ◌/◌, ◌==◌, ◌&&◌, nat_lt, max, min, count_by, Bool, true, false, List, [], ◌∷◌, ◌++◌, All, AllPairs, Contains, length, take, slice_get, slice_index_or, Option, Some, None, ⊤}
 use Rattle.rapid_text.specs.Recording.{Recording}
 use Rattle.rapid_text.specs.declared.event.Event.{Event}
 use Rattle.event_index.specs.Lookups.{before}
 use Rattle.schedule.specs.Reordering.{IsCorrectReordering}
 use Rattle.schedule.specs.Shows.{Shows}
+use Rattle.in_order.specs.Counting.{IsLeft}
 use Rattle.in_order.specs.Orders.{IsTurned}
 use Rattle.in_order.specs.Refusals.{IsNeverShownInOrder}
 use Rattle.in_order.specs.Sizes.{HasSize}
@@ -13,9 +14,9 @@ use Rattle.explain_report.specs.declared.verdict.How.{How}
 use Rattle.explain_report.specs.declared.verdict.How.TheVariants.{Candidate, Beyond, Turned}
 use Rattle.must_order.specs.Kinds.{IsKind}
 use Rattle.must_order.specs.declared.kind.Kind.TheVariants.{Open as OpenKind}
-use Rattle.pair_findings.specs.Findings.{IsFoundAs, IsShownAs}
+use Rattle.pair_findings.specs.Findings.{IsFoundAs, IsShownAs, IsShownInOrder}
 use Rattle.pair_findings.specs.declared.searching.TheConstants.{BUDGET}
-use Rattle.race_groups.specs.Found.{AreOnce, HaveConflict}
+use Rattle.race_groups.specs.Found.{AreComplete, AreOnce, HaveConflict}
 use Rattle.race_groups.specs.Groups.{IsCountOf}
 use Rattle.race_groups.specs.Kinds.{IsRow, IsNeverShownBetween}
 use Rattle.race_groups.specs.declared.kinds.Counts.{Counts}
@@ -69,35 +70,66 @@ IsTold apart (Race how events threads) = ⊤
 IsTold apart (Undecided tried) = ⊤
 IsTold apart Apart = apart ≡ true
 
--- No schedule of the pair was found: no list in the order of the trace shows it, and the search from there found nothing.
-abbrev pub IsNotFound : List Event → ℕ → ℕ → Type 0
-IsNotFound T a b = IsNeverShownInOrder T a b × IsTurned T a b BUDGET None
+-- whether there are open pairs, and no candidate: such a row has tries
+abbrev pub has_tries : Row → Bool
+has_tries row = row.counts.candidates == 0 && nat_lt 0 row.counts.open_pairs
 
--- none of these pairs was found, which are given by their later event and then by their earlier one
-abbrev pub AreNotFound : List Event → List Try → Type 0
-AreNotFound T tried = All (λ (t : Try). IsNotFound T t.pair.1 t.pair.0) tried
+-- how many steps the tries of one row share, where so many rows have tries
+abbrev pub budget_for : ℕ → ℕ
+budget_for n = min BUDGET (4294967296 / max n 1)
+
+-- So many steps the tries of one row share. The rows of all pairs of places decide it.
+pub record IsBudget (r : Recording) (place : ℕ → ℕ) (budget : ℕ) : Type 0 where
+  pub rows : List Row
+  pub are : All (IsRow r place) rows
+  pub there : All (λ (row : Row). HaveConflict r.events place row.places) rows
+  pub once : AreOnce rows
+  pub complete : AreComplete r.events place rows
+  pub is : budget ≡ budget_for (count_by has_tries rows)
+
+-- No schedule of the pair was found by so many steps: no list in the order of the trace shows it, and the search from there found nothing. So
+-- many steps are left.
+abbrev pub IsMissed : List Event → ℕ → ℕ → ℕ → ℕ → Type 0
+IsMissed T a b budget left = IsNeverShownInOrder T a b × IsTurned T a b budget None × IsLeft T a b budget left
+
+-- a schedule of the pair is found by so many steps
+abbrev pub IsFoundBy : List Event → ℕ → ℕ → ℕ → Type 0
+IsFoundBy T a b budget = IsShownInOrder T a b ⊎ ((P : List ℕ) × IsTurned T a b budget (Some P))
+
+-- None of these pairs was found, which are given by their later event and then by their earlier one. Each is tried by the steps that those before
+-- it left.
+abbrev pub AreMissed : List Event → ℕ → List Try → ℕ → Type 0
+AreMissed T budget [] left = left ≡ budget
+AreMissed T budget (t ∷ ts) left = (m : ℕ) × IsMissed T t.pair.1 t.pair.0 budget m × AreMissed T m ts left
 
 -- The pair is one of these, and none before it was found.
-pub record IsFirstFound (T : List Event) (tried : List Try) (pair : ℕ × ℕ) : Type 0 where
+pub record IsFirstFound (T : List Event) (budget : ℕ) (tried : List Try) (pair : ℕ × ℕ) : Type 0 where
   pub at : ℕ
   pub one : Try
   pub one_is : slice_get tried at ≡ Some one
   pub told : one.pair ≡ pair
-  pub earlier : AreNotFound T (take at tried)
+  pub left : ℕ
+  pub earlier : AreMissed T budget (take at tried) left
+  pub found : IsFoundBy T pair.1 pair.0 left
 
 -- The pair is the first that was found of those that are tried: of the least open pairs of the two places, one for each variable and two
--- threads, the first `tries`.
+-- threads, the first `tries`. They share a budget of steps.
 pub record IsFirstOfTried (r : Recording) (place : ℕ → ℕ) (tries : ℕ) (places pair : ℕ × ℕ) : Type 0 where
   pub tried : List Try
   pub first : AreFirstTries r place places tries tried
-  pub found : IsFirstFound r.events tried pair
+  pub budget : ℕ
+  pub shared : IsBudget r place budget
+  pub found : IsFirstFound r.events budget tried pair
 
 -- Of those that are tried, and there are `count`, none was found.
 pub record AreTriedInVain (r : Recording) (place : ℕ → ℕ) (tries : ℕ) (places : ℕ × ℕ) (count : ℕ) : Type 0 where
   pub tried : List Try
   pub first : AreFirstTries r place places tries tried
   pub len : length tried ≡ count
-  pub none : AreNotFound r.events tried
+  pub budget : ℕ
+  pub shared : IsBudget r place budget
+  pub left : ℕ
+  pub none : AreMissed r.events budget tried left
 
 -- of what is apart the least of all, where it is told; else 0 and 0
 abbrev pub IsPairApart : Recording → (ℕ → ℕ) → Bool → ℕ × ℕ → ℕ × ℕ → Type 0
@@ -139,8 +171,8 @@ abbrev pub AreOpenPairs : Recording → List Try → Type 0
 AreOpenPairs r tried = All (λ (t : Try). IsPair r.events t.pair.1 t.pair.0 × IsKind r t.pair.1 t.pair.0 OpenKind) tried
 
 -- The first of these pairs that was found, and the race that is told of it.
-pub record IsShownFirst (r : Recording) (tried : List Try) (pair : ℕ × ℕ) (o : Outcome) : Type 0 where
-  pub found : IsFirstFound r.events tried pair
+pub record IsShownFirst (r : Recording) (budget : ℕ) (tried : List Try) (pair : ℕ × ℕ) (o : Outcome) : Type 0 where
+  pub found : IsFirstFound r.events budget tried pair
   pub race : IsOpenRace r pair.1 pair.0 o
 
 -- What was found of all rows: of each its least pairs; and where `apart` is true its least conflicting pair.
@@ -148,6 +180,7 @@ pub record IsFound (r : Recording) (place : ℕ → ℕ) (tries : ℕ) (apart : 
   pub rows : All (IsRow r place) found.groups.rows.items
   pub there : All (λ (row : Row). HaveConflict r.events place row.places) found.groups.rows.items
   pub once : AreOnce found.groups.rows.items
+  pub shared : IsBudget r place found.budget
   pub leasts_len : length found.leasts.items ≡ length found.groups.rows.items
   pub leasts : (at : ℕ) (row : Row) (l : Least) → slice_get found.groups.rows.items at ≡ Some row → slice_get found.leasts.items at ≡ Some l
       → AreLeasts r place row.places (max tries 1) l

@@ -112,6 +112,7 @@ fn verdict_at(
 {
     let row = found.groups.rows[at];
     let first = found.first(at);
-    let verdict = tables.verdict(alloc, row, &found.leasts[at], first, USUAL_TRIES, true)?;
+    let least = &found.leasts[at];
+    let verdict = tables.verdict(alloc, row, least, first, USUAL_TRIES, true, found.budget)?;
     Ok(verdict)
 }

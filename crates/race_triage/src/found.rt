@@ -1,22 +1,28 @@
 //! What is counted of each pair of places, and its least pairs of events.
-ghost use Rattle.std.specs.Prelude.{◌≡◌, ◌<◌, ◌≤◌, All, Err, IfOk, Some, length, slice_get, slice_index};
+ghost use Rattle.std.specs.Prelude.{◌≡◌, ◌<◌, ◌≤◌, All, Err, count_by, IfOk, Some, length, slice_get, slice_index};
 ghost use Rattle.race_groups.specs.Classes.{AreClasses, AreLocks, AreMembers};
 ghost use Rattle.race_groups.specs.Found.{AreComplete, AreOnce, AreTooMany, HaveConflict};
 ghost use Rattle.race_groups.specs.Kinds.{IsRow};
-ghost use Rattle.race_triage.specs.Verdicts.{IsFound};
+ghost use Rattle.race_triage.specs.Verdicts.{IsFound, budget_for, has_tries};
 
 use crate::tables::Tables;
 use crate::verdicts::{MAX_PLACES, TriageRefusal};
 use least_notes::{Least, Pair};
 use least_pairs::{firsts_of, leasts_of};
-use race_groups::{Classes, Groups, RowsRefusal, groups_of};
+use pair_findings::BUDGET;
+use race_groups::{Classes, Groups, Row, RowsRefusal, groups_of};
 use std::alloc::Global;
+
+// How many steps all searches for open pairs may take, if there are more of them than `BUDGET` allows for.
+const STEPS: u64 = 4_294_967_296;
 
 /// The rows of all pairs of places, and what was found of each.
 #[derive(Drop)]
 pub(crate) struct Found {
     pub(crate) groups: Groups,
     pub(crate) leasts: Vec<Least>,
+    // How many steps the tries of one row share.
+    pub(crate) budget: u32,
     // The least conflicting pairs; none where they are not asked for.
     firsts: Vec<Option<Pair>>,
 }
@@ -76,6 +82,7 @@ fn found_by(
         → AreTooMany tables.entry.indexed.now.events (slice_index tables.entry.places.now) MAX_PLACES }
 {
     let groups = counted(alloc, tables, classes)?;
+    let budget = budget_of(groups.rows.as_slice());
     // One at least, so that the least open pair is among them.
     let most = tries.max(1) as usize;
     let leasts = leasts_of(
@@ -96,8 +103,37 @@ fn found_by(
     Ok(Found {
         groups,
         leasts,
+        budget,
         firsts,
     })
+}
+
+// How many steps the tries of one of these rows share.
+fn budget_of(rows: &[Row]) -> u32
+    requires few { length rows.now ≤ MAX_PLACES }
+    ensures { result ≡ budget_for (count_by has_tries rows.now) }
+{
+    let mut count = 0u64;
+    for row in rows {
+        if has_tries(row) {
+            count += 1;
+        }
+    }
+    budget_for(count)
+}
+
+// Whether there are open pairs, and no candidate.
+fn has_tries(row: &Row) -> bool
+    ensures { result ≡ has_tries row.now }
+{
+    row.counts.candidates == 0 && row.counts.open_pairs > 0
+}
+
+// How many steps the tries of one row share, where so many rows have tries.
+fn budget_for(count: u64) -> u32
+    ensures { result ≡ budget_for count }
+{
+    u64::from(BUDGET).min(STEPS / count.max(1)) as u32
 }
 
 // The rows; refused where there are too many.

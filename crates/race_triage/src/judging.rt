@@ -1,10 +1,11 @@
 //! The verdict on a row.
-ghost use Rattle.std.specs.Prelude.{◌≡◌, ◌<◌, IfOk, IfSome, None, length, max, slice_index, take, true};
+ghost use Rattle.std.specs.Prelude.{◌≡◌, ◌<◌, ◌≤◌, ℕ, IfOk, IfSome, None, length, max, slice_index, take, true};
 ghost use Rattle.race_groups.specs.Found.{HaveConflict};
 ghost use Rattle.race_groups.specs.Kinds.{IsNeverShownBetween, IsRow};
 ghost use Rattle.least_pairs.specs.Pairs.{AreLeasts, IsLeastPair};
 ghost use Rattle.least_pairs.specs.declared.wanted.Wanted.TheVariants.{Any as AnyPair};
-ghost use Rattle.race_triage.specs.Verdicts.{AreNotFound, AreOpenPairs, IsShownFirst, IsVerdictOn};
+ghost use Rattle.pair_findings.specs.declared.searching.TheConstants.{BUDGET};
+ghost use Rattle.race_triage.specs.Verdicts.{AreMissed, AreOpenPairs, IsBudget, IsShownFirst, IsVerdictOn};
 
 use crate::places::small;
 use crate::tables::Tables;
@@ -16,7 +17,7 @@ use std::alloc::Global;
 
 impl Tables<'_> {
     /// The verdict on a row, of which these are the least pairs; `first` is its least conflicting pair, where `apart` is true: then the pair of events
-    /// of what is apart is told. The first `tries` open pairs are tried.
+    /// of what is apart is told. The first `tries` open pairs are tried, by `budget` steps together.
     pub(crate) fn verdict(
         &self,
         alloc: Global,
@@ -25,6 +26,7 @@ impl Tables<'_> {
         first: Option<Pair>,
         tries: u32,
         apart: bool,
+        budget: u32,
     ) -> Result<Verdict, OutOfMemory>
         requires clocks { self.now.clocks.now ≡ self.now.indexed.now }
         requires must { self.now.must.now ≡ self.now.indexed.now }
@@ -34,6 +36,7 @@ impl Tables<'_> {
         requires there { HaveConflict self.now.indexed.now.events (slice_index self.now.places.now) row.places }
         requires least { AreLeasts self.now.indexed.now (slice_index self.now.places.now) row.places (max tries 1) least.now }
         requires first { apart ≡ true → IsLeastPair self.now.indexed.now (slice_index self.now.places.now) row.places AnyPair first }
+        requires shared { IsBudget self.now.indexed.now (slice_index self.now.places.now) budget }
         ensures { IfOk result (IsVerdictOn self.now.indexed.now (slice_index self.now.places.now) tries apart row) }
     {
         if is_apart(self.indexed, self.places, row) {
@@ -42,7 +45,7 @@ impl Tables<'_> {
         if row.counts.candidates > 0 {
             return self.candidate_row(alloc, row, least, tries, apart);
         }
-        self.open_row(alloc, row, least, tries, apart)
+        self.open_row(alloc, row, least, tries, apart, budget)
     }
 
     // The verdict on a row with candidates.
@@ -79,6 +82,7 @@ impl Tables<'_> {
         least: &Least,
         tries: u32,
         _apart: bool,
+        budget: u32,
     ) -> Result<Verdict, OutOfMemory>
         requires clocks { self.now.clocks.now ≡ self.now.indexed.now }
         requires must { self.now.must.now ≡ self.now.indexed.now }
@@ -89,6 +93,7 @@ impl Tables<'_> {
         requires least { AreLeasts self.now.indexed.now (slice_index self.now.places.now) row.places (max tries 1) least.now }
         requires candidates { row.counts.candidates ≡ 0 }
         requires open_pairs { 0 < row.counts.open_pairs }
+        requires shared { IsBudget self.now.indexed.now (slice_index self.now.places.now) budget }
         ensures { IfOk result (IsVerdictOn self.now.indexed.now (slice_index self.now.places.now) tries _apart row) }
     {
         let all = least.tries.as_slice();
@@ -96,7 +101,7 @@ impl Tables<'_> {
             unreachable!()
         }
         let tried = beginning(all, tries as usize);
-        match self.first_shown(alloc, tried)? {
+        match self.first_shown(alloc, tried, budget)? {
             Some((pair, outcome)) => Ok(of_pair(row, least.variables, pair, outcome)),
             None => {
                 let pair = all[0].pair;
@@ -106,21 +111,24 @@ impl Tables<'_> {
         }
     }
 
-    // The first of the open pairs that a schedule is found of.
+    // The first of the open pairs that a schedule is found of, by so many steps for all of them.
     fn first_shown(
         &self,
         alloc: Global,
         tried: &[Try],
+        budget: u32,
     ) -> Result<Option<(Pair, Outcome)>, OutOfMemory>
         requires must { self.now.must.now ≡ self.now.indexed.now }
         requires acquires { self.now.acquires.now ≡ self.now.indexed.now }
         requires opens { AreOpenPairs self.now.indexed.now tried.now }
-        ensures shown { IfOk result (λ found. IfSome found (λ shown. IsShownFirst self.now.indexed.now tried.now shown.0 shown.1)) }
-        ensures none { IfOk result (λ found. found ≡ None → AreNotFound self.now.indexed.now.events tried.now) }
+        requires few { budget ≤ BUDGET }
+        ensures shown { IfOk result (λ found. IfSome found (λ shown. IsShownFirst self.now.indexed.now budget tried.now shown.0 shown.1)) }
+        ensures none { IfOk result (λ found. found ≡ None → (left : ℕ) × AreMissed self.now.indexed.now.events budget tried.now left) }
     {
+        let mut left = budget;
         for at in 0..tried.len() {
             let pair = tried[at].pair;
-            if let Some(outcome) = self.race_of_open(alloc, pair.1, pair.0)? {
+            if let Some(outcome) = self.race_of_open(alloc, pair.1, pair.0, &mut left)? {
                 return Ok(Some((pair, outcome)));
             }
         }

@@ -1,5 +1,6 @@
 //! Schedules that show a pair: how many events they have, and of how many threads.
-ghost use Rattle.std.specs.Prelude.{◌≡◌, ◌≢◌, ◌<◌, IfOk, IfSome, None, false, length};
+ghost use Rattle.std.specs.Prelude.{◌≡◌, ◌≢◌, ◌<◌, ◌≤◌, IfOk, IfSome, None, false, length};
+ghost use Rattle.event_index.specs.Relations.{IsConflicting};
 ghost use Rattle.must_order.specs.Kinds.{IsKind};
 ghost use Rattle.must_order.specs.declared.kind.Kind.TheVariants.{Candidate as CandidateKind, Open as OpenKind};
 ghost use Rattle.in_order.specs.Laws.{HasListInOrder};
@@ -7,7 +8,8 @@ ghost use Rattle.in_order.specs.Refusals.{IsNeverShownInOrder};
 ghost use Rattle.in_order.specs.Sizes.{IsSizeInOrder};
 ghost use Rattle.in_order.specs.declared.refusal.InOrderRefusal.TheVariants.{OutOfMemory as NoMemory};
 ghost use Rattle.explain_report.specs.declared.verdict.How.TheVariants.{Candidate, Turned};
-ghost use Rattle.race_triage.specs.Verdicts.{IsNotFound, IsOpenRace, IsRaceOf};
+ghost use Rattle.pair_findings.specs.declared.searching.TheConstants.{BUDGET};
+ghost use Rattle.race_triage.specs.Verdicts.{IsFoundBy, IsMissed, IsOpenRace, IsRaceOf};
 ghost use Rattle.race_triage.specs.declared.verdicts.Outcome.TheVariants.{Race};
 
 use crate::tables::Tables;
@@ -17,7 +19,6 @@ use explain_report::How;
 use in_order::{
     InOrderRefusal, candidates_are_in_order, in_order_is_sound, in_order_size, turned_size,
 };
-use pair_findings::BUDGET;
 use rapid_text::OutOfMemory;
 use std::alloc::Global;
 
@@ -46,26 +47,31 @@ impl Tables<'_> {
     }
 
     /// The race of an open pair, where a schedule is found: the least list in the order of the trace that shows it, or a list that the
-    /// search from there finds.
+    /// search from there finds by the steps that are left. Where none is found, the steps that it took are left no longer.
     pub(crate) fn race_of_open(
         &self,
         alloc: Global,
         first: u32,
         second: u32,
+        left: &mut u32,
     ) -> Result<Option<Outcome>, OutOfMemory>
         requires must { self.now.must.now ≡ self.now.indexed.now }
         requires acquires { self.now.acquires.now ≡ self.now.indexed.now }
         requires first { first < length self.now.indexed.now.events }
         requires second { second < length self.now.indexed.now.events }
+        requires conflict { IsConflicting self.now.indexed.now.events first second }
+        requires few { left.old ≤ BUDGET }
         requires kind { IsKind self.now.indexed.now first second OpenKind }
         ensures race { IfOk result (λ found. IfSome found (IsOpenRace self.now.indexed.now first second)) }
-        ensures none { IfOk result (λ found. found ≡ None → IsNotFound self.now.indexed.now.events first second) }
+        ensures none { IfOk result (λ found. found ≡ None → IsMissed self.now.indexed.now.events first second left.old left.new) }
+        ensures found { IfOk result (λ found. IfSome found (λ outcome. IsFoundBy self.now.indexed.now.events first second left.old)) }
+        ensures fewer { left.new ≤ left.old }
     {
         in_order_is_sound();
         let _len = self.indexed.len();
         match self.size_in_order(alloc, first, second)? {
             Some(size) => Ok(Some(race(How::Beyond, size))),
-            None => self.race_turned(alloc, first, second),
+            None => self.race_turned(alloc, first, second, left),
         }
     }
 
@@ -75,16 +81,21 @@ impl Tables<'_> {
         alloc: Global,
         first: u32,
         second: u32,
+        left: &mut u32,
     ) -> Result<Option<Outcome>, OutOfMemory>
         requires must { self.now.must.now ≡ self.now.indexed.now }
         requires acquires { self.now.acquires.now ≡ self.now.indexed.now }
+        requires conflict { IsConflicting self.now.indexed.now.events first second }
+        requires few { left.old ≤ BUDGET }
         requires kind { IsKind self.now.indexed.now first second OpenKind }
         requires never { IsNeverShownInOrder self.now.indexed.now.events first second }
         ensures race { IfOk result (λ found. IfSome found (IsRaceOf self.now.indexed.now first second Turned)) }
-        ensures none { IfOk result (λ found. found ≡ None → IsNotFound self.now.indexed.now.events first second) }
+        ensures none { IfOk result (λ found. found ≡ None → IsMissed self.now.indexed.now.events first second left.old left.new) }
+        ensures found { IfOk result (λ found. IfSome found (λ outcome. IsFoundBy self.now.indexed.now.events first second left.old)) }
+        ensures fewer { left.new ≤ left.old }
     {
         let pair = (first, second);
-        match turned_size(alloc, self.indexed, self.must, self.acquires, pair, BUDGET)? {
+        match turned_size(alloc, self.indexed, self.must, self.acquires, pair, left)? {
             Some(size) => Ok(Some(race(How::Turned, size))),
             None => Ok(None),
         }

@@ -6,7 +6,7 @@ ghost use Rattle.race_groups.specs.Kinds.{IsRow};
 ghost use Rattle.race_groups.specs.declared.kinds.Row.{Row as Counted};
 ghost use Rattle.least_pairs.specs.Pairs.{AreLeasts, IsLeastPair};
 ghost use Rattle.least_pairs.specs.declared.wanted.Wanted.TheVariants.{Any as AnyPair};
-ghost use Rattle.race_triage.specs.Verdicts.{AreOn, ArePart, AreWhole, IsAdded, IsAnswered, IsBelow, IsFound, IsOwn, IsVerdict};
+ghost use Rattle.race_triage.specs.Verdicts.{AreOn, ArePart, AreWhole, IsAdded, IsAnswered, IsBelow, IsBudget, IsFound, IsOwn, IsVerdict};
 ghost use Rattle.race_triage.specs.declared.verdicts.Verdict.{Verdict as Told};
 
 use crate::found::Found;
@@ -159,6 +159,7 @@ fn add_own<W: Watch>(
         first,
         tries,
         apart,
+        found.budget,
     )?;
     watch.judged(found.groups.rows.len());
     Ok(())
@@ -174,6 +175,7 @@ fn add(
     first: Option<Pair>,
     tries: u32,
     apart: bool,
+    budget: u32,
 ) -> Result<(), OutOfMemory>
     requires clocks { tables.clocks.now ≡ tables.indexed.now }
     requires must { tables.must.now ≡ tables.indexed.now }
@@ -183,10 +185,11 @@ fn add(
     requires there { HaveConflict tables.indexed.now.events (slice_index tables.places.now) row.places }
     requires least { AreLeasts tables.indexed.now (slice_index tables.places.now) row.places (max tries 1) least.now }
     requires first { apart ≡ true → IsLeastPair tables.indexed.now (slice_index tables.places.now) row.places AnyPair first }
+    requires shared { IsBudget tables.indexed.now (slice_index tables.places.now) budget }
     ensures { OnOk result
         (IsAdded tables.entry.indexed.now (slice_index tables.entry.places.now) tries apart row verdicts.old.items verdicts.new.items) }
 {
-    let verdict = tables.verdict(alloc, row, least, first, tries, apart)?;
+    let verdict = tables.verdict(alloc, row, least, first, tries, apart, budget)?;
     verdicts.push(verdict)?;
     Ok(())
 }

@@ -1,8 +1,9 @@
-use Rattle.std.proofs.Common.{◌≡◌, ◌≤◌, ◌<◌, ◌++◌, ◌∷◌, [], ℕ, List, true, false, get_or, length, nat_eq, sym, ◌∙◌, arith}
+use Rattle.std.proofs.Common.{◌≡◌, ◌≤◌, ◌<◌, ◌-◌, ◌+◌, ◌++◌, ◌∷◌, [], ℕ, List, true, false, get_or, length, nat_eq, refl, sym, ◌∙◌, arith}
 use Rattle.std.specs.HashMap.{get}
 use Rattle.witness_search.specs.Searches.{marked_events}
 use Rattle.witness_search.proofs.StepLemmas.{IsSearched-start, IsSearched-more, refusal_of-next, first_shown-at, first_shown-stuck, first_shown-end, same_Ok}
 use Rattle.in_order.specs.Counting.{counted_events, marks_of}
+use Rattle.in_order.proofs.LeftLemmas.{left_end, left_stuck, longer_by_one}
 use Rattle.in_order.proofs.SearchLemmas.{at_read, IsAt-kept}
 use Rattle.in_order.proofs.counting.search.Goals as goal
 
@@ -17,6 +18,9 @@ loop-step-init c =
       searched =
           IsSearched-start T aim.first aim.second (marked_events T (marks_of T (λ t. get_or aim.wanted.items t 0)))
           (counted_events T (λ t. get_or aim.start.items t 0));
+      long = omega arith;
+      left = refl;
+      all = refl;
     }
 
 pub returns-then-is_shown-clause-shown : goal.returns-then-is_shown-clause-shown
@@ -28,7 +32,7 @@ returns-then-is_shown-clause-shown c =
     λ _. (
       inv.list,
       inv.at,
-      first_shown-at inv.searched c.args.budget c.loop-step.auto._step-end (sym (c.is_shown.ensures inv.list start (get nat_eq c.loop-step.reached.last) read) ∙ c.if-is_shown.true),
+      first_shown-at inv.searched c.args.left.now c.loop-step.auto.step-end (sym (c.is_shown.ensures inv.list start (get nat_eq c.loop-step.reached.last) read) ∙ c.if-is_shown.true),
     )
 
 pub next_step-requires-clause-within : goal.next_step-requires-clause-within
@@ -42,8 +46,20 @@ returns-in_default-clause-none c =
     let row : ℕ → ℕ = λ t. get_or c.loop-step.reached.row.items t 0 in
     let read = at_read T start c.loop-step.reached.row.items c.as_slice.result.now (get nat_eq c.loop-step.reached.last) inv.list c.as_slice.ensures.value inv.at in
     let kept = IsAt-kept T start row (get nat_eq c.loop-step.reached.last) (get nat_eq c.note_reads.new.last) inv.list inv.at c.in_ok-note_reads.ensures in
-    λ _. first_shown-stuck inv.searched c.args.budget (sym (c.is_shown.ensures inv.list start (get nat_eq c.loop-step.reached.last) read) ∙ c.if-is_shown.false)
+    λ _. first_shown-stuck inv.searched c.args.left.now (sym (c.is_shown.ensures inv.list start (get nat_eq c.loop-step.reached.last) read) ∙ c.if-is_shown.false)
     (sym (c.in_default.ensures.next inv.list kept))
+
+pub returns-in_default-clause-left : goal.returns-in_default-clause-left
+returns-in_default-clause-left c =
+    let T = c.args.indexed.now.events in
+    let aim = c.args.aim.now in
+    let inv = c.loop-step.invariant in
+    let start : ℕ → ℕ = λ t. get_or aim.start.items t 0 in
+    let row : ℕ → ℕ = λ t. get_or c.loop-step.reached.row.items t 0 in
+    let N = marked_events T (marks_of T (λ t. get_or aim.wanted.items t 0)) in
+    let kept = IsAt-kept T start row (get nat_eq c.loop-step.reached.last) (get nat_eq c.note_reads.new.last) inv.list inv.at c.in_ok-note_reads.ensures in
+    λ _. left_stuck T aim.first aim.second N (counted_events T start) c.loop-step.step inv.list inv.searched inv.long (sym (c.in_default.ensures.next inv.list kept))
+    c.args.left.now (c.args.left.now - c.loop-step.step) c.loop-step.auto.step-end refl
 
 pub take_step-requires-clause-within : goal.take_step-requires-clause-within
 take_step-requires-clause-within c = c.loop-step.invariant.at.within
@@ -65,6 +81,9 @@ loop-step-preserved c =
       at = c.in_ok-take_step.ensures.at inv.list start kept (refusal_of-next T aim.first aim.second N inv.list c.in-Some.event next);
       searched =
           IsSearched-more inv.searched (sym (c.is_shown.ensures inv.list start (get nat_eq c.loop-step.reached.last) read) ∙ c.if-is_shown.false) c.in-Some.event next;
+      long = longer_by_one inv.list c.in-Some.event _ inv.long ∙ omega arith;
+      left = inv.left;
+      all = inv.all;
     }
 
 pub returns-clause-shown : goal.returns-clause-shown
@@ -76,7 +95,7 @@ returns-clause-shown c =
     λ is. (
       inv.list,
       inv.at,
-      first_shown-at inv.searched c.args.budget c.loop-step.auto._step-end
+      first_shown-at inv.searched c.args.left.now c.loop-step.auto.step-end
           (sym (c.is_shown-2.ensures inv.list start (get nat_eq c.loop-step.reached.last) read) ∙ same_Ok c.is_shown-2.result true is),
     )
 
@@ -86,7 +105,18 @@ returns-clause-none c =
     let inv = c.loop-step.invariant in
     let start : ℕ → ℕ = λ t. get_or c.args.aim.now.start.items t 0 in
     let read = at_read T start c.loop-step.reached.row.items c.as_slice-2.result.now (get nat_eq c.loop-step.reached.last) inv.list c.as_slice-2.ensures.value inv.at in
-    let end : c.args.budget ≤ c.loop-step._step = c.loop-step-test.false in
+    let end : c.args.left.now ≤ c.loop-step.step = c.loop-step-test.false in
     λ is.
-    first_shown-end inv.searched c.args.budget (omega (arith, end, c.loop-step.auto._step-end))
+    first_shown-end inv.searched c.args.left.now (omega (arith, end, c.loop-step.auto.step-end))
     (sym (c.is_shown-2.ensures inv.list start (get nat_eq c.loop-step.reached.last) read) ∙ same_Ok c.is_shown-2.result false is)
+
+pub returns-clause-left : goal.returns-clause-left
+returns-clause-left c =
+    let T = c.args.indexed.now.events in
+    let aim = c.args.aim.now in
+    let inv = c.loop-step.invariant in
+    let start : ℕ → ℕ = λ t. get_or aim.start.items t 0 in
+    let N = marked_events T (marks_of T (λ t. get_or aim.wanted.items t 0)) in
+    let end : c.args.left.now ≤ c.loop-step.step = c.loop-step-test.false in
+    λ _. left_end T aim.first aim.second N (counted_events T start) c.loop-step.step inv.list inv.searched inv.long c.args.left.now
+    (omega (arith, end, c.loop-step.auto.step-end))

@@ -7,9 +7,9 @@ verdict-requires-clause-least c =
     let found = c.requires.found in
     let at = c.args.at in
     let row = c.index-row.result.now in
-    let l = c.index.result.now in
+    let l = c.index-least.result.now in
     let here = slice_get-get_or c.args.found.now.groups.rows.items at row c.requires.at ∙ ap Some (sym c.index-row.ensures) in
-    let there = slice_get-get_or c.args.found.now.leasts.items at l (omega (arith, c.requires.at, found.leasts_len)) ∙ ap Some (sym c.index.ensures) in
+    let there = slice_get-get_or c.args.found.now.leasts.items at l (omega (arith, c.requires.at, found.leasts_len)) ∙ ap Some (sym c.index-least.ensures) in
     found.leasts at row l here there
 
 pub verdict-requires-clause-first : goal.verdict-requires-clause-first

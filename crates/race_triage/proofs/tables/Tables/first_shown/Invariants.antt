@@ -1,7 +1,12 @@
--- No schedule was found of a pair so far.
-use Rattle.std.proofs.Common.{take}
-use Rattle.race_triage.specs.Verdicts.{AreNotFound}
+-- No schedule of a pair was found so far.
+use Rattle.std.proofs.Common.{◌≤◌, take}
+use Rattle.pair_findings.specs.declared.searching.TheConstants.{BUDGET}
+use Rattle.race_triage.specs.Verdicts.{AreMissed}
 use Rattle.race_triage.proofs.tables.Tables.first_shown.Given as goal
 
 abbrev pub invariant-loop-at : goal.invariant-loop-at
-invariant-loop-at l = AreNotFound l.self.indexed.now.events (take l.at l.tried)
+invariant-loop-at l =
+    record {
+      missed : AreMissed l.self.indexed.now.events l.budget (take l.at l.tried) l.left;
+      few : l.left ≤ BUDGET;
+    }

@@ -4,9 +4,10 @@ use Rattle.std.proofs.lemmas.Bool.{eqb-false, eqb-true}
 use Rattle.least_pairs.specs.Pairs.{IsFit, IsLeastPair}
 use Rattle.least_notes.specs.declared.tries.Try.{Try}
 use Rattle.least_pairs.specs.declared.wanted.Wanted.TheVariants.{Open}
-use Rattle.race_triage.specs.Verdicts.{AreNotFound, AreOpenPairs, IsFirstFound, IsShownFirst}
+use Rattle.race_triage.specs.Verdicts.{AreMissed, AreOpenPairs, IsFirstFound, IsShownFirst}
 use Rattle.race_triage.specs.declared.verdicts.Outcome.{Outcome}
 use Rattle.race_triage.specs.declared.verdicts.Outcome.TheVariants.{Undecided}
+use Rattle.race_triage.proofs.BudgetLemmas.{budget_few}
 use Rattle.race_triage.proofs.OpenLemmas.{found_fits, least_open, none_left, some_try, tried_first, tried_open}
 use Rattle.race_triage.proofs.VerdictLemmas.{IsVerdict-made, open_counts, open_is_not_apart, open_outcome, open_pair, undecided_apart}
 use Rattle.race_triage.proofs.tables.Tables.open_row.Goals as goal
@@ -30,6 +31,9 @@ first_shown-requires-clause-opens c =
     let same : c.beginning-tried.result.now ≡ take tries l.tries.items = c.beginning-tried.ensures ∙ ap (λ (ts : List Try). take tries ts) c.as_slice-all.ensures.value in
     subst (AreOpenPairs r) (sym same) (tried_open r place c.args.row c.requires.row tries l c.requires.least c.requires.candidates)
 
+pub first_shown-requires-clause-few : goal.first_shown-requires-clause-few
+first_shown-requires-clause-few c = budget_few c.args.self.now.indexed.now (slice_index c.args.self.now.places.now) c.args.budget c.requires.shared
+
 pub returns-in-Some : goal.returns-in-Some
 returns-in-Some c =
     let r = c.args.self.now.indexed.now in
@@ -40,18 +44,18 @@ returns-in-Some c =
     let pair = c.in-Some.pair in
     let o = c.in-Some.outcome in
     let same : c.beginning-tried.result.now ≡ take tries l.tries.items = c.beginning-tried.ensures ∙ ap (λ (ts : List Try). take tries ts) c.as_slice-all.ensures.value in
-    let shown : IsShownFirst r c.beginning-tried.result.now pair o =
-    subst (λ (f : Option ((ℕ × ℕ) × Outcome)). IfSome f (λ s. IsShownFirst r c.beginning-tried.result.now s.0 s.1)) c.in-Some.is c.in_ok-pair.ensures.shown in
+    let shown : IsShownFirst r c.args.budget c.beginning-tried.result.now pair o =
+    subst (λ (f : Option ((ℕ × ℕ) × Outcome)). IfSome f (λ s. IsShownFirst r c.args.budget c.beginning-tried.result.now s.0 s.1)) c.in-Some.is c.in_ok-pair.ensures.shown in
     let race = shown.race in
-    let found = subst (λ (ts : List Try). IsFirstFound r.events ts pair) same shown.found in
-    let fit = found_fits r place row c.requires.row tries l c.requires.least c.requires.candidates pair found in
+    let found = subst (λ (ts : List Try). IsFirstFound r.events c.args.budget ts pair) same shown.found in
+    let fit = found_fits r place row c.requires.row tries l c.requires.least c.requires.candidates c.args.budget pair found in
     let first = tried_first r place row c.requires.row tries l c.requires.least c.requires.candidates in
     let v = c.of_pair.ensures in
     IsVerdict-made r place tries c.args._apart row pair.1 pair.0 l.variables o c.of_pair.result v.first v.second v.row v.variables v.outcome
     (omega (arith, fit.pair.earlier, fit.pair.within)) fit.pair.within c.requires.row c.requires.there (λ _. (fit.pair, fit.at)) (open_outcome r pair.1 pair.0 row.counts o race)
     (open_counts r pair.1 pair.0 row.counts o race (c.requires.candidates, c.requires.open_pairs)) (λ same'. absurd (open_is_not_apart r pair.1 pair.0 row.counts o race same'))
     c.requires.least.variables
-    (open_pair r pair.1 pair.0 row.counts place tries c.args._apart row.places o race (record { tried = take tries l.tries.items; first = first; found = found }))
+    (open_pair r pair.1 pair.0 row.counts place tries c.args._apart row.places o race (record { tried = take tries l.tries.items; first = first; budget = c.args.budget; shared = c.requires.shared; found = found }))
 
 pub returns-in_ok-tried-in-None : goal.returns-in_ok-tried-in-None
 returns-in_ok-tried-in-None c =
@@ -71,9 +75,9 @@ returns-in_ok-tried-in-None c =
     let fit : IsFit r place row.places Open pair.1 pair.0 = least.0 in
     let count = c.in_ok-tried-in-None.tried in
     let long : length (take tries l.tries.items) ≡ count = ap (λ (ts : List Try). length ts) (sym same) ∙ sym c.in_ok-tried-in-None.ensures in
-    let none = subst (λ (ts : List Try). AreNotFound r.events ts) same (c.in_ok-pair.ensures.none c.in-None.is) in
+    let none = subst (λ (ts : List Try). (left : ℕ) × AreMissed r.events c.args.budget ts left) same (c.in_ok-pair.ensures.none c.in-None.is) in
     let first = tried_first r place row c.requires.row tries l c.requires.least c.requires.candidates in
     let v = c.of_pair-in-None.ensures in
     IsVerdict-made r place tries c.args._apart row pair.1 pair.0 l.variables (Undecided count) c.of_pair-in-None.result v.first v.second v.row v.variables v.outcome
     (omega (arith, fit.pair.earlier, fit.pair.within)) fit.pair.within c.requires.row c.requires.there (λ _. (fit.pair, fit.at)) tt (c.requires.candidates, c.requires.open_pairs)
-    (λ same'. absurd (undecided_apart count same')) c.requires.least.variables (least, record { tried = take tries l.tries.items; first = first; len = long; none = none })
+    (λ same'. absurd (undecided_apart count same')) c.requires.least.variables (least, record { tried = take tries l.tries.items; first = first; len = long; budget = c.args.budget; shared = c.requires.shared; left = none.0; none = none.1 })

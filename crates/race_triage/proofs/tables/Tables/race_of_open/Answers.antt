@@ -32,3 +32,12 @@ returns-in-None-clause-race c =
 
 pub returns-in-None-clause-none : goal.returns-in-None-clause-none
 returns-in-None-clause-none c = c.race_turned.ensures.none
+
+pub returns-in-Some-clause-found : goal.returns-in-Some-clause-found
+returns-in-Some-clause-found c =
+    let r = c.args.self.now.indexed.now in
+    let a = c.args.first in
+    let b = c.args.second in
+    let size = subst (λ (o : Option (ℕ × ℕ)). IfSome o (IsSizeInOrder r.events a b)) c.in-Some.is c.in_ok-size.ensures.size in
+    let there = subst (λ (o : Option (ℕ × ℕ)). IfSome o (λ s. HasListInOrder r.events a b)) c.in-Some.is c.in_ok-size.ensures.there in
+    inl (list_in_order r.events a b c.in_order_is_sound.ensures c.len-len.ensures.disciplined there c.in-Some.size size)

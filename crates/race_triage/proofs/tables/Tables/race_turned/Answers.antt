@@ -1,6 +1,6 @@
-use Rattle.std.proofs.Common.{ℕ, Option, IfSome, subst}
+use Rattle.std.proofs.Common.{ℕ, Option, IfSome, Some, subst, inr}
 use Rattle.in_order.specs.Counting.{IsTurnedOfSize}
-use Rattle.pair_findings.specs.declared.searching.TheConstants.{BUDGET}
+use Rattle.race_triage.proofs.OneLemmas.{IsTurned-more}
 use Rattle.race_triage.proofs.tables.Tables.race_turned.Goals as goal
 
 pub returns-in-Some-clause-race : goal.returns-in-Some-clause-race
@@ -9,13 +9,13 @@ returns-in-Some-clause-race c =
     let a = c.args.first in
     let b = c.args.second in
     let size = c.in-Some.size in
-    let found = subst (λ (o : Option (ℕ × ℕ)). IfSome o (IsTurnedOfSize T a b BUDGET)) c.in-Some.is c.in_ok-size.ensures.size in (
+    let found = subst (λ (o : Option (ℕ × ℕ)). IfSome o (IsTurnedOfSize T a b c.args.left.now)) c.in-Some.is c.in_ok-size.ensures.size in (
       size.0,
       size.1,
       c.race.ensures,
       record {
         schedule = found.list;
-        found = found.turned;
+        found = IsTurned-more T a b c.args.left.now _ found.list found.turned c.requires.few;
         reordering = found.reordering;
         shows = found.shows;
         size = found.size;
@@ -23,5 +23,15 @@ returns-in-Some-clause-race c =
       (c.requires.kind, c.requires.never),
     )
 
+pub returns-in-Some-clause-found : goal.returns-in-Some-clause-found
+returns-in-Some-clause-found c =
+    let T = c.args.self.now.indexed.now.events in
+    let found = subst (λ (o : Option (ℕ × ℕ)). IfSome o (IsTurnedOfSize T c.args.first c.args.second c.args.left.now)) c.in-Some.is c.in_ok-size.ensures.size in
+    inr (found.list, found.turned)
+
 pub returns-in-None-clause-none : goal.returns-in-None-clause-none
-returns-in-None-clause-none c = λ _. (c.requires.never, c.in_ok-size.ensures.none c.in-None.is)
+returns-in-None-clause-none c = λ _. (
+  c.requires.never,
+  c.in_ok-size.ensures.none c.in-None.is,
+  c.in_ok-size.ensures.left c.in-None.is c.requires.conflict,
+)
