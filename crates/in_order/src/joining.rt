@@ -166,15 +166,12 @@ impl Acquires {
         let _len = indexed.len();
         let by_lock = self.by_lock.as_slice();
         let shared = self.shared.as_slice();
-        match due_from(by_lock, shared, indexed, row, near) {
-            Some(due) => Some(due),
-            None => due_from(by_lock, shared, indexed, row, 0),
-        }
+        due_around(by_lock, shared, indexed, row, near)
     }
 }
 
-// The same of the shared locks from one on.
-fn due_from(
+// The same of the shared locks, from one on up to the last, and then of those before it.
+fn due_around(
     by_lock: &[Vec<Lane>],
     shared: &[u32],
     indexed: &Indexed,
@@ -187,10 +184,36 @@ fn due_from(
     requires within { (t : ℕ) → slice_index row.now t ≤ length (events_of indexed.now.events t) }
     ensures due { IfSome result (λ due. IsDue indexed.now.events (λ t. slice_index row.now t) due.end) }
     ensures within { IfSome result (λ due. due.end < length indexed.now.events) }
-    ensures none { result ≡ None → (i : ℕ) → near ≤ i → i < length shared.now
+    ensures none { result ≡ None → (i : ℕ) → i < length shared.now
         → IsClosedOn indexed.now.events (λ t. slice_index row.now t) (slice_index shared.now i) }
 {
-    for at in near..shared.len() {
+    let last = shared.len();
+    match due_from(by_lock, shared, indexed, row, near, last) {
+        Some(due) => Some(due),
+        None => due_from(by_lock, shared, indexed, row, 0, near.min(last)),
+    }
+}
+
+// The same of the shared locks from one on up to another.
+fn due_from(
+    by_lock: &[Vec<Lane>],
+    shared: &[u32],
+    indexed: &Indexed,
+    row: &[u32],
+    near: usize,
+    to: usize,
+) -> Option<Due>
+    requires taken { AreTaken indexed.now by_lock.now }
+    requires shared { All (λ l. l < length by_lock.now) shared.now }
+    requires len { length row.now ≡ length indexed.now.threads }
+    requires within { (t : ℕ) → slice_index row.now t ≤ length (events_of indexed.now.events t) }
+    requires to { to ≤ length shared.now }
+    ensures due { IfSome result (λ due. IsDue indexed.now.events (λ t. slice_index row.now t) due.end) }
+    ensures within { IfSome result (λ due. due.end < length indexed.now.events) }
+    ensures none { result ≡ None → (i : ℕ) → near ≤ i → i < to
+        → IsClosedOn indexed.now.events (λ t. slice_index row.now t) (slice_index shared.now i) }
+{
+    for at in near..to {
         let lock = shared[at];
         if let Some(end) = due_on(by_lock[lock as usize].as_slice(), indexed, row, lock) {
             return Some(Due { end, near: at });

@@ -12,7 +12,7 @@ due_on-requires-clause-lanes c =
     let r = c.args.indexed.now in
     let by_lock = c.args.by_lock.now in
     let l : ℕ = get_or c.args.shared.now c.loop-at.at 0 in
-    let low : l < length by_lock = All-get_or (λ k. k < length by_lock) c.args.shared.now c.loop-at.at 0 c.loop-at-test.true c.requires.shared in
+    let low : l < length by_lock = All-get_or (λ k. k < length by_lock) c.args.shared.now c.loop-at.at 0 (omega (arith, c.loop-at-test.true, c.requires.to)) c.requires.shared in
     let v = c.index-by_lock-lock.result in
     subst (λ (lanes : List Lane). AreLanes r l lanes) (sym c.as_slice.ensures.value)
     (c.requires.taken.lanes l v (slice_get-get_or by_lock l v low ∙ ap Some (sym c.index-by_lock-lock.is)))
