@@ -12,7 +12,8 @@ import running
 
 HERE = os.path.dirname(os.path.realpath(__file__))
 WORDS = ["-std=c++17", "-O2", "-w"]
-LIBRARIES = ["-ldw", "-lelf"]
+# The library by its file: its package for developers need not be there.
+LIBRARIES = ["-l:libdw.so.1"]
 
 
 class Undecodable(Exception):
@@ -58,7 +59,7 @@ def command(folder):
     path, why = compiled(folder)
     if not path:
         say(
-            "the decoder in C++ can't be compiled (%s; it needs g++ and Debian's libdw-dev); "
+            "the decoder in C++ can't be compiled (%s; it needs g++ and Debian's libdw1); "
             "the slower one in Python decodes"
             % why
         )

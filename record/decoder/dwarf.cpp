@@ -1,7 +1,6 @@
 #include "dwarf.hpp"
 #include "text.hpp"
 #include <algorithm>
-#include <dwarf.h>
 #include <fcntl.h>
 #include <limits>
 #include <tuple>

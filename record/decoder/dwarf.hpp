@@ -8,7 +8,7 @@
 #include <unordered_map>
 #include <utility>
 #include <vector>
-#include <elfutils/libdw.h>
+#include "libdw.hpp"
 
 namespace dwarf {
 

@@ -1,5 +1,4 @@
 #include "parts.hpp"
-#include <algorithm>
 
 namespace parts {
 

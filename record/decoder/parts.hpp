@@ -1,5 +1,6 @@
 // Which things two threads access, one of them writing, and in which parts.
 #pragma once
+#include <algorithm>
 #include <unordered_map>
 #include <vector>
 #include "objects.hpp"
@@ -48,6 +49,36 @@ public:
 private:
     std::vector<u64> ends;
     size_t settled = 0;
+};
+
+// An access of more parts than this gives its first ones only; how often is said.
+constexpr size_t MOST_PARTS = 64;
+
+// What was found of an access: its first part, the one behind its last, and the one behind the last that is written.
+struct Span {
+    Thing thing = objects::NOTHING;
+    u64 place = 0, size = 0;
+    size_t from = 0, to = 0;
+    size_t end() const { return std::min(to, from + MOST_PARTS); }
+};
+
+// The spans of accesses that come again and again.
+class Spans {
+public:
+    Spans() : known(CACHE) {}
+    // The place for an access; whether it is known is told by `is_of`.
+    Span &place_of(Thing thing, u64 place) {
+        u64 mixed = (place ^ static_cast<u64>(thing) << 40) * 0x9e3779b97f4a7c15ull >> 48;
+        return known[mixed % CACHE];
+    }
+    static bool is_of(const Span &span, Thing thing, u64 place, u64 size) {
+        return span.thing == thing && span.place == place && span.size == size;
+    }
+    void forget() { std::fill(known.begin(), known.end(), Span{}); }
+
+private:
+    static constexpr size_t CACHE = 1 << 15;
+    std::vector<Span> known;
 };
 
 }

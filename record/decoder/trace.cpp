@@ -73,6 +73,9 @@ void Trace::find_cuts() {
     cuts.resize(1);
     each([this](size_t, const record &one, const Resolved &of) {
         if (!of.there() || !is_access(one) || !seen[of.thing].shared()) return;
+        parts::Span &known = spans.place_of(of.thing, of.place);
+        if (parts::Spans::is_of(known, of.thing, of.place, of.size)) return;
+        known = {of.thing, of.place, of.size};
         u32 &number = cuts_of[of.thing];
         if (!number) {
             number = static_cast<u32>(cuts.size());
@@ -88,6 +91,16 @@ void Trace::find_cuts() {
         first += one.size();
     }
     kept.resize(first);
+    spans.forget();
+}
+
+parts::Span Trace::span_of(const Resolved &of) {
+    parts::Span &known = spans.place_of(of.thing, of.place);
+    if (!parts::Spans::is_of(known, of.thing, of.place, of.size)) {
+        auto [from, to] = cuts[cuts_of[of.thing]].between(of.place, of.place + of.size);
+        known = {of.thing, of.place, of.size, from, to};
+    }
+    return known;
 }
 
 // Kept are the parts that two threads access, one of them writing.
@@ -95,9 +108,9 @@ void Trace::find_kept() {
     each([this](size_t, const record &one, const Resolved &of) {
         if (!of.there() || !is_access(one)) return;
         const parts::Cuts &ends = cuts[cuts_of[of.thing]];
-        auto [from, to] = ends.between(of.place, of.place + of.size);
-        if (to - from > MOST_PARTS) counts.cut_short = true;
-        for (size_t part = from; part < std::min(to, from + MOST_PARTS); part++)
+        parts::Span span = span_of(of);
+        if (span.end() < span.to) counts.cut_short = true;
+        for (size_t part = span.from; part < span.end(); part++)
             kept[ends.first + part].see(one.thread, is_write(one));
     });
 }
@@ -106,8 +119,8 @@ void Trace::find_relaxed() {
     each([this](size_t number, const record &one, const Resolved &of) {
         if (!of.there() || !is_access(one) || !cuts_of[of.thing]) return;
         const parts::Cuts &ends = cuts[cuts_of[of.thing]];
-        auto [from, to] = ends.between(of.place, of.place + of.size);
-        for (size_t part = from; part < std::min(to, from + MOST_PARTS); part++) {
+        parts::Span span = span_of(of);
+        for (size_t part = span.from; part < span.end(); part++) {
             relaxed.see_part(number, one.thread, is_atomic(one.kind), ends.first + part);
         }
     });
@@ -124,8 +137,8 @@ void Trace::choose() {
     each([this](size_t, const record &one, const Resolved &of) {
         if (!of.there() || !is_access(one) || !cuts_of[of.thing] || !is_chosen(one)) return;
         const parts::Cuts &ends = cuts[cuts_of[of.thing]];
-        auto [from, to] = ends.between(of.place, of.place + of.size);
-        for (size_t part = from; part < std::min(to, from + MOST_PARTS); part++) kept[ends.first + part].chosen = true;
+        parts::Span span = span_of(of);
+        for (size_t part = span.from; part < span.end(); part++) kept[ends.first + part].chosen = true;
     });
     for (parts::Seen &part : kept) {
         if (!part.shared() || part.chosen) continue;

@@ -16,8 +16,6 @@
 
 namespace trace {
 
-// An access of more parts than this gives its first ones only; how often is said.
-constexpr size_t MOST_PARTS = 64;
 constexpr size_t MOST_THREADS = 256;
 
 struct Options {
@@ -108,6 +106,7 @@ private:
     void find_kept();
     void choose();
     void find_relaxed();
+    parts::Span span_of(const Resolved &of);
     bool is_chosen(const record &one);
     void find_operations(const record &one, size_t number, const Resolved &of);
     void find_accesses(const record &one, size_t number, const Resolved &of);
@@ -134,6 +133,7 @@ private:
     parts::PerThing<u32> cuts_of;
     std::vector<parts::Cuts> cuts;
     std::vector<parts::Seen> kept;
+    parts::Spans spans;
     std::unordered_map<Lock, LockSeen, LockHash> locks;
     std::unordered_map<places::Key, std::string, places::KeyHash> locations, free_locations;
     std::unordered_map<places::Key, bool, places::KeyHash> chosen_places;

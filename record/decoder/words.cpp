@@ -64,9 +64,9 @@ void Trace::add_meeting(const Resolved &of, u64 meeting, bool comes) {
 
 void Trace::find_accesses(const record &one, size_t number, const Resolved &of) {
     const parts::Cuts &ends = cuts[cuts_of[of.thing]];
-    auto [from, to] = ends.between(of.place, of.place + of.size);
+    parts::Span span = span_of(of);
     written_parts.clear();
-    for (size_t part = from; part < std::min(to, from + MOST_PARTS); part++) {
+    for (size_t part = span.from; part < span.end(); part++) {
         if (kept[ends.first + part].shared()) written_parts.push_back(ends.first + part);
     }
     bool atomic = is_atomic(one.kind),
