@@ -231,5 +231,6 @@ static void note_modules(void) {
     u8 was = inside;
     inside = 1;
     dl_iterate_phdr(note_module, NULL);
+    look_for_shift();
     inside = was;
 }

@@ -10,17 +10,20 @@ struct region {
     void *data;
     u64 team, pc;
     u32 master, size, in;
-    /* Whether a thread of the team makes what it will give to all. */
-    u8 is_made;
+    /* The last meeting for which a thread makes what it will give to all. */
+    u64 made;
     volatile u32 back;
     struct comer *comers;
     /* In a team with tasks the library runs these while it waits. */
     volatile u8 has_tasks;
+    /* A team that began while a plan was followed: the library alone lets it go on, in any order. */
+    u8 is_planned;
 };
 static u32 teams;
-/* The team of this thread, and the how many-th meeting of the team its next one is. */
+/* The team of this thread, the how many-th meeting of the team its next one is, and the meeting of its work that is
+ * shared out. */
 static __thread struct region *my_region;
-static __thread u64 my_team, my_round;
+static __thread u64 my_team, my_round, my_share;
 static __thread u8 has_stack;
 #define FIRST_ROUND 1
 #define LAST_ROUND 0xffffffff
@@ -65,7 +68,7 @@ static void bring_back(struct region *r) {
 static void begin_region(struct region *r) {
     u32 size = size_of_team();
     if (me == NOBODY) stranger();
-    if (me >= MOST_THREADS || following) {
+    if (me >= MOST_THREADS || r->is_planned) {
         take();
     } else if (me == r->master) {
         take();
@@ -80,7 +83,7 @@ static void begin_region(struct region *r) {
 
 /* The last one that ends gives the token to the one that began, which comes back from the library at once. */
 static void end_region(struct region *r) {
-    if (me >= MOST_THREADS || following || r->has_tasks || ++r->in < r->size) {
+    if (me >= MOST_THREADS || r->is_planned || r->has_tasks || ++r->in < r->size) {
         give();
     } else if (me != r->master) {
         lock_turns();
@@ -91,14 +94,15 @@ static void end_region(struct region *r) {
 
 static void in_region(void *p) {
     struct region *r = p, *region_before = my_region;
-    u64 team_before = my_team, round_before = my_round;
+    u64 team_before = my_team, round_before = my_round, share_before = my_share;
     int idle = IDLE;
-    my_region = r, my_team = r->team, my_round = FIRST_ROUND + 1;
+    making_team = 0;
+    my_region = r, my_team = r->team, my_share = FIRST_ROUND + 1, my_round = FIRST_ROUND + 2;
     if (!idle) begin_region(r);
     meet_team(WENT_ON, my_team, FIRST_ROUND, r->pc);
     r->body(r->data);
     meet_team(ARRIVED, my_team, LAST_ROUND, r->pc);
-    my_region = region_before, my_team = team_before, my_round = round_before;
+    my_region = region_before, my_team = team_before, my_round = round_before, my_share = share_before;
     if (!idle) end_region(r);
 }
 
@@ -116,11 +120,14 @@ static int is_of_openmp(void *(*body)(void *)) {
     void name given { \
         static void(*real) given; \
         if (!real) real = (void(*) given)next(#name, NULL); \
-        struct region r = {body, data, __atomic_add_fetch(&teams, 1, SC), PC, me}; \
+        struct region r = {.body = body, .data = data, .team = __atomic_add_fetch(&teams, 1, SC), .pc = PC}; \
         int idle = IDLE; \
-        if (!idle) maybe_give(), r.master = me, meet_team(ARRIVED, r.team, FIRST_ROUND, PC); \
-        if (following) give(); \
+        if (!idle) maybe_give(), r.master = me, r.is_planned = (u8)following; \
+        if (!idle) meet_team(ARRIVED, r.team, FIRST_ROUND, PC); \
+        if (r.is_planned) give(); \
+        making_team = PC; \
         real passed_on; \
+        making_team = 0; \
         if (!idle) take(), meet_team(WENT_ON, r.team, LAST_ROUND, PC); \
     }
 REGION(GOMP_parallel, (void (*body)(void *), void *data, unsigned n, unsigned g), (in_region, &r, n, g))
@@ -143,7 +150,7 @@ LOOP_BY_ITSELF(nonmonotonic_runtime)
 LOOP_BY_ITSELF(maybe_nonmonotonic_runtime)
 
 /* A team that the library alone lets go on, in any order. */
-static int is_any_order(struct region *r) { return !r || me >= MOST_THREADS || following; }
+static int is_any_order(struct region *r) { return !r || me >= MOST_THREADS || r->is_planned; }
 
 /* The last one that comes keeps the token, as the library lets it through; then one of all goes on. */
 static int comes_to_barrier(u64 pc) {
@@ -151,7 +158,7 @@ static int comes_to_barrier(u64 pc) {
     maybe_give();
     meet_team(ARRIVED, my_team, my_round, pc);
     int is_last = !is_any_order(r) && ++r->in >= r->size;
-    if (is_last) r->in = r->is_made = 0;
+    if (is_last) r->in = 0;
     is_last = is_last && !r->has_tasks;
     if (!is_last) give();
     return is_last;
@@ -176,7 +183,71 @@ BARRIER(GOMP_barrier)
 BARRIER(GOMP_loop_end)
 BARRIER(GOMP_sections_end)
 
-/* Who waits for a lock of the library waits in the recorder. */
+/* ---- work that is shared out: who comes first has the next part, as by an atomic counter ---- */
+
+static void take_share(u64 pc) {
+    maybe_give();
+    meet_team(ARRIVED, my_team, my_share, pc);
+}
+
+#define SHARES(type, name, begins, given, passed_on) \
+    type name given { \
+        static type(*real) given; \
+        if (!real) real = (type(*) given)next(#name, NULL); \
+        if (!IDLE) { \
+            if (begins) my_share = my_round++; \
+            take_share(PC); \
+        } \
+        return real passed_on; \
+    }
+typedef unsigned long long ull;
+#define LOOP_SHARES(kind) \
+    SHARES(_Bool, GOMP_loop_##kind##_start, 1, (long a, long b, long by, long n, long *from, long *to), \
+           (a, b, by, n, from, to)) \
+    SHARES(_Bool, GOMP_loop_##kind##_next, 0, (long *from, long *to), (from, to)) \
+    SHARES(_Bool, GOMP_loop_ull_##kind##_start, 1, (_Bool up, ull a, ull b, ull by, ull n, ull *from, ull *to), \
+           (up, a, b, by, n, from, to)) \
+    SHARES(_Bool, GOMP_loop_ull_##kind##_next, 0, (ull *from, ull *to), (from, to))
+#define RUNTIME_SHARES(kind) \
+    SHARES(_Bool, GOMP_loop_##kind##_start, 1, (long a, long b, long by, long *from, long *to), (a, b, by, from, to)) \
+    SHARES(_Bool, GOMP_loop_##kind##_next, 0, (long *from, long *to), (from, to)) \
+    SHARES(_Bool, GOMP_loop_ull_##kind##_start, 1, (_Bool up, ull a, ull b, ull by, ull *from, ull *to), \
+           (up, a, b, by, from, to)) \
+    SHARES(_Bool, GOMP_loop_ull_##kind##_next, 0, (ull *from, ull *to), (from, to))
+LOOP_SHARES(dynamic)
+LOOP_SHARES(guided)
+LOOP_SHARES(nonmonotonic_dynamic)
+LOOP_SHARES(nonmonotonic_guided)
+RUNTIME_SHARES(runtime)
+RUNTIME_SHARES(nonmonotonic_runtime)
+RUNTIME_SHARES(maybe_nonmonotonic_runtime)
+SHARES(_Bool, GOMP_loop_start, 1,
+       (long a, long b, long by, long how, long n, long *from, long *to, u64 *sums, void **kept),
+       (a, b, by, how, n, from, to, sums, kept))
+SHARES(_Bool, GOMP_loop_ull_start, 1,
+       (_Bool up, ull a, ull b, ull by, long how, ull n, ull *from, ull *to, u64 *sums, void **kept),
+       (up, a, b, by, how, n, from, to, sums, kept))
+SHARES(_Bool, GOMP_loop_ordered_dynamic_start, 1, (long a, long b, long by, long n, long *from, long *to),
+       (a, b, by, n, from, to))
+SHARES(_Bool, GOMP_loop_ordered_guided_start, 1, (long a, long b, long by, long n, long *from, long *to),
+       (a, b, by, n, from, to))
+SHARES(_Bool, GOMP_loop_ordered_runtime_start, 1, (long a, long b, long by, long *from, long *to), (a, b, by, from, to))
+SHARES(unsigned, GOMP_sections_start, 1, (unsigned n), (n))
+SHARES(unsigned, GOMP_sections2_start, 1, (unsigned n, u64 *sums, void **kept), (n, sums, kept))
+SHARES(unsigned, GOMP_sections_next, 0, (void), ())
+
+/* What one thread does: the others come after it has begun. */
+_Bool GOMP_single_start(void) {
+    REAL(GOMP_single_start, _Bool, void);
+    if (IDLE) return real();
+    maybe_give();
+    _Bool mine = real();
+    meet_team(mine ? ARRIVED : WENT_ON, my_team, my_round++, PC);
+    return mine;
+}
+
+/* ---- locks: who waits for one of the library waits in the recorder ---- */
+
 static void hold(void *at) {
     struct meeting *m = meeting_of(at);
     while (m->who != NOBODY && m->who != me) park(at, NULL, 0);

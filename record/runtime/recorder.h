@@ -54,6 +54,8 @@ static __thread u32 me = NOBODY;
 /* The clock of this thread: the hooks that it passed, and the blocks that it gave back since. */
 static __thread u64 tick;
 static __thread u32 sub;
+/* Where the program begins a region of OpenMP, while the library makes threads for it. */
+static __thread u64 making_team;
 
 /* callers.c: where the program called what led here. */
 static u64 caller_in_program(u64 pc);

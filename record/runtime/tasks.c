@@ -47,7 +47,8 @@ static void end_task(struct task *t) {
 
 static void in_task(void *p) {
     struct task *t = p;
-    u64 waits = my_waits, wait_round = my_wait_round, group = my_group, team = my_team, round = my_round;
+    u64 waits = my_waits, wait_round = my_wait_round, group = my_group;
+    u64 team = my_team, round = my_round, share = my_share;
     struct group *groups = my_groups;
     int had = IDLE || holder == me;
     if (!had) take();
@@ -56,7 +57,8 @@ static void in_task(void *p) {
     meet_depends(t, WENT_ON);
     t->body((char *)p + t->offset);
     end_task(t);
-    my_waits = waits, my_wait_round = wait_round, my_group = group, my_groups = groups, my_team = team, my_round = round;
+    my_waits = waits, my_wait_round = wait_round, my_group = group, my_groups = groups;
+    my_team = team, my_round = round, my_share = share;
     if (!had) give();
 }
 
@@ -144,17 +146,21 @@ NEXT_ORDERED(dynamic)
 NEXT_ORDERED(guided)
 NEXT_ORDERED(runtime)
 
-/* What one thread makes and gives to all: the others wait for it as at a barrier, and it comes there when it is made. */
+/* What one thread makes and gives to all: the others come after it has begun, wait for it as at a barrier, and it comes
+ * there when it is made. */
 void *GOMP_single_copy_start(void) {
     REAL(GOMP_single_copy_start, void *, void);
     if (IDLE) return real();
     maybe_give();
-    int any_order = is_any_order(my_region), makes = !any_order && !my_region->is_made, was_last = 0;
-    if (makes) my_region->is_made = 1;
-    else was_last = comes_to_barrier(PC);
+    struct region *r = my_region;
+    u64 round = my_round++;
+    int makes = r && r->made < round;
+    if (makes) r->made = round;
+    meet_team(makes ? ARRIVED : WENT_ON, my_team, round, PC);
+    if (makes) return real();
+    int was_last = comes_to_barrier(PC);
     void *made = real();
-    if (any_order && !made) take();
-    else if (!makes) leaves_barrier(was_last, PC);
+    leaves_barrier(was_last, PC);
     return made;
 }
 

@@ -93,6 +93,7 @@ static void hold_signals(const pthread_attr_t *attributes, sigset_t *mask, sigse
 static int create(pthread_t *id, const pthread_attr_t *attributes, void *(*body)(void *), void *argument, u64 pc) {
     REAL_OF(pthread_create, "GLIBC_2.34", int, pthread_t *, const pthread_attr_t *, void *(*)(void *), void *);
     if (IDLE) return real(id, attributes, body, argument);
+    if (making_team) pc = making_team;
     watch();
     note_modules();
     maybe_give();
