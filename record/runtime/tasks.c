@@ -135,11 +135,22 @@ void GOMP_ordered_end(void) {
     real();
 }
 
-/* The next turns of such a loop: the call waits for those before. */
+/* The next turns of such a loop: the call waits for those before, takes its share, and lets those after it go on. */
+static void go_on_in_order(u64 pc) {
+    REAL(GOMP_ordered_start, void, void);
+    maybe_give();
+    give();
+    real();
+    take();
+    meet_team(ARRIVED, my_team, my_share, pc);
+    put_of(OF_TEAM, PASS, my_team, pc);
+}
+
 #define NEXT_ORDERED(kind) \
     _Bool GOMP_loop_ordered_##kind##_next(long *from, long *to) { \
         REAL(GOMP_loop_ordered_##kind##_next, _Bool, long *, long *); \
-        return OUTSIDE(real(from, to)); \
+        if (!IDLE) go_on_in_order(PC); \
+        return real(from, to); \
     }
 NEXT_ORDERED(static)
 NEXT_ORDERED(dynamic)
