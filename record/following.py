@@ -1,6 +1,7 @@
 """A followed run: the program is run by a plan, and what came of it is read."""
 import contextlib
 import os
+import re
 import struct
 import sys
 import tempfile
@@ -60,8 +61,20 @@ def check_program(clock, words):
         raise OtherProgram("%s is another program than the one that was recorded" % words[0])
 
 
-GDB = ["gdb", "-q", "-ex", "set breakpoint pending on", "-ex", "set startup-with-shell off",
-       "-ex", "set debuginfod enabled off", "-ex", "break racebench_race_stands", "-ex", "run", "-ex", "info threads"]
+GDB = ["set breakpoint pending on", "set debuginfod enabled off", "break racebench_race_stands", "run", "info threads"]
+# Words that gdb gives to a program as they are. It quotes others, and only a shell takes the quotes away.
+PLAIN = re.compile(r"[\w./=,:@%+-]+", re.ASCII)
+
+
+def gdb_of(ran, surroundings):
+    """The words that run a program under gdb, and the environment for them."""
+    if all(map(PLAIN.fullmatch, ran)):
+        first = "set startup-with-shell off"
+    else:
+        shell = surroundings.get("SHELL")
+        first = "set environment SHELL " + shell if shell else "unset environment SHELL"
+        surroundings = dict(surroundings, SHELL="/bin/sh")
+    return ["gdb", "-q", *(word for one in [first, *GDB] for word in ("-ex", one)), "--args", *ran], surroundings
 
 
 def keyboard():
@@ -84,7 +97,7 @@ def followed(plan, then, words, seed, timeout, gdb=False, out=sys.stderr, source
                                            RACEBENCH_FOLLOW=plan_path)
         ran = [running.path_of(words[0])] + words[1:]
         if gdb:
-            status, timed_out = running.run(GDB + ["--args"] + ran, surroundings, None, None, source)
+            status, timed_out = running.run(*gdb_of(ran, surroundings), None, None, source)
         else:
             status, timed_out = running.run(ran, surroundings, out, timeout)
         if not os.fstat(file.fileno()).st_size and not gdb:

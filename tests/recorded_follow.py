@@ -10,6 +10,7 @@ import itertools
 import json
 import os
 import re
+import shutil
 import subprocess
 import tempfile
 
@@ -63,11 +64,11 @@ def ran(words, wanted=0, text=None, **more):
     return out, said
 
 
-def recorded(source, words, name="program"):
+def recorded(source, words, name="program", flags=(), args=()):
     """Compiles and records a program: NAME, NAME.std and NAME.clock."""
     compiler = "c++" if source.endswith(".cpp") else "cc"
-    ran([os.path.join(RECORD, compiler), "-O1", source, "-o", name])
-    trace, _ = ran([os.path.join(RECORD, "run"), "--clock", name + ".clock", *words, "./" + name])
+    ran([os.path.join(RECORD, compiler), "-O1", *flags, source, "-o", name])
+    trace, _ = ran([os.path.join(RECORD, "run"), "--clock", name + ".clock", *words, "./" + name, *args])
     with open(name + ".std", "w", encoding="utf-8", errors="surrogateescape") as file:
         file.write(trace)
 
@@ -176,6 +177,30 @@ def judge_departs(racebench):
         raise WrongFollow(f"a run with other addresses: {told}")
 
 
+def judge_teams(racebench):
+    """Races of teams of OpenMP stand: who comes first has the next part of a loop, a section, and what one thread does."""
+    for source, seed in itertools.product(("region.c", "teams.c", "openmp.c"), ("1", "2")):
+        recorded(os.path.join(TOP, "tests", "recorded", source), ["--seed", seed, "--yield", "5"], flags=["-fopenmp"])
+        found = confirmed(racebench)
+        if [one["ended"] for one in found] != ["stands"] or not found[0]["same_memory"]:
+            raise WrongFollow(f"{source}, seed {seed}: {found}")
+
+
+def judge_debugger(racebench):
+    """Under gdb the program has the words that it was recorded with, and both threads stand."""
+    if not shutil.which("gdb"):
+        return
+    odd = ["h[1-8] %h", "", "it's"]
+    recorded(os.path.join(SOURCES, "words.c"), [], args=odd)
+    pair, witness = witness_of(racebench, "program")
+    with open("witness", "w", encoding="utf-8") as file:
+        file.write(witness)
+    words = [os.path.join(RECORD, "follow"), "--gdb", "--witness", "witness", "program.clock", *pair]
+    out, told = ran(words, text="bt\nkill\nquit\n")
+    if "the race stands: T1 at words.c:8, T2 at words.c:8" not in told or "in work (" not in out:
+        raise WrongFollow(f"under gdb: {out}{told}")
+
+
 def judge_waits(racebench):
     """A thread that waits where its access would come next does not stand there."""
     recorded(os.path.join(SOURCES, "waits.c"), [])
@@ -212,7 +237,7 @@ def judge_refusals(racebench):
 
 JUDGES = [
     ("races stand", judge_races), ("both orders", judge_orders), ("outputs", judge_outputs), ("the program's name", judge_program),
-    ("a departure", judge_departs), ("a thread that waits", judge_waits),
+    ("a departure", judge_departs), ("a thread that waits", judge_waits), ("teams of OpenMP", judge_teams), ("gdb", judge_debugger),
     ("refusals", judge_refusals),
 ]
 

@@ -133,6 +133,31 @@ def judge_hooks(c):
         raise WrongRun(f"a program without hooks: {told}{out}")
 
 
+def judge_words(c):
+    """A source is told by -x too, in one word or in two; words come from a file; and what chooses the linker is a word for the link
+    alone, since build systems read it in what the compiler says of its calls."""
+    environment = dict(os.environ, RECORD_CC=c)
+    with open("source.txt", "w", encoding="ascii") as source:
+        source.write(TWO_THREADS)
+    with open("words", "w", encoding="ascii") as words:
+        words.write("-O1 '-DNAME=\"a b\"'\n-x c source.txt")
+    for given in (["-xc", "source.txt"], ["-x", "c", "source.txt", "-x", "none"], ["@words"], ["-O2", "-xc", "-"]):
+        subprocess.run([os.path.join(RECORD, "cc"), *given, "-o", "program"], input=TWO_THREADS.encode(), check=True, timeout=PATIENCE,
+                       env=environment)
+        if "|w(x)|" not in recorded("./program")[0]:
+            raise WrongRun(f"compiled by {given}: nothing of x is recorded")
+    with open("words", "w", encoding="ascii") as words:
+        words.write("-DNAME='a\n")
+    _, told = ran([os.path.join(RECORD, "cc"), "@words", "source.c"], wanted=1, env=environment)
+    if told != "record: words: no closing quotation\n":
+        raise WrongRun(f"a file of words that ends in a quote: {told}")
+    compiled(TWO_THREADS, wanted=0)
+    _, told = ran([os.path.join(RECORD, "cc"), "source.c", "-o", "program", "-fuse-ld=bfd", "-v"], env=environment)
+    chosen = next((word for word in told.split() if "-fuse-ld" in word), "")
+    if c == "gcc" and chosen != "'-fuse-ld=bfd'":
+        raise WrongRun(f"the choice of the linker is no word by itself: {chosen}")
+
+
 # Each command, how its usage ends, and what it lacks if it is called without words.
 USAGES = [
     ("run", " [--only FILE].. [--raw FILE] [--status] [--clock FILE] PROGRAM ARGS..", "PROGRAM"),
@@ -237,7 +262,7 @@ def judge_once(c):
         raise WrongRun(f"the recorder was not kept: {kept}")
 
 
-JUDGES = [("ten recordings of one seed", judge_same_runs), ("ten recordings of OpenMP", judge_same_teams), ("how programs end", judge_ends), ("hooks", judge_hooks),
+JUDGES = [("ten recordings of one seed", judge_same_runs), ("ten recordings of OpenMP", judge_same_teams), ("how programs end", judge_ends), ("hooks", judge_hooks), ("words of a compiler", judge_words),
           ("a full disk", judge_full_disk), ("a killed run", judge_killed), ("a group that is ended", judge_group), ("the recorder is compiled once", judge_once),
           ("C++ by the compiler of C", judge_language), ("usages", judge_usages)]
 

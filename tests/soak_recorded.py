@@ -1,0 +1,23 @@
+#!/usr/bin/env python3
+"""soak_recorded.py PROGRAM [N]: what `tools/soak --recorded` tries, in a process of its own: record/ and tests/ each have a `running`."""
+
+import secrets
+import sys
+
+import recorded_chance
+import recorded_follow
+
+# How many programs are made by chance, recorded and followed.
+MANY_PROGRAMS = 100
+
+
+def main():
+    program, seeds = sys.argv[1], sys.argv[2:]
+    if seeds:
+        return recorded_chance.soak(program, int(seeds[0]), 1)
+    first = secrets.randbelow(10**9)
+    print(f"soak: the seed of the first program is {first}", flush=True)
+    return recorded_follow.soak(program) | recorded_chance.soak(program, first, MANY_PROGRAMS)
+
+
+sys.exit(main())
