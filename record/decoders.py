@@ -2,6 +2,7 @@
 can't be."""
 import glob
 import os
+import shutil
 import subprocess
 import sys
 import tempfile
@@ -35,14 +36,13 @@ def compiled(folder):
     why = []
 
     def make(path):
-        say("the decoder is compiled, once")
-        try:
-            done = subprocess.run(
-                [compiler(), *WORDS, source, "-o", path, *LIBRARIES], capture_output=True, text=True, errors="replace"
-            )
-        except OSError as error:
-            why.append("%s: %s" % (compiler(), error.strerror))
+        if not shutil.which(compiler()):
+            why.append("there is no %s" % compiler())
             return 1
+        say("the decoder is compiled, once")
+        done = subprocess.run(
+            [compiler(), *WORDS, source, "-o", path, *LIBRARIES], capture_output=True, text=True, errors="replace"
+        )
         wrong = [line for line in done.stderr.splitlines() if "error" in line or "cannot find" in line]
         why.extend(wrong[:1] if done.returncode else [])
         return done.returncode
@@ -59,9 +59,8 @@ def command(folder):
     path, why = compiled(folder)
     if not path:
         say(
-            "the decoder in C++ can't be compiled (%s; it needs g++ and Debian's libdw1); "
-            "the slower one in Python decodes"
-            % why
+            "the decoder in C++ can't be compiled (%s; it needs a compiler in RECORD_CXX or g++, and Debian's libdw1); "
+            "the slower one in Python decodes" % why
         )
     return [path] if path else in_python
 
