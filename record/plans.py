@@ -57,15 +57,15 @@ def places_of(clock, events, lines):
 
 def steps_of(clock, events, lines, pair):
     """Events of one record are one step; the records of the pair are none. Also how many records have events of others
-    in between."""
+    in between: of a record of the pair also before its access that is in the pair."""
     ends = {clock.record_of[event] for event in pair}
     last = places_of(clock, events, lines)
     steps, split = [], 0
     for place, event in enumerate(events):
-        record = clock.record_of[event]
-        if last[record] > place:
-            split += clock.record_of[events[place + 1]] != record
-        elif last[record] == place and record not in ends:
+        record, is_last = clock.record_of[event], last[clock.record_of[event]] == place
+        if last[record] > place or (is_last and record in ends):
+            split += place + 1 < len(events) and clock.record_of[events[place + 1]] != record
+        elif is_last:
             steps.append(event)
     return steps, split
 
