@@ -31,12 +31,20 @@ SLEEPS = r"\b(?:watchdog|mended)\b"
 # Commands that are not typed: the page, how the command begins, and why.
 LEFT_OUT = [
     ("docs/BUILDS.md", "cmake", "needs CMake and a project"),
-    ("docs/BUILDS.md", "$R/run", "runs what CMake built"),
+    ("docs/BUILDS.md", "bazel", "needs Bazel and a project"),
+    ("docs/BUILDS.md", "$R/run", "runs what CMake or Bazel built"),
     ("record/README.md", "record/reported report.txt", "names the two accesses in the order in which the sanitizer met them"),
     ("docs/CONFIRM.md", "racebench triage watchdog.std", "names events of one recording of a program that sleeps"),
     ("docs/CONFIRM.md", "racebench witness watchdog.std", "names events of one recording of a program that sleeps"),
     ("docs/CONFIRM.md", "record/follow --then both", "names events of one recording of a program that sleeps"),
     ("docs/CONFIRM.md", "record/follow --gdb", "needs gdb, and a reader at it"),
+    ("docs/CONFIRM.md", "./configure", "needs the sources of pdsh"),
+    ("docs/CONFIRM.md", "$R/", "needs the sources of pdsh"),
+    ("docs/CONFIRM.md", "racebench witness pdsh.std", "names events of one recording of pdsh"),
+    ("docs/RECORDING.md", "export RUSTC_BOOTSTRAP", "needs rustc"),
+    ("docs/RECORDING.md", "rustc", "needs rustc"),
+    ("docs/RECORDING.md", "$R/run ./race", "runs what rustc built"),
+    ("docs/RECORDING.md", "racebench triage race.std", "reads what a program of Rust did"),
     ("docs/SCREEN.md", "screen/screen", "needs a browser"),
 ]
 
