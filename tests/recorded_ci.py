@@ -31,14 +31,43 @@ int main(void) {
 QUIET = "#include <stdio.h>\nint main(void) { puts(\"quiet\"); return 0; }\n"
 
 
-def commands(name):
-    """The lines of a service's file that build, and that record and judge."""
+# How a service runs the lines of its file: the shell, with the words that it is called with, and what it sets in the environment. GitHub
+# and Jenkins run each line by itself, GitLab all in one script.
+SERVICES = {
+    "github.yml": (["bash", "-e"], {"CI": "true", "GITHUB_ACTIONS": "true", "GITHUB_WORKSPACE": ".", "RUNNER_OS": "Linux"}),
+    "gitlab.yml": (["bash", "-eo", "pipefail"], {"CI": "true", "GITLAB_CI": "true", "CI_PROJECT_DIR": ".", "CI_JOB_NAME": "races"}),
+    "Jenkinsfile": (["sh", "-xe"], {"JENKINS_URL": "http://localhost/", "WORKSPACE": ".", "BUILD_NUMBER": "1"}),
+}
+# What stands for the commands that change a machine: they write down how they are called.
+FAKED = {"sudo": 'exec "$@"', "apt-get": 'echo "$@" >> installed'}
+DEB = "ci/planecarmine_0.1.0_amd64.deb"
+
+
+def scripts(name):
+    """The scripts that a service runs, one after another."""
     with open(os.path.join(FOLDER, name), encoding="ascii") as file:
         text = file.read()
-    found = re.findall(r"(?:run: |- |sh ')((?:make|sh) [^'\n]*)", text)
-    if len(found) != 2:
-        raise WrongPlace(f"examples/ci/{name} has {len(found)} lines to run: {found}")
-    return found
+    if name == "github.yml":
+        return re.findall(r"^        run: (.*)$", text, re.MULTILINE)
+    if name == "gitlab.yml":
+        return ["\n".join(re.findall(r"^    - (.*)$", text, re.MULTILINE))]
+    return re.findall(r"^ *sh '(.*)'$", text, re.MULTILINE)
+
+
+def served(name, environment):
+    """Runs what a service runs, up to the first script that fails: its status, what all printed, and what was said as an error. A shell
+    that traces says its commands."""
+    shell, sets = SERVICES[name]
+    printed, told = "", ""
+    for script in scripts(name):
+        with open("script.sh", "w", encoding="ascii") as file:
+            file.write(script + "\n")
+        done = subprocess.run([*shell, "script.sh"], capture_output=True, text=True, env={**environment, **sets}, check=False)
+        printed += done.stdout
+        told += "".join(line for line in done.stderr.splitlines(True) if not line.startswith("+"))
+        if done.returncode:
+            break
+    return done.returncode, printed, told
 
 
 def lay_out(racebench):
@@ -49,7 +78,13 @@ def lay_out(racebench):
         os.symlink(os.path.join(RECORD, script), os.path.join("bin", command))
     with open("bin/racebench", "w", encoding="ascii") as file:
         file.write(f'#!/bin/sh\nexec {racebench} "$@"\n')
-    os.chmod("bin/racebench", stat.S_IRWXU)
+    for name, text in FAKED.items():
+        with open(os.path.join("bin", name), "w", encoding="ascii") as file:
+            file.write(f"#!/bin/sh\n{text}\n")
+    for name in ("racebench", *FAKED):
+        os.chmod(os.path.join("bin", name), stat.S_IRWXU)
+    with open(DEB, "w", encoding="ascii"):
+        pass
     shutil.copy(os.path.join(FOLDER, "triage.sh"), "ci/triage.sh")
     shutil.copy(os.path.join(TOP, "examples", "count.c"), "tests.c")
     for name, text in (("Makefile", MAKEFILE), ("ci/known.txt", "")):
@@ -60,23 +95,24 @@ def lay_out(racebench):
 
 def judge_service(racebench, name):
     environment = lay_out(racebench)
-    build, judge = (["sh", "-c", words] for words in commands(name))
-    ran(build, env=environment)
-    done = subprocess.run(judge, capture_output=True, text=True, env=environment, check=False)
-    if done.returncode != 3 or done.stderr:
-        raise WrongPlace(f"an empty file of known races: {done}")
-    said = done.stdout
+    status, said, told = served(name, environment)
+    if status != 3 or "record/" in told:
+        raise WrongPlace(f"an empty file of known races: status {status}, {said!r}, {told!r}")
     if "seed 2: a new race\nrace " not in said or not os.path.exists("races/2.html"):
         raise WrongPlace(f"a new race is not shown: {said!r}")
+    if name != "Jenkinsfile":
+        with open("installed", encoding="ascii") as file:
+            if f"install -y ./{DEB} " not in file.read():
+                raise WrongPlace("the package is not installed")
     with open("ci/known.txt", "w", encoding="ascii") as known:
         known.write("none\n")
-    said = subprocess.run(judge, capture_output=True, text=True, env=environment, check=False).stdout
-    if said.count("has no block `race`") != 1:
-        raise WrongPlace(f"a file of known races without one is told once: {said!r}")
+    if served(name, environment)[1].count("has no block `race`") != 1:
+        raise WrongPlace("a file of known races without one is not told once")
     with open("races/1.txt", encoding="ascii") as old, open("ci/known.txt", "w", encoding="ascii") as known:
         known.write(old.read())
-    if ran(judge, env=environment) != "seed 1: no new race\nseed 2: no new race\n":
-        raise WrongPlace("a known race is new")
+    status, said, _ = served(name, environment)
+    if status or not said.endswith("seed 1: no new race\nseed 2: no new race\n"):
+        raise WrongPlace(f"a known race is new: status {status}, {said!r}")
 
 
 def judge_locks(racebench):
@@ -93,7 +129,7 @@ def judge_locks(racebench):
 def judge_no_green(racebench):
     """A program without hooks, a program that is not there, and a racebench that refuses: no build is green."""
     environment = lay_out(racebench)
-    judge = ["sh", "-c", commands("github.yml")[1]]
+    judge = ["bash", "-ec", scripts("github.yml")[2]]
     ran(judge, wanted=1, env=environment)
     os.rename("ci/known.txt", "known.txt")
     done = subprocess.run(judge, capture_output=True, text=True, env=environment, check=False)
