@@ -85,11 +85,18 @@ on("names", (told) => {
   views.bar();
 });
 
+// Whether this analyst made a step at the end of the schedule, which is to be seen. A move stays where it is.
+function isStep(entry, name) {
+  const about = entry.k === "undo" ? state.entries.get(entry.of) : entry;
+  const isElsewhere = about?.name !== undefined && about.name !== name;
+  return entry.c === state.client && !isElsewhere && !about?.swaps && !["swap", "propose"].includes(about?.k);
+}
+
 // What is drawn is asked for first, and the feed is drawn while the answer is under way.
 on("log", async (told) => {
   const name = state.view?.schedule;
-  const isMine = told.entries.length > 0 && told.entries.every((entry) => entry.c === state.client);
   feed.take(told);
+  const isMine = told.entries.some((entry) => isStep(entry, name));
   const isTouched = name && name in told.rows;
   const drawn = isTouched && told.rows[name] ? [sheet.refresh(isMine), frontier.load()] : [];
   feed.render();

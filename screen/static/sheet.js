@@ -17,12 +17,18 @@ const stage = $("stage");
 const space = $("space");
 export const events = { act: null };
 
+// What an answer brings in sight: the end, a position, or what is in sight already (null).
+export const END = "end";
+
 let win = null;
 let asked = 0;
+let latest = null; // the promise of what was asked last
+let goal = END;
+let seen = 0; // how far it was scrolled when the goal was set
+let isHidden = false; // another part is shown in its place
 let cursor = null;
 let stop = null;
 let hovered = null;
-let follow = true;
 let height = 0;
 let breadth = 0;
 
@@ -30,47 +36,79 @@ export const current = () => win;
 export const cursorEvent = () => win?.rows.find((row) => row.p === cursor && !row.b) ?? null;
 
 const visible = () => Math.ceil((height || stage.clientHeight) / HEIGHT) + 1;
-const topRow = () => Math.floor(stage.scrollTop / HEIGHT);
-// Between a change of size and its drawing, what was in sight counts.
-const isAtEnd = () => stage.clientHeight === height
-  ? stage.scrollTop + stage.clientHeight > stage.scrollHeight - HEIGHT * 2
-  : follow;
+// While another part is shown in its place, it is scrolled nowhere.
+const top = () => (isHidden || !stage.clientHeight ? seen : stage.scrollTop);
+const topRow = () => Math.floor(top() / HEIGHT);
+// A change of size may not be drawn yet: then the end is in sight if it was so before, or is so now.
+const isAtEnd = () => stage.scrollTop + Math.max(height, stage.clientHeight) > stage.scrollHeight - HEIGHT * 2;
+const whereItStands = () => (!isHidden && isAtEnd() ? END : null);
 
-export function reset() {
+function want(what) {
+  goal = what;
+  seen = top();
+}
+
+// Who scrolls says with it what is to stay in sight. The event of it may come later than an answer.
+function heed() {
+  if ((goal === END || goal === null) && top() !== seen) want(whereItStands());
+}
+
+function scrollTo(to) {
+  stage.scrollTop = seen = to;
+  seen = top();
+}
+
+// Nothing is drawn until the next answer. The end is what that shows, or where it stood.
+export function reset({ end = false } = {}) {
   win = cursor = stop = null;
-  follow = true;
+  if (end) want(END);
   asked++;
+  latest = null;
   fill($("lanes-head"));
   render();
 }
 
-export async function load({ end = false, at = null, toggle = undefined, isLeft = () => false } = {}) {
+// Asks for rows, draws them, and brings in sight what is wanted. One that is overtaken waits for the one that did so.
+export function load(given = {}) {
+  latest = fetchRows(given);
+  return latest;
+}
+
+async function fetchRows({ to, toggle }) {
   if (!state.view) {
     reset();
-    return;
+    return null;
   }
-  const mine = ++asked;
-  const view = state.view;
-  const from = end ? null : Math.max(0, topRow() - AHEAD);
+  if (to === undefined) heed();
+  else want(to);
+  const [mine, view, wanted] = [++asked, state.view, goal];
+  const from = wanted === END ? null : Math.max(0, topRow() - AHEAD);
   const given = { view, aim: state.aim, count: visible() + 2 * AHEAD, from };
-  if (at !== null) given.at = at;
+  if (typeof wanted === "number") given.at = wanted;
   if (toggle !== undefined) given.toggle = toggle;
   const told = await ask("view", given);
-  if (mine !== asked || view !== state.view) return;
+  if (view !== state.view) return null;
+  if (mine !== asked) return latest;
   if (told.mistake) {
     reset();
-    return;
+    return null;
   }
-  if (end && isLeft()) {
-    await load();
-    return;
-  }
+  heed();
+  if (goal !== wanted) return load(); // somebody scrolled meanwhile
+  take(told);
+  return null;
+}
+
+function take(told) {
+  const first = goal === null ? win?.rows[topRow() - win.from] : null;
   win = told;
-  if (end) follow = true;
-  else if (at !== null) follow = false;
   draw();
-  if (end) stage.scrollTop = win.total * HEIGHT;
-  else if (at !== null) stage.scrollTop = Math.max(0, told.row * HEIGHT - stage.clientHeight / 2);
+  if (goal === END) scrollTo(win.total * HEIGHT);
+  else if (goal === null) stay(first);
+  else {
+    scrollTo(Math.max(0, told.row * HEIGHT - stage.clientHeight / 2));
+    want(whereItStands());
+  }
   map.mark();
 }
 
@@ -89,19 +127,16 @@ function settle() {
   space.style.setProperty("--base", `${Math.max(0, height - all)}px`);
 }
 
-// After a step of anyone: the end stays in sight if it was in sight, and if nobody scrolled up meanwhile.
+// After a step of anyone. The end stays in sight if it was in sight; a step of this analyst brings it there.
 export async function refresh(isMine) {
   stop = null;
-  const end = isMine || isAtEnd();
-  const [top, scrolled] = [end ? null : win?.rows[topRow() - win.from], stage.scrollTop];
-  await load({ end, isLeft: () => !isMine && !isAtEnd() });
-  if (top && stage.scrollTop === scrolled) stay(top);
+  await load(isMine ? { to: END } : {});
 }
 
 // Keeps the row at the top where it is, if rows above it came or went.
 function stay(row) {
-  const at = win?.rows.findIndex((one) => one.p === row.p) ?? -1;
-  if (at >= 0 && win.from + at !== topRow()) stage.scrollTop += (win.from + at - topRow()) * HEIGHT;
+  const at = row ? edges.rowAt(win, row.p) : -1;
+  if (at >= 0 && win.from + at !== topRow()) scrollTo(top() + (win.from + at - topRow()) * HEIGHT);
 }
 
 function render() {
@@ -157,12 +192,12 @@ function land(position, how) {
 }
 
 export async function jump(position) {
-  await load({ at: position });
+  await load({ to: position });
   land(position);
 }
 
 export async function toggle(position) {
-  await load({ toggle: position, at: position });
+  await load({ toggle: position, to: position });
   land(position, { into: false });
 }
 
@@ -246,25 +281,37 @@ stage.addEventListener("mouseleave", () => {
 
 let pending = false;
 function wants() {
-  const top = topRow();
+  const at = topRow();
   const end = win.from + win.rows.length;
-  return (top < win.from && win.from > 0) || (top + visible() > end && end < win.total);
+  return (at < win.from && win.from > 0) || (at + visible() > end && end < win.total);
 }
-stage.addEventListener("scroll", () => {
-  map.mark();
-  follow = isAtEnd();
+
+function fetchMore() {
   if (!win || pending || !wants()) return;
   pending = true;
   requestAnimationFrame(async () => {
     do await load(); while (win && wants());
     pending = false;
   });
+}
+
+stage.addEventListener("scroll", () => {
+  map.mark();
+  heed();
+  fetchMore();
 }, { passive: true });
 
 new ResizeObserver(() => {
+  const wasHidden = isHidden;
+  isHidden = !stage.clientHeight;
+  if (isHidden) return;
+  if (wasHidden) scrollTo(seen);
+  heed();
   height = stage.clientHeight;
   breadth = stage.clientWidth;
   if (!win) return;
   draw();
-  if (follow) stage.scrollTop = stage.scrollHeight;
+  if (goal === END) scrollTo(stage.scrollHeight);
+  map.mark();
+  fetchMore();
 }).observe(stage);

@@ -31,22 +31,22 @@ export async function open(view, { end = true } = {}) {
   none = null;
   state.view = view;
   hideNote();
-  sheet.reset();
+  sheet.reset({ end });
   bar();
   reveal("centre");
-  if (view.schedule) await openSchedule(view.schedule, end);
+  if (view.schedule) await openSchedule(view.schedule);
   else {
-    await sheet.load({ end });
+    await sheet.load();
     frontier.show(view.pair);
     schedules.render();
   }
   bar();
 }
 
-async function openSchedule(name, end) {
+async function openSchedule(name) {
   const aim = /^r(\d+)-(\d+)/.exec(name);
   if (aim && !state.aim) await aimAt([Number(aim[1]), Number(aim[2])]);
-  await Promise.all([sheet.load({ end }), frontier.load()]);
+  await Promise.all([sheet.load(), frontier.load()]);
   schedules.render();
   check(name);
 }

@@ -31,7 +31,8 @@ def modules():
     if not any(map(os.path.exists, CHROMIUM)):
         print("chromium is not here: what needs a browser is not tested (apt-get install chromium)")
         return
-    yield from ("framed", "table", "look", "live", "hands", "corners", "narrow", "questions", "big")
+    yield from ("framed", "table", "look", "live", "hands", "corners", "narrow", "sight", "questions",
+                "big")
 
 
 def tests(wanted):
