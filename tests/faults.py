@@ -39,7 +39,7 @@ DISK_WAYS = [
     ("flock", "error"), ("link", "error"),
 ]  # fmt: skip
 # How long the runs of one sweep may take, in seconds.
-LONGEST = 600
+LONGEST = 3600
 
 # How a run ended: its status or, below 0, its signal; whether it met the call that fails; what it wrote; and the file
 # that it left, if that is told.

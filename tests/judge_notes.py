@@ -31,7 +31,7 @@ def environment(value):
 
 
 def through_pipe(program, words, value):
-    done = subprocess.run([program, *words], stdin=subprocess.DEVNULL, capture_output=True, env=environment(value), timeout=60, check=False)
+    done = subprocess.run([program, *words], stdin=subprocess.DEVNULL, capture_output=True, env=environment(value), timeout=running.PATIENCE, check=False)
     return done.stderr.decode("ascii")
 
 
@@ -47,7 +47,7 @@ def on_terminal(program, words):
         except OSError:
             pass  # nobody has the other end any more
         os.close(mine)
-        run.wait(timeout=60)
+        run.wait(timeout=running.PATIENCE)
     return shown.decode("ascii")
 
 

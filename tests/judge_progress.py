@@ -24,9 +24,11 @@ FIRST_PAIRS = 20
 MOST_PAIRS = 64_000
 # Events that stand before the pairs, so that each search goes over many.
 OTHERS = 60_000
-# How many lines that tell of more pairs of places have to come then; and how long nothing comes before the first line.
+# How many lines that tell of more pairs of places have to come then; how long nothing comes before the first line; and how often more work is
+# tried where fewer lines come: a busy machine may hold a run up before it looks at its first pair.
 LEAST_LINES = 2
 QUIET_SECONDS = 0.9
+TRIES = 6
 SHOWN = re.compile(r"\r(?:events (\d+)|pairs of places (\d+) of (\d+))")
 WIPED = re.compile(r"\r *\r")
 
@@ -37,6 +39,10 @@ def trace(pairs):
     for i in range(pairs):
         lines += [f"T0|acq(l)|a{i}", f"T0|w(x{i})|a{i}", f"T0|rel(l)|a{i}", f"T1|acq(l)|b{i}", f"T1|rel(l)|b{i}", f"T1|w(x{i})|b{i}"]
     return "".join(line + "\n" for line in lines), len(lines)
+
+
+class TooFew(Exception):
+    """A run that took long told of too few steps."""
 
 
 class Shown:
@@ -82,7 +88,7 @@ def judge_shown(run, events, pairs, rest=""):
     if run.sent[at:] != rest:
         sys.exit(f"progress: {run.sent[at:][:300]!r} came behind the line, and not {rest[:300]!r}")
     if run.seconds >= LEAST_SECONDS and told < LEAST_LINES:
-        sys.exit(f"progress: in {run.seconds:.1f} s {told} lines told of more pairs of places: {run.sent[:300]!r}")
+        raise TooFew(f"in {run.seconds:.1f} s {told} lines told of more pairs of places: {run.sent[:300]!r}")
     if longest and run.quiet < QUIET_SECONDS:
         sys.exit(f"progress: something was shown after {run.quiet:.2f} s")
     return told
@@ -118,16 +124,17 @@ def judge_asked(program, events, pairs, wanted):
     if (status, out) != (0, wanted):
         sys.exit(f"progress: status {status} with --progress, or another standard output")
     told = [re.fullmatch(r"events (\d+)|pairs of places (\d+) of (\d+)", line) for line in err.decode("ascii").splitlines()]
-    if not all(told) or len(told) < LEAST_LINES:
+    if not all(told):
         sys.exit(f"progress: with --progress a pipe is sent {err[:300]!r}")
+    if len(told) < LEAST_LINES:
+        raise TooFew(f"with --progress a pipe is sent {err[:300]!r} only")
     counts = [int(line[2]) for line in told if line[2]]
     if counts != sorted(counts) or any(int(line[1] or events) != events or int(line[3] or pairs) != pairs for line in told):
         sys.exit(f"progress: with --progress other numbers are sent: {err[:300]!r}")
 
 
-def long_run(program):
-    """A run that takes long, how many events and pairs of places its trace has, and what it prints."""
-    pairs = FIRST_PAIRS
+def long_run(program, pairs):
+    """A run that takes long on so many pairs of places or more, and how many events and pairs its trace has."""
     while True:
         text, events = trace(pairs)
         running.write("trace", text)
@@ -141,8 +148,19 @@ def long_run(program):
 
 
 def judge_long(program):
-    """What takes long shows lines: beside a file, by a worker with all on one terminal, and before a fault."""
-    run, events, pairs = long_run(program)
+    """Judges what takes long, and more work where that told of too little; a machine that is busy gets that chance."""
+    pairs, why = FIRST_PAIRS, None
+    for _ in range(TRIES):
+        run, events, pairs = long_run(program, pairs)
+        try:
+            return judge_lines(program, run, events, pairs), pairs
+        except TooFew as what:
+            pairs, why = min(2 * pairs, MOST_PAIRS), what
+    sys.exit(f"progress: {why}")
+
+
+def judge_lines(program, run, events, pairs):
+    """What takes long shows lines: beside a file, by a worker with all on one terminal, and before a fault. Answers how many told of more."""
     status, out, err = running.ended(program, ["triage", "trace"])
     if status != 0 or err:
         sys.exit(f"progress: status {status} where no terminal is, and on standard error {err[:300]!r}")
@@ -156,7 +174,7 @@ def judge_long(program):
     words = ["triage", "trace"]
     run = Shown(program, words, "/dev/full")
     judge_status(words, run.status, 1)
-    return lines + judge_shown(run, events, pairs, "racebench: write failed\nnote: standard output cannot be written\n"), pairs
+    return lines + judge_shown(run, events, pairs, "racebench: write failed\nnote: standard output cannot be written\n")
 
 
 def main():

@@ -138,7 +138,7 @@ def judge_witness(trace, first, second, told, tally):
 
 
 def session(program, lines):
-    done = subprocess.run([program, "session", "trace", "log"], input="".join(line + "\n" for line in lines).encode("ascii"), capture_output=True, timeout=60, check=False)
+    done = subprocess.run([program, "session", "trace", "log"], input="".join(line + "\n" for line in lines).encode("ascii"), capture_output=True, timeout=running.PATIENCE, check=False)
     if done.returncode != 0 or done.stderr:
         raise Wrong(f"status {done.returncode}: {done.stderr[:300]!r}")
     return done.stdout.decode("ascii").split("\n")[:-1]

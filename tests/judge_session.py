@@ -60,7 +60,7 @@ class Sessions:
     def run(self, text, *words, status=0, error=b"", **more):
         """What a session writes on this input."""
         given = ["session", "trace", "log", *words]
-        done = subprocess.run([self.program, *given], input=text, capture_output=True, timeout=120, check=False, **more)
+        done = subprocess.run([self.program, *given], input=text, capture_output=True, timeout=running.PATIENCE, check=False, **more)
         if done.returncode != status or (error is not None and done.stderr != error):
             fail(f"{given}: status {done.returncode}, and not {status}: {done.stderr.decode()[:300]}")
         return done.stdout
@@ -166,7 +166,7 @@ def judge_kills(sessions, kills, seed=1):
         if chance.random() < 0.9:
             os.write(process.stdin.fileno(), (plain.words_of(calls[0]) + "\n").encode("ascii"))
             sent = 1
-            select.select([process.stdout], [], [], 60)
+            select.select([process.stdout], [], [], running.PATIENCE)
         deadline = time.monotonic() + chance.uniform(0.0, 0.03)
         try:
             while time.monotonic() < deadline and sent < len(calls):
@@ -271,6 +271,17 @@ def judge_edits(sessions):
         fail("the log is not that of its trace")
 
 
+def is_told(process, wanted):
+    """Whether a session answers so next, in one piece or more."""
+    told = b""
+    while len(told) < len(wanted) and select.select([process.stdout], [], [], running.PATIENCE)[0]:
+        piece = os.read(process.stdout.fileno(), 100)
+        told += piece
+        if not piece:
+            break
+    return told == wanted
+
+
 def judge_shorter(sessions):
     """A file that something else cuts while a session has it open is refused, and not filled up."""
     fresh()
@@ -279,11 +290,11 @@ def judge_shorter(sessions):
         [sessions.program, "session", "trace", "log", "--client", "1"], stdin=subprocess.PIPE, stdout=subprocess.PIPE, stderr=subprocess.PIPE, bufsize=0
     )
     os.write(process.stdin.fileno(), b"new A\nnew B\n")
-    if os.read(process.stdout.fileno(), 100) != b"0: done\n1: done\n":
+    if not is_told(process, b"0: done\n1: done\n"):
         fail("a session does not answer")
     cut = pathlib.Path("log").read_bytes()[: HEAD + 3]
     os.truncate("log", HEAD + 3)
-    told, error = process.communicate(b"new C\n", timeout=60)
+    told, error = process.communicate(b"new C\n", timeout=running.PATIENCE)
     if (told, error, process.returncode) != (b"", b"racebench: log file line 3\n", 1) or pathlib.Path("log").read_bytes() != cut:
         fail(f"of a file that is shorter is said {told} {error}")
 
@@ -312,7 +323,7 @@ def judge_at_once(sessions, seed, count=CALLS_AT_ONCE):
             os.write(process.stdin.fileno(), "".join(plain.words_of(call) + "\n" for call in some).encode("ascii"))
             read_lines(process, lines)
     for process, lines in zip(processes, read):
-        lines.append(process.communicate(timeout=600)[0])
+        lines.append(process.communicate(timeout=running.PATIENCE)[0])
     told = [b"".join(lines).decode("ascii").splitlines() for lines in read]
     if any(process.returncode for process in processes):
         fail("a session at once with others failed")
@@ -333,7 +344,7 @@ def judge_opened(sessions):
         if os.path.exists("log"):
             os.remove("log")
         processes = [sessions.start("--client", str(client)) for client in (1, 2, 3)]
-        told = [process.communicate(f"new {name}\n".encode("ascii"), timeout=60)[0] for process, name in zip(processes, "ABC")]
+        told = [process.communicate(f"new {name}\n".encode("ascii"), timeout=running.PATIENCE)[0] for process, name in zip(processes, "ABC")]
         if sorted(told) != [b"0: done\n", b"1: done\n", b"2: done\n"] or len(sessions.entries()) != 3:
             fail(f"sessions opened at once are told {told}")
         sessions.tally["opened"] += 1
@@ -370,11 +381,11 @@ def judge_waits(sessions):
     process = sessions.start("--client", "3")
     for text, wanted in [(b"new A\n", b"0: done\n"), (b"add A 0\nne", b"1: done\n"), (b"w B\n", b"2: done\n"), (b"list\nsho", b"names A B\n")]:
         os.write(process.stdin.fileno(), text)
-        if not select.select([process.stdout], [], [], 60)[0] or os.read(process.stdout.fileno(), 100) != wanted:
+        if not is_told(process, wanted):
             fail(f"{text} is not answered by {wanted}")
         if select.select([process.stdout], [], [], 0.1)[0]:
             fail(f"behind {text} something more is told")
-    told = process.communicate(b"w A", timeout=60)[0]
+    told = process.communicate(b"w A", timeout=running.PATIENCE)[0]
     if told != b"shown 0\n" or process.returncode:
         fail(f"the last line is answered by {told}")
 

@@ -104,7 +104,7 @@ def said_of(events):
 def judge(program, text, wanted):
     """Ends where the program ends otherwise or prints something else of the text."""
     running.write("trace", text)
-    done = subprocess.run([program, "info", "trace"], capture_output=True, timeout=60, check=False)
+    done = subprocess.run([program, "info", "trace"], capture_output=True, timeout=running.PATIENCE, check=False)
     found = (done.returncode, done.stdout.decode("ascii", "replace"), done.stderr.decode("ascii", "replace"))
     if found != wanted:
         sys.exit(f"info: {found}, and to be {wanted}, of {text[:200]!r}, a text of {len(text)} bytes")

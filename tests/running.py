@@ -4,6 +4,9 @@ import os
 import subprocess
 import sys
 
+# How long a run may take that takes a moment, in seconds: a machine may be slow and busy.
+PATIENCE = 900
+
 
 def write(name, text):
     with open(name, "w", encoding="ascii") as out:
@@ -12,7 +15,7 @@ def write(name, text):
 
 def ended(program, words, more=None):
     """The status with which the program ends, and what it writes on standard output and on standard error; `more` is added to its environment."""
-    done = subprocess.run([program, *words], capture_output=True, timeout=60, check=False, env={**os.environ, **(more or {})})
+    done = subprocess.run([program, *words], capture_output=True, timeout=PATIENCE, check=False, env={**os.environ, **(more or {})})
     return done.returncode, done.stdout, done.stderr
 
 

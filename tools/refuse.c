@@ -32,7 +32,7 @@
 
 #include "refuse.h"
 
-enum { MOST_RUNS = 20000, SECONDS = 20 };
+enum { MOST_RUNS = 20000, SECONDS = 120 };
 
 extern void *__libc_malloc(size_t);
 extern void *__libc_realloc(void *, size_t);

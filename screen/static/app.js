@@ -57,6 +57,7 @@ function latest() {
 
 on("open", async () => {
   races.load();
+  const looked = views.looked();
   const told = await ask("hello");
   if (told.mistake) {
     say(bad(told.mistake));
@@ -66,6 +67,7 @@ on("open", async () => {
   feed.begin(told.seen);
   feed.render();
   views.bar();
+  if (views.looked() !== looked) return; // something was opened meanwhile
   const row = latest();
   if (state.view) views.open(state.view, { end: false });
   else if (row) views.open({ schedule: row.name });

@@ -26,6 +26,8 @@ let looks = 0;
 let sought = null; // the pair whose witness is looked for
 let none = null; // why the pair that was looked at last has no witness
 
+export const looked = () => looks;
+
 export async function open(view, { end = true } = {}) {
   looks++;
   none = null;

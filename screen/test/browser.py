@@ -7,6 +7,7 @@ import os
 import re
 import shutil
 import tempfile
+import time
 
 import aiohttp
 
@@ -18,9 +19,42 @@ ALT, CONTROL, SHIFT = 1, 2, 8
 # A letter while the caps lock is on: it comes as a capital, and no key is held.
 CAPS = 0
 # How long a condition, an answer of the browser and its start may take, in seconds: a machine may be slow and busy.
-PATIENCE, TRIES = 120, 3
-# How much slower than it could a page works, so that tests are tried as on a slow machine.
-SLOWER = float(os.environ.get("SLOWER", 1))
+PATIENCE, TRIES = 600, 3
+# How often a press that hits something else, since the page moved meanwhile, is made again.
+PRESSES = 100
+# So much time lies between the presses of a double click, in seconds.
+DOUBLE = 0.05
+# How much slower than it could a page works, so that tests are tried as on a slow machine; and up to how many
+# milliseconds later than it could a message comes to the page.
+SLOWER, LATER = float(os.environ.get("SLOWER", 1)), int(os.environ.get("LATER", 0))
+# A press that hits something else than `aim` comes to nobody, and `struck` says so.
+GUARD = """(() => {
+  let stray = false;
+  window.aim = null;
+  const guard = (event) => {
+    if (event.type === "pointerdown") {
+      window.struck = !window.aim || window.aim.contains(event.target);
+      stray = !window.struck;
+    }
+    if (!stray) return;
+    event.stopImmediatePropagation();
+    event.preventDefault();
+  };
+  for (const kind of ["pointerdown", "mousedown", "pointerup", "mouseup", "click", "dblclick"]) {
+    addEventListener(kind, guard, true);
+  }
+})()"""
+DELAY = f"""(() => {{
+  Object.defineProperty(WebSocket.prototype, "onmessage", {{
+    set(act) {{
+      let before = Promise.resolve();
+      this.addEventListener("message", (message) => {{
+        const late = new Promise((done) => setTimeout(done, Math.random() * {LATER}));
+        before = Promise.all([before, late]).then(() => act.call(this, message));
+      }});
+    }}, configurable: true,
+  }});
+}})()"""
 
 
 def chromium():
@@ -118,6 +152,8 @@ class Browser:
         await page.call("Emulation.setEmulatedMedia", features=[scheme])
         if SLOWER > 1:
             await page.call("Emulation.setCPUThrottlingRate", rate=SLOWER)
+        for script in (GUARD, DELAY) if LATER else (GUARD,):
+            await page.call("Page.addScriptToEvaluateOnNewDocument", source=script)
         await page.open(url)
         return page
 
@@ -202,10 +238,10 @@ class Page:
         await self.call("Input.insertText", text=text)
 
     async def point(self, selector, at=0):
-        """A point of an element that is in sight."""
+        """A point of an element that is in sight; presses are for that element from here on."""
         found = await self.run(
             f"(() => {{ const e = document.querySelectorAll({json.dumps(selector)})[{at}]; if (!e) return null; "
-            "e.scrollIntoView({block: 'nearest'}); const b = e.getBoundingClientRect(); "
+            "e.scrollIntoView({block: 'nearest'}); const b = e.getBoundingClientRect(); window.aim = e; "
             "return [b.left + Math.min(b.width / 2, 60), b.top + b.height / 2]; })()")
         assert found, f"nothing is {selector}"
         return tuple(found)
@@ -221,22 +257,30 @@ class Page:
             await asyncio.sleep(0.03)
         return now
 
-    async def press(self, selector, at=0):
-        """Moves to the element and lets the button down; gives the place."""
-        x, y = await self.steady(selector, at)
-        await self.mouse("mouseMoved", x, y)
-        await self.mouse("mousePressed", x, y, button="left", clickCount=1)
-        return x, y
+    async def press(self, selector, at=0, **more):
+        """Moves to the element and lets the button down; gives the place. If the page moved it meanwhile, again."""
+        for _ in range(PRESSES):
+            x, y = await self.steady(selector, at)
+            await self.mouse("mouseMoved", x, y)
+            await self.mouse("mousePressed", x, y, button="left", clickCount=1, **more)
+            if await self.run("window.struck"):
+                await self.run("window.aim = null")
+                return x, y
+            await self.release(x, y)
+        raise AssertionError(f"{selector} does not stand still")
 
-    async def release(self, x, y, count=1):
-        await self.mouse("mouseReleased", x, y, button="left", clickCount=count)
+    async def release(self, x, y, count=1, **more):
+        await self.mouse("mouseReleased", x, y, button="left", clickCount=count, **more)
 
     async def click(self, selector, at=0, times=1):
-        x, y = await self.press(selector, at)
-        await self.release(x, y)
-        for time in range(2, times + 1):
-            await self.mouse("mousePressed", x, y, button="left", clickCount=time)
-            await self.release(x, y, time)
+        """Clicks. Those of a double click follow one another as a hand makes them, however slow the machine is."""
+        began = time.time()
+        x, y = await self.press(selector, at, timestamp=began)
+        await self.release(x, y, timestamp=began)
+        for number in range(2, times + 1):
+            now = began + DOUBLE * (number - 1)
+            await self.mouse("mousePressed", x, y, button="left", clickCount=number, timestamp=now)
+            await self.release(x, y, number, timestamp=now)
 
     async def hover(self, selector, at=0):
         x, y = await self.steady(selector, at)

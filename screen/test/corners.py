@@ -3,9 +3,10 @@
 import asyncio
 import os
 import signal
+import time
 
 import traces
-from browser import Browser
+from browser import PATIENCE, Browser
 from judged import same
 from live import children, session
 from stage import LENGTH, NEXT, ROWS, SAID, Screen, comes, focus, is_clean, logged, new, press
@@ -124,7 +125,8 @@ async def test_how_far_the_look_for_races_is(program):
         async with Screen(os.path.abspath("slow"), "trace", "log") as screen, Browser() as browser:
             page = await browser.page(screen.link)
             await page.until(f"{EMPTY.format('race-list')}?.includes('pairs of places 3 of 8. You can')")
-            traces.write("go", told)
+            traces.write("told", told)
+            os.rename("told", "go")  # all of it at once
             await page.until(f"document.getElementById('races').textContent.includes('{shown}')")
             is_clean(page, screen)
         os.remove("go")
@@ -176,10 +178,11 @@ async def test_the_ends_of_a_long_list_of_races(program):
 
 async def shows_the_log(page):
     """Waits until the page says how many events the log leaves; a session that begins may end what one left."""
-    for _ in range(600):
+    end = time.monotonic() + PATIENCE
+    while time.monotonic() < end:
         lines = logged()
         events = sum(line.count("add A") - line.count("back A") for line in lines)
-        if lines == logged() and await page.run(LENGTH) == f"{events:,} events":
+        if await page.run(LENGTH) == f"{events:,} events" and lines == logged():
             return
         await asyncio.sleep(0.1)
     raise AssertionError(f"the log leaves {events} events, and the page says {await page.run(LENGTH)}")

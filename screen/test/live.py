@@ -173,9 +173,11 @@ async def test_a_trace_that_is_refused(program):
     raise AssertionError("the screen began on a trace that the program refuses")
 
 
-# On a machine that is very busy a page may name its key too late.
-LATE = "const send = WebSocket.prototype.send; let first = null; " \
-    "WebSocket.prototype.send = function (text) { first ??= this; if (this !== first) send.call(this, text); };"
+# On a machine that is very busy a page may name its key too late. What the page said meanwhile is kept in `lives`.
+LATE = "const send = WebSocket.prototype.send; let first = null; window.lives = ''; " \
+    "WebSocket.prototype.send = function (text) { first ??= this; if (this !== first) send.call(this, text); }; " \
+    "new MutationObserver(() => { window.lives += document.getElementById('live')?.textContent; })" \
+    ".observe(document, { childList: true, subtree: true });"
 
 
 async def test_a_key_that_comes_too_late(program):
@@ -185,7 +187,7 @@ async def test_a_key_that_comes_too_late(program):
         page = await browser.page("about:blank")
         await page.call("Page.addScriptToEvaluateOnNewDocument", source=LATE)
         await page.open(screen.link)
-        await page.until("document.getElementById('live').textContent.includes('trying again')")
+        await page.until("window.lives.includes('trying again')")
         await new(page, 3)
         is_clean(page, screen)
 

@@ -7,17 +7,18 @@ from browser import ALT, Browser
 from judged import same
 from live import session
 from stage import LENGTH, NEXT, Screen, focus, is_clean, press
-from traces import write
+from traces import COUNT, write
 
-# Holds back the answers that have rows, from `hold()` on until `letGo()`.
+# Holds back the answers to what is asked so, from `hold()` on until `letGo()`.
 HOLD = """(() => {
+  const kinds = ["view"];
   const rows = new Set();
   const send = WebSocket.prototype.send;
   window.held = null;
   window.owed = window.views = 0;
   WebSocket.prototype.send = function (text) {
     const asked = text.startsWith("{") ? JSON.parse(text) : {};
-    if (asked.do === "view") {
+    if (kinds.includes(asked.do)) {
       rows.add(asked.id);
       window.owed++;
       window.views++;
@@ -266,3 +267,19 @@ async def test_a_move_above_the_end_stays_in_sight(program):
         await reading.drawn()
         await page.until("document.querySelector('.row.on')?.dataset.p === '45'")
         same(await page.run(SCROLLED), 900)
+
+
+async def test_a_race_that_is_opened_at_once(program):
+    """The list of races may come before the page knows the rest: the race that was clicked opens."""
+    write("trace", COUNT)
+    async with Screen(program, "trace", "log") as screen, Browser() as browser:
+        page = await browser.page("about:blank")
+        script = HOLD.replace('["view"]', '["hello", "witness"]') + "; hold()"
+        await page.call("Page.addScriptToEvaluateOnNewDocument", source=script)
+        await page.open(screen.link)
+        await page.until("document.querySelectorAll('.race').length === 1 && held.length === 1")
+        await page.click(".race")
+        await page.until("held.length === 2")
+        await page.run("letGo()")
+        await page.until(f"{OPEN} === 'Witness' && !document.getElementById('pair').hidden")
+        is_clean(page, screen)

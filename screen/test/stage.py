@@ -11,6 +11,10 @@ from judged import same
 
 SCREEN = os.path.join(os.path.dirname(os.path.dirname(os.path.abspath(__file__))), "screen")
 HEAD = 81
+# How long what takes seconds may take, and a process that is told to end.
+PATIENCE, GRACE = 600, 300
+# With this code a socket is closed that named no key in time.
+LATE = 4408
 
 NEXT = "document.querySelectorAll('#next-list .next').length"
 ROWS = "document.querySelectorAll('#space .row').length"
@@ -34,7 +38,7 @@ class Screen:
         self.process = await asyncio.create_subprocess_exec(
             *self.words, stdin=asyncio.subprocess.DEVNULL, stdout=pipe, stderr=pipe)
         try:
-            self.link = (await asyncio.wait_for(self.process.stdout.readline(), 300)).decode().strip()
+            self.link = (await asyncio.wait_for(self.process.stdout.readline(), PATIENCE)).decode().strip()
         except asyncio.TimeoutError:
             self.process.kill()
             raise
@@ -48,13 +52,26 @@ class Screen:
         if self.process.returncode is None:
             self.process.terminate()
         try:
-            await asyncio.wait_for(self.process.wait(), 60)
+            await asyncio.wait_for(self.process.wait(), GRACE)
         except asyncio.TimeoutError:
             self.process.kill()
             raise
         said = (await self.process.stderr.read()).decode()
         if self.has_page:  # what a page asks for is never a bad request
             assert "bad request" not in said and "Traceback" not in said, said
+
+
+async def keyed(client, screen, key):
+    """A socket that named the key. A slow machine may do so too late, and then tries again, as the page does."""
+    while True:
+        socket = await client.ws_connect(
+            screen.base.replace("http", "ws") + "/ws", origin=screen.base, max_msg_size=0)
+        await socket.send_str(key)
+        await socket.send_str('{"id": 0, "do": "nothing"}')
+        while (told := await socket.receive()).type == aiohttp.WSMsgType.TEXT:
+            if json.loads(told.data).get("id") == 0:
+                return socket
+        same(socket.close_code, LATE)
 
 
 class Socket:
@@ -69,9 +86,7 @@ class Socket:
         answer = await self.client.post(self.screen.base + "/enter", data=self.screen.ticket.encode(), headers=origin)
         assert answer.status == 200, answer.status
         self.key = await answer.text()
-        self.socket = await self.client.ws_connect(
-            self.screen.base.replace("http", "ws") + "/ws", origin=self.screen.base, max_msg_size=0)
-        await self.socket.send_str(self.key)
+        self.socket = await keyed(self.client, self.screen, self.key)
         return self
 
     async def call(self, **given):
@@ -86,7 +101,7 @@ class Socket:
         await self.client.close()
 
 
-async def comes(condition, seconds=120):
+async def comes(condition, seconds=PATIENCE):
     """Waits until a condition outside the page holds, and gives its value."""
     loop = asyncio.get_running_loop()
     end = loop.time() + seconds

@@ -232,7 +232,7 @@ async def test_lanes_blocks_locks_reads_and_the_map(program):
         assert (await page.run("document.querySelector('.lock').title")).endswith("held by T0 since 1")
         assert "events" in await page.run("document.querySelector('.block .box').textContent")
         found = "[...document.querySelectorAll('.row')].find((r) => r.textContent.includes('r a1'))"
-        at = await page.run(f"{found}.dataset.p")
+        at = await page.until(f"{found}?.dataset.p")
         await page.hover(f"#space .row[data-p='{at}'] .what")
         await page.until("document.querySelector('.reads')?.textContent.startsWith('reads the write at')")
         await focus(page, "stage")
