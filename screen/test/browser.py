@@ -22,6 +22,8 @@ CAPS = 0
 PATIENCE, TRIES = 600, 3
 # How often a press that hits something else, since the page moved meanwhile, is made again.
 PRESSES = 100
+# How long what the mouse shows may take before it is moved there again, in seconds.
+LOOK = 6
 # So much time lies between the presses of a double click, in seconds.
 DOUBLE = 0.05
 # How much slower than it could a page works, so that tests are tried as on a slow machine; and up to how many
@@ -282,9 +284,16 @@ class Page:
             await self.mouse("mousePressed", x, y, button="left", clickCount=number, timestamp=now)
             await self.release(x, y, number, timestamp=now)
 
-    async def hover(self, selector, at=0):
-        x, y = await self.steady(selector, at)
-        await self.mouse("mouseMoved", x, y)
+    async def hover(self, selector, at=0, shown="true"):
+        """Moves to the element, and again if that does not show what it has to: the page may move it meanwhile."""
+        for _ in range(PRESSES):
+            x, y = await self.steady(selector, at)
+            await self.mouse("mouseMoved", x, y)
+            try:
+                return await self.until(shown, LOOK)
+            except AssertionError:
+                pass
+        raise AssertionError(f"over {selector} it never holds that {shown}; faults {self.faults}")
 
     async def drag(self, selector, at, by):
         x, y = await self.press(selector, at)

@@ -100,8 +100,8 @@ async def test_reads_of_a_long_trace(program):
     async with Screen(program, "trace", "log") as screen, Browser() as browser:
         page = await browser.page(screen.link)
         await page.until(f"{ROWS} === 2")
-        await page.hover("#space .row[data-p='1'] .what")
-        await page.until("document.querySelector('.reads')?.textContent === 'reads the write at 0'")
+        reads = "document.querySelector('.reads')?.textContent === 'reads the write at 0'"
+        await page.hover("#space .row[data-p='1'] .what", shown=reads)
         is_clean(page, screen)
 
 

@@ -233,8 +233,8 @@ async def test_lanes_blocks_locks_reads_and_the_map(program):
         assert "events" in await page.run("document.querySelector('.block .box').textContent")
         found = "[...document.querySelectorAll('.row')].find((r) => r.textContent.includes('r a1'))"
         at = await page.until(f"{found}?.dataset.p")
-        await page.hover(f"#space .row[data-p='{at}'] .what")
-        await page.until("document.querySelector('.reads')?.textContent.startsWith('reads the write at')")
+        reads = "document.querySelector('.reads')?.textContent.startsWith('reads the write at')"
+        await page.hover(f"#space .row[data-p='{at}'] .what", shown=reads)
         await focus(page, "stage")
         await page.click(f"#space .row[data-p='{at}'] .what")
         await page.key("Enter")  # to the write that is read, which is in the block
