@@ -10,13 +10,18 @@ LONG = 300
 class Entry:
     """A line of the log: a call that the program accepted there."""
 
-    __slots__ = ("number", "client", "kind", "words", "undone", "steps", "proposal")
+    __slots__ = ("number", "client", "kind", "text", "undone", "steps", "proposal")
 
     def __init__(self, number: int, client: int, words: list[str]) -> None:
-        self.number, self.client, self.kind, self.words = number, client, words[0], words
+        self.number, self.client, self.kind, self.text = number, client, words[0], " ".join(words)
         self.undone: int | None = None  # the entry that took it back
         self.steps: list[tuple[object, ...]] | None = None  # how it is taken back
         self.proposal: int | None = None
+
+    @property
+    def words(self) -> list[str]:
+        """They are kept as one text, which needs a tenth of the memory."""
+        return self.text.split()
 
     def parts(self) -> list[list[str]]:
         """Its commands, each as its words."""
@@ -24,7 +29,7 @@ class Entry:
             return []
         if self.kind != "batch":
             return [self.words]
-        return [part.split() for part in " ".join(self.words[1:]).split(" ; ")]
+        return [part.split() for part in self.text.partition(" ")[2].split(" ; ")]
 
 
 def schedule_of(part: list[str]) -> str:
@@ -64,7 +69,7 @@ def told_kind(entry: Entry, trace: Trace) -> Told:
 
 def told(entry: Entry, trace: Trace) -> Told:
     """An entry for the browser."""
-    text = " ".join(entry.words)
+    text = entry.text
     answer = {
         "i": entry.number, "c": entry.client, "k": entry.kind,
         "w": text if len(text) <= LONG else text[:LONG] + " …", **told_kind(entry, trace),

@@ -36,6 +36,7 @@ class Mirror:
         self.proposals: list[array[int]] = []
         self.proposed: list[int] = []  # their entries
         self.changed: dict[str, bool] = {}  # names since the last look
+        self.pops: dict[str, tuple[object, ...]] = {}  # the step that takes back an event of a schedule, made once
         self.version = 0
         self.digest = ""  # of the trace, as the log's first line has it
         self.fault: str | None = None  # why the file is followed no longer
@@ -124,7 +125,7 @@ class Mirror:
         if word == "add":
             row.events.append(number)
             row.since.append(entry.number)
-            return ("pop", name)
+            return self.pops.setdefault(name, ("pop", name))
         if word == "back":
             return ("push", name, row.events.pop(), row.since.pop())
         if word == "swap":
