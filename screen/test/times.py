@@ -179,6 +179,21 @@ async def of_a_witness(page, screen):
     await memory(screen, "memory with it")
 
 
+async def of_a_long_witness(program):
+    """A race whose witness has a million events: it is looked at, and then worked on."""
+    for path in ("trace", "log"):
+        os.remove(path)
+    traces.long_witness("trace")
+    async with Screen(program, "trace", "log") as screen, Browser() as browser:
+        page = await browser.page(screen.link)
+        await of_a_witness(page, screen)
+        began = time.monotonic()
+        await page.key("w")
+        await page.until("document.querySelector('#bar h2').textContent.startsWith('r10')", 600)
+        say("work on it", f"{time.monotonic() - began:.1f} s", "none")
+        await memory(screen, "memory with that")
+
+
 async def main():
     program = os.path.abspath(sys.argv[1])
     big = os.path.abspath(sys.argv[2]) if len(sys.argv) > 2 else "trace"
@@ -190,6 +205,7 @@ async def main():
         os.remove("trace")
         os.remove("log")
         await of_a_million(program, big)
+        await of_a_long_witness(program)
         print(f"load of the machine: {os.getloadavg()[0]:.1f}")
         await Browser.end()
         os.chdir("/")

@@ -96,6 +96,13 @@ def big(path, events=1_048_576, threads=16, seed=1):
     write(path, "\n".join(made.lines[:events]) + "\n")
 
 
+def long_witness(path, events=1_048_576):
+    """One race, at the end of the trace, whose schedule needs nearly all of it."""
+    lines = [f"T{0 if at % 7 else 2}|{'w' if at % 3 else 'r'}(own{0 if at % 7 else 2}_{at % 50})|own.c:{at % 900}"
+             for at in range(events - 4)]
+    write(path, "\n".join([*lines, "T2|w(flag)|c.c:1", "T0|r(flag)|a.c:1", "T0|w(x)|a.c:2", "T1|w(x)|b.c:1"]) + "\n")
+
+
 def many_threads(path, threads=200):
     lines = [f"T0|fork(W{number})|main.c:{number % 50}" for number in range(threads)]
     for number in range(threads):
