@@ -36,17 +36,23 @@ function learn(told) {
   const facts = [many(told.events, "event"), many(told.threads.length, "thread"), many(told.variables, "variable"),
     many(told.locks, "lock")];
   $("facts").textContent = facts.join(" · ");
-  showClient();
-  if (told.fault) fault(told.fault);
+  fault(told.fault);
 }
 
+let broken = null; // why what is drawn cannot be gone by
+
 function showClient() {
+  if (broken) {
+    fill($("live"), bad(`Do not go by what is drawn here: ${broken}.`));
+    return;
+  }
   const name = state.names[state.client];
   fill($("live"), el("span", "live-dot", "●"), ` client ${state.client}`, name ? [", ", el("bdi", "", name)] : null);
 }
 
 function fault(why) {
-  fill($("live"), bad(`Do not go by what is drawn here: ${why}.`));
+  broken = why;
+  showClient();
 }
 
 // The schedule that this analyst worked on last.

@@ -145,7 +145,7 @@ async def test_files_that_are_none(program):
             title = await page.run("document.getElementById('title').textContent + document.title")
             assert "\u202e" not in title, title
             await page.until("document.getElementById('keys').getBoundingClientRect().right <= innerWidth")
-            os.truncate("log", 90)
+            os.truncate("log", 85)  # in its one entry, which a session that begins anew does not bring back
             await page.until("document.getElementById('live').textContent.includes('shorter than it was')")
             said = "(() => { const b = document.querySelector('#live .bad').getBoundingClientRect(); " \
                 "return b.right <= document.getElementById('link').getBoundingClientRect().left && b.height > 20; })()"
