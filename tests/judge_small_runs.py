@@ -17,7 +17,9 @@ import legal
 import plain
 import running
 
+# So many, and more until the calls came mixed often enough, which takes longer on one processor, but so many at most.
 RUNS = 3_000
+MOST_RUNS = 30_000
 # How many traces the runs are on, and how many events these have.
 TRACES = 50
 MOST_EVENTS = 16
@@ -69,17 +71,19 @@ def main():
     traces = [by_chance.trace(random.Random(seed), MOST_EVENTS) for seed in range(TRACES)]
     with tempfile.TemporaryDirectory() as folder:
         os.chdir(folder)
-        for seed in range(RUNS):
+        seed = 0
+        while seed < RUNS or (tally["mixed"] < LEAST_MIXED and seed < MOST_RUNS):
             trace = traces[seed % TRACES]
             room = running.NO_DOOR if seed % 3 < 2 else running.BEST_ROOM
             judge_run(program, tally, room, trace, scripts(random.Random(seed), trace))
+            seed += 1
     missing = [kind for kind in REACHED if not tally[kind]]
     if missing:
         sys.exit(f"small runs: never reached: {missing}")
     if tally["mixed"] < LEAST_MIXED:
         sys.exit(f"small runs: in {tally['mixed']} only a client came again after another")
     print(
-        f"small runs: {RUNS} with {tally['calls']} calls and {tally['entries']} entries are each one legal history; in {tally['mixed']} of those with no "
+        f"small runs: {seed} with {tally['calls']} calls and {tally['entries']} entries are each one legal history; in {tally['mixed']} of those with no "
         f"door a client came again after another, and {tally['later']} answers tell of others' entries"
     )
 

@@ -21,7 +21,7 @@ CLIENTS = 31
 CALLS = 40
 # So many of each kind, and with no door more, until the clients took turns often enough, but so many at most.
 RUNS = 3
-MOST_RUNS = 30
+MOST_RUNS = 300
 # How often the client has to change in the logs of the runs with no door beside the changes that there are where each client's calls are made in one go.
 LEAST_CHANGES = 60
 EVENTS = 40

@@ -23,7 +23,7 @@ WORKERS = [1, 4, 16]
 # How many scripts run at once, and on how many traces drawn by chance; in how many rounds at most, until all was reached.
 SCRIPTS = [1, 3, 30]
 TRACES = 4
-MOST_ROUNDS = 12
+MOST_ROUNDS = 60
 MOST_EVENTS = 24
 SLICED = 64
 # How many calls each script has, of the runs with few scripts and with many.

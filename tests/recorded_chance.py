@@ -23,7 +23,7 @@ import raw as raw_file  # noqa: E402
 READS = tuple(raw_file.KINDS[name] for name in "READ ATOMIC_READ ATOMIC_UPDATE".split())
 WRITES = tuple(raw_file.KINDS[name] for name in "WRITE ATOMIC_WRITE ATOMIC_UPDATE".split())
 ALLOCATED, FREED = raw_file.KINDS["ALLOCATED"], raw_file.KINDS["FREED"]
-PATIENCE, TIMEOUT = 8000, 60
+PATIENCE, TIMEOUT = 60_000, 600
 # The seeds of the programs that are always tried, and how many races they have at least. In the last one a read comes between the parts
 # of a free.
 FEW, LEAST_RACES = (7, 10, 16, 924734307), 40

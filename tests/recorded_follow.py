@@ -74,8 +74,9 @@ def recorded(source, words, name="program", flags=(), args=()):
 
 
 def confirmed(racebench, name="program", *words, wanted=0, **more):
-    """What record/confirm found of each race."""
-    out, _ = ran([os.path.join(RECORD, "confirm"), "--racebench", racebench, "--json", name + ".json", "--timeout", "20", *words,
+    """What record/confirm found of each race. A slow machine has time for it."""
+    limits = ["--timeout", str(PATIENCE), "--patience", "60000"]
+    out, _ = ran([os.path.join(RECORD, "confirm"), "--racebench", racebench, "--json", name + ".json", *limits, *words,
                   name + ".std", name + ".clock"], wanted, **more)
     with open(name + ".json", encoding="ascii") as lines:
         found = [json.loads(line) for line in lines]
