@@ -27,8 +27,8 @@ async def test_a_trace_of_no_events(program):
         await page.until(f"{EMPTY.format('next-list')} === 'All events of the trace stand in this schedule.'")
         for key in ("1", "Enter", "r", "t", "f", "ArrowRight", "ArrowDown", "p", "x", "w", "e", "Home", "End"):
             await page.key(key)
-        await press(page, "Backspace")
-        assert "there is no event to take back" in await page.run(SAID)
+        await page.key("Backspace")
+        await page.until(f"{SAID}.includes('there is no event to take back')")
         await focus(page, "stage")
         for key in ("ArrowUp", "Enter", "End", "b"):
             await page.key(key)

@@ -1,6 +1,7 @@
 """Two analysts at once, sessions that die, and logs that are not this trace's."""
 
 import asyncio
+import contextlib
 import glob
 import os
 import signal
@@ -113,7 +114,7 @@ def children(process):
     """The sessions that a screen started."""
     with open(f"/proc/{process.pid}/task/{process.pid}/children", encoding="ascii") as file:
         for child in map(int, file.read().split()):
-            with open(f"/proc/{child}/cmdline", "rb") as words:
+            with contextlib.suppress(OSError), open(f"/proc/{child}/cmdline", "rb") as words:  # it may end meanwhile
                 if b"session" in words.read().split(b"\0"):
                     yield child
 

@@ -40,7 +40,7 @@ async def test_places_keep_their_file_and_line(program):
             await page.size(width, 900)
             for tab in (0, 1) if width == 760 else ():
                 await page.click("#tabs button", tab)
-                same(await page.run(HIDDEN), "")
+                await page.until(f"innerWidth === {width} && {HIDDEN} === ''")
             await page.until(f"innerWidth === {width} && {HIDDEN} === ''")
         same(await page.run("document.querySelector('#stage .place').title"), f"{FOLDER}/work_queue.cpp:1200{CALLS}")
         is_clean(page, screen)
