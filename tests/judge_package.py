@@ -80,10 +80,10 @@ def zsh_lacks(words):
     return lacks + [f"flag {flag}" for flag in words.flags[""] if not re.search(rf"(?<![\w-]){flag}(?![\w-])", text)]
 
 
-def completed(*given):
-    """What bash is offered for the last of these words."""
-    line = "source package/racebench.bash; COMP_WORDS=(racebench \"$@\"); COMP_CWORD=$#; _racebench; printf '%s\\n' \"${COMPREPLY[@]}\""
-    return printed("bash", "-c", line, "bash", *given, cwd=TOP).split()
+def completed(*given, command="racebench"):
+    """What bash is offered for the last of these words, which follow the command."""
+    line = "source package/$0.bash; COMP_WORDS=($0 \"$@\"); COMP_CWORD=$#; _${0//-/_}; printf '%s\\n' \"${COMPREPLY[@]}\""
+    return printed("bash", "-c", line, command, *given, cwd=TOP).split()
 
 
 def bash_lacks(words):
@@ -96,13 +96,23 @@ def bash_lacks(words):
     return lacks
 
 
-def screen_page_lacks():
-    """Each option of the screen, and each of its arguments."""
+def screen_words():
+    """The options of the screen, and its arguments."""
     told = printed("/usr/bin/python3", "screen/screen", "--help", cwd=TOP)
-    page = text_of("package", "racebench-screen.1").replace("\\-", "-")
-    wanted = re.findall(r"(?<![\w-])--?[a-z][\w-]*", part(r"^options:\n(.*)", told, "options in --help of the screen"))
-    wanted += re.findall(r"^  ([A-Z]+)$", told, re.MULTILINE)
-    return [word for word in wanted if not re.search(rf"(?<![\w-]){word}(?![\w-])", page, re.IGNORECASE)]
+    options = re.findall(r"(?<![\w-])--?[a-z][\w-]*", part(r"^options:\n(.*)", told, "options in --help of the screen"))
+    return options, re.findall(r"^  ([A-Z]+)$", told, re.MULTILINE)
+
+
+def screen_lacks(name):
+    """Each option and each argument of the screen that a file does not have."""
+    page = text_of("package", name).replace("\\-", "-")
+    options, arguments = screen_words()
+    return [word for word in options + arguments if not re.search(rf"(?<![\w-]){word}(?![\w-])", page, re.IGNORECASE)]
+
+
+def screen_bash_lacks():
+    """Each option of the screen that bash is not offered, and each that is none."""
+    return sorted(set(screen_words()[0]) ^ set(completed("-", command="racebench-screen")))
 
 
 def recorder_page_lacks(command, page):
@@ -141,11 +151,13 @@ def main():
     words = Words(os.path.abspath(sys.argv[1]))
     judged = [("package/racebench.1 lacks", page_lacks(words)), ("package/_racebench lacks", zsh_lacks(words)),
               ("package/racebench.1, read by man", page_warnings("racebench.1")),
-              ("package/racebench-screen.1 lacks", screen_page_lacks()),
+              ("package/racebench-screen.1 lacks", screen_lacks("racebench-screen.1")),
+              ("package/_racebench-screen lacks", screen_lacks("_racebench-screen")),
               ("package/racebench-screen.1, read by man", page_warnings("racebench-screen.1"))]
     judged += recorder_pages()
     if shutil.which("bash"):
         judged.append(("package/racebench.bash lacks", bash_lacks(words)))
+        judged.append(("package/racebench-screen.bash lacks", screen_bash_lacks()))
     for name, wrong in judged:
         for what in wrong:
             print(f"{name}: {what}")
