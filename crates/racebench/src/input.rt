@@ -166,7 +166,10 @@ impl<R: io::Read + Drop> Watched<R> {
             return;
         }
         for byte in bytes {
-            self.is_divided = self.is_divided || (*byte == b'\n' && self.line == Line::Divider);
+            if *byte == b'\n' && self.line == Line::Divider {
+                self.is_divided = true;
+                return;
+            }
             self.line = with_byte(self.line, *byte);
         }
     }
