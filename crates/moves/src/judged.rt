@@ -111,14 +111,14 @@ pub(crate) fn judge<'a>(
     ensures judged { IsJudged indexed.now board.now command.now rows.now result }
     ensures source { IsBoardOf indexed.now board.now → IfOk result (λ j. IsSourceOf indexed.now j) }
 {
-    match *command {
+    match command {
         Command::Fresh { name } => fresh(rows, indexed, board, name),
-        Command::Add { name, event } => add(rows, indexed, board, name, event),
+        Command::Add { name, event } => add(rows, indexed, board, name, *event),
         Command::Back { name } => back(rows, indexed, board, name),
-        Command::Swap { name, at } => swap(rows, indexed, board, name, at),
-        Command::Branch { name, length, to } => branch(rows, indexed, board, name, length, to),
+        Command::Swap { name, at } => swap(rows, indexed, board, name, *at),
+        Command::Branch { name, length, to } => branch(rows, indexed, board, name, *length, to),
         Command::Drop { name } => drop_row(rows, indexed, board, name),
-        Command::Adopt { name, proposal } => adopt(rows, indexed, board, name, proposal),
+        Command::Adopt { name, proposal } => adopt(rows, indexed, board, name, *proposal),
     }
 }
 
@@ -126,10 +126,10 @@ fn fresh<'a>(
     rows: &'a Listing,
     indexed: &Indexed,
     board: &'a Board,
-    name: Name,
+    name: &Name,
 ) -> Result<Judged<'a>, MoveRefusal>
     requires { IsOfTrace indexed.now rows.now }
-    ensures judged { IsJudged indexed.now board.now (Command.Fresh name) rows.now result }
+    ensures judged { IsJudged indexed.now board.now (Command.Fresh name.now) rows.now result }
     ensures source { IfOk result (λ j. IsSourceOf indexed.now j) }
 {
     let _ = indexed;
@@ -144,11 +144,11 @@ fn add<'a>(
     rows: &'a Listing,
     indexed: &Indexed,
     board: &'a Board,
-    name: Name,
+    name: &Name,
     event: u32,
 ) -> Result<Judged<'a>, MoveRefusal>
     requires { IsOfTrace indexed.now rows.now }
-    ensures judged { IsJudged indexed.now board.now (Command.Add name event) rows.now result }
+    ensures judged { IsJudged indexed.now board.now (Command.Add name.now event) rows.now result }
     ensures source { IfOk result (λ j. IsSourceOf indexed.now j) }
 {
     let _ = board;
@@ -165,10 +165,10 @@ fn back<'a>(
     rows: &'a Listing,
     indexed: &Indexed,
     board: &'a Board,
-    name: Name,
+    name: &Name,
 ) -> Result<Judged<'a>, MoveRefusal>
     requires { IsOfTrace indexed.now rows.now }
-    ensures judged { IsJudged indexed.now board.now (Command.Back name) rows.now result }
+    ensures judged { IsJudged indexed.now board.now (Command.Back name.now) rows.now result }
     ensures source { IfOk result (λ j. IsSourceOf indexed.now j) }
 {
     let _ = board;
@@ -185,11 +185,11 @@ fn swap<'a>(
     rows: &'a Listing,
     indexed: &Indexed,
     board: &'a Board,
-    name: Name,
+    name: &Name,
     at: u32,
 ) -> Result<Judged<'a>, MoveRefusal>
     requires { IsOfTrace indexed.now rows.now }
-    ensures judged { IsJudged indexed.now board.now (Command.Swap name at) rows.now result }
+    ensures judged { IsJudged indexed.now board.now (Command.Swap name.now at) rows.now result }
     ensures source { IfOk result (λ j. IsSourceOf indexed.now j) }
 {
     let _ = board;
@@ -206,12 +206,12 @@ fn branch<'a>(
     rows: &'a Listing,
     indexed: &Indexed,
     board: &'a Board,
-    name: Name,
+    name: &Name,
     len: u32,
-    to: Name,
+    to: &Name,
 ) -> Result<Judged<'a>, MoveRefusal>
     requires { IsOfTrace indexed.now rows.now }
-    ensures judged { IsJudged indexed.now board.now (Command.Branch name len to) rows.now result }
+    ensures judged { IsJudged indexed.now board.now (Command.Branch name.now len to.now) rows.now result }
     ensures source { IfOk result (λ j. IsSourceOf indexed.now j) }
 {
     let _ = board;
@@ -231,10 +231,10 @@ fn drop_row<'a>(
     rows: &'a Listing,
     indexed: &Indexed,
     board: &'a Board,
-    name: Name,
+    name: &Name,
 ) -> Result<Judged<'a>, MoveRefusal>
     requires { IsOfTrace indexed.now rows.now }
-    ensures judged { IsJudged indexed.now board.now (Command.Drop name) rows.now result }
+    ensures judged { IsJudged indexed.now board.now (Command.Drop name.now) rows.now result }
     ensures source { IfOk result (λ j. IsSourceOf indexed.now j) }
 {
     let _ = indexed;
@@ -249,11 +249,11 @@ fn adopt<'a>(
     rows: &'a Listing,
     indexed: &Indexed,
     board: &'a Board,
-    name: Name,
+    name: &Name,
     proposal: u32,
 ) -> Result<Judged<'a>, MoveRefusal>
     requires { IsOfTrace indexed.now rows.now }
-    ensures judged { IsJudged indexed.now board.now (Command.Adopt name proposal) rows.now result }
+    ensures judged { IsJudged indexed.now board.now (Command.Adopt name.now proposal) rows.now result }
     ensures source { IsBoardOf indexed.now board.now → IfOk result (λ j. IsSourceOf indexed.now j) }
 {
     if !rows.has(name) {

@@ -143,33 +143,33 @@ impl Listing {
     }
 
     /// Whether the name has a row.
-    pub(crate) fn contains(&self, name: Name) -> bool
-        ensures { result ≡ is_some (row_of self.now name) }
+    pub(crate) fn contains(&self, name: &Name) -> bool
+        ensures { result ≡ is_some (row_of self.now name.now) }
     {
-        self.births.contains_key(&name)
+        self.births.contains_key(name)
     }
 
     /// The same, and quicker where the name has a row.
-    pub(crate) fn has(&self, name: Name) -> bool
-        ensures { result ≡ is_some (row_of self.now name) }
+    pub(crate) fn has(&self, name: &Name) -> bool
+        ensures { result ≡ is_some (row_of self.now name.now) }
     {
         self.find(name).is_some()
     }
 
     /// The birth of a name's row.
-    pub(crate) fn find(&self, name: Name) -> Option<Birth>
-        ensures none { IfNone result (row_of self.now name ≡ None) }
-        ensures some { IfSome result (λ birth. IsAt self.now birth name) }
+    pub(crate) fn find(&self, name: &Name) -> Option<Birth>
+        ensures none { IfNone result (row_of self.now name.now ≡ None) }
+        ensures some { IfSome result (λ birth. IsAt self.now birth name.now) }
     {
-        let birth = birth_of(&self.births, self.guesses.place(&name), &name)?;
+        let birth = birth_of(&self.births, self.guesses.place(name), name)?;
         Some(birth)
     }
 
     /// The schedule of this name.
-    pub(crate) fn get(&self, name: Name) -> Option<&Schedule>
-        ensures none { IfNone result (row_of self.now name ≡ None) }
+    pub(crate) fn get(&self, name: &Name) -> Option<&Schedule>
+        ensures none { IfNone result (row_of self.now name.now ≡ None) }
         ensures some { IfSome result
-            (λ s. option_map (λ (r : RowValue). r.schedule) (row_of self.now name) ≡ Some s.now) }
+            (λ s. option_map (λ (r : RowValue). r.schedule) (row_of self.now name.now) ≡ Some s.now) }
     {
         let birth = self.find(name)?;
         let (_, row) = self.rows.get(&birth.age())?;
@@ -177,11 +177,11 @@ impl Listing {
     }
 
     /// The same, with its trace.
-    pub(crate) fn schedule_of(&self, indexed: &Indexed, name: Name) -> Option<&Schedule>
+    pub(crate) fn schedule_of(&self, indexed: &Indexed, name: &Name) -> Option<&Schedule>
         requires { IsOfTrace indexed.now self.now }
-        ensures none { IfNone result (row_of self.now name ≡ None) }
+        ensures none { IfNone result (row_of self.now name.now ≡ None) }
         ensures some { IfSome result
-            (λ s. option_map (λ (r : RowValue). r.schedule) (row_of self.now name) ≡ Some s.now) }
+            (λ s. option_map (λ (r : RowValue). r.schedule) (row_of self.now name.now) ≡ Some s.now) }
         ensures trace { IfSome result (λ s. s.now.trace ≡ indexed.now) }
     {
         let _ = indexed;
@@ -211,13 +211,13 @@ impl Listing {
     }
 
     /// Takes out the row of a name.
-    pub(crate) fn take(&mut self, name: Name) -> Option<Row>
-        ensures row { result ≡ row_of self.old name }
-        ensures rows { self.new ≡ remove_entry (bytes_eq name) self.old }
-        ensures gone { row_of self.new name ≡ None }
+    pub(crate) fn take(&mut self, name: &Name) -> Option<Row>
+        ensures row { result ≡ row_of self.old name.now }
+        ensures rows { self.new ≡ remove_entry (bytes_eq name.now) self.old }
+        ensures gone { row_of self.new name.now ≡ None }
         ensures unchanged { IfNone result (self.new ≡ self.old) }
     {
-        let birth = take_birth(&mut self.births, self.guesses.place(&name), &name)?;
+        let birth = take_birth(&mut self.births, self.guesses.place(name), name)?;
         let (_, row) = take_out(&mut self.rows, birth.age()).unwrap();
         Some(row)
     }
@@ -242,7 +242,7 @@ impl Listing {
             return Err(MoveRefusal::OutOfMemory);
         };
         let name = command.writes();
-        let Ok(step) = self.turn(indexed, name, step) else {
+        let Ok(step) = self.turn(indexed, &name, step) else {
             return Err(MoveRefusal::OutOfMemory);
         };
         Ok(Inverse { name, step })
@@ -250,18 +250,18 @@ impl Listing {
 
     /// Takes one step of the row of this name, and gives the step that leads back; or gives the step itself where
     /// there is no memory.
-    pub(crate) fn turn(&mut self, indexed: &Indexed, name: Name, step: Step) -> Result<Step, Step>
+    pub(crate) fn turn(&mut self, indexed: &Indexed, name: &Name, step: Step) -> Result<Step, Step>
         requires listing { IsListing self.old }
         requires of_trace { IsOfTrace indexed.now self.old }
-        requires fits { CanTurn name step self.old }
-        ensures ok { OnOk result (IsTurned name step self.old self.new) }
-        ensures back { IfOk result (λ back. Fits back (row_of self.old name) (row_of self.new name)) }
+        requires fits { CanTurn name.now step self.old }
+        ensures ok { OnOk result (IsTurned name.now step self.old self.new) }
+        ensures back { IfOk result (λ back. Fits back (row_of self.old name.now) (row_of self.new name.now)) }
         ensures err { OnErr result (self.new ≡ self.old) }
         ensures returned { IfErr result (λ s. s ≡ step) }
         ensures succeeds { wants_memory step ≡ false → IsOk result }
     {
         match step {
-            Step::Comes(row) => match self.put(name, row) {
+            Step::Comes(row) => match self.put(*name, row) {
                 Ok(()) => Ok(Step::Goes),
                 Err(row) => Err(Step::Comes(row)),
             },
@@ -277,18 +277,18 @@ impl Listing {
     }
 
     /// The same of a step that leaves a row there.
-    fn change(&mut self, indexed: &Indexed, name: Name, step: Step) -> Result<Step, Step>
+    fn change(&mut self, indexed: &Indexed, name: &Name, step: Step) -> Result<Step, Step>
         requires listing { IsListing self.old }
         requires of_trace { IsOfTrace indexed.now self.old }
-        requires fits { CanTurn name step self.old }
+        requires fits { CanTurn name.now step self.old }
         requires stays { is_change step ≡ true }
-        ensures ok { OnOk result (IsTurned name step self.old self.new) }
-        ensures back { IfOk result (λ back. Fits back (row_of self.old name) (row_of self.new name)) }
+        ensures ok { OnOk result (IsTurned name.now step self.old self.new) }
+        ensures back { IfOk result (λ back. Fits back (row_of self.old name.now) (row_of self.new name.now)) }
         ensures err { OnErr result (self.new ≡ self.old) }
         ensures returned { IfErr result (λ s. s ≡ step) }
         ensures succeeds { wants_memory step ≡ false → IsOk result }
     {
-        let Some(birth) = birth_noted(&self.births, &mut self.guesses, &name) else {
+        let Some(birth) = birth_noted(&self.births, &mut self.guesses, name) else {
             return Err(step);
         };
         let (_, row) = self.rows.get_mut(&birth.age()).unwrap();

@@ -87,7 +87,7 @@ impl Workspace {
         ensures some { IfSome result
             (λ s. option_map (λ (r : RowValue). r.schedule) (row_of self.now name.now) ≡ Some s.now) }
     {
-        self.rows.get(*name)
+        self.rows.get(name)
     }
 
     /// The names, by rising birth.
@@ -156,7 +156,7 @@ impl Workspace {
         ensures late { (n : ℕ) → Below n self.old → IsStepBelow n inverse.step → Below n self.new }
     {
         let name = inverse.name;
-        let Err(step) = self.rows.turn(indexed, name, inverse.step) else {
+        let Err(step) = self.rows.turn(indexed, &name, inverse.step) else {
             return Ok(());
         };
         Err((Inverse { name, step }, OutOfMemory))
