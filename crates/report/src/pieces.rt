@@ -7,6 +7,9 @@ use itoa::Buffer;
 use moves::Name;
 use rapid_text::OutOfMemory;
 
+/// The most bytes of a space and a number of 32 bits.
+const SPACED_NUMBER: usize = 11;
+
 /// A piece of a line.
 #[derive(Clone, Copy)]
 pub enum Piece<'a> {
@@ -69,17 +72,19 @@ fn append_spaced(out: &mut Vec<u8>, number: u64) -> Result<(), OutOfMemory>
     Ok(())
 }
 
-/// Appends each number after a space.
+/// Appends each number after a space. Room for all is made once.
 fn append_numbers(out: &mut Vec<u8>, numbers: &[u32]) -> Result<(), OutOfMemory>
     ensures ok { OnOk result (out.new.items ≡ out.old.items ++ spaced numbers.now) }
     ensures err { OnErr result (out.new.items ≡ out.old.items) }
 {
-    let start = out.len();
+    let Some(room) = numbers.len().checked_mul(SPACED_NUMBER) else {
+        return Err(OutOfMemory);
+    };
+    out.reserve(room)?;
+    let mut buffer = Buffer::new();
     for number in numbers {
-        if let Err(refused) = append_spaced(out, u64::from(*number)) {
-            out.truncate(start);
-            return Err(refused);
-        }
+        out.push_reserved(b' ');
+        put_few(out, buffer.format(*number).as_bytes());
     }
     Ok(())
 }

@@ -17,11 +17,13 @@ fn append_done(out: &mut Vec<u8>, number: u64) -> Result<(), OutOfMemory>
     let digits = buffer.format(number).as_bytes();
     out.reserve(digits.len() + 7)?;
     put_few(out, digits);
-    put_few(out, b": done\n");
+    out.extend_from_slice(b": done\n")?;
     Ok(())
 }
 
-/// Appends the line of a number, words and a second number.
+/// Appends the line of a number, words and a second number. It is put where it is called, so that the words' length is
+/// known there, and no call copies them.
+#[inline(always)]
 fn append_numbered(
     out: &mut Vec<u8>,
     number: u64,
@@ -37,7 +39,7 @@ fn append_numbered(
     let other = second.format(other).as_bytes();
     out.reserve(number.len() + words.len() + other.len() + 1)?;
     put_few(out, number);
-    put_few(out, words);
+    out.extend_from_slice(words)?;
     put_few(out, other);
     out.push_reserved(b'\n');
     Ok(())
