@@ -1,6 +1,6 @@
 -- A script that is read line by line.
 use Rattle.std.proofs.Common.{◌≡◌, ◌⊎◌, ℕ, ◌+◌, ◌≤◌, List, [], ◌∷◌, ◌++◌, length, All, Option, Some, None, Result, Ok, Err, refl, sym, ap, ◌∙◌, subst, arith, append-nil, append_assoc, length-append}
-use Rattle.std.specs.Prelude.{IsOk}
+use Rattle.std.specs.Prelude.{false, IsOk, OnOk, is_err}
 use Rattle.std.specs.List.{slice_split}
 use Rattle.std.proofs.lemmas.List.Elements.{All-append, All-cons}
 use Rattle.std.proofs.lemmas.List.Sums.{count_by-le-length}
@@ -81,3 +81,8 @@ underway-end text lines line script h e =
       subst AreRead (sym all) h.read,
       h.asked ∙ ap (asked_behind 0) (sym all),
     )
+
+-- what holds on success holds if there is no error
+pub is_ok-held : {A E P : Type 0} (r : Result A E) → is_err r ≡ false → OnOk r P → P
+is_ok-held (Ok value) done holds = holds
+is_ok-held (Err why) done holds = absurd cc

@@ -7,4 +7,5 @@ pub mod Questions
 pub mod Reading
 pub mod ScriptCalls
 pub mod Scripts
+pub mod Simple
 pub mod WordsLeft

@@ -18,7 +18,7 @@ use rapid_text::trim;
 use std::alloc::Global;
 
 /// The most bytes of a script line, without the blanks at its ends.
-const MAX_SCRIPT_LINE: usize = 65_536;
+pub(crate) const MAX_SCRIPT_LINE: usize = 65_536;
 
 /// The most clients; they are numbered from 1.
 const MAX_CLIENT: u32 = 32;
@@ -309,7 +309,7 @@ fn read_call(alloc: Global, words: &mut Words<'_>) -> Result<Call, ScriptCause>
 }
 
 /// The word as a client's number.
-fn read_client(word: &[u8]) -> Result<u32, ScriptCause>
+pub(crate) fn read_client(word: &[u8]) -> Result<u32, ScriptCause>
     ensures reading { result ≡ client_reading word.now }
     ensures within { IfOk result (λ client. (1 ≤ client) × (client ≤ client_limit)) }
 {

@@ -1,12 +1,14 @@
 //! How a call of a script is kept: in few bytes, beside the bytes of all names, unless it owns memory.
-ghost use Rattle.std.specs.Prelude.{◌≡◌, ◌≢◌, ◌+◌, ◌<◌, ◌≤◌, true, length, take, drop, get_or, IfOk};
+ghost use Rattle.std.specs.Prelude.{◌≡◌, ◌≢◌, ◌+◌, ◌<◌, ◌≤◌, true, List, length, take, drop, get_or, IfOk};
 ghost use Rattle.inverse_log.specs.declared.call.Call.{Call};
 ghost use Rattle.inverse_log.specs.declared.call.Call.TheVariants.{Do, Undo as UndoCall};
 ghost use Rattle.moves.specs.Names.{is_name};
 ghost use Rattle.dependence.specs.Limits.{client_limit};
 ghost use Rattle.script_language.specs.Kept.{name_in, to_in, call_in, call_of, asked_of, HasNames, IsWithin, IsKept, Begins};
+ghost use Rattle.script_language.specs.Simple.{simple_call, IsSimple};
 ghost use Rattle.script_language.specs.declared.kept.Form.TheVariants.{Owned};
 
+use crate::simple::Simple;
 use inverse_log::Call;
 use moves::{Command, Name};
 use rapid_text::OutOfMemory;
@@ -62,7 +64,7 @@ pub(crate) struct Kept {
 }
 
 /// Keeps a call of this form with these names, which may be empty where it has none.
-fn keep_names(
+pub(crate) fn keep_names(
     names: &mut Vec<u8>,
     form: Form,
     number: u32,
@@ -161,6 +163,28 @@ fn keep_call(names: &mut Vec<u8>, owned: &mut Vec<Call>, call: Call) -> Result<K
         Call::Races(name) => keep_names(names, Form::Races, 0, name.bytes(), &[]),
         _ => keep_owned(owned, call),
     }
+}
+
+/// Keeps a call that owns no memory with its line and its client.
+pub(crate) fn keep_simple(
+    names: &mut Vec<u8>,
+    line: u64,
+    client: u32,
+    simple: &Simple<'_>,
+) -> Result<Kept, OutOfMemory>
+    requires client { (1 ≤ client) × (client ≤ client_limit) }
+    requires simple { IsSimple simple.now }
+    ensures names { Begins names.old.items names.new.items }
+    ensures kept { IfOk result (λ kept. (owned : List Call) → IsKept names.new.items owned kept) }
+    ensures asked { IfOk result (λ kept. (owned : List Call) → asked_of names.new.items owned kept
+        ≡ record { line = line; client = client; call = simple_call simple.now (get_or owned kept.at UndoCall) }) }
+{
+    let kept = keep_names(names, simple.form, simple.number, simple.name, simple.to)?;
+    Ok(Kept {
+        line,
+        client: client as u8,
+        ..kept
+    })
 }
 
 /// Keeps a call with its line and its client.

@@ -9,6 +9,7 @@ mod question;
 mod reading;
 mod refusal;
 mod script;
+mod simple;
 mod verb;
 
 pub use calls::read_line;

@@ -7,6 +7,7 @@ use crate::calls::read_line;
 use crate::lines::Lines;
 use crate::refusal::{ScriptCause, ScriptRefusal};
 use crate::script::Script;
+use crate::simple::simple_line;
 use std::alloc::Global;
 
 /// The refusal for want of memory; no line is at fault.
@@ -40,6 +41,12 @@ pub fn read_script(alloc: Global, text: &[u8]) -> Result<Script, ScriptRefusal>
     let mut line = 0u64;
     while let Some(raw) = lines.next() {
         line += 1;
+        if let Some((client, simple)) = simple_line(raw) {
+            if script.push_simple(line, client, &simple).is_err() {
+                return Err(no_script_memory());
+            }
+            continue;
+        }
         match read_line(alloc, raw) {
             Ok(None) => {}
             Ok(Some((client, call))) => {

@@ -1,9 +1,12 @@
 //! A script: its calls, each with its line and its client.
 ghost use Rattle.std.specs.Prelude.{◌≡◌, ◌<◌, ◌≤◌, ◌==◌, [], ◌∷◌, ◌++◌, not, find, option_map, slice_get, length, OnOk, Some};
 ghost use Rattle.dependence.specs.Limits.{client_limit};
+ghost use Rattle.inverse_log.specs.declared.call.Call.{Call as CallValue};
 ghost use Rattle.script_language.specs.ScriptCalls.{call_given};
+ghost use Rattle.script_language.specs.Simple.{simple_call, IsSimple};
 
-use crate::kept::{Form, Kept, keep, made};
+use crate::kept::{Form, Kept, keep, keep_simple, made};
+use crate::simple::Simple;
 use inverse_log::Call;
 use rapid_text::OutOfMemory;
 use std::alloc::Global;
@@ -72,6 +75,23 @@ impl Script {
         ensures { OnOk result (self.new ≡ self.old ++ record { line = line; client = client; call = call } ∷ []) }
     {
         let kept = keep(&mut self.names, &mut self.owned, line, client, call)?;
+        self.kept.push(kept)?;
+        Ok(())
+    }
+
+    /// Puts a call that owns no memory behind the others.
+    pub(crate) fn push_simple(
+        &mut self,
+        line: u64,
+        client: u32,
+        simple: &Simple<'_>,
+    ) -> Result<(), OutOfMemory>
+        requires client { (1 ≤ client) × (client ≤ client_limit) }
+        requires simple { IsSimple simple.now }
+        ensures { OnOk result ((own : CallValue) × (self.new
+            ≡ self.old ++ record { line = line; client = client; call = simple_call simple.now own } ∷ [])) }
+    {
+        let kept = keep_simple(&mut self.names, line, client, simple)?;
         self.kept.push(kept)?;
         Ok(())
     }

@@ -1,6 +1,8 @@
-use Rattle.std.proofs.Common.{◌≡◌, ◌+◌, ◌∷◌, ◌++◌, [], rules, sym, append-nil, Ok, Some, None}
+use Rattle.std.proofs.Common.{◌≡◌, ◌+◌, ◌∷◌, ◌++◌, [], false, rules, sym, append-nil, Ok, Some, None}
+use Rattle.std.specs.Prelude.{is_err}
 use Rattle.script_language.specs.Scripts.{Asked, script_line_reading}
-use Rattle.script_language.proofs.ReadingLemmas.{IsUnderway, underway-count, underway-more}
+use Rattle.script_language.specs.Simple.{simple_call}
+use Rattle.script_language.proofs.ReadingLemmas.{IsUnderway, is_ok-held, underway-count, underway-more}
 use Rattle.script_language.proofs.reading.read_script.Goals as goal
 
 pub overflow_add-line : goal.overflow_add-line
@@ -19,3 +21,10 @@ loop-raw-preserved c =
     let asked : Asked = record { line = c.loop-raw.line + 1; client = c.in-Ok-Some.client; call = c.in-Ok-Some.call } in
     let pushed : c.push.new.self ≡ c.loop-raw.script ++ asked ∷ [] = search rules in
     underway-more c.args.text.now c.loop-raw.lines _ c.in-Some.raw.now c.loop-raw.line _ c.loop-raw.invariant c.in-Some.ensures.some (Some (c.in-Ok-Some.client, c.in-Ok-Some.call)) _ reads pushed
+
+pub loop-raw-preserved-in-Some-simple_line : goal.loop-raw-preserved-in-Some-simple_line
+loop-raw-preserved-in-Some-simple_line c =
+    let simple = c.in-Some-simple_line.simple in
+    let done : is_err c.push_simple.result ≡ false = search rules in
+    let pushed = is_ok-held c.push_simple.result done c.push_simple.ensures in
+    underway-more c.args.text.now c.loop-raw.lines _ c.in-Some.raw.now c.loop-raw.line _ c.loop-raw.invariant c.in-Some.ensures.some (Some (c.in-Some-simple_line.client, simple_call simple pushed.0)) _ (c.in-Some-simple_line.ensures.read pushed.0) pushed.1
