@@ -1,13 +1,17 @@
 //! Numbers names by their first uses.
-ghost use Rattle.std.specs.Prelude.{◌≡◌, ◌<◌, [], length, OnOk, IfOk, IsTrue};
+ghost use Rattle.std.specs.Prelude.{◌≡◌, ◌<◌, ◌≤◌, [], length, OnOk, IfOk, IsTrue};
 ghost use Rattle.rapid_text.specs.Growth.{names_of, with_name, IsNumber};
 ghost use Rattle.rapid_text.specs.Limits.{name_count_limit};
 
 use crate::memory::OutOfMemory;
 use crate::recent::{Recent, mix_of};
 use indexmap::IndexSet;
+use memchr::memchr;
 use std::alloc::Global;
 use std::hash::{BuildHasher, DefaultHasher, Hasher};
+
+/// From so many bytes on it is quicker to find the names of a line than to hash all of it.
+const LONG_LINE: usize = 128;
 
 /// The names of threads, variables or locks; a name's number is its place.
 pub(crate) type Names = IndexSet<Vec<u8>, TextKeyed>;
@@ -71,7 +75,7 @@ impl NameTable {
 }
 
 /// Makes hashers for tables of names that a stranger chose, keyed by the text in which the names stand:
-/// SipHash-1-3 under a hash of the whole text. Each name of the text is a part of what makes the key, so
+/// SipHash-1-3 under a hash of the text. Each name of the text is a part of what makes the key, so
 /// names chosen ahead do not collide; who searches over many texts can still find some that do.
 /// Contracts say nothing of the hashes.
 #[derive(Clone, Copy)]
@@ -85,8 +89,36 @@ impl TextKeyed {
     pub fn of(text: &[u8]) -> TextKeyed {
         let mut whole = DefaultHasher::new();
         whole.write(text);
+        TextKeyed::from_hash(whole.finish())
+    }
+
+    /// The hashers of this trace text. Where its first line is long, so are most locations, and the key is made of what
+    /// stands before the second bar of each line: all names stand there.
+    pub(crate) fn of_trace(text: &[u8]) -> TextKeyed {
+        if text.is_empty() || line_len(text) < LONG_LINE {
+            return TextKeyed::of(text);
+        }
+        let mut whole = DefaultHasher::new();
+        let mut left = text;
+        while !left.is_empty() {
+            let (named, line) = first_extent(left);
+            whole.write(&left[..named]);
+            left = &left[line..];
+        }
+        TextKeyed::from_hash(whole.finish())
+    }
+
+    /// The hashers of these bytes too.
+    pub(crate) fn with(&self, bytes: &[u8]) -> TextKeyed {
+        let mut whole = self.keyed;
+        whole.write(bytes);
+        TextKeyed::from_hash(whole.finish())
+    }
+
+    // The hashers that are keyed by this hash.
+    fn from_hash(hash: u64) -> TextKeyed {
         let mut keyed = DefaultHasher::new();
-        keyed.write_u64(whole.finish());
+        keyed.write_u64(hash);
         TextKeyed { keyed }
     }
 }
@@ -99,6 +131,45 @@ impl BuildHasher for TextKeyed {
     fn build_hasher(&self) -> DefaultHasher {
         self.keyed
     }
+}
+
+/// How many bytes of a text hold the names of its first line, in whole words, and how many that line has with its end.
+fn first_extent(text: &[u8]) -> (usize, usize)
+    requires { 0 < length text.now }
+    ensures named { result.0 ≤ length text.now }
+    ensures line { (0 < result.1) × (result.1 ≤ length text.now) }
+{
+    let line = line_len(text);
+    (whole_words(bars_len(&text[..line]), text), line)
+}
+
+/// How many bytes stand before the second bar of a line.
+fn bars_len(line: &[u8]) -> usize {
+    let Some(first) = memchr(b'|', line) else {
+        return line.len();
+    };
+    match memchr(b'|', &line[first + 1..]) {
+        Some(second) => first + 1 + second,
+        None => line.len(),
+    }
+}
+
+/// How many bytes the first line of a text has with its end.
+fn line_len(text: &[u8]) -> usize
+    requires { 0 < length text.now }
+    ensures { (0 < result) × (result ≤ length text.now) }
+{
+    match memchr(b'\n', text) {
+        Some(at) => at + 1,
+        None => text.len(),
+    }
+}
+
+/// So many bytes and up to seven more, since a hasher takes whole words at once.
+fn whole_words(count: usize, text: &[u8]) -> usize
+    ensures { result ≤ length text.now }
+{
+    (count.saturating_add(7) & !7).min(text.len())
 }
 
 /// Whether the name stands at this place.

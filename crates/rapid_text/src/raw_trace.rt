@@ -122,9 +122,9 @@ impl RawTrace {
         &self.locations[span.start..span.end]
     }
 
-    /// The hashers of the text that it was read from, for tables of names that are kept beside it.
-    /// Contracts say nothing of the hashes.
+    /// The hashers of the text that it was read from, for tables of names or of locations that are kept beside it: all
+    /// its names and locations are a part of their key. Contracts say nothing of the hashes.
     pub fn keyed(&self) -> TextKeyed {
-        *self.threads.hasher()
+        self.threads.hasher().with(&self.locations)
     }
 }

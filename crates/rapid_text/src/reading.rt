@@ -96,7 +96,7 @@ pub fn parse(alloc: Global, text: &[u8]) -> Result<RawTrace, TextRefusal>
     ensures refused { IfErr result
         (λ refusal. (refusal ≡ no_memory) ⊎ (reading_of text.now ≡ Err refusal)) }
 {
-    let mut recorder = Recorder::new(alloc, TextKeyed::of(text));
+    let mut recorder = Recorder::new(alloc, TextKeyed::of_trace(text));
     let mut left = Some(text);
     let mut number: u64 = 0;
     while let Some(lines) = left {
