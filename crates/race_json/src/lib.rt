@@ -7,3 +7,4 @@ mod members;
 mod objects;
 
 pub use lines::triage_json;
+pub use members::{put_number, put_text, put_word};

@@ -8,7 +8,7 @@ use serde_json::{Map, Value, put};
 use std::alloc::{AllocError, Global};
 
 /// Puts a number.
-pub(crate) fn put_number(
+pub fn put_number(
     members: &mut Map<String, Value>,
     alloc: Global,
     name: &str,
@@ -20,7 +20,7 @@ pub(crate) fn put_number(
 }
 
 /// Puts a word.
-pub(crate) fn put_word(
+pub fn put_word(
     members: &mut Map<String, Value>,
     alloc: Global,
     name: &str,
@@ -35,7 +35,7 @@ pub(crate) fn put_word(
 }
 
 /// Puts bytes from outside as a text: what is no UTF-8 becomes U+FFFD.
-pub(crate) fn put_text(
+pub fn put_text(
     members: &mut Map<String, Value>,
     alloc: Global,
     name: &str,

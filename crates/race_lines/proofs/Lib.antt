@@ -1,2 +1,2 @@
-mod CallLemmas
+pub mod CallLemmas
 mod LineLemmas

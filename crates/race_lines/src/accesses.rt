@@ -16,14 +16,14 @@ fn spot(location: &[u8]) -> &[u8]
 }
 
 /// The place of the event.
-pub(crate) fn spot_of(indexed: &Indexed, event: u32) -> &[u8]
+pub fn spot_of(indexed: &Indexed, event: u32) -> &[u8]
     ensures { result.now ≡ spot_at indexed.now event }
 {
     spot(location_of(indexed, event))
 }
 
 /// The name of the event's thread; nothing if the trace has no such event.
-pub(crate) fn thread_of(indexed: &Indexed, event: u32) -> &[u8]
+pub fn thread_of(indexed: &Indexed, event: u32) -> &[u8]
     ensures { result.now ≡ thread_at indexed.now event }
 {
     if event < indexed.len() {
@@ -34,7 +34,7 @@ pub(crate) fn thread_of(indexed: &Indexed, event: u32) -> &[u8]
 }
 
 /// What the event's thread does; nothing if the trace has no such event.
-pub(crate) fn verb_of(indexed: &Indexed, event: u32) -> &'static [u8]
+pub fn verb_of(indexed: &Indexed, event: u32) -> &'static [u8]
     ensures { result.now ≡ verb_at indexed.now event }
 {
     if event < indexed.len() {
@@ -45,7 +45,7 @@ pub(crate) fn verb_of(indexed: &Indexed, event: u32) -> &'static [u8]
 }
 
 /// The name of the variable that the event accesses; nothing if the trace has no such event.
-pub(crate) fn variable_of(indexed: &Indexed, event: u32) -> &[u8]
+pub fn variable_of(indexed: &Indexed, event: u32) -> &[u8]
     ensures { result.now ≡ variable_at indexed.now event }
 {
     if event < indexed.len() {

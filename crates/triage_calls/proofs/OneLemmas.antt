@@ -19,7 +19,7 @@ use Rattle.triage_calls.specs.Answers.{hide_of, only_of, AreVerdicts, IsGiven, I
 use Rattle.triage_calls.specs.Laws.{IsLines, ListingsAreOne}
 use Rattle.triage_calls.specs.declared.listing.Asked.{Asked}
 use Rattle.triage_calls.specs.declared.listing.Form.{Form}
-use Rattle.triage_calls.specs.declared.listing.Form.TheVariants.{Text, Json, Lines, Page}
+use Rattle.triage_calls.specs.declared.listing.Form.TheVariants.{Text, Json, Lines, Sarif, Page}
 
 -- what is printed as JSON, from what is printed of it
 abbrev json_printed : Recording → Totals → List Verdict → Option ℕ → Option ℕ → List ℕ
@@ -85,6 +85,7 @@ module _ (r : Recording) (place : ℕ → ℕ) (legal : IsLegal r) (asked : Aske
     lines_same r place asked.tries asked.apart legal vs ws one two known (only_of asked) (hide_of asked) c d chosen (chosen_by d also) text words told another,
     races_same c d chosen also mine its,
   )
+  told_same (Sarif sources) lines told another = absurd lines
   told_same (Page about) lines told another = absurd lines
 
 pub listings_law : ListingsAreOne

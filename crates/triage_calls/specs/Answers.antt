@@ -8,6 +8,7 @@ use Rattle.race_json.specs.Lines.{IsTriageJson}
 use Rattle.race_lines.specs.Lines.{IsLinesText}
 use Rattle.race_page.specs.Pages.{IsPage}
 use Rattle.race_page.specs.Rows.{all_rows, followed_in}
+use Rattle.race_sarif.specs.Logs.{IsSarif}
 use Rattle.race_triage.specs.Chosen.{AreChosen}
 use Rattle.race_triage.specs.Known.{AreKnown}
 use Rattle.race_triage.specs.Places.{AreFirstUses, AreNumbered, AreNumbers}
@@ -27,7 +28,7 @@ use Rattle.triage_calls.specs.declared.fault.TriageFault.{TriageFault}
 use Rattle.triage_calls.specs.declared.fault.TriageFault.TheVariants.{Replay, TooMany}
 use Rattle.triage_calls.specs.declared.listing.Asked.{Asked}
 use Rattle.triage_calls.specs.declared.listing.Form.{Form}
-use Rattle.triage_calls.specs.declared.listing.Form.TheVariants.{Text, Json, Lines, Page}
+use Rattle.triage_calls.specs.declared.listing.Form.TheVariants.{Text, Json, Lines, Sarif, Page}
 
 -- The verdicts on a trace, whose events have these numbers of places, where so many open pairs of two places are tried: one for each two places of
 -- a conflicting pair. What is counted of them is counted of the trace.
@@ -55,6 +56,8 @@ IsToldIn Json r known asked vs races text =
     (c : Chosen) × AreChosen r known (only_of asked) (hide_of asked) asked.apart vs c × IsTriageJson r vs c text × (races ≡ c.races)
 IsToldIn Lines r known asked vs races text =
     (c : Chosen) × AreChosen r known (only_of asked) (hide_of asked) asked.apart vs c × IsLinesText r c text × (races ≡ c.races)
+IsToldIn (Sarif sources) r known asked vs races text =
+    (c : Chosen) × AreChosen r known (only_of asked) (hide_of asked) asked.apart vs c × IsSarif r sources c text × (races ≡ c.races)
 IsToldIn (Page about) r known asked vs races text =
     (c : Chosen) × AreChosen r known (only_of asked) (hide_of asked) asked.apart vs c
     × IsPage r vs c.races about.name.now text (all_rows r (followed_in about) asked.apart c.verdicts.items) × (races ≡ c.races)

@@ -5,13 +5,14 @@ use Rattle.race_triage.specs.Same.{IsLegal}
 use Rattle.triage_calls.specs.Answers.{IsListing}
 use Rattle.triage_calls.specs.declared.listing.Asked.{Asked}
 use Rattle.triage_calls.specs.declared.listing.Form.{Form}
-use Rattle.triage_calls.specs.declared.listing.Form.TheVariants.{Text, Json, Lines, Page}
+use Rattle.triage_calls.specs.declared.listing.Form.TheVariants.{Text, Json, Lines, Sarif, Page}
 
--- lines, of text, of JSON or for editors, and no page
+-- lines, of text, of JSON or for editors, and no page and no log, which have schedules
 abbrev pub IsLines : Form → Type 0
 IsLines Text = ⊤
 IsLines Json = ⊤
 IsLines Lines = ⊤
+IsLines (Sarif sources) = ⊥
 IsLines (Page about) = ⊥
 
 -- Two texts in lines that tell of one trace what was asked for are one, and tell of as many races, however many workers there were for each.

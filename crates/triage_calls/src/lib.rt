@@ -11,6 +11,7 @@ pub use confirming::{ConfirmedFault, confirmed_fault_text, read_confirmed};
 pub use fault::{TriageFault, triage_fault_text};
 pub use followed_races::Followed;
 pub use laws::listings_are_one;
-pub use listing::{Asked, Form, triage};
+pub use listing::{Asked, Form, triage, triage_on};
 pub use race_page::About;
+pub use race_sarif::{SourceLine, Sources, file_of, line_of, relative};
 pub use race_triage::{Filters, MAX_TRIES, Silent, Watch};

@@ -16,6 +16,7 @@ use must_order::Must;
 use race_json::triage_json;
 use race_lines::triage_lines;
 use race_page::{About, page_text};
+use race_sarif::{Sources, triage_sarif};
 use race_triage::{
     Chosen, Filters, Known, Places, TriageRefusal, Verdicts, Watch, chosen_of, has_block, known_of,
     triage as verdicts_of, triage_text,
@@ -49,6 +50,11 @@ pub enum Form<'a> {
     Json,
     /// Lines as compilers write them.
     Lines,
+    /// A log as code-scanning pages take it.
+    Sarif {
+        /// The code that ran.
+        sources: Sources<'a>,
+    },
     /// A page (HTML).
     Page {
         /// The trace's name, and how its races came out when they were followed.
@@ -93,7 +99,7 @@ pub fn triage<R: Threads + Sync, S: Source, L: Source + Drop, K: Sink, W: Watch 
 }
 
 /// The same of a trace that was read.
-fn triage_on<R: Threads + Sync, L: Source + Drop, K: Sink, W: Watch + Sync>(
+pub fn triage_on<R: Threads + Sync, L: Source + Drop, K: Sink, W: Watch + Sync>(
     rt: &R,
     alloc: Global,
     indexed: &Indexed,
@@ -308,6 +314,11 @@ fn append_told(
         Form::Lines => {
             let chosen = chosen(indexed, found, known, asked, out)?;
             triage_lines(indexed, must, &chosen, out)?;
+            Ok(chosen.races)
+        }
+        Form::Sarif { sources } => {
+            let chosen = chosen(indexed, found, known, asked, out)?;
+            triage_sarif(indexed, clocks, must, &chosen, sources, out)?;
             Ok(chosen.races)
         }
         Form::Page { about } => page_text(

@@ -35,6 +35,16 @@ returns-in_ok-triage_lines-in-Lines c =
           (told, c.in_ok-chosen-in-Lines.ensures, made.1, refl),
     )
 
+pub returns-in_ok-triage_sarif-in-Sarif : goal.returns-in_ok-triage_sarif-in-Sarif
+returns-in_ok-triage_sarif-in-Sarif c =
+    let made = c.in_ok-triage_sarif-in-Sarif.ensures.ok in
+    let told = c.in_ok-chosen-in-Sarif.chosen in (
+      made.0,
+      made.2,
+      subst (λ (f : Form). IsToldIn f c.args.indexed.now (known_places c.args.known.now) c.args.asked c.args.found.now.verdicts.items told.races made.0) (sym c.in-Sarif.is)
+          (told, c.in_ok-chosen-in-Sarif.ensures, made.1, refl),
+    )
+
 pub returns-in-Page : goal.returns-in-Page
 returns-in-Page c =
     IfOk-weaker c.page_text.result _ _

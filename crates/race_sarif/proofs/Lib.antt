@@ -1,0 +1,3 @@
+mod FloatLemmas
+mod FrameLemmas
+mod LogLemmas
