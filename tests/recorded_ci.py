@@ -3,12 +3,14 @@
 What no other judge sees: a build that is green although a race is new, or although nothing was recorded or judged.
 """
 
+import json
 import os
 import re
 import shutil
 import stat
 import subprocess
 
+import sarif_rules
 from recorded_places import RECORD, TOP, WrongPlace, ran
 
 FOLDER = os.path.join(TOP, "examples", "ci")
@@ -93,6 +95,20 @@ def lay_out(racebench):
     return dict(os.environ, PATH=os.path.abspath("bin") + os.pathsep + os.environ["PATH"], SEEDS="2")
 
 
+def judge_log(rules):
+    """The log for code-scanning pages has results of these rules, whose files are in the folder."""
+    with open("races/races.sarif", encoding="utf-8") as file:
+        log = json.load(file)
+    sarif_rules.check(log)
+    results = log["runs"][0]["results"]
+    if sorted({result["ruleId"] for result in results}) != rules:
+        raise WrongPlace(f"races/races.sarif has other results: {results}")
+    for location in (location for result in results for location in sarif_rules.locations_of(result)):
+        uri = location.get("physicalLocation", {}).get("artifactLocation", {}).get("uri", ".")
+        if not os.path.exists(uri):
+            raise WrongPlace(f"races/races.sarif names {uri}, which is not there")
+
+
 def judge_service(racebench, name):
     environment = lay_out(racebench)
     status, said, told = served(name, environment)
@@ -104,6 +120,7 @@ def judge_service(racebench, name):
         with open("installed", encoding="ascii") as file:
             if f"install -y ./{DEB} " not in file.read():
                 raise WrongPlace("the package is not installed")
+    judge_log(["data-race"])
     with open("ci/known.txt", "w", encoding="ascii") as known:
         known.write("none\n")
     if served(name, environment)[1].count("has no block `race`") != 1:
@@ -113,6 +130,7 @@ def judge_service(racebench, name):
     status, said, _ = served(name, environment)
     if status or not said.endswith("seed 1: no new race\nseed 2: no new race\n"):
         raise WrongPlace(f"a known race is new: status {status}, {said!r}")
+    judge_log([])
 
 
 def judge_locks(racebench):

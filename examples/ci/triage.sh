@@ -2,8 +2,9 @@
 # triage.sh KNOWN PROGRAM ARGS..
 #
 # Records a program with seeds 1 to SEEDS (20) and lists the races that the file KNOWN does not list. The folder races/
-# then has each trace, each list, and a report for each seed with a new race. PROGRAM was built with racebench-cc or
-# racebench-c++. RACEBENCH and RECORD name the two commands, if they are not on the path.
+# then has each trace, each list, and a report for each seed with a new race. races/races.sarif has the new races of one
+# seed, the first that has some, for code-scanning pages; SOURCE names the folder of the code (.). PROGRAM was built with
+# racebench-cc or racebench-c++. RACEBENCH and RECORD name the two commands, if they are not on the path.
 #
 # The status is 3 if there is a new race, 0 if there is none, and 1 if a run was not recorded or not judged.
 set -u
@@ -20,7 +21,15 @@ if [ ! -r "$known" ]; then
     exit 1
 fi
 mkdir -p races || exit 1
+rm -f races/races.sarif
 worst=0
+
+# Writes the log of seed $seed, if none with a new race is there.
+log_seed() {
+    if [ "$worst" -eq 3 ]; then return; fi
+    "$racebench" triage "$trace" --known "$known" --sarif --source "${SOURCE:-.}" > races/races.sarif || exit 1
+}
+
 seed=1
 while [ "$seed" -le "${SEEDS:-20}" ]; do
     trace=races/$seed.std
@@ -34,8 +43,12 @@ while [ "$seed" -le "${SEEDS:-20}" ]; do
     # A file with texts and no race is told once: it may be the wrong one.
     if [ "$seed" -eq 1 ] && [ "$status" -ne 1 ] && [ -s "$known" ]; then grep 'has no block' "races/$seed.err"; fi
     case $status in
-        0) echo "seed $seed: no new race" ;;
+        0)
+            log_seed
+            echo "seed $seed: no new race"
+            ;;
         3)
+            log_seed
             worst=3
             echo "seed $seed: a new race"
             awk '/^[^ ]/ { shown = /^race / } shown' "races/$seed.txt"

@@ -300,6 +300,18 @@ locations may race.",
             help: Some("Write a self-contained HTML report, with a picture of each race"),
         },
         Word {
+            name: "sarif",
+            kind: Kind::Flag(&["json", "lines", "page"]),
+            help: Some("Write SARIF 2.1.0, for code-scanning pages and viewers"),
+        },
+        Word {
+            name: "source",
+            kind: Kind::Text("DIR"),
+            help: Some(
+                "With --sarif, the folder of the code: paths are relative to it, and fingerprints have its lines",
+            ),
+        },
+        Word {
             name: "confirmed",
             kind: Kind::Text("FILE"),
             help: Some(

@@ -168,6 +168,8 @@ fn texts<'a>(
 fn races_form(given: &ArgMatches<'_>) -> RacesForm {
     if given.get_flag("page") {
         RacesForm::Page
+    } else if given.get_flag("sarif") {
+        RacesForm::Sarif
     } else if given.get_flag("json") {
         RacesForm::Json
     } else if given.get_flag("lines") {
@@ -181,6 +183,14 @@ fn races_form(given: &ArgMatches<'_>) -> RacesForm {
 fn check_confirmed(given: &ArgMatches<'_>, confirmed: Option<&str>) -> Result<(), Unread> {
     if confirmed.is_some() && !given.get_flag("page") {
         return Err(Unread::Refused("`--confirmed` goes with `--page`"));
+    }
+    Ok(())
+}
+
+/// A refusal if a folder is named for what a log has, and no log is asked for.
+fn check_source(given: &ArgMatches<'_>, source: Option<&str>) -> Result<(), Unread> {
+    if source.is_some() && !given.get_flag("sarif") {
+        return Err(Unread::Refused("`--source` goes with `--sarif`"));
     }
     Ok(())
 }
@@ -201,6 +211,8 @@ fn triage<'a>(
     let confirmed = given.get_str("confirmed");
     check_inputs(&[trace, known.unwrap_or(""), confirmed.unwrap_or("")])?;
     check_confirmed(given, confirmed)?;
+    let source = given.get_str("source");
+    check_source(given, source)?;
     let only = texts(alloc, given, "only")?;
     let hide = texts(alloc, given, "hide")?;
     Ok(TriageTask {
@@ -213,6 +225,7 @@ fn triage<'a>(
         workers,
         form: races_form(given),
         confirmed,
+        source,
         fail: given.get_flag("fail"),
         progress: given.get_flag("progress"),
     })

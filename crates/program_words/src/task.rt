@@ -51,6 +51,8 @@ pub enum RacesForm {
     Lines,
     /// A page.
     Page,
+    /// A log as code-scanning pages take it.
+    Sarif,
 }
 
 /// What a word names of a trace.
@@ -116,6 +118,8 @@ pub struct TriageTask<'a> {
     pub form: RacesForm,
     /// The path of what `record/confirm` wrote, which a page shows beside its races.
     pub confirmed: Option<&'a str>,
+    /// The path of the folder of the code, for a log.
+    pub source: Option<&'a str>,
     /// Whether a race that is printed makes the status 3, and a trace without events 4.
     pub fail: bool,
     /// Whether standard error shows how far the work is, even if it is no terminal.

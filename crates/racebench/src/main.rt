@@ -4,6 +4,7 @@
 
 ghost use Rattle.program_words.specs.Tasks.{IsWithin};
 
+mod coding;
 mod doing;
 mod input;
 mod likeness;

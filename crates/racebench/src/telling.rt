@@ -260,6 +260,21 @@ pub(crate) fn tell_window(rt: &HostRuntime, fault: WindowFault, trace: &str) -> 
     }
 }
 
+/// Appends the line that tells that a folder is not there.
+fn append_no_folder(out: &mut Vec<u8>, path: &str) -> Result<(), OutOfMemory> {
+    out.extend_from_slice(b"racebench: no such folder: ")?;
+    append_name(out, path)?;
+    out.extend_from_slice(b"\n")?;
+    Ok(())
+}
+
+/// 109: tells that the folder of the code at this path is not there.
+pub(crate) fn tell_folder(rt: &HostRuntime, path: &str) -> ExitCode {
+    let mut lines = Vec::new(rt.alloc());
+    let made = append_no_folder(&mut lines, path);
+    end(rt, &lines, made, ExitCode::FAILURE)
+}
+
 /// Says that no block `race` stands in the text of known races at this path.
 pub(crate) fn tell_blockless(rt: &HostRuntime, path: &str) -> Result<(), OutOfMemory> {
     let mut line = Vec::new(rt.alloc());

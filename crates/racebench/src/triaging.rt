@@ -1,11 +1,13 @@
 //! What the program does at `triage`.
 ghost use Rattle.std.specs.Prelude.{◌≡◌, IfSome, false};
 
+use crate::coding::{is_folder, lines_of, root_of};
 use crate::input::{Input, input_at};
 use crate::progress::Progress;
 use crate::seen::Seen;
-use crate::telling::{say, tell_blockless, tell_confirmed, tell_replay, tell_triage};
-use client_scripts::{FromWrite, ReplayFault, Sink};
+use crate::telling::{say, tell_blockless, tell_confirmed, tell_folder, tell_replay, tell_triage};
+use client_scripts::{FromWrite, ReplayFault, Sink, read_trace};
+use event_index::Indexed;
 use program_words::{RacesForm, TriageTask};
 use std::io::IsTerminal;
 use std::process::ExitCode;
@@ -13,8 +15,8 @@ use std::sync::Wait;
 use std::thread::Threads;
 use std::{io, thread};
 use triage_calls::{
-    About, Asked, ConfirmedFault, Filters, Followed, Form, Silent, TriageFault, Watch,
-    read_confirmed, triage,
+    About, Asked, ConfirmedFault, Filters, Followed, Form, Silent, SourceLine, Sources,
+    TriageFault, Watch, read_confirmed, triage, triage_on,
 };
 
 /// The status if a race is printed, for `--fail`.
@@ -24,7 +26,12 @@ const RACES: u8 = 3;
 const UNJUDGED: u8 = 4;
 
 /// What is asked for, as the call takes it.
-fn asked_of<'a>(task: &'a TriageTask<'_>, about: About<'a>) -> Asked<'a> {
+fn asked_of<'a>(
+    task: &'a TriageTask<'_>,
+    about: About<'a>,
+    root: &'a [u8],
+    lines: &'a [SourceLine],
+) -> Asked<'a> {
     Asked {
         filters: Filters {
             only: task.only.as_slice(),
@@ -38,6 +45,9 @@ fn asked_of<'a>(task: &'a TriageTask<'_>, about: About<'a>) -> Asked<'a> {
             RacesForm::Json => Form::Json,
             RacesForm::Lines => Form::Lines,
             RacesForm::Page => Form::Page { about },
+            RacesForm::Sarif => Form::Sarif {
+                sources: Sources { root, lines },
+            },
         },
     }
 }
@@ -106,6 +116,27 @@ fn list_to<R: Threads + Sync, K: Sink, W: Watch + Sync>(
 ) -> Result<u64, TriageFault>
     requires { K.has_failed writer.old ≡ false }
 {
+    match task.source {
+        Some(folder) => list_in(rt, starts, task, folder, about, writer, watch),
+        None => {
+            let none = Vec::new(rt.alloc());
+            list_plain(rt, starts, task, none.as_slice(), about, writer, watch)
+        }
+    }
+}
+
+/// The same without the lines of the code.
+fn list_plain<R: Threads + Sync, K: Sink, W: Watch + Sync>(
+    rt: &HostRuntime,
+    starts: &R,
+    task: &TriageTask<'_>,
+    none: &[SourceLine],
+    about: About<'_>,
+    writer: &mut K,
+    watch: &W,
+) -> Result<u64, TriageFault>
+    requires { K.has_failed writer.old ≡ false }
+{
     let mut reader = input_at(rt, task.trace);
     let known = known_at(rt, task.known);
     triage(
@@ -113,7 +144,108 @@ fn list_to<R: Threads + Sync, K: Sink, W: Watch + Sync>(
         rt.alloc(),
         &mut reader,
         known,
-        asked_of(task, about),
+        asked_of(task, about, b"", none),
+        writer,
+        watch,
+    )
+}
+
+/// The same with the code in this folder.
+fn list_in<R: Threads + Sync, K: Sink, W: Watch + Sync>(
+    rt: &HostRuntime,
+    starts: &R,
+    task: &TriageTask<'_>,
+    folder: &str,
+    about: About<'_>,
+    writer: &mut K,
+    watch: &W,
+) -> Result<u64, TriageFault>
+    requires { K.has_failed writer.old ≡ false }
+{
+    let mut reader = input_at(rt, task.trace);
+    match read_trace(rt.alloc(), &mut reader) {
+        Ok(indexed) => {
+            watch.read(indexed.len());
+            list_code(rt, starts, task, &indexed, folder, about, writer, watch)
+        }
+        Err(fault) => Err(TriageFault::Replay(fault)),
+    }
+}
+
+/// The same of a trace that was read, with the code in this folder.
+fn list_code<R: Threads + Sync, K: Sink, W: Watch + Sync>(
+    rt: &HostRuntime,
+    starts: &R,
+    task: &TriageTask<'_>,
+    indexed: &Indexed,
+    folder: &str,
+    about: About<'_>,
+    writer: &mut K,
+    watch: &W,
+) -> Result<u64, TriageFault>
+    requires { K.has_failed writer.old ≡ false }
+{
+    let root = root_of(rt.alloc(), folder)?;
+    list_lines(
+        rt,
+        starts,
+        task,
+        indexed,
+        root.as_slice(),
+        about,
+        writer,
+        watch,
+    )
+}
+
+/// The same, with the lines of the code.
+fn list_lines<R: Threads + Sync, K: Sink, W: Watch + Sync>(
+    rt: &HostRuntime,
+    starts: &R,
+    task: &TriageTask<'_>,
+    indexed: &Indexed,
+    root: &[u8],
+    about: About<'_>,
+    writer: &mut K,
+    watch: &W,
+) -> Result<u64, TriageFault>
+    requires { K.has_failed writer.old ≡ false }
+{
+    let lines = lines_of(rt, indexed, root)?;
+    list_with(
+        rt,
+        starts,
+        task,
+        indexed,
+        root,
+        lines.as_slice(),
+        about,
+        writer,
+        watch,
+    )
+}
+
+/// The same, with these lines.
+fn list_with<R: Threads + Sync, K: Sink, W: Watch + Sync>(
+    rt: &HostRuntime,
+    starts: &R,
+    task: &TriageTask<'_>,
+    indexed: &Indexed,
+    root: &[u8],
+    lines: &[SourceLine],
+    about: About<'_>,
+    writer: &mut K,
+    watch: &W,
+) -> Result<u64, TriageFault>
+    requires { K.has_failed writer.old ≡ false }
+{
+    let known = known_at(rt, task.known);
+    triage_on(
+        starts,
+        rt.alloc(),
+        indexed,
+        known,
+        asked_of(task, about, root, lines),
         writer,
         watch,
     )
@@ -182,7 +314,7 @@ fn list_followed<R: Threads + Wait + Sync>(
 }
 
 /// The same, after what the file of followed races says was read.
-pub(crate) fn triage_file<R: Threads + Wait + Sync>(
+fn triage_followed<R: Threads + Wait + Sync>(
     rt: &HostRuntime,
     starts: &R,
     task: &TriageTask<'_>,
@@ -191,5 +323,17 @@ pub(crate) fn triage_file<R: Threads + Wait + Sync>(
         Ok(Some(confirmed)) => list_followed(rt, starts, task, Some(confirmed.as_slice())),
         Ok(None) => list_followed(rt, starts, task, None),
         Err(fault) => tell_confirmed(rt, fault, task),
+    }
+}
+
+/// The same, if the folder of the code is there.
+pub(crate) fn triage_file<R: Threads + Wait + Sync>(
+    rt: &HostRuntime,
+    starts: &R,
+    task: &TriageTask<'_>,
+) -> ExitCode {
+    match task.source {
+        Some(folder) if !is_folder(rt, folder) => tell_folder(rt, folder),
+        _ => triage_followed(rt, starts, task),
     }
 }

@@ -1,0 +1,222 @@
+//! The lines of the code that a trace names, read from the folder that `--source` names.
+ghost use Rattle.std.specs.Prelude.{◌≤◌, length};
+
+use crate::lines::first_line;
+use crate::notes::bytes_of;
+use event_index::Indexed;
+use rapid_text::{OutOfMemory, trim};
+use source_places::{is_line, place_of};
+use std::alloc::Global;
+use std::fs::{File, metadata};
+use triage_calls::{SourceLine, file_of, line_of, relative};
+
+/// The most bytes of a file of code. A larger one is not read.
+const MAX_CODE: u64 = 16_777_216;
+
+/// The most lines that are kept.
+const MAX_KEPT: usize = 65_536;
+
+/// The most bytes of a line that are kept.
+const MAX_TEXT: usize = 256;
+
+/// Whether a folder is at this path.
+pub(crate) fn is_folder(rt: &HostRuntime, path: &str) -> bool {
+    match metadata(rt, path) {
+        Ok(found) => found.is_dir(),
+        Err(_) => false,
+    }
+}
+
+/// The path of a folder, with a slash at its end.
+pub(crate) fn root_of(alloc: Global, folder: &str) -> Result<Vec<u8>, OutOfMemory> {
+    let mut root = Vec::new(alloc);
+    root.extend_from_slice(folder.as_bytes())?;
+    if !folder.as_bytes().ends_with(b"/") {
+        root.push(b'/')?;
+    }
+    Ok(root)
+}
+
+/// The lines at the places of the trace, as far as they can be read.
+pub(crate) fn lines_of(
+    rt: &HostRuntime,
+    indexed: &Indexed,
+    root: &[u8],
+) -> Result<Vec<SourceLine>, OutOfMemory> {
+    let places = places_in(rt.alloc(), indexed)?;
+    lines_at(rt, root, places.as_slice())
+}
+
+/// The places of the trace that have a file and a line, those of one file side by side.
+fn places_in(alloc: Global, indexed: &Indexed) -> Result<Vec<&[u8]>, OutOfMemory> {
+    let mut places = Vec::new(alloc);
+    for event in 0..indexed.len() {
+        let place = place_of(indexed, event);
+        if is_line(place) {
+            places.push(place)?;
+        }
+    }
+    places.sort_unstable();
+    Ok(places)
+}
+
+/// The lines at these places.
+fn lines_at(
+    rt: &HostRuntime,
+    root: &[u8],
+    places: &[&[u8]],
+) -> Result<Vec<SourceLine>, OutOfMemory> {
+    let mut lines = Vec::new(rt.alloc());
+    match add_files(rt, &mut lines, root, places) {
+        Ok(()) => Ok(lines),
+        Err(refused) => Err(refused),
+    }
+}
+
+/// Adds the lines at these places, file by file.
+fn add_files(
+    rt: &HostRuntime,
+    lines: &mut Vec<SourceLine>,
+    root: &[u8],
+    places: &[&[u8]],
+) -> Result<(), OutOfMemory> {
+    let mut rest = places;
+    for _ in 0..places.len() {
+        let Some(first) = rest.first() else {
+            return Ok(());
+        };
+        let file = file_of(*first);
+        let count = count_of(rest, file);
+        add_file(rt, lines, root, file, &rest[..count])?;
+        rest = &rest[count..];
+    }
+    Ok(())
+}
+
+/// How many of the first places are in this file.
+fn count_of(places: &[&[u8]], file: &[u8]) -> usize
+    ensures { result ≤ length places.now }
+{
+    places
+        .iter()
+        .position(|place| file_of(*place) != file)
+        .unwrap_or(places.len())
+}
+
+/// Adds the lines at these places of a file, if it can be read.
+fn add_file(
+    rt: &HostRuntime,
+    lines: &mut Vec<SourceLine>,
+    root: &[u8],
+    file: &[u8],
+    places: &[&[u8]],
+) -> Result<(), OutOfMemory> {
+    let mut path = Vec::new(rt.alloc());
+    append_path(&mut path, root, relative(root, file))?;
+    match std::str::from_utf8(path.as_slice()) {
+        Ok(path) => add_read(rt, lines, path, places),
+        Err(_) => Ok(()),
+    }
+}
+
+/// Appends the path of a file: in the folder, if it is not absolute.
+fn append_path(out: &mut Vec<u8>, root: &[u8], file: &[u8]) -> Result<(), OutOfMemory> {
+    if !file.starts_with(b"/") {
+        out.extend_from_slice(root)?;
+    }
+    out.extend_from_slice(file)?;
+    Ok(())
+}
+
+/// Adds the lines at these places of the file at this path, if it can be read.
+fn add_read(
+    rt: &HostRuntime,
+    lines: &mut Vec<SourceLine>,
+    path: &str,
+    places: &[&[u8]],
+) -> Result<(), OutOfMemory> {
+    match code_at(rt, path) {
+        Some(text) => add_lines(rt.alloc(), lines, text.as_slice(), places),
+        None => Ok(()),
+    }
+}
+
+/// What a plain file of code holds, if it is not too large.
+fn code_at(rt: &HostRuntime, path: &str) -> Option<Vec<u8>> {
+    match metadata(rt, path) {
+        Ok(found) if found.is_file() && found.len() <= MAX_CODE => match File::open(rt, path) {
+            Ok(file) => bytes_of(rt, file),
+            Err(_) => None,
+        },
+        _ => None,
+    }
+}
+
+/// Adds the lines of a text at these places of its file.
+fn add_lines(
+    alloc: Global,
+    lines: &mut Vec<SourceLine>,
+    text: &[u8],
+    places: &[&[u8]],
+) -> Result<(), OutOfMemory> {
+    let starts = starts_of(alloc, text)?;
+    for place in places {
+        add_line(alloc, lines, text, starts.as_slice(), *place)?;
+    }
+    Ok(())
+}
+
+/// Where the lines of a text begin.
+fn starts_of(alloc: Global, text: &[u8]) -> Result<Vec<usize>, OutOfMemory> {
+    let mut starts = Vec::new(alloc);
+    starts.push(0)?;
+    for at in 0..text.len() {
+        if text[at] == b'\n' {
+            starts.push(at + 1)?;
+        }
+    }
+    Ok(starts)
+}
+
+/// Adds the line at a place of the text's file, unless it is there.
+fn add_line(
+    alloc: Global,
+    lines: &mut Vec<SourceLine>,
+    text: &[u8],
+    starts: &[usize],
+    place: &[u8],
+) -> Result<(), OutOfMemory> {
+    if lines.len() >= MAX_KEPT || is_last(lines, place) {
+        return Ok(());
+    }
+    let line = SourceLine {
+        place: Vec::from_slice(alloc, place)?,
+        text: Vec::from_slice(alloc, line_at(text, starts, line_of(place)))?,
+    };
+    lines.push(line)?;
+    Ok(())
+}
+
+/// Whether the last line is the one at this place.
+fn is_last(lines: &Vec<SourceLine>, place: &[u8]) -> bool {
+    match lines.as_slice().last() {
+        Some(line) => line.place.as_slice() == place,
+        None => false,
+    }
+}
+
+/// The line of this number, from 1, without blanks at its ends; nothing if there is none.
+fn line_at<'a>(text: &'a [u8], starts: &[usize], number: u64) -> &'a [u8] {
+    let index = number.saturating_sub(1).min(MAX_CODE) as usize;
+    match starts.get(index) {
+        Some(start) if number > 0 && *start <= text.len() => {
+            shown(trim(first_line(&text[*start..], true).unwrap_or(b"")))
+        }
+        _ => b"",
+    }
+}
+
+/// The first bytes of a line.
+fn shown(line: &[u8]) -> &[u8] {
+    &line[..line.len().min(MAX_TEXT)]
+}

@@ -1,0 +1,289 @@
+#!/usr/bin/env python3
+"""Judges `triage --sarif` by the rules of SARIF 2.1.0 (tests/sarif_rules.py), by `triage --json`, and by the schedules that `witness` prints.
+
+Takes traces with calls, hostile names and long schedules, and traces drawn by chance. Each log must have a result for each object of JSON, in their order,
+with its accesses, their calls as stacks, and, for a race, its schedule as a code flow: every step once, in the order of the schedule, and at its end the two
+accesses. Moves lines of code: the fingerprints must stay; and changes a line: they must differ.
+
+    judge_sarif.py PROGRAM [TRACES [SEED]]      so many drawn traces, the first of this seed
+
+Says what is wrong, if something is, and ends with status 1 then.
+"""
+
+import collections
+import json
+import os
+import random
+import re
+import sys
+import tempfile
+import urllib.parse
+
+sys.dont_write_bytecode = True
+import by_chance
+import compiled
+import running
+import sarif_rules
+from sarif_rules import Wrong
+
+TRACES = 60
+MOST_EVENTS = [8, 16, 28]
+MOST_STEPS = 200
+MOST_CALLS = 64
+MOST_FLOWS = 200
+MOST_LINE = 10**9
+PLACES = ["a/u.c:1", "b/u.c:1", "/usr/include/x.h:12", "src/u v.c:3", "a:b.c:7", "./k#?%.c:9", "9", "u.c:0", "u.c:9999999999999", "\u00fc.c:2", ""]
+CALLS = ["", " < put", " < put < main m.c:3", " < m.c:3 < main", " < operator< p.cc:7 < go < main m.c:4"]
+RULES = {"race": ("data-race", "fail", "error"), "undecided": ("undecided-pair", "fail", "warning"), "apart": ("apart", "pass", "none")}
+VERBS = {"r": "reads", "w": "writes", "acq": "acquires", "rel": "releases", "fork": "forks", "join": "joins"}
+DRAWS = [by_chance.locked_trace, by_chance.trace]
+FOUND = {"race": "Data race", "undecided": "Undecided pair", "apart": "No race"}
+REACHED = ["race", "apart", "flow", "cut flow", "frame", "no file", "absolute", "within the folder", "no line", "moved", "changed"]
+
+
+def place_parts(place):
+    """The file and the line of a place, if it has them."""
+    own = re.fullmatch(r"(?s)(.+):([0-9]+)", place)
+    return (own[1], int(own[2])) if own else (None, 0)
+
+
+def calls_of(location):
+    """The function in which a location is, and the calls that led to it, each as a function and a place."""
+    calls = []
+    for call in location.split(" < ")[1:]:
+        own = re.fullmatch(r"(?s)(?:(.*) )?([^ ]+:[0-9]+)", call)
+        calls.append((own[1] or "", own[2]) if own else (call, ""))
+    if calls and not calls[0][1]:
+        return calls[0][0], calls[1 : MOST_CALLS + 1]
+    return "", calls[:MOST_CALLS]
+
+
+class Event:
+    """What a trace has of an event."""
+
+    def __init__(self, line):
+        self.thread, operation, self.location = line.split("|", 2)
+        self.word, self.name = re.fullmatch(r"(?s)(\w+)\((.*)\)", operation).groups()
+
+    def place(self):
+        return self.location.split(" < ")[0]
+
+    def words(self):
+        return f"{self.thread} {VERBS[self.word]} {self.name} at {self.place() or '?'}"
+
+
+class Judge:
+    def __init__(self, program):
+        self.program = program
+        self.tally = collections.Counter()
+
+    def equal(self, found, wanted, what):
+        if found != wanted:
+            raise Wrong(f"{what} is {found!r}, and not {wanted!r}")
+
+    def check_location(self, location, place, function, words, root):
+        """Judges a location by the place, the function and the words that it has to have."""
+        self.equal(location["message"]["text"], words, "the message of a location")
+        self.equal([one["fullyQualifiedName"] for one in location.get("logicalLocations", [])], [function] if function else [], "the function")
+        file, line = place_parts(place)
+        if file is None:
+            self.tally["no file"] += 1
+            self.equal("physicalLocation" in location, False, "a file of a place without one")
+            return
+        physical = location["physicalLocation"]
+        artifact = physical["artifactLocation"]
+        path = file[len(root) :] if root and file.startswith(root) else file
+        if path.startswith("/"):
+            self.tally["absolute"] += 1
+            self.equal(artifact, {"uri": "file://" + urllib.parse.quote(path, safe="/")}, "the file")
+        else:
+            self.tally["within the folder"] += bool(root)
+            base = {"uriBaseId": "SRCROOT"} if root else {}
+            self.equal(artifact, {"uri": urllib.parse.quote(path, safe="/"), **base}, "the file")
+        if 1 <= line <= MOST_LINE:
+            self.equal(physical["region"], {"startLine": line}, "the line")
+        else:
+            self.tally["no line"] += 1
+            self.equal("region" in physical, False, "a line that is none")
+
+    def check_access(self, location, event, root):
+        self.check_location(location, event.place(), calls_of(event.location)[0], event.words(), root)
+
+    def check_stack(self, stack, event, root):
+        self.equal(stack["message"]["text"], event.words(), "the message of a stack")
+        own, *frames = [frame["location"] for frame in stack["frames"]]
+        self.check_access(own, event, root)
+        calls = calls_of(event.location)[1]
+        self.equal(len(frames), len(calls), "the number of frames")
+        for frame, (function, place) in zip(frames, calls):
+            self.tally["frame"] += 1
+            self.check_location(frame, place, function, function or "a call", root)
+
+    def check_flow(self, flow, events, pair, root):
+        """Each step of the schedule is there once, but the first ones of a thread with many; at its end are the two accesses."""
+        self.tally["flow"] += 1
+        listed = running.printed(self.program, ["witness", "trace", *map(str, pair)]).decode("utf-8").splitlines()
+        steps = [int(line.split(" ", 1)[0]) for line in listed if line[:1].isdigit()] + list(pair)
+        threads = {}
+        for order, event in enumerate(steps, start=1):
+            threads.setdefault(events[event].thread, []).append((order, event))
+        self.equal({thread["id"] for thread in flow["threadFlows"]}, set(threads), "the threads of a flow")
+        for thread in flow["threadFlows"]:
+            wanted = threads[thread["id"]]
+            kept = wanted[-MOST_STEPS:]
+            self.tally["cut flow"] += len(kept) < len(wanted)
+            note = f"steps: {len(wanted)}" if len(kept) == len(wanted) else f"steps: the last {MOST_STEPS} of {len(wanted)}"
+            self.equal(thread["message"]["text"], note, "the note of a thread")
+            self.equal([step["executionOrder"] for step in thread["locations"]], [order for order, _ in kept], "the order of steps")
+            for step, (order, event) in zip(thread["locations"], kept):
+                self.equal(step["importance"], "essential" if order > len(steps) - 2 else "important", "the importance of a step")
+                self.check_access(step["location"], events[event], root)
+
+    def check_result(self, result, told, events, root, is_drawn):
+        kind = told["kind"]
+        self.tally[kind] += 1
+        self.equal((result["ruleId"], result["kind"], result["level"]), RULES[kind], "the rule")
+        pair = [access["event"] for access in told["accesses"]]
+        first, second = (events[event] for event in pair)
+        head = f"{FOUND[kind]} on {second.name}: {second.words()}, and {first.words()}; "
+        wanted = f"{head}{compiled.why(told)}. More: racebench explain TRACE {pair[0]} {pair[1]}"
+        self.equal(result["message"]["text"], wanted, "the message")
+        self.equal((len(result["locations"]), len(result["relatedLocations"]), len(result["stacks"])), (1, 1, 2), "the number of accesses")
+        self.check_access(result["locations"][0], second, root)
+        self.check_access(result["relatedLocations"][0], first, root)
+        self.check_stack(result["stacks"][0], second, root)
+        self.check_stack(result["stacks"][1], first, root)
+        if kind == "race" and is_drawn:
+            self.equal(len(result["codeFlows"]), 1, "the number of code flows")
+            self.check_flow(result["codeFlows"][0], events, pair, root)
+        else:
+            self.equal("codeFlows" in result, False, "a code flow of what is not drawn")
+
+    def log_of(self, words):
+        out = running.printed(self.program, ["triage", "trace", "--sarif", *words])
+        if not out.endswith(b"\n") or out.count(b"\n") != 1:
+            raise Wrong("the log is no line")
+        log = json.loads(out.decode("utf-8"))
+        sarif_rules.check(log)
+        return log
+
+    def check(self, lines, words, root=None):
+        """Judges the log of a trace of these lines; the fingerprints of its results."""
+        with open("trace", "w", encoding="utf-8") as out:
+            out.write("".join(line + "\n" for line in lines))
+        events = [Event(line) for line in lines]
+        run = self.log_of(words + (["--source", root] if root else []))["runs"][0]
+        told = [json.loads(line) for line in running.printed(self.program, ["triage", "trace", "--json", *words]).splitlines()]
+        blocks = [one for one in told if one["kind"] in RULES]
+        self.equal(len(run["results"]), len(blocks), "the number of results")
+        for at, (result, block) in enumerate(zip(run["results"], blocks)):
+            self.check_result(result, block, events, (root.rstrip("/") + "/") if root else "", at < MOST_FLOWS)
+        self.equal(run["properties"], {one["kind"]: one["count"] for one in told if one["kind"] in ("known", "hidden")}, "what was left out")
+        self.equal(list(run["originalUriBaseIds"]), ["SRCROOT"] if root else [], "whether a folder is named")
+        return [result["partialFingerprints"]["racePair/v1"] for result in run["results"]]
+
+
+def drawn(chance, number):
+    """The lines of a trace drawn by chance, with locations."""
+    trace = chance.choice(DRAWS)(chance, chance.choice(MOST_EVENTS))
+    few = [place and place + chance.choice(CALLS) for place in chance.choices(PLACES, k=chance.randint(1, 5))]
+    return [trace.line(event) + chance.choice(few) for event in range(len(trace.events))] if number >= 0 else []
+
+
+def racy(gap, place, other):
+    """A race between a writer and a reader, with so many events of the writer before."""
+    return ["main|fork(T1)|m.c:1", "main|fork(T2)|m.c:2", *["T1|w(own)|a.c:1 < fill"] * gap, f"T1|w(x)|{place}", f"T2|r(x)|{other}"]
+
+
+def check_long(judge):
+    """Schedules with up to, and more than, the steps that a thread may have."""
+    # (the writer has the events before, and the access itself)
+    for gap in (MOST_STEPS - 2, MOST_STEPS - 1, MOST_STEPS, 3 * MOST_STEPS):
+        judge.check(racy(gap, "a.c:5", "b.c:6") + ["T2|w(own)|b.c:9"], [])
+
+
+def check_many(judge):
+    """More races than there are code flows."""
+    judge.check([f"T{1 + at % 2}|w(v{at // 2})|c.c:{at}" for at in range(2 * (MOST_FLOWS + 5))], [])
+
+
+def check_hostile(judge):
+    """Names with quotes, braces, markup and line ends of other systems; calls without end."""
+    for name in ['"', "\\", "{0}", "[a](http://b)", "\u2028", "</script>", "%s"]:
+        lines = [f"T1|w({name})|a{name}.c:1 < f{name}", f"T2|w({name})|b.c:2 < g{name} < h a{name}.c:3"]
+        judge.check(lines, [])
+    judge.check(["T1|w(x)|a.c:1" + " < f a.c:2" * 100, "T2|w(x)|b.c:1 < main" + " < g b.c:3" * 70], [])
+
+
+def write_code(texts):
+    os.makedirs("code/sub", exist_ok=True)
+    for name, lines in texts.items():
+        with open(os.path.join("code", name), "w", encoding="utf-8") as out:
+            out.write("".join(line + "\n" for line in lines))
+
+
+def check_moved(judge):
+    """A moved line keeps its fingerprint; another line, function, variable or file has another one. The order of the accesses does not matter."""
+    code = {"p.c": ["int x;", "", "    x = 1;", "return x;"], "sub/p.c": ["", "x = 1;"]}
+    for root in ("code", os.path.abspath("code")):
+        write_code(code)
+        before = judge.check(["T1|w(x)|p.c:3 < put", "T2|r(x)|p.c:4 < get"], [], root)
+        turned = judge.check(["T2|r(x)|p.c:4 < get", "T1|w(x)|p.c:3 < put"], [], root)
+        judge.equal(turned, before, "the fingerprint of two accesses in the other order")
+        whole = judge.check([f"T1|w(x)|{os.path.abspath('code')}/p.c:3 < put", "T2|r(x)|p.c:4 < get"], [], root)
+        judge.equal(whole == before, root.startswith("/"), "whether a path within the folder is relative")
+        write_code({"p.c": ["// one", "// two", *code["p.c"]]})
+        judge.equal(judge.check(["T1|w(x)|p.c:5 < put", "T2|r(x)|p.c:6 < get"], [], root), before, "the fingerprint of moved lines")
+        write_code({"p.c": ["", "  x = 1;  \r", "return x;"]})
+        judge.equal(judge.check(["T1|w(x)|p.c:2 < put", "T2|r(x)|p.c:3 < get"], [], root), before, "the fingerprint of lines with other blanks")
+        judge.tally["moved"] += 1
+        write_code(code)
+        others = {
+            "line": ["T1|w(x)|p.c:1 < put", "T2|r(x)|p.c:4 < get"],
+            "function": ["T1|w(x)|p.c:3 < push", "T2|r(x)|p.c:4 < get"],
+            "variable": ["T1|w(y)|p.c:3 < put", "T2|r(y)|p.c:4 < get"],
+            "file": ["T1|w(x)|sub/p.c:2 < put", "T2|r(x)|p.c:4 < get"],
+        }
+        for what, lines in others.items():
+            if judge.check(lines, [], root) == before:
+                raise Wrong(f"another {what} has the same fingerprint")
+            judge.tally["changed"] += 1
+        gone = judge.check(["T1|w(x)|gone.c:3", "T2|r(x)|p.c:99999"], [], root)
+        judge.equal(gone, ["gone.c\n\nx\n\np.c\n\nx\n"], "the fingerprint of lines that are not there")
+
+
+def check_filters(judge):
+    judge.check(["T1|w(x)|a.c:1", "T2|w(x)|b.c:2", "T1|w(y)|a.c:3", "T2|w(y)|b.c:4"], ["--hide", "(y)"])
+    judge.check(["T1|w(x)|a.c:1"], [])
+    judge.check([f"{thread}|{word}|{thread}.c:1" for thread in ("T1", "T2") for word in ("acq(l)", "w(x)", "rel(l)")], ["--apart"])
+
+
+def main():
+    program = os.path.abspath(sys.argv[1])
+    count = int(sys.argv[2]) if len(sys.argv) > 2 else TRACES
+    seed = int(sys.argv[3]) if len(sys.argv) > 3 else 1
+    judge = Judge(program)
+    with tempfile.TemporaryDirectory() as folder:
+        os.chdir(folder)
+        what = "tables"
+        try:
+            for part in (check_filters, check_hostile, check_moved, check_long, check_many):
+                what = part.__name__
+                part(judge)
+            for number in range(seed, seed + count):
+                what = f"trace {number}"
+                chance = random.Random(number)
+                judge.check(drawn(chance, number), chance.choice([[], ["--apart"], ["--tries", "0"]]))
+        except (Wrong, KeyError, ValueError, IndexError) as wrong:
+            print(f"judge_sarif: {what}: {type(wrong).__name__}: {wrong}")
+            return 1
+    missing = [what for what in REACHED if not judge.tally[what]]
+    if missing:
+        print(f"judge_sarif: never met: {', '.join(missing)}")
+        return 1
+    print("judge_sarif: " + ", ".join(f"{count} {what}" for what, count in sorted(judge.tally.items())))
+    return 0
+
+
+if __name__ == "__main__":
+    sys.exit(main())
