@@ -1,0 +1,3 @@
+pub mod ItemLemmas
+pub mod KnownLemmas
+pub mod SpotLemmas

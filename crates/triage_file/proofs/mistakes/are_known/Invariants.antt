@@ -1,0 +1,8 @@
+use Rattle.std.proofs.Common.{◌≡◌}
+use Rattle.std.specs.List.{list_all}
+use Rattle.toml.specs.View.{members_view, table_view}
+use Rattle.triage_file.specs.Entries.{is_key, keys_in}
+use Rattle.triage_file.proofs.mistakes.are_known.Given as goal
+
+abbrev pub invariant-loop-key : goal.invariant-loop-key
+invariant-loop-key l = list_all is_key (keys_in (table_view l.fn.table)) ≡ list_all is_key (keys_in (members_view l.key-iterator))

@@ -1,0 +1,81 @@
+-- A triage file that has an entry for each race. `r` is the trace's recording, `numbers` has the number of each event's location. All notions
+-- here are this project's own.
+use Rattle.std.specs.Prelude.{◌≡◌, ℕ, ◌==◌, ◌&&◌, ◌||◌, nat_lt, cond, not, Bool, true, false, List, [], ◌∷◌, ◌++◌, flat_map, length, slice_index, codes, Option, Some, None, bytes_eq}
+use Rattle.std.specs.List.{concat, list_all}
+use Rattle.std.specs.Str.Lossy.{utf8_lossy}
+use Rattle.rapid_text.specs.Recording.{Recording}
+use Rattle.event_index.specs.Lookups.{before}
+use Rattle.race_triage.specs.declared.chosen.Chosen.{Chosen}
+use Rattle.race_triage.specs.declared.verdicts.Verdict.{Verdict}
+use Rattle.source_places.specs.Located.{location_at}
+use Rattle.source_places.specs.Places.{before_arrow}
+use Rattle.toml_writer.specs.Text.{string_text}
+use Rattle.triage_file.specs.Matching.{function_of, is_at, is_race, line_of, path_of, use_at}
+
+-- bytes of a trace as a string of TOML: what is no UTF-8 becomes U+FFFD
+abbrev pub text_of : List ℕ → List ℕ
+text_of bytes = string_text (utf8_lossy bytes)
+
+-- a key with an array of two
+abbrev pub two_of : List ℕ → List ℕ → List ℕ → List ℕ
+two_of key one other = concat (key ∷ codes " = [" ∷ one ∷ codes ", " ∷ other ∷ codes "]\n" ∷ [])
+
+abbrev pub place_at : Recording → ℕ → List ℕ
+place_at r e = before_arrow (location_at r e)
+
+abbrev pub path_text : Recording → ℕ → List ℕ
+path_text r e = text_of (path_of (place_at r e))
+
+abbrev pub function_text : Recording → ℕ → List ℕ
+function_text r e = text_of (function_of (location_at r e))
+
+-- the digits are a number as TOML writes it, below 10 ^ 18
+abbrev pub is_plain : List ℕ → Bool
+is_plain digits = nat_lt 0 (length digits) && (nat_lt (length digits) 19 && not (slice_index digits 0 == 48))
+
+-- the line of an access; 0 if its location names none
+abbrev pub line_text : Recording → ℕ → List ℕ
+line_text r e = cond (is_plain (line_of (place_at r e))) (line_of (place_at r e)) (codes "0")
+
+-- the variable is the one of event d, or there is none
+abbrev pub is_same_by : List ℕ → Option (List ℕ) → Bool
+is_same_by name None = true
+is_same_by name (Some other) = bytes_eq other name
+
+-- event e is not at place p, or accesses no variable but this
+abbrev pub is_only : Recording → List ℕ → List ℕ → ℕ → ℕ → Bool
+is_only r numbers name p e = not (is_at numbers p e) || is_same_by name (use_at r e)
+
+-- no variable but this is accessed at place p
+abbrev pub is_alone : Recording → List ℕ → List ℕ → ℕ → Bool
+is_alone r numbers name p = list_all (is_only r numbers name p) (before (length r.events))
+
+abbrev pub name_line : List ℕ → List ℕ
+name_line name = concat (codes "variables = [" ∷ text_of name ∷ codes "]\n" ∷ [])
+
+abbrev pub alone_line : Recording → List ℕ → List ℕ → ℕ × ℕ → List ℕ
+alone_line r numbers name places = cond (is_alone r numbers name places.0 || is_alone r numbers name places.1) (name_line name) []
+
+abbrev pub variable_by : Recording → List ℕ → Verdict → Option (List ℕ) → List ℕ
+variable_by r numbers v None = []
+variable_by r numbers v (Some name) = alone_line r numbers name v.row.places
+
+-- the variable of a race, if one of its places has no other; without it the lines count
+abbrev pub variable_line : Recording → List ℕ → Verdict → List ℕ
+variable_line r numbers v = variable_by r numbers v (use_at r v.first)
+
+-- the entry of a race
+abbrev pub entry_text : Recording → List ℕ → Verdict → List ℕ
+entry_text r numbers v =
+    codes "[[race]]\n" ++ two_of (codes "paths") (path_text r v.first) (path_text r v.second)
+    ++ two_of (codes "functions") (function_text r v.first) (function_text r v.second)
+    ++ variable_line r numbers v
+    ++ two_of (codes "lines") (line_text r v.first) (line_text r v.second)
+    ++ codes "verdict = \"known\"\nreason = \"\"\nauthor = \"\"\n\n"
+
+abbrev pub entry_by : Recording → List ℕ → Verdict → List ℕ
+entry_by r numbers v = cond (is_race v) (entry_text r numbers v) []
+
+-- the entries of the races among the chosen verdicts
+abbrev pub IsTriageFile : Recording → List ℕ → Chosen → List ℕ → Type 0
+IsTriageFile r numbers c text = text ≡ flat_map (entry_by r numbers) c.verdicts.items

@@ -1,0 +1,88 @@
+//! Which races a triage file leaves out, and which of its entries are about a race.
+ghost use Rattle.std.specs.Prelude.{◌≡◌, ◌&&◌, ◌||◌, OnOk, Some};
+ghost use Rattle.race_triage.specs.Chosen.{is_known};
+ghost use Rattle.race_triage.specs.declared.verdicts.Verdict.{Verdict as Told};
+ghost use Rattle.std.specs.List.{list_any};
+ghost use Rattle.toml.specs.View.{view};
+ghost use Rattle.triage_file.specs.Matching.{is_left_out, is_match, is_met, is_race, is_triaged, leaves_out};
+
+use crate::fields::hides;
+use crate::matching::is_match;
+use event_index::Indexed;
+use race_triage::{Known, Outcome, Verdict};
+use rapid_text::OutOfMemory;
+use toml::Value;
+
+/// Whether the verdict is a race.
+pub(crate) fn is_race(verdict: &Verdict) -> bool
+    ensures { result ≡ is_race verdict.now }
+{
+    match verdict.outcome {
+        Outcome::Race {
+            how: _,
+            events: _,
+            threads: _,
+        } => true,
+        Outcome::Undecided { tried: _ } => false,
+        Outcome::Apart => false,
+    }
+}
+
+/// Whether the entry leaves the race out.
+fn leaves_out(indexed: &Indexed, numbers: &[u32], verdict: &Verdict, entry: &Value) -> bool
+    ensures { result ≡ leaves_out indexed.now numbers.now verdict.now (view entry.now) }
+{
+    hides(entry) && is_match(indexed, numbers, entry, verdict)
+}
+
+/// Whether the verdict is a race that an entry leaves out.
+fn is_triaged(indexed: &Indexed, numbers: &[u32], entries: &[Value], verdict: &Verdict) -> bool
+    ensures { result ≡ is_triaged indexed.now numbers.now entries.now verdict.now }
+{
+    is_race(verdict) && is_decided(indexed, numbers, entries, verdict)
+}
+
+/// Whether an entry leaves out the race of the verdict.
+fn is_decided(indexed: &Indexed, numbers: &[u32], entries: &[Value], verdict: &Verdict) -> bool
+    ensures { result ≡ list_any (λ e. leaves_out indexed.now numbers.now verdict.now (view e)) entries.now }
+{
+    entries
+        .iter()
+        .any(|entry| leaves_out(indexed, numbers, verdict, entry))
+}
+
+/// Whether the verdict is a race, and the entry is about it.
+fn is_about(indexed: &Indexed, numbers: &[u32], entry: &Value, verdict: &Verdict) -> bool
+    ensures { result ≡ (is_race verdict.now && is_match indexed.now numbers.now (view entry.now) verdict.now) }
+{
+    is_race(verdict) && is_match(indexed, numbers, entry, verdict)
+}
+
+/// Whether the entry is about a race among these verdicts. `numbers` has the number of each event's location.
+pub fn is_met(indexed: &Indexed, numbers: &[u32], verdicts: &[Verdict], entry: &Value) -> bool
+    ensures { result ≡ is_met indexed.now numbers.now verdicts.now (view entry.now) }
+{
+    verdicts
+        .iter()
+        .any(|verdict| is_about(indexed, numbers, entry, verdict))
+}
+
+/// Adds to the places whose races are known those of the races that the entries leave out. `numbers` has the number of each event's location.
+pub fn add_triaged(
+    known: &mut Known,
+    indexed: &Indexed,
+    numbers: &[u32],
+    verdicts: &[Verdict],
+    entries: &[Value],
+) -> Result<(), OutOfMemory>
+    // A verdict is known if it was, or if its places are those of a race that an entry leaves out.
+    ensures { OnOk result ((v : Told) → is_known (Some known.new.keys) v
+        ≡ (is_known (Some known.old.keys) v || is_left_out indexed.now numbers.now entries.now verdicts.now v)) }
+{
+    for verdict in verdicts {
+        if is_triaged(indexed, numbers, entries, verdict) {
+            known.insert(verdict.row.places)?;
+        }
+    }
+    Ok(())
+}

@@ -1,0 +1,20 @@
+//! A triage file: what somebody decided of races, in TOML, an entry a race; which entry is about a race, and why a file is refused.
+#![tactic(auto)]
+
+mod choosing;
+mod dates;
+mod fields;
+mod files;
+mod matching;
+mod mistakes;
+mod spots;
+mod writing;
+
+pub use choosing::{add_triaged, is_met};
+pub use fields::hides;
+pub use files::{Refusal, entries_of, read_triage};
+pub use matching::is_match;
+pub use mistakes::Mistake;
+pub use spots::Spot;
+pub use toml::{Table, Value};
+pub use writing::triage_entries;

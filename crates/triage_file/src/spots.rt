@@ -1,0 +1,124 @@
+//! Lines and columns of a text, both counted from 1, and where its entries and their keys are.
+ghost use Rattle.std.specs.Prelude.{◌≡◌, ◌≤◌, ◌<◌, None, IfSome, count_by, length, slice_index};
+ghost use Rattle.triage_file.specs.Spots.{begins_at, headers_before, is_bare, is_feed, is_first_byte, is_header_at, is_key_at, HasNoKey, IsHeader, IsKeySpot, IsSpot};
+
+use source_places::cut_at_last;
+
+/// A place in a text.
+#[derive(Clone, Copy, PartialEq, Eq, Debug)]
+pub struct Spot {
+    /// The line, from 1.
+    pub line: u64,
+    /// The character in the line, from 1.
+    pub column: u64,
+}
+
+/// The place of the byte with this index.
+pub(crate) fn spot_at(text: &[u8], at: usize) -> Spot
+    requires { at ≤ length text.now }
+    ensures { IsSpot text.now at result }
+{
+    let before = &text[..at];
+    let (_, start) = cut_at_last(b'\n', before);
+    Spot {
+        line: feeds_in(before) as u64 + 1,
+        column: characters_in(start) as u64 + 1,
+    }
+}
+
+/// How many line feeds there are.
+fn feeds_in(text: &[u8]) -> usize
+    ensures { result ≡ count_by is_feed text.now }
+{
+    text.iter().filter(|byte| **byte == b'\n').count()
+}
+
+/// How many characters there are: bytes that begin one.
+fn characters_in(text: &[u8]) -> usize
+    ensures { result ≡ count_by is_first_byte text.now }
+{
+    text.iter().filter(|byte| is_first_byte(**byte)).count()
+}
+
+/// Whether the byte begins a character, as UTF-8 writes it.
+fn is_first_byte(byte: u8) -> bool
+    ensures { result ≡ is_first_byte byte }
+{
+    byte < 128 || byte >= 192
+}
+
+/// Whether the byte may be in a key without quotes.
+fn is_bare(byte: u8) -> bool
+    ensures { result ≡ is_bare byte }
+{
+    (b'0' <= byte && byte <= b'9')
+        || (b'A' <= byte && byte <= b'Z')
+        || (b'a' <= byte && byte <= b'z')
+        || byte == b'-'
+        || byte == b'_'
+}
+
+/// Whether a line begins at this index with this word.
+fn begins_at(word: &[u8], text: &[u8], at: usize) -> bool
+    requires { at < length text.now }
+    ensures { result ≡ begins_at word.now text.now at }
+{
+    (at == 0 || text[at - 1] == b'\n') && text[at..].starts_with(word)
+}
+
+/// Whether the header of an entry begins there.
+fn is_header_at(text: &[u8], at: usize) -> bool
+    requires { at < length text.now }
+    ensures { result ≡ is_header_at text.now at }
+{
+    begins_at(b"[[", text, at)
+}
+
+/// Whether a line begins there with this key.
+fn is_key_at(key: &[u8], text: &[u8], at: usize) -> bool
+    requires { at < length text.now }
+    ensures { result ≡ is_key_at key.now text.now at }
+{
+    begins_at(key, text, at) && !is_bare_at(text, at + key.len())
+}
+
+/// Whether the byte there may be in a key.
+fn is_bare_at(text: &[u8], at: usize) -> bool
+    ensures { result ≡ is_bare (slice_index text.now at) }
+{
+    at < text.len() && is_bare(text[at])
+}
+
+/// Where the header of the entry with this number, from 0, begins.
+pub(crate) fn header_of(text: &[u8], number: usize) -> Option<usize>
+    ensures some { IfSome result (IsHeader text.now number) }
+    ensures none { result ≡ None → headers_before text.now (length text.now) ≤ number }
+{
+    let mut left = number;
+    for at in 0..text.len() {
+        if is_header_at(text, at) {
+            if left == 0 {
+                return Some(at);
+            }
+            left -= 1;
+        }
+    }
+    None
+}
+
+/// Where the line begins that begins with this key, in the entry whose header begins at `start`.
+pub(crate) fn key_in(key: &[u8], text: &[u8], start: usize) -> Option<usize>
+    requires { start < length text.now }
+    ensures some { IfSome result (IsKeySpot key.now text.now start) }
+    ensures none { result ≡ None → HasNoKey key.now text.now start }
+{
+    for at in start + 1..text.len() {
+        if is_header_at(text, at) {
+            return None;
+        }
+        if is_key_at(key, text, at) {
+            return Some(at);
+        }
+    }
+    None
+}
