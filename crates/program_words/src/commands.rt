@@ -319,6 +319,23 @@ locations may race.",
             ),
         },
         Word {
+            name: "triage",
+            kind: Kind::Text("FILE"),
+            help: Some("Leave out the races that the triage file FILE (TOML) has decided"),
+        },
+        Word {
+            name: "init-triage",
+            kind: Kind::Flag(&["json", "lines", "page", "sarif"]),
+            help: Some("Write a triage file with an entry for each race"),
+        },
+        Word {
+            name: "today",
+            kind: Kind::Text("DATE"),
+            help: Some(
+                "With --triage, the date that entries expire by, as 2027-12-31; today if not given",
+            ),
+        },
+        Word {
             name: "fail",
             kind: Kind::Flag(&[]),
             help: Some("End with status 3 if a race is printed, or 4 if the trace has no events"),

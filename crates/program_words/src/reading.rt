@@ -174,6 +174,8 @@ fn races_form(given: &ArgMatches<'_>) -> RacesForm {
         RacesForm::Json
     } else if given.get_flag("lines") {
         RacesForm::Lines
+    } else if given.get_flag("init-triage") {
+        RacesForm::Entries
     } else {
         RacesForm::Text
     }
@@ -195,6 +197,51 @@ fn check_source(given: &ArgMatches<'_>, source: Option<&str>) -> Result<(), Unre
     Ok(())
 }
 
+/// A date such as 2027-12-31 as the number 20271231, if there is one.
+fn day(word: Option<&str>, may_be: bool) -> Result<Option<u32>, Unread> {
+    let Some(word) = word else {
+        return Ok(None);
+    };
+    if !may_be {
+        return Err(Unread::Refused("`--today` goes with `--triage`"));
+    }
+    match day_of(word.as_bytes()) {
+        Some(day) => Ok(Some(day)),
+        None => Err(Unread::Refused("`--today` takes a date such as 2027-12-31")),
+    }
+}
+
+/// The number of a date.
+fn day_of(word: &[u8]) -> Option<u32> {
+    if word.len() != 10 || word[4] != b'-' || word[7] != b'-' {
+        return None;
+    }
+    let mut day = 0u32;
+    for at in 0..10 {
+        if at != 4 && at != 7 {
+            day = with_digit(day, word[at])?;
+        }
+    }
+    let (month, date) = (day / 100 % 100, day % 100);
+    if 1 <= month && month <= 12 && 1 <= date && date <= 31 {
+        Some(day)
+    } else {
+        None
+    }
+}
+
+/// The number with one more digit.
+fn with_digit(number: u32, digit: u8) -> Option<u32> {
+    if !(b'0' <= digit && digit <= b'9') {
+        return None;
+    }
+    Some(
+        number
+            .saturating_mul(10)
+            .saturating_add(u32::from(digit - b'0')),
+    )
+}
+
 /// What `triage` is asked for.
 fn triage<'a>(
     alloc: Global,
@@ -209,10 +256,18 @@ fn triage<'a>(
     let trace = word(given, "TRACE");
     let known = given.get_str("known");
     let confirmed = given.get_str("confirmed");
-    check_inputs(&[trace, known.unwrap_or(""), confirmed.unwrap_or("")])?;
+    let decided = given.get_str("triage");
+    let inputs = [
+        trace,
+        known.unwrap_or(""),
+        confirmed.unwrap_or(""),
+        decided.unwrap_or(""),
+    ];
+    check_inputs(&inputs)?;
     check_confirmed(given, confirmed)?;
     let source = given.get_str("source");
     check_source(given, source)?;
+    let today = day(given.get_str("today"), decided.is_some())?;
     let only = texts(alloc, given, "only")?;
     let hide = texts(alloc, given, "hide")?;
     Ok(TriageTask {
@@ -226,6 +281,8 @@ fn triage<'a>(
         form: races_form(given),
         confirmed,
         source,
+        triage: decided,
+        today,
         fail: given.get_flag("fail"),
         progress: given.get_flag("progress"),
     })

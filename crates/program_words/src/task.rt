@@ -49,6 +49,8 @@ pub enum RacesForm {
     Json,
     /// Lines as compilers write them.
     Lines,
+    /// A triage file with an entry for each race.
+    Entries,
     /// A page.
     Page,
     /// A log as code-scanning pages take it.
@@ -120,6 +122,10 @@ pub struct TriageTask<'a> {
     pub confirmed: Option<&'a str>,
     /// The path of the folder of the code, for a log.
     pub source: Option<&'a str>,
+    /// The path of the triage file, whose races are left out.
+    pub triage: Option<&'a str>,
+    /// The day on which its entries must be in force, a number such as 20271231; nothing for today.
+    pub today: Option<u32>,
     /// Whether a race that is printed makes the status 3, and a trace without events 4.
     pub fail: bool,
     /// Whether standard error shows how far the work is, even if it is no terminal.

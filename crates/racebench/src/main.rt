@@ -18,6 +18,7 @@ mod quoted;
 mod seen;
 mod sessions;
 mod telling;
+mod today;
 mod triaging;
 
 use crate::doing::{

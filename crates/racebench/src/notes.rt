@@ -308,6 +308,15 @@ pub(crate) fn append_confirmed_notes(
     append_named(out, path, b" is not what `record/confirm --json` writes")
 }
 
+/// Appends the note on a triage file that is refused.
+pub(crate) fn append_triaged_note(out: &mut Vec<u8>, path: &str) -> Result<(), OutOfMemory> {
+    append_named(
+        out,
+        path,
+        b" is the triage file; docs/TRIAGE.md has its form",
+    )
+}
+
 /// The path of the input of this number.
 fn path_of<'a>(paths: &[&'a str], input: u32) -> &'a str {
     match paths.get((input as usize).saturating_sub(1)) {

@@ -1,7 +1,13 @@
 //! What `triage` has seen of its inputs, so that nothing found can be told from nothing judged.
 
 use std::sync::atomic::{AtomicU64, Ordering};
-use triage_calls::Watch;
+use triage_calls::{Hears, Watch};
+
+/// The mark of an entry of a triage file that leaves a race out, and is about none.
+pub(crate) const UNMET: u64 = 1;
+
+/// The mark of an entry that says that its race was fixed, and is about one.
+pub(crate) const BACK: u64 = 2;
 
 /// Notes what was read, and hands on to another who watches.
 #[derive(Drop)]
@@ -9,15 +15,17 @@ pub(crate) struct Seen<'a, W: Watch> {
     watch: &'a W,
     events: AtomicU64,
     blockless: AtomicU64,
+    marks: &'a [AtomicU64],
 }
 
 impl<'a, W: Watch> Seen<'a, W> {
-    /// Nothing was read yet.
-    pub(crate) fn new(watch: &'a W) -> Seen<'a, W> {
+    /// Nothing was read yet. There is a mark for each entry of a triage file.
+    pub(crate) fn new(watch: &'a W, marks: &'a [AtomicU64]) -> Seen<'a, W> {
         Seen {
             watch,
             events: AtomicU64::new(0),
             blockless: AtomicU64::new(0),
+            marks,
         }
     }
 
@@ -50,5 +58,24 @@ impl<W: Watch> Watch for Seen<'_, W> {
 
     fn end(&self) {
         self.watch.end();
+    }
+}
+
+impl<W: Watch> Hears for Seen<'_, W> {
+    fn met(&self, entry: usize, hides: bool, is_met: bool) {
+        if entry < self.marks.len() {
+            self.marks[entry].store(mark_of(hides, is_met), Ordering::SeqCst);
+        }
+    }
+}
+
+/// The mark of an entry; 0 if nothing is said of it.
+fn mark_of(hides: bool, is_met: bool) -> u64 {
+    if hides && !is_met {
+        UNMET
+    } else if !hides && is_met {
+        BACK
+    } else {
+        0
     }
 }

@@ -2,10 +2,11 @@
 
 use crate::notes::{
     STANDARD_OUTPUT, append_confirmed_notes, append_file_notes, append_joint_notes,
-    append_write_note, are_wanted,
+    append_triaged_note, append_write_note, are_wanted,
 };
 use crate::pair_notes::append_pair_note;
 use crate::quoted::append_name;
+use crate::seen::{BACK, UNMET};
 use client_scripts::{FromWrite, ReplayFault, write_all};
 use cut_calls::{WindowFault, window_fault_text};
 use kept_session::{SessionFault, session_fault_text};
@@ -13,9 +14,14 @@ use pair_calls::{PairFault, pair_fault_text};
 use program_calls::{BenchFault, bench_fault_text};
 use program_words::{PairTask, Told, TriageTask};
 use rapid_text::OutOfMemory;
+use report::{Piece, append_pieces};
 use std::io;
 use std::process::ExitCode;
-use triage_calls::{ConfirmedFault, TriageFault, confirmed_fault_text, triage_fault_text};
+use std::sync::atomic::{AtomicU64, Ordering};
+use triage_calls::{
+    ConfirmedFault, TriageFault, TriagedFault, confirmed_fault_text, triage_fault_text,
+    triaged_fault_text,
+};
 
 /// The status where words are refused, or ask for more than the program does.
 const REFUSED: u8 = 2;
@@ -34,6 +40,7 @@ enum Fault {
     Session(SessionFault),
     Triage(TriageFault),
     Confirmed(ConfirmedFault),
+    Triaged(TriagedFault),
     Window(WindowFault),
 }
 
@@ -45,6 +52,7 @@ fn append_text(out: &mut Vec<u8>, fault: &Fault) -> Result<(), OutOfMemory> {
         Fault::Session(fault) => session_fault_text(fault, out),
         Fault::Triage(fault) => triage_fault_text(fault, out),
         Fault::Confirmed(fault) => confirmed_fault_text(fault, out),
+        Fault::Triaged(fault) => triaged_fault_text(fault, out),
         Fault::Window(fault) => window_fault_text(fault, out),
     }
 }
@@ -250,6 +258,86 @@ pub(crate) fn tell_confirmed(
             end(rt, &lines, made, ExitCode::FAILURE)
         }
     }
+}
+
+/// Tells a fault of the triage file that the task names, which is input 4.
+pub(crate) fn tell_triaged(
+    rt: &HostRuntime,
+    fault: TriagedFault,
+    task: &TriageTask<'_>,
+) -> ExitCode {
+    let path = task.triage.unwrap_or("");
+    match fault {
+        TriagedFault::Replay(fault) => {
+            tell_files(rt, BenchFault::from(fault), &["", "", "", path])
+        }
+        fault => {
+            let mut lines = Vec::new(rt.alloc());
+            let made = append_in_triaged(rt, &mut lines, fault, path);
+            end(rt, &lines, made, ExitCode::FAILURE)
+        }
+    }
+}
+
+/// Appends the line that tells a fault of the triage file at this path, and the note that names it.
+fn append_in_triaged(
+    rt: &HostRuntime,
+    out: &mut Vec<u8>,
+    fault: TriagedFault,
+    path: &str,
+) -> Result<(), OutOfMemory> {
+    append_fault(out, &Fault::Triaged(fault))?;
+    if are_wanted(rt) {
+        append_triaged_note(out, path)?;
+    }
+    Ok(())
+}
+
+/// Says that the date is not known.
+pub(crate) fn tell_dateless(rt: &HostRuntime) -> ExitCode {
+    say(
+        rt,
+        b"racebench: the clock has no date: pass one with `--today`\n",
+    );
+    ExitCode::FAILURE
+}
+
+/// Says of the entries of the triage file at this path which are about no race, and which of a race that was fixed are about one.
+pub(crate) fn tell_marks(
+    rt: &HostRuntime,
+    path: &str,
+    marks: &[AtomicU64],
+) -> Result<(), OutOfMemory> {
+    let mut lines = Vec::new(rt.alloc());
+    for at in 0..marks.len() {
+        let mark = marks[at].load(Ordering::SeqCst);
+        if mark == UNMET {
+            append_mark(&mut lines, path, at as u64, b" is about no race\n")?;
+        } else if mark == BACK {
+            append_mark(
+                &mut lines,
+                path,
+                at as u64,
+                b" says fixed, and there is a race\n",
+            )?;
+        }
+    }
+    say(rt, &lines);
+    Ok(())
+}
+
+/// Appends what is said of the entry with this number, from 0.
+fn append_mark(out: &mut Vec<u8>, path: &str, at: u64, words: &[u8]) -> Result<(), OutOfMemory> {
+    out.extend_from_slice(b"racebench: ")?;
+    append_name(out, path)?;
+    append_pieces(
+        out,
+        &[
+            Piece::Words(b": entry "),
+            Piece::Number(at.saturating_add(1)),
+            Piece::Words(words),
+        ],
+    )
 }
 
 /// Tells a fault of `cut` on the trace at this path.

@@ -5,18 +5,24 @@ use crate::coding::{is_folder, lines_of, root_of};
 use crate::input::{Input, input_at};
 use crate::progress::Progress;
 use crate::seen::Seen;
-use crate::telling::{say, tell_blockless, tell_confirmed, tell_folder, tell_replay, tell_triage};
+use crate::telling::{
+    say, tell_blockless, tell_confirmed, tell_dateless, tell_folder, tell_marks, tell_replay,
+    tell_triage, tell_triaged,
+};
+use crate::today::today_of;
 use client_scripts::{FromWrite, ReplayFault, Sink, read_trace};
 use event_index::Indexed;
 use program_words::{RacesForm, TriageTask};
+use std::alloc::AllocError;
 use std::io::IsTerminal;
 use std::process::ExitCode;
 use std::sync::Wait;
+use std::sync::atomic::AtomicU64;
 use std::thread::Threads;
 use std::{io, thread};
 use triage_calls::{
-    About, Asked, ConfirmedFault, Filters, Followed, Form, Silent, SourceLine, Sources,
-    TriageFault, Watch, read_confirmed, triage, triage_on,
+    About, Asked, ConfirmedFault, Filters, Followed, Form, Hears, Silent, SourceLine, Sources,
+    TriageFault, Value, Watch, entries_of, read_confirmed, read_triaged, triage, triage_on,
 };
 
 /// The status if a race is printed, for `--fail`.
@@ -25,10 +31,17 @@ const RACES: u8 = 3;
 /// The status if the trace has no events, for `--fail`.
 const UNJUDGED: u8 = 4;
 
+/// What goes with the trace: how its races came out when they were followed, and the entries of a triage file.
+#[derive(Clone, Copy)]
+struct Beside<'a> {
+    about: About<'a>,
+    triage: Option<&'a [Value]>,
+}
+
 /// What is asked for, as the call takes it.
 fn asked_of<'a>(
     task: &'a TriageTask<'_>,
-    about: About<'a>,
+    beside: Beside<'a>,
     root: &'a [u8],
     lines: &'a [SourceLine],
 ) -> Asked<'a> {
@@ -44,11 +57,15 @@ fn asked_of<'a>(
             RacesForm::Text => Form::Text,
             RacesForm::Json => Form::Json,
             RacesForm::Lines => Form::Lines,
-            RacesForm::Page => Form::Page { about },
+            RacesForm::Entries => Form::Entries,
+            RacesForm::Page => Form::Page {
+                about: beside.about,
+            },
             RacesForm::Sarif => Form::Sarif {
                 sources: Sources { root, lines },
             },
         },
+        triage: beside.triage,
     }
 }
 
@@ -106,32 +123,32 @@ fn status_of<W: Watch>(
 }
 
 /// Lists the races of the trace in a file. Who watches is told how far that is, and of the end before anything is written.
-fn list_to<R: Threads + Sync, K: Sink, W: Watch + Sync>(
+fn list_to<R: Threads + Sync, K: Sink, W: Watch + Hears + Sync>(
     rt: &HostRuntime,
     starts: &R,
     task: &TriageTask<'_>,
-    about: About<'_>,
+    beside: Beside<'_>,
     writer: &mut K,
     watch: &W,
 ) -> Result<u64, TriageFault>
     requires { K.has_failed writer.old ≡ false }
 {
     match task.source {
-        Some(folder) => list_in(rt, starts, task, folder, about, writer, watch),
+        Some(folder) => list_in(rt, starts, task, folder, beside, writer, watch),
         None => {
             let none = Vec::new(rt.alloc());
-            list_plain(rt, starts, task, none.as_slice(), about, writer, watch)
+            list_plain(rt, starts, task, none.as_slice(), beside, writer, watch)
         }
     }
 }
 
 /// The same without the lines of the code.
-fn list_plain<R: Threads + Sync, K: Sink, W: Watch + Sync>(
+fn list_plain<R: Threads + Sync, K: Sink, W: Watch + Hears + Sync>(
     rt: &HostRuntime,
     starts: &R,
     task: &TriageTask<'_>,
     none: &[SourceLine],
-    about: About<'_>,
+    beside: Beside<'_>,
     writer: &mut K,
     watch: &W,
 ) -> Result<u64, TriageFault>
@@ -144,19 +161,19 @@ fn list_plain<R: Threads + Sync, K: Sink, W: Watch + Sync>(
         rt.alloc(),
         &mut reader,
         known,
-        asked_of(task, about, b"", none),
+        asked_of(task, beside, b"", none),
         writer,
         watch,
     )
 }
 
 /// The same with the code in this folder.
-fn list_in<R: Threads + Sync, K: Sink, W: Watch + Sync>(
+fn list_in<R: Threads + Sync, K: Sink, W: Watch + Hears + Sync>(
     rt: &HostRuntime,
     starts: &R,
     task: &TriageTask<'_>,
     folder: &str,
-    about: About<'_>,
+    beside: Beside<'_>,
     writer: &mut K,
     watch: &W,
 ) -> Result<u64, TriageFault>
@@ -166,20 +183,20 @@ fn list_in<R: Threads + Sync, K: Sink, W: Watch + Sync>(
     match read_trace(rt.alloc(), &mut reader) {
         Ok(indexed) => {
             watch.read(indexed.len());
-            list_code(rt, starts, task, &indexed, folder, about, writer, watch)
+            list_code(rt, starts, task, &indexed, folder, beside, writer, watch)
         }
         Err(fault) => Err(TriageFault::Replay(fault)),
     }
 }
 
 /// The same of a trace that was read, with the code in this folder.
-fn list_code<R: Threads + Sync, K: Sink, W: Watch + Sync>(
+fn list_code<R: Threads + Sync, K: Sink, W: Watch + Hears + Sync>(
     rt: &HostRuntime,
     starts: &R,
     task: &TriageTask<'_>,
     indexed: &Indexed,
     folder: &str,
-    about: About<'_>,
+    beside: Beside<'_>,
     writer: &mut K,
     watch: &W,
 ) -> Result<u64, TriageFault>
@@ -192,20 +209,20 @@ fn list_code<R: Threads + Sync, K: Sink, W: Watch + Sync>(
         task,
         indexed,
         root.as_slice(),
-        about,
+        beside,
         writer,
         watch,
     )
 }
 
 /// The same, with the lines of the code.
-fn list_lines<R: Threads + Sync, K: Sink, W: Watch + Sync>(
+fn list_lines<R: Threads + Sync, K: Sink, W: Watch + Hears + Sync>(
     rt: &HostRuntime,
     starts: &R,
     task: &TriageTask<'_>,
     indexed: &Indexed,
     root: &[u8],
-    about: About<'_>,
+    beside: Beside<'_>,
     writer: &mut K,
     watch: &W,
 ) -> Result<u64, TriageFault>
@@ -219,21 +236,21 @@ fn list_lines<R: Threads + Sync, K: Sink, W: Watch + Sync>(
         indexed,
         root,
         lines.as_slice(),
-        about,
+        beside,
         writer,
         watch,
     )
 }
 
 /// The same, with these lines.
-fn list_with<R: Threads + Sync, K: Sink, W: Watch + Sync>(
+fn list_with<R: Threads + Sync, K: Sink, W: Watch + Hears + Sync>(
     rt: &HostRuntime,
     starts: &R,
     task: &TriageTask<'_>,
     indexed: &Indexed,
     root: &[u8],
     lines: &[SourceLine],
-    about: About<'_>,
+    beside: Beside<'_>,
     writer: &mut K,
     watch: &W,
 ) -> Result<u64, TriageFault>
@@ -245,7 +262,7 @@ fn list_with<R: Threads + Sync, K: Sink, W: Watch + Sync>(
         rt.alloc(),
         indexed,
         known,
-        asked_of(task, about, root, lines),
+        asked_of(task, beside, root, lines),
         writer,
         watch,
     )
@@ -256,16 +273,47 @@ fn list_races<R: Threads + Sync, W: Watch + Sync>(
     rt: &HostRuntime,
     starts: &R,
     task: &TriageTask<'_>,
-    about: About<'_>,
+    beside: Beside<'_>,
     watch: &W,
 ) -> ExitCode {
+    match marks_of(rt, beside.triage) {
+        Ok(marks) => list_marked(rt, starts, task, beside, watch, marks.as_slice()),
+        Err(_) => tell_replay(rt, ReplayFault::OutOfMemory),
+    }
+}
+
+/// A mark for each entry of the triage file.
+fn marks_of(rt: &HostRuntime, triage: Option<&[Value]>) -> Result<Vec<AtomicU64>, AllocError> {
+    let mut marks = Vec::new(rt.alloc());
+    if let Some(entries) = triage {
+        for _entry in entries {
+            marks.push(AtomicU64::new(0))?;
+        }
+    }
+    Ok(marks)
+}
+
+/// The same with these marks.
+fn list_marked<R: Threads + Sync, W: Watch + Sync>(
+    rt: &HostRuntime,
+    starts: &R,
+    task: &TriageTask<'_>,
+    beside: Beside<'_>,
+    watch: &W,
+    marks: &[AtomicU64],
+) -> ExitCode {
     let mut writer = FromWrite::new(io::writer(rt));
-    let seen = Seen::new(watch);
-    let listed = list_to(rt, starts, task, about, &mut writer, &seen);
+    let seen = Seen::new(watch, marks);
+    let listed = list_to(rt, starts, task, beside, &mut writer, &seen);
     watch.end();
     match listed {
         Ok(races) => match writer.flush() {
-            Ok(()) => status_of(rt, task, &seen, races),
+            Ok(()) => {
+                if tell_marks(rt, task.triage.unwrap_or(""), marks).is_err() {
+                    return tell_replay(rt, ReplayFault::OutOfMemory);
+                }
+                status_of(rt, task, &seen, races)
+            }
             Err(_) => tell_replay(rt, ReplayFault::Write),
         },
         Err(fault) => tell_triage(rt, fault, &[task.trace, task.known.unwrap_or("")]),
@@ -277,13 +325,13 @@ fn list_shown<R: Threads + Wait + Sync>(
     rt: &HostRuntime,
     starts: &R,
     task: &TriageTask<'_>,
-    about: About<'_>,
+    beside: Beside<'_>,
 ) -> ExitCode {
     let progress = Progress::new(rt, starts, rt.stderr().is_terminal());
     let (_, status) = thread::join(
         starts,
         || progress.show(),
-        || list_races(rt, starts, task, about, &progress),
+        || list_races(rt, starts, task, beside, &progress),
     );
     status
 }
@@ -293,24 +341,45 @@ fn list_about<R: Threads + Wait + Sync>(
     rt: &HostRuntime,
     starts: &R,
     task: &TriageTask<'_>,
-    about: About<'_>,
+    beside: Beside<'_>,
 ) -> ExitCode {
     if task.progress || rt.stderr().is_terminal() {
-        list_shown(rt, starts, task, about)
+        list_shown(rt, starts, task, beside)
     } else {
-        list_races(rt, starts, task, about, &Silent)
+        list_races(rt, starts, task, beside, &Silent)
     }
 }
 
-/// The same of races that were followed, as this list says, if there is one.
+/// The same of races that were followed, as this list says, and of those that a triage file leaves out, if there are such lists.
 fn list_followed<R: Threads + Wait + Sync>(
     rt: &HostRuntime,
     starts: &R,
     task: &TriageTask<'_>,
     followed: Option<&[Followed]>,
+    triage: Option<&[Value]>,
 ) -> ExitCode {
     let name = task.trace.as_bytes();
-    list_about(rt, starts, task, About { name, followed })
+    let about = About { name, followed };
+    list_about(rt, starts, task, Beside { about, triage })
+}
+
+/// The same, after the triage file was read, if one is named.
+fn list_decided<R: Threads + Wait + Sync>(
+    rt: &HostRuntime,
+    starts: &R,
+    task: &TriageTask<'_>,
+    followed: Option<&[Followed]>,
+) -> ExitCode {
+    let Some(path) = task.triage else {
+        return list_followed(rt, starts, task, followed, None);
+    };
+    let Some(today) = today_of(rt, task.today) else {
+        return tell_dateless(rt);
+    };
+    match read_triaged(rt.alloc(), &mut input_at(rt, path), today) {
+        Ok(table) => list_followed(rt, starts, task, followed, Some(entries_of(&table))),
+        Err(fault) => tell_triaged(rt, fault, task),
+    }
 }
 
 /// The same, after what the file of followed races says was read.
@@ -320,8 +389,8 @@ fn triage_followed<R: Threads + Wait + Sync>(
     task: &TriageTask<'_>,
 ) -> ExitCode {
     match confirmed_at(rt, task.confirmed) {
-        Ok(Some(confirmed)) => list_followed(rt, starts, task, Some(confirmed.as_slice())),
-        Ok(None) => list_followed(rt, starts, task, None),
+        Ok(Some(confirmed)) => list_decided(rt, starts, task, Some(confirmed.as_slice())),
+        Ok(None) => list_decided(rt, starts, task, None),
         Err(fault) => tell_confirmed(rt, fault, task),
     }
 }

@@ -1,6 +1,8 @@
 -- Two texts that tell of one trace in lines are one.
 use Rattle.std.proofs.Common.{◌≡◌, ℕ, Bool, is_some, List, ◌++◌, Vec, Option, Some, None, refl, sym, ap, ◌∙◌, subst}
-use Rattle.std.specs.Prelude.{codes, slice_index}
+use Rattle.std.specs.Prelude.{codes, flat_map, option_map, slice_index}
+use Rattle.toml.specs.declared.value.Value.{Value}
+use Rattle.triage_file.specs.Writing.{entry_by, IsTriageFile}
 use Rattle.std.specs.declared.alloc.Global.{Global}
 use Rattle.rapid_text.specs.Recording.{Recording}
 use Rattle.race_json.specs.Lines.{json_line, left_out_line, verdict_lines, IsTriageJson}
@@ -15,11 +17,11 @@ use Rattle.race_triage.specs.declared.totals.Totals.{Totals}
 use Rattle.race_triage.specs.declared.verdicts.Verdict.{Verdict}
 use Rattle.race_triage.proofs.NumberLemmas.{known_same, numbers_unique, AreChosen-known}
 use Rattle.race_triage.proofs.SameLemmas.{chosen_same, one_law, texts_law, IsSameChoice}
-use Rattle.triage_calls.specs.Answers.{hide_of, only_of, AreVerdicts, IsGiven, IsToldIn}
+use Rattle.triage_calls.specs.Answers.{entries_of, hide_of, only_of, AreGiven, AreVerdicts, IsGiven, IsToldIn}
 use Rattle.triage_calls.specs.Laws.{IsLines, ListingsAreOne}
 use Rattle.triage_calls.specs.declared.listing.Asked.{Asked}
 use Rattle.triage_calls.specs.declared.listing.Form.{Form}
-use Rattle.triage_calls.specs.declared.listing.Form.TheVariants.{Text, Json, Lines, Sarif, Page}
+use Rattle.triage_calls.specs.declared.listing.Form.TheVariants.{Text, Json, Lines, Entries, Sarif, Page}
 
 -- what is printed as JSON, from what is printed of it
 abbrev json_printed : Recording → Totals → List Verdict → Option ℕ → Option ℕ → List ℕ
@@ -44,6 +46,9 @@ module _ (r : Recording) (place : ℕ → ℕ) (tries : ℕ) (apart : Bool) (leg
   lines_same : (text words : List ℕ) → IsLinesText r c text → IsLinesText r d words → text ≡ words
   lines_same text words told another = told ∙ ap (λ (l : List Verdict). all_lines r l) same_choice.verdicts ∙ sym another
 
+  entries_same : (numbers : List ℕ) (text words : List ℕ) → IsTriageFile r numbers c text → IsTriageFile r numbers d words → text ≡ words
+  entries_same numbers text words told another = told ∙ ap (λ (l : List Verdict). flat_map (entry_by r numbers) l) same_choice.verdicts ∙ sym another
+
   text_same : (text words : List ℕ) → IsTriageText r vs c text → IsTriageText r ws d words → text ≡ words
   text_same text words told another = texts_law r place tries apart known only hide vs ws c d text words legal one other chosen also told another
 
@@ -60,8 +65,17 @@ given_same keys ls same (Some text) (Some pairs) None one two = absurd two
 right_of : (r : Recording) (numbers : List ℕ) (tries : ℕ) (apart : Bool) (vs : List Verdict) → AreVerdicts r numbers tries apart vs → AreRight r (slice_index numbers) tries apart vs
 right_of r numbers tries apart vs are = record { verdicts = are.verdicts; complete = are.complete; once = are.once; few = are.few; rising = are.rising }
 
-module _ (r : Recording) (place : ℕ → ℕ) (legal : IsLegal r) (asked : Asked) (workers : ℕ) (known other : Option (List (ℕ × ℕ))) (some : is_some known ≡ is_some other)
-    (same : (v : Verdict) → is_known known v ≡ is_known other v) (vs ws : List Verdict) (one : AreRight r place asked.tries asked.apart vs) (two : AreRight r place asked.tries asked.apart ws)
+-- without a triage file, what is known is what the texts list
+known_as_listed :
+    (r : Recording) (keys ls : List (Vec ℕ Global)) (numbers ns : List ℕ) → texts_of keys ≡ texts_of ls → (given : Option (List ℕ)) (entries : Option (List Value)) → entries ≡ None
+    → (vs ws : List Verdict) (known other : Option (List (ℕ × ℕ))) → AreGiven r keys numbers given entries vs known → AreGiven r ls ns given entries ws other
+    → (is_some known ≡ is_some other) × ((v : Verdict) → is_known known v ≡ is_known other v)
+known_as_listed r keys ls numbers ns same given None none vs ws known other (mine, one, is) (its, two, also) =
+    rw (is, also) (given_same keys ls same given mine its one two)
+known_as_listed r keys ls numbers ns same given (Some es) none vs ws known other one two = absurd (cc none)
+
+module _ (r : Recording) (numbers : List ℕ) (legal : IsLegal r) (asked : Asked) (workers : ℕ) (known other : Option (List (ℕ × ℕ))) (some : is_some known ≡ is_some other)
+    (same : (v : Verdict) → is_known known v ≡ is_known other v) (vs ws : List Verdict) (one : AreRight r (slice_index numbers) asked.tries asked.apart vs) (two : AreRight r (slice_index numbers) asked.tries asked.apart ws)
     (races others : ℕ) (text words : List ℕ) where
   -- the second choice, by what is known in the first
   chosen_by : (d : Chosen) → AreChosen r other (only_of asked) (hide_of asked) asked.apart ws d → AreChosen r known (only_of asked) (hide_of asked) asked.apart ws d
@@ -70,29 +84,34 @@ module _ (r : Recording) (place : ℕ → ℕ) (legal : IsLegal r) (asked : Aske
   races_same : (c d : Chosen) → AreChosen r known (only_of asked) (hide_of asked) asked.apart vs c → AreChosen r other (only_of asked) (hide_of asked) asked.apart ws d
       → races ≡ c.races → others ≡ d.races → races ≡ others
   races_same c d chosen also mine its =
-      mine ∙ (same_choice r place asked.tries asked.apart legal vs ws one two known (only_of asked) (hide_of asked) c d chosen (chosen_by d also)).races ∙ sym its
+      mine ∙ (same_choice r (slice_index numbers) asked.tries asked.apart legal vs ws one two known (only_of asked) (hide_of asked) c d chosen (chosen_by d also)).races ∙ sym its
 
-  told_same : (form : Form) → IsLines form → IsToldIn form r known asked vs races text → IsToldIn form r other (record asked { workers = workers }) ws others words → (text ≡ words) × (races ≡ others)
+  told_same : (form : Form) → IsLines form → IsToldIn form r numbers known asked vs races text → IsToldIn form r numbers other (record asked { workers = workers }) ws others words → (text ≡ words) × (races ≡ others)
   told_same Text lines (c, chosen, told, mine) (d, also, another, its) = (
-    text_same r place asked.tries asked.apart legal vs ws one two known (only_of asked) (hide_of asked) c d chosen (chosen_by d also) text words told another,
+    text_same r (slice_index numbers) asked.tries asked.apart legal vs ws one two known (only_of asked) (hide_of asked) c d chosen (chosen_by d also) text words told another,
     races_same c d chosen also mine its,
   )
   told_same Json lines (c, chosen, told, mine) (d, also, another, its) = (
-    json_same r place asked.tries asked.apart legal vs ws one two known (only_of asked) (hide_of asked) c d chosen (chosen_by d also) text words told another,
+    json_same r (slice_index numbers) asked.tries asked.apart legal vs ws one two known (only_of asked) (hide_of asked) c d chosen (chosen_by d also) text words told another,
     races_same c d chosen also mine its,
   )
   told_same Lines lines (c, chosen, told, mine) (d, also, another, its) = (
-    lines_same r place asked.tries asked.apart legal vs ws one two known (only_of asked) (hide_of asked) c d chosen (chosen_by d also) text words told another,
+    lines_same r (slice_index numbers) asked.tries asked.apart legal vs ws one two known (only_of asked) (hide_of asked) c d chosen (chosen_by d also) text words told another,
+    races_same c d chosen also mine its,
+  )
+  told_same Entries lines (c, chosen, told, mine) (d, also, another, its) = (
+    entries_same r (slice_index numbers) asked.tries asked.apart legal vs ws one two known (only_of asked) (hide_of asked) c d chosen (chosen_by d also) numbers text words told another,
     races_same c d chosen also mine its,
   )
   told_same (Sarif sources) lines told another = absurd lines
   told_same (Page about) lines told another = absurd lines
 
 pub listings_law : ListingsAreOne
-listings_law r given asked workers races others text words legal lines one two =
+listings_law r given asked workers races others text words legal lines bare one two =
     let same = one.firsts ∙ sym two.firsts in
     let numbers = numbers_unique r legal.0 one.keys two.keys one.numbers two.numbers same one.numbered two.numbered in
     let mine = right_of r one.numbers asked.tries asked.apart one.verdicts one.found in
     let its = subst (λ (ns : List ℕ). AreRight r (slice_index ns) asked.tries asked.apart two.verdicts) (sym numbers) (right_of r two.numbers asked.tries asked.apart two.verdicts two.found) in
-    let known = given_same one.keys two.keys same given one.known two.known one.known_is two.known_is in
-    told_same r (slice_index one.numbers) legal asked workers one.known two.known known.0 known.1 one.verdicts two.verdicts mine its races others text words asked.form lines one.told two.told
+    let known = known_as_listed r one.keys two.keys one.numbers two.numbers same given (entries_of asked) (ap (λ t. option_map (λ es. es.now) t) bare) one.verdicts two.verdicts one.known two.known one.known_is two.known_is in
+    let told = subst (λ (ns : List ℕ). IsToldIn asked.form r ns two.known (record asked { workers = workers }) two.verdicts others words) (sym numbers) two.told in
+    told_same r one.numbers legal asked workers one.known two.known known.0 known.1 one.verdicts two.verdicts mine its races others text words asked.form lines one.told told

@@ -1,5 +1,5 @@
 -- What `triage` answers of the bytes that it reads, and what its writer has taken. All notions here are this project's own.
-use Rattle.std.specs.Prelude.{◌≡◌, ◌≤◌, ◌⊎◌, ℕ, Bool, List, length, map, All, None, Some, Option, Result, Ok, Err, IfSome, Vec, slice_index, ⊤}
+use Rattle.std.specs.Prelude.{◌≡◌, ◌≤◌, ◌⊎◌, ◌||◌, ℕ, Bool, List, length, map, option_map, All, None, Some, Option, Result, Ok, Err, IfSome, Vec, slice_index, ⊤}
 use Rattle.std.specs.declared.alloc.Global.{Global}
 use Rattle.std.specs.Io.KnownBytes.{Appends}
 use Rattle.rapid_text.specs.Recording.{Recording}
@@ -9,7 +9,7 @@ use Rattle.race_lines.specs.Lines.{IsLinesText}
 use Rattle.race_page.specs.Pages.{IsPage}
 use Rattle.race_page.specs.Rows.{all_rows, followed_in}
 use Rattle.race_sarif.specs.Logs.{IsSarif}
-use Rattle.race_triage.specs.Chosen.{AreChosen}
+use Rattle.race_triage.specs.Chosen.{is_known, AreChosen}
 use Rattle.race_triage.specs.Known.{AreKnown}
 use Rattle.race_triage.specs.Places.{AreFirstUses, AreNumbered, AreNumbers}
 use Rattle.race_triage.specs.Texts.{AreTotals, IsTriageText}
@@ -19,6 +19,9 @@ use Rattle.race_triage.specs.declared.chosen.Chosen.{Chosen}
 use Rattle.race_triage.specs.declared.totals.Totals.{Totals}
 use Rattle.race_triage.specs.declared.verdicts.TheConstants.{MAX_PLACES}
 use Rattle.race_triage.specs.declared.verdicts.Verdict.{Verdict}
+use Rattle.toml.specs.declared.value.Value.{Value}
+use Rattle.triage_file.specs.Matching.{is_left_out}
+use Rattle.triage_file.specs.Writing.{IsTriageFile}
 use Rattle.client_scripts.specs.Replay.{AppendsPart, IsAccepted, IsFault, IsUnreadable, of_trace}
 use Rattle.client_scripts.specs.declared.fault.ReplayFault.{ReplayFault}
 use Rattle.client_scripts.specs.declared.fault.ReplayFault.TheVariants.{Read, Write, OutOfMemory}
@@ -28,7 +31,7 @@ use Rattle.triage_calls.specs.declared.fault.TriageFault.{TriageFault}
 use Rattle.triage_calls.specs.declared.fault.TriageFault.TheVariants.{Replay, TooMany}
 use Rattle.triage_calls.specs.declared.listing.Asked.{Asked}
 use Rattle.triage_calls.specs.declared.listing.Form.{Form}
-use Rattle.triage_calls.specs.declared.listing.Form.TheVariants.{Text, Json, Lines, Sarif, Page}
+use Rattle.triage_calls.specs.declared.listing.Form.TheVariants.{Text, Json, Lines, Entries, Sarif, Page}
 
 -- The verdicts on a trace, whose events have these numbers of places, where so many open pairs of two places are tried: one for each two places of
 -- a conflicting pair. What is counted of them is counted of the trace.
@@ -49,16 +52,18 @@ abbrev pub hide_of : Asked → List (List ℕ)
 hide_of asked = map (λ t. t.now) asked.filters.hide.now
 
 -- so many races are told of in this form, of the same choice in each
-abbrev pub IsToldIn : Form → Recording → Option (List (ℕ × ℕ)) → Asked → List Verdict → ℕ → List ℕ → Type 0
-IsToldIn Text r known asked vs races text =
+abbrev pub IsToldIn : Form → Recording → List ℕ → Option (List (ℕ × ℕ)) → Asked → List Verdict → ℕ → List ℕ → Type 0
+IsToldIn Text r numbers known asked vs races text =
     (c : Chosen) × AreChosen r known (only_of asked) (hide_of asked) asked.apart vs c × IsTriageText r vs c text × (races ≡ c.races)
-IsToldIn Json r known asked vs races text =
+IsToldIn Json r numbers known asked vs races text =
     (c : Chosen) × AreChosen r known (only_of asked) (hide_of asked) asked.apart vs c × IsTriageJson r vs c text × (races ≡ c.races)
-IsToldIn Lines r known asked vs races text =
+IsToldIn Lines r numbers known asked vs races text =
     (c : Chosen) × AreChosen r known (only_of asked) (hide_of asked) asked.apart vs c × IsLinesText r c text × (races ≡ c.races)
-IsToldIn (Sarif sources) r known asked vs races text =
+IsToldIn Entries r numbers known asked vs races text =
+    (c : Chosen) × AreChosen r known (only_of asked) (hide_of asked) asked.apart vs c × IsTriageFile r numbers c text × (races ≡ c.races)
+IsToldIn (Sarif sources) r numbers known asked vs races text =
     (c : Chosen) × AreChosen r known (only_of asked) (hide_of asked) asked.apart vs c × IsSarif r sources c text × (races ≡ c.races)
-IsToldIn (Page about) r known asked vs races text =
+IsToldIn (Page about) r numbers known asked vs races text =
     (c : Chosen) × AreChosen r known (only_of asked) (hide_of asked) asked.apart vs c
     × IsPage r vs c.races about.name.now text (all_rows r (followed_in about) asked.apart c.verdicts.items) × (races ≡ c.races)
 
@@ -68,6 +73,21 @@ IsGiven keys None known = known ≡ None
 IsGiven keys (Some text) (Some pairs) = AreKnown keys text pairs
 IsGiven keys (Some text) None = ⊥
 
+-- the entries of a triage file, where one is given
+abbrev pub entries_of : Asked → Option (List Value)
+entries_of asked = option_map (λ t. t.now) asked.triage
+
+-- Which verdicts are known once the entries of a triage file leave races out: those that were, and those on the places of such a race.
+abbrev pub AreKnownBy : Recording → List ℕ → Option (List Value) → List Verdict → Option (List (ℕ × ℕ)) → Option (List (ℕ × ℕ)) → Type 0
+AreKnownBy r numbers None vs listed known = known ≡ listed
+AreKnownBy r numbers (Some es) vs listed (Some pairs) = (v : Verdict) → is_known (Some pairs) v ≡ (is_known listed v || is_left_out r numbers es vs v)
+AreKnownBy r numbers (Some es) vs listed None = ⊥
+
+-- the same, where the listed races are those that a text names
+abbrev pub AreGiven : Recording → List (Vec ℕ Global) → List ℕ → Option (List ℕ) → Option (List Value) → List Verdict → Option (List (ℕ × ℕ)) → Type 0
+AreGiven r keys numbers given entries vs known =
+    (listed : Option (List (ℕ × ℕ))) × IsGiven keys given listed × AreKnownBy r numbers entries vs listed known
+
 -- The text tells of the verdicts on the trace what was asked for; `given` is the text of known races, where there is one.
 pub record IsListing (r : Recording) (given : Option (List ℕ)) (asked : Asked) (races : ℕ) (text : List ℕ) : Type 0 where
   pub keys : List (Vec ℕ Global)
@@ -75,10 +95,10 @@ pub record IsListing (r : Recording) (given : Option (List ℕ)) (asked : Asked)
   pub numbered : AreNumbered r (length r.events) keys numbers
   pub firsts : AreFirstUses r (length r.events) keys
   pub known : Option (List (ℕ × ℕ))
-  pub known_is : IsGiven keys given known
   pub verdicts : List Verdict
+  pub known_is : AreGiven r keys numbers given (entries_of asked) verdicts known
   pub found : AreVerdicts r numbers asked.tries asked.apart verdicts
-  pub told : IsToldIn asked.form r known asked verdicts races text
+  pub told : IsToldIn asked.form r numbers known asked verdicts races text
 
 -- more pairs of places than there may be have a conflicting pair of events
 abbrev pub IsCrowded : Recording → Type 0

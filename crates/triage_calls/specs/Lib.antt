@@ -2,3 +2,4 @@ pub mod Answers
 pub mod Confirmed
 pub mod TriageFaults
 pub mod Laws
+pub mod Triaged

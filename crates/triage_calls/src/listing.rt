@@ -1,11 +1,13 @@
 //! Lists the races of a trace by pairs of places: reads the trace, finds the verdicts, makes the text, and writes it.
-ghost use Rattle.std.specs.Prelude.{◌≡◌, ◌≢◌, ◌++◌, ℕ, List, None, Err, IfErr, IfOk, IfSome, length, option_map, true, false};
+ghost use Rattle.std.specs.Prelude.{◌≡◌, ◌≢◌, ◌++◌, ◌||◌, ℕ, List, None, Some, Err, IfErr, IfOk, IfSome, length, option_map, true, false};
 ghost use Rattle.client_scripts.specs.declared.fault.ReadCause.TheVariants.{Device};
 ghost use Rattle.client_scripts.specs.declared.fault.ReplayFault.TheVariants.{Read, Write};
 ghost use Rattle.client_scripts.specs.Loading.{IsTraceOf};
-ghost use Rattle.race_triage.specs.Chosen.{known_places, AreChosen};
+ghost use Rattle.race_triage.specs.Chosen.{is_known, known_places, AreChosen};
 ghost use Rattle.race_triage.specs.Places.{AreFirstUses, AreNumbered};
-ghost use Rattle.triage_calls.specs.Answers.{hide_of, only_of, AreVerdicts, IsGiven, IsKnownRead, IsKnownUnread, IsListing, IsToldIn, IsTriaged, IsUntold, IsWritten};
+ghost use Rattle.triage_calls.specs.Answers.{hide_of, only_of, AreGiven, AreKnownBy, AreVerdicts, IsGiven, IsKnownRead, IsKnownUnread, IsListing, IsToldIn, IsTriaged, IsUntold, IsWritten};
+ghost use Rattle.race_triage.specs.declared.verdicts.Verdict.{Verdict as Told};
+ghost use Rattle.triage_file.specs.Matching.{is_left_out};
 ghost use Rattle.triage_calls.specs.declared.fault.TriageFault.TheVariants.{Replay};
 
 use crate::fault::TriageFault;
@@ -25,6 +27,7 @@ use rapid_text::OutOfMemory;
 use shb_clocks::Clocks;
 use std::alloc::Global;
 use std::thread::Threads;
+use triage_file::{Value, add_triaged, hides, is_met, triage_entries};
 
 /// What is asked for.
 #[derive(Clone, Copy)]
@@ -39,6 +42,8 @@ pub struct Asked<'a> {
     pub workers: u32,
     /// In which form it is written.
     pub form: Form<'a>,
+    /// The entries of a triage file, where one is given.
+    pub triage: Option<&'a [Value]>,
 }
 
 /// In which form the verdicts are written.
@@ -50,6 +55,8 @@ pub enum Form<'a> {
     Json,
     /// Lines as compilers write them.
     Lines,
+    /// A triage file with an entry for each race.
+    Entries,
     /// A log as code-scanning pages take it.
     Sarif {
         /// The code that ran.
@@ -62,10 +69,16 @@ pub enum Form<'a> {
     },
 }
 
+/// Who is told which entries of a triage file are about a race. No clause says what it makes of that, and no answer rests on it.
+pub trait Hears {
+    /// Whether the entry with this number, from 0, leaves out its race, and whether it is about a race.
+    fn met(&self, entry: usize, hides: bool, is_met: bool);
+}
+
 /// Reads a trace text, whole, and writes what is found of its conflicting pairs by pair of places: the counts, and a block for each
 /// race, or the same in another form. Races that the text of `known` lists, where it is given, are left out. Before a fault nothing is written, but at 95, where
 /// what was written is a beginning of the text. Answers how many races were written. Who watches is told how far the work is.
-pub fn triage<R: Threads + Sync, S: Source, L: Source + Drop, K: Sink, W: Watch + Sync>(
+pub fn triage<R: Threads + Sync, S: Source, L: Source + Drop, K: Sink, W: Watch + Hears + Sync>(
     rt: &R,
     alloc: Global,
     reader: &mut S,
@@ -99,7 +112,7 @@ pub fn triage<R: Threads + Sync, S: Source, L: Source + Drop, K: Sink, W: Watch 
 }
 
 /// The same of a trace that was read.
-pub fn triage_on<R: Threads + Sync, L: Source + Drop, K: Sink, W: Watch + Sync>(
+pub fn triage_on<R: Threads + Sync, L: Source + Drop, K: Sink, W: Watch + Hears + Sync>(
     rt: &R,
     alloc: Global,
     indexed: &Indexed,
@@ -134,7 +147,7 @@ fn tell_known<W: Watch>(watch: &W, listed: &Option<Vec<u8>>) {
 }
 
 /// Writes what is found of the trace. Answers how many races were written.
-fn write_listing<R: Threads + Sync, K: Sink, W: Watch + Sync>(
+fn write_listing<R: Threads + Sync, K: Sink, W: Watch + Hears + Sync>(
     rt: &R,
     alloc: Global,
     indexed: &Indexed,
@@ -179,7 +192,7 @@ fn read_known<L: Source + Drop>(
 }
 
 /// The verdicts on the trace's pairs of places, told in the form that is asked for, and how many races it tells of.
-fn text_of<R: Threads + Sync, W: Watch + Sync>(
+fn text_of<R: Threads + Sync, W: Watch + Hears + Sync>(
     rt: &R,
     alloc: Global,
     indexed: &Indexed,
@@ -197,7 +210,7 @@ fn text_of<R: Threads + Sync, W: Watch + Sync>(
 }
 
 /// The same by the must-order.
-fn text_by<R: Threads + Sync, W: Watch + Sync>(
+fn text_by<R: Threads + Sync, W: Watch + Hears + Sync>(
     rt: &R,
     alloc: Global,
     indexed: &Indexed,
@@ -217,7 +230,7 @@ fn text_by<R: Threads + Sync, W: Watch + Sync>(
 }
 
 /// The same by both orders.
-fn text_with<R: Threads + Sync, W: Watch + Sync>(
+fn text_with<R: Threads + Sync, W: Watch + Hears + Sync>(
     rt: &R,
     alloc: Global,
     indexed: &Indexed,
@@ -233,8 +246,24 @@ fn text_with<R: Threads + Sync, W: Watch + Sync>(
     ensures fault { IfErr result (IsUntold indexed.now) }
 {
     match found_of(rt, alloc, indexed, clocks, must, asked, watch) {
-        Ok(found) => text_of_found(alloc, indexed, clocks, must, &found, listed, asked),
+        Ok(found) => {
+            tell_met(watch, indexed, &found, asked.triage);
+            text_of_found(alloc, indexed, clocks, must, &found, listed, asked)
+        }
         Err(fault) => Err(fault),
+    }
+}
+
+/// Tells who listens of each entry of a triage file whether it is about a race.
+fn tell_met<W: Hears>(watch: &W, indexed: &Indexed, found: &Verdicts, triage: Option<&[Value]>) {
+    let Some(entries) = triage else {
+        return;
+    };
+    let numbers = found.places.numbers.as_slice();
+    let verdicts = found.verdicts.as_slice();
+    for at in 0..entries.len() {
+        let entry = &entries[at];
+        watch.met(at, hides(entry), is_met(indexed, numbers, verdicts, entry));
     }
 }
 
@@ -279,7 +308,7 @@ fn told(
     requires firsts { AreFirstUses indexed.now (length indexed.now.events) found.now.places.locations.keys }
     ensures { IfOk result (λ made. IsListing indexed.now (option_map (λ v. v.items) listed.now) asked.entry made.1 made.0.items) }
 {
-    let known = known_in(alloc, &found.places, listed)?;
+    let known = known_by(alloc, indexed, found, listed, asked.triage)?;
     let mut text = Vec::new(alloc);
     let races = append_told(indexed, clocks, must, found, &known, asked, &mut text)?;
     Ok((text, races))
@@ -298,7 +327,7 @@ fn append_told(
     requires clocks { clocks.now ≡ indexed.now }
     requires must { must.now ≡ indexed.now }
     ensures { IfOk result (λ races. (text : List ℕ) × (out.new.items ≡ out.old.items ++ text)
-        × IsToldIn asked.entry.form indexed.now (known_places known.now) asked.entry found.now.verdicts.items races text) }
+        × IsToldIn asked.entry.form indexed.now found.now.places.numbers.items (known_places known.now) asked.entry found.now.verdicts.items races text) }
 {
     match asked.form {
         Form::Text => {
@@ -314,6 +343,11 @@ fn append_told(
         Form::Lines => {
             let chosen = chosen(indexed, found, known, asked, out)?;
             triage_lines(indexed, must, &chosen, out)?;
+            Ok(chosen.races)
+        }
+        Form::Entries => {
+            let chosen = chosen(indexed, found, known, asked, out)?;
+            triage_entries(indexed, found.places.numbers.as_slice(), &chosen, out)?;
             Ok(chosen.races)
         }
         Form::Sarif { sources } => {
@@ -357,7 +391,7 @@ fn chosen(
 }
 
 /// What is found of the trace's pairs of places.
-fn found_of<R: Threads + Sync, W: Watch + Sync>(
+fn found_of<R: Threads + Sync, W: Watch + Hears + Sync>(
     rt: &R,
     alloc: Global,
     indexed: &Indexed,
@@ -401,5 +435,89 @@ fn known_in(
     match listed {
         Some(text) => Ok(Some(known_of(alloc, places, text.as_slice())?)),
         None => Ok(None),
+    }
+}
+
+/// The pairs of places whose races are known: those that a text lists, and those of races that a triage file leaves out.
+fn known_by(
+    alloc: Global,
+    indexed: &Indexed,
+    found: &Verdicts,
+    listed: &Option<Vec<u8>>,
+    triage: Option<&[Value]>,
+) -> Result<Option<Known>, OutOfMemory>
+    ensures { IfOk result (λ known. AreGiven indexed.now found.now.places.locations.keys found.now.places.numbers.items
+        (option_map (λ v. v.items) listed.now) (option_map (λ t. t.now) triage.entry) found.now.verdicts.items (known_places known)) }
+{
+    match known_in(alloc, &found.places, listed) {
+        Ok(known) => known_with(alloc, indexed, found, known, triage),
+        Err(refused) => Err(refused),
+    }
+}
+
+/// The same with those of a triage file.
+fn known_with(
+    alloc: Global,
+    indexed: &Indexed,
+    found: &Verdicts,
+    known: Option<Known>,
+    triage: Option<&[Value]>,
+) -> Result<Option<Known>, OutOfMemory>
+    ensures { IfOk result (λ all. AreKnownBy indexed.now found.now.places.numbers.items (option_map (λ t. t.now) triage.entry) found.now.verdicts.items
+        (known_places known) (known_places all)) }
+{
+    match triage {
+        Some(entries) => known_plus(alloc, indexed, found, known, entries),
+        None => Ok(known),
+    }
+}
+
+/// The same with those of races that these entries leave out.
+fn known_plus(
+    alloc: Global,
+    indexed: &Indexed,
+    found: &Verdicts,
+    known: Option<Known>,
+    entries: &[Value],
+) -> Result<Option<Known>, OutOfMemory>
+    ensures { IfOk result (λ all. AreKnownBy indexed.now found.now.places.numbers.items (Some entries.now) found.now.verdicts.items
+        (known_places known) (known_places all)) }
+{
+    match known_more(indexed, found, or_nothing(alloc, known), entries) {
+        Ok(more) => Ok(Some(more)),
+        Err(refused) => Err(refused),
+    }
+}
+
+/// These pairs, or none.
+fn or_nothing(alloc: Global, known: Option<Known>) -> Known
+    ensures { (v : Told) → is_known (Some result.keys) v ≡ is_known (known_places known) v }
+{
+    match known {
+        Some(known) => known,
+        None => Known::new(alloc),
+    }
+}
+
+/// These pairs, and those of races that the entries leave out.
+fn known_more(
+    indexed: &Indexed,
+    found: &Verdicts,
+    mut known: Known,
+    entries: &[Value],
+) -> Result<Known, OutOfMemory>
+    ensures { IfOk result (λ more. (v : Told) → is_known (Some more.keys) v
+        ≡ (is_known (Some known.keys) v || is_left_out indexed.now found.now.places.numbers.items entries.now found.now.verdicts.items v)) }
+{
+    let numbers = found.places.numbers.as_slice();
+    match add_triaged(
+        &mut known,
+        indexed,
+        numbers,
+        found.verdicts.as_slice(),
+        entries,
+    ) {
+        Ok(()) => Ok(known),
+        Err(refused) => Err(refused),
     }
 }

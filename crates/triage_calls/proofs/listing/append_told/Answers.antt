@@ -1,8 +1,9 @@
-use Rattle.std.proofs.Common.{refl, subst, sym}
+use Rattle.std.proofs.Common.{List, refl, subst, sym, ℕ}
 use Rattle.std.proofs.lemmas.Result.{IfOk-weaker}
 use Rattle.race_triage.specs.Chosen.{known_places}
 use Rattle.triage_calls.specs.Answers.{IsToldIn}
 use Rattle.triage_calls.specs.declared.listing.Form.{Form}
+use Rattle.triage_file.specs.Writing.{IsTriageFile}
 use Rattle.triage_calls.proofs.listing.append_told.Goals as goal
 
 pub returns-in_ok-triage_text-in-Text : goal.returns-in_ok-triage_text-in-Text
@@ -11,7 +12,7 @@ returns-in_ok-triage_text-in-Text c =
     let told = c.in_ok-chosen-in-Text.chosen in (
       made.0,
       made.2,
-      subst (λ (f : Form). IsToldIn f c.args.indexed.now (known_places c.args.known.now) c.args.asked c.args.found.now.verdicts.items told.races made.0) (sym c.in-Text.is)
+      subst (λ (f : Form). IsToldIn f c.args.indexed.now c.args.found.now.places.numbers.items (known_places c.args.known.now) c.args.asked c.args.found.now.verdicts.items told.races made.0) (sym c.in-Text.is)
           (told, c.in_ok-chosen-in-Text.ensures, made.1, refl),
     )
 
@@ -21,7 +22,7 @@ returns-in_ok-triage_json-in-Json c =
     let told = c.in_ok-chosen-in-Json.chosen in (
       made.0,
       made.2,
-      subst (λ (f : Form). IsToldIn f c.args.indexed.now (known_places c.args.known.now) c.args.asked c.args.found.now.verdicts.items told.races made.0) (sym c.in-Json.is)
+      subst (λ (f : Form). IsToldIn f c.args.indexed.now c.args.found.now.places.numbers.items (known_places c.args.known.now) c.args.asked c.args.found.now.verdicts.items told.races made.0) (sym c.in-Json.is)
           (told, c.in_ok-chosen-in-Json.ensures, made.1, refl),
     )
 
@@ -31,7 +32,7 @@ returns-in_ok-triage_lines-in-Lines c =
     let told = c.in_ok-chosen-in-Lines.chosen in (
       made.0,
       made.2,
-      subst (λ (f : Form). IsToldIn f c.args.indexed.now (known_places c.args.known.now) c.args.asked c.args.found.now.verdicts.items told.races made.0) (sym c.in-Lines.is)
+      subst (λ (f : Form). IsToldIn f c.args.indexed.now c.args.found.now.places.numbers.items (known_places c.args.known.now) c.args.asked c.args.found.now.verdicts.items told.races made.0) (sym c.in-Lines.is)
           (told, c.in_ok-chosen-in-Lines.ensures, made.1, refl),
     )
 
@@ -41,8 +42,18 @@ returns-in_ok-triage_sarif-in-Sarif c =
     let told = c.in_ok-chosen-in-Sarif.chosen in (
       made.0,
       made.2,
-      subst (λ (f : Form). IsToldIn f c.args.indexed.now (known_places c.args.known.now) c.args.asked c.args.found.now.verdicts.items told.races made.0) (sym c.in-Sarif.is)
+      subst (λ (f : Form). IsToldIn f c.args.indexed.now c.args.found.now.places.numbers.items (known_places c.args.known.now) c.args.asked c.args.found.now.verdicts.items told.races made.0) (sym c.in-Sarif.is)
           (told, c.in_ok-chosen-in-Sarif.ensures, made.1, refl),
+    )
+
+pub returns-in_ok-triage_entries-in-Entries : goal.returns-in_ok-triage_entries-in-Entries
+returns-in_ok-triage_entries-in-Entries c =
+    let made = c.in_ok-triage_entries-in-Entries.ensures.ok in
+    let told = c.in_ok-chosen-in-Entries.chosen in (
+      made.0,
+      made.2,
+      subst (λ (f : Form). IsToldIn f c.args.indexed.now c.args.found.now.places.numbers.items (known_places c.args.known.now) c.args.asked c.args.found.now.verdicts.items told.races made.0) (sym c.in-Entries.is)
+          (told, c.in_ok-chosen-in-Entries.ensures, subst (λ (ns : List ℕ). IsTriageFile c.args.indexed.now ns told made.0) c.as_slice.ensures.value made.1, refl),
     )
 
 pub returns-in-Page : goal.returns-in-Page
@@ -51,7 +62,7 @@ returns-in-Page c =
     (λ races told. (
       told.2,
       told.3,
-      subst (λ (f : Form). IsToldIn f c.args.indexed.now (known_places c.args.known.now) c.args.asked c.args.found.now.verdicts.items races told.2) (sym c.in-Page.is)
+      subst (λ (f : Form). IsToldIn f c.args.indexed.now c.args.found.now.places.numbers.items (known_places c.args.known.now) c.args.asked c.args.found.now.verdicts.items races told.2) (sym c.in-Page.is)
           (told.0, told.1, told.4, told.5),
     ))
     c.page_text.ensures.ok

@@ -1,0 +1,303 @@
+#!/usr/bin/env python3
+"""Judges `triage --triage` and `--init-triage` by a second reader of triage files, Python's tomllib, and the rules of docs/FORMATS.md.
+
+Draws traces with locations that resemble one another and triage files that resemble their races. The races that are printed must be those of `triage`
+without the file that no entry leaves out, and the notes must name the entries that these rules name. A file that `--init-triage` wrote must leave out each race.
+A file that is changed by chance must be refused exactly if tomllib or the table of keys refuses it, at the same line if the mistake is a key's.
+
+    judge_triage_file.py PROGRAM [TRACES [SEED]]      so many drawn traces, the first of this seed
+
+Says what is wrong, if something is, and ends with status 1 then, also if a kind of entry was never met.
+"""
+
+import collections
+import datetime
+import os
+import random
+import re
+import subprocess
+import sys
+import tempfile
+import tomllib
+
+sys.dont_write_bytecode = True
+
+TRACES = 120
+TODAY = datetime.date(2027, 6, 1)
+PATHS = ["p/u.c", "q/u.c", "u.c", "a b.c"]
+FUNCTIONS = ["add", "get", "operator new", ""]
+VARIABLES = ["x", "y", "heap:u.c:3#1+8", 'q"t', "back\\slash"]
+VERDICTS = ["known", "benign", "false", "fixed"]
+KEYS = {"paths", "functions", "variables", "lines", "verdict", "reason", "author", "expires"}
+REACHED = ["left out", "printed", "by line", "by function", "other variable", "unmet", "fixed", "written", "refused TOML", "refused entry", "expired", "more than entries"]
+WORDS = {
+    "table": "is no table",
+    "unknown": "has an unknown key",
+    "paths": "needs `paths`, two texts",
+    "functions": "has `functions` other than two texts",
+    "variables": "has `variables` other than texts",
+    "lines": "has `lines` other than two numbers",
+    "verdict": "needs `verdict`: known, benign, false or fixed",
+    "reason": "has a `reason` other than a text",
+    "author": "has an `author` other than a text",
+    "expires": "has an `expires` other than a date",
+}
+
+
+class Wrong(Exception):
+    """What the program prints is not what the rules say."""
+
+
+def drawn_trace(chance):
+    """Lines of a trace: three threads that access a few variables at a few locations."""
+    lines = ["T0|fork(T1)|m.c:1 < main", "T0|fork(T2)|m.c:2 < main"]
+    for _ in range(chance.choice([4, 8, 14])):
+        place = chance.choice([f"{chance.choice(PATHS)}:{chance.randint(1, 3)}"] * 5 + ["7", "007", "u.c:007"])
+        function = chance.choice(FUNCTIONS)
+        calls = f" < {function} < main m.c:{chance.randint(1, 2)}" if function else ""
+        lines.append(f"T{chance.randint(1, 2)}|{chance.choice('rw')}({chance.choice(VARIABLES)})|{place}{calls}")
+    return lines
+
+
+def parts(line):
+    """The thread, the variable (none if it is no access) and the location of a line."""
+    thread, operation, location = line.split("|", 2)
+    found = re.fullmatch(r"[rw]\((.*)\)", operation)
+    return thread, found[1] if found else None, location
+
+
+def side_of(location):
+    """The path, the line and the function of a location."""
+    place, *calls = location.split(" < ")
+    found = re.fullmatch(r"(.+):([0-9]+)", place, re.DOTALL)
+    path, line = (found[1], found[2]) if found else (place, "")
+    function = calls[0] if calls else ""
+    head, _, tail = function.rpartition(" ")
+    if re.fullmatch(r".+:[0-9]+", tail):
+        function = head
+    return path, line, function
+
+
+def pair_at(entry, key, at, missing):
+    return entry[key][at] if key in entry else missing
+
+
+def fits(entry, at, location):
+    path, line, function = side_of(location)
+    named = pair_at(entry, "functions", at, "")
+    if pair_at(entry, "paths", at, "") != path or (named and named != function):
+        return False
+    if named and "variables" in entry:
+        return True
+    number = pair_at(entry, "lines", at, None)
+    return line == "" if number is None or (number == 0 and line == "") else str(number) == line
+
+
+def is_about(entry, lines, first, second):
+    one, other = (parts(lines[event])[2] for event in (first, second))
+    if not (fits(entry, 0, one) and fits(entry, 1, other) or fits(entry, 0, other) and fits(entry, 1, one)):
+        return False
+    if "variables" not in entry:
+        return True
+    return any(all(used in entry["variables"] for _, used, where in map(parts, lines) if used is not None and where == location) for location in (one, other))
+
+
+def mistake_of(entry):
+    """The first mistake of an entry, in the order of the format."""
+    texts = lambda value: isinstance(value, list) and all(isinstance(item, str) for item in value)
+    numbers = lambda value: isinstance(value, list) and len(value) == 2 and all(type(item) is int for item in value)
+    two = lambda value: texts(value) and len(value) == 2
+    tests = [
+        ("functions", two),
+        ("variables", lambda value: texts(value) and value),
+        ("lines", numbers),
+    ]
+    last = [("reason", lambda value: isinstance(value, str)), ("author", lambda value: isinstance(value, str)), ("expires", lambda value: type(value) is datetime.date)]
+    if not isinstance(entry, dict):
+        return "table"
+    if set(entry) - KEYS:
+        return "unknown"
+    if not two(entry.get("paths")):
+        return "paths"
+    for key, test in tests:
+        if key in entry and not test(entry[key]):
+            return key
+    if entry.get("verdict") not in VERDICTS:
+        return "verdict"
+    for key, test in last:
+        if key in entry and not test(entry[key]):
+            return key
+    return None
+
+
+def refusal_of(text):
+    """What standard error must begin with; the line alone if it is no TOML; nothing if the file is taken."""
+    try:
+        table = tomllib.loads(text)
+    except tomllib.TOMLDecodeError:
+        return "not TOML"
+    if set(table) - {"race"} or not isinstance(table.get("race", []), list):
+        return "racebench: triage file has more than `[[race]]` entries"
+    lines = text.split("\n")
+    heads = [at for at, line in enumerate(lines) if line.startswith("[[")]
+    for wrong in (mistake_of, lambda entry: "expired" if entry.get("expires", TODAY) < TODAY else None):
+        for at, entry in enumerate(table.get("race", [])):
+            found = wrong(entry)
+            if found:
+                start, end = heads[at], (heads + [len(lines)])[at + 1]
+                key = "expires" if found == "expired" else found
+                spot = next((n for n in range(start + 1, end) if re.match(rf"{key}(?![A-Za-z0-9_-])", lines[n])), start)
+                words = "has expired" if found == "expired" else WORDS[found]
+                return f"racebench: triage file line {spot + 1} column 1: entry {at + 1} {words}"
+    return None
+
+
+def literal(value):
+    if isinstance(value, list):
+        return "[" + ", ".join(map(literal, value)) + "]"
+    if isinstance(value, str):
+        return '"' + value.replace("\\", "\\\\").replace('"', '\\"') + '"'
+    return str(value)
+
+
+def drawn_entry(chance, lines, races):
+    """An entry that resembles a race, or anything."""
+    locations = [side_of(parts(lines[event])[2]) for event in chance.choice(races)] if races and chance.random() < 0.85 else [side_of(parts(chance.choice(lines))[2]) for _ in range(2)]
+    if chance.random() < 0.4:
+        locations.reverse()
+    entry = {"paths": [path for path, _, _ in locations]}
+    if chance.random() < 0.7:
+        entry["functions"] = [function if chance.random() < 0.9 else "" for _, _, function in locations]
+    if chance.random() < 0.6:
+        entry["variables"] = chance.sample(VARIABLES, chance.randint(1, 4))
+    if chance.random() < 0.7:
+        entry["lines"] = [int(line or 0) + chance.choice([0, 0, 0, 1]) for _, line, _ in locations]
+    entry["verdict"] = chance.choice(VERDICTS)
+    if chance.random() < 0.3:
+        entry["reason"] = chance.choice(["", "seen", "a \t tab"])
+    if chance.random() < 0.3:
+        entry["expires"] = TODAY + datetime.timedelta(days=chance.choice([0, 1, 400] if chance.random() < 0.9 else [-1]))
+    return entry
+
+
+def text_of(entries):
+    return "\n".join("[[race]]\n" + "".join(f"{key} = {literal(value)}\n" for key, value in entry.items()) for entry in entries)
+
+
+def spoiled(chance, text):
+    """The text with a mistake, perhaps."""
+    changes = [
+        lambda: text.replace('verdict = "', 'verdict = "un', 1),
+        lambda: text.replace("paths = [", "paths = [3, ", 1),
+        lambda: text.replace("paths = ", "path = ", 1),
+        lambda: text.replace("[[race]]", "[race]", 1),
+        lambda: "version = 1\n" + text,
+        lambda: text + "lines = 3\n",
+        lambda: text + 'expires = "soon"\n',
+        lambda: text + "expires = 2027-06-02T00:00:00\n",
+        lambda: text + "expires = 2027-05-31\n",
+        lambda: text + "author = 3\n",
+        lambda: text[: chance.randint(0, len(text))],
+    ]
+    return chance.choice(changes)()
+
+
+def run(program, folder, *args):
+    return subprocess.run([program, "triage", "t.std", *args], cwd=folder, capture_output=True, timeout=60)
+
+
+def blocks(output):
+    """Each race that is printed: its two events."""
+    return [tuple(map(int, found)) for found in re.findall(rb"^race (\d+) (\d+) ", output, re.MULTILINE)]
+
+
+def write(folder, name, text):
+    with open(os.path.join(folder, name), "w", encoding="utf-8", newline="") as file:
+        file.write(text)
+
+
+def demand(holds, what):
+    if not holds:
+        raise Wrong(what)
+
+
+def judge_file(program, folder, lines, races, text, reached):
+    """One run with a triage file."""
+    write(folder, "f.toml", text)
+    day = TODAY.isoformat()
+    done = run(program, folder, "--triage", "f.toml", "--today", day)
+    refusal = refusal_of(text)
+    if refusal == "not TOML":
+        demand(done.returncode == 1 and re.fullmatch(rb"racebench: triage file line \d+ column \d+: not TOML\n", done.stderr), f"no TOML is taken: {done.stderr}")
+        reached["refused TOML"] += 1
+        return
+    if refusal:
+        demand(done.returncode == 1 and done.stdout == b"" and done.stderr.decode() == refusal + "\n", f"{done.stderr.decode()} in place of {refusal}")
+        reached["expired" if refusal.endswith("expired") else "more than entries" if "more than" in refusal else "refused entry"] += 1
+        return
+    entries = tomllib.loads(text).get("race", [])
+    kept = [race for race in races if not any(entry["verdict"] != "fixed" and is_about(entry, lines, *race) for entry in entries)]
+    demand(done.returncode == 0 and blocks(done.stdout) == kept, f"printed {blocks(done.stdout)} in place of {kept}")
+    demand(f"known {len(races) - len(kept)}\n" in done.stdout.decode(), "another number of known races")
+    notes = ""
+    for number, entry in enumerate(entries, 1):
+        met = any(is_about(entry, lines, *race) for race in races)
+        if entry["verdict"] == "fixed" and met:
+            notes += f"racebench: f.toml: entry {number} says fixed, and there is a race\n"
+            reached["fixed"] += 1
+        if entry["verdict"] != "fixed" and not met:
+            notes += f"racebench: f.toml: entry {number} is about no race\n"
+            reached["unmet"] += 1
+        bare = {key: value for key, value in entry.items() if key != "variables"}
+        reached["other variable"] += not met and any(is_about(bare, lines, *race) for race in races)
+        reached["by function"] += met and "functions" in entry and "variables" in entry
+        reached["by line"] += met and "lines" in entry and "functions" not in entry
+    demand(done.stderr.decode() == notes, f"{done.stderr.decode()} in place of {notes}")
+    reached["left out"] += len(races) - len(kept)
+    reached["printed"] += len(kept)
+
+
+def judge_trace(program, folder, seed, reached):
+    """One trace, its written file, and some drawn files."""
+    chance = random.Random(seed)
+    lines = drawn_trace(chance)
+    write(folder, "t.std", "\n".join(lines) + "\n")
+    plain = run(program, folder)
+    demand(plain.returncode == 0, plain.stderr)
+    races = blocks(plain.stdout)
+    written = run(program, folder, "--init-triage")
+    text = written.stdout.decode()
+    demand(written.returncode == 0 and len(tomllib.loads(text).get("race", [])) == len(races), "another number of entries is written")
+    write(folder, "i.toml", text)
+    again = run(program, folder, "--triage", "i.toml")
+    plainly = [race for race in races if all(not re.match(r"0\d", side_of(parts(lines[event])[2])[1]) for event in race)]
+    demand(not set(blocks(again.stdout)) & set(plainly), f"a written entry does not leave out its race: {blocks(again.stdout)}")
+    reached["written"] += len(races)
+    for _ in range(4):
+        text = text_of([drawn_entry(chance, lines, races) for _ in range(chance.randint(1, 3))])
+        judge_file(program, folder, lines, races, text, reached)
+        judge_file(program, folder, lines, races, spoiled(chance, text), reached)
+
+
+def main():
+    program = os.path.abspath(sys.argv[1])
+    traces = int(sys.argv[2]) if len(sys.argv) > 2 else TRACES
+    first = int(sys.argv[3]) if len(sys.argv) > 3 else 1
+    reached = collections.Counter()
+    with tempfile.TemporaryDirectory() as folder:
+        for seed in range(first, first + traces):
+            try:
+                judge_trace(program, folder, seed, reached)
+            except Wrong as wrong:
+                print(f"seed {seed}: {wrong}")
+                return 1
+    missing = [what for what in REACHED if not reached[what]]
+    if missing:
+        print(f"never met: {', '.join(missing)}")
+        return 1
+    print(", ".join(f"{what} {reached[what]}" for what in REACHED))
+    return 0
+
+
+if __name__ == "__main__":
+    sys.exit(main())
