@@ -65,7 +65,7 @@ fn is_answered_on(alloc: Global, indexed: &Indexed, question: Question) -> Optio
         Question::Text(canonical) => is_printed(alloc, indexed, canonical),
         Question::Events(events) => Some(are_events(indexed, events)),
         Question::Sections(ends) => Some(are_sections(indexed, ends)),
-        Question::Hashers(text, wanted) => Some(has_hashers_of(indexed, text) == wanted),
+        Question::Hashers(text, wanted) => Some(has_hashers_of(alloc, indexed, text)? == wanted),
         Question::Ordered(..)
         | Question::Known(..)
         | Question::Rows(..)

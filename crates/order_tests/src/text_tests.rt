@@ -1,10 +1,11 @@
-//! What no clause says and the program does not print: which numbers a text gives to its events, which text is canonical, where sections
-//! end, and that a trace keeps the hashers of its text; and that a trace is read, checked, indexed and printed where there is memory.
+//! What no clause says and the program does not print: which numbers a text gives to its events, which text is
+//! canonical, where sections end, and that a trace keeps hashers that its names and locations decide; and that a trace
+//! is read, checked, indexed and printed where there is memory.
 //! Which texts are refused, and for what, is in `tests/judge_texts.py`.
 use crate::fixtures::{ONE_LOCK, TWO_PAIRS};
 use crate::questions::{Question, first_wrong};
 use event_index::Indexed;
-use rapid_text::{Event, Op, TextKeyed, print};
+use rapid_text::{Event, Op, parse, print};
 use std::alloc::Global;
 use std::hash::{BuildHasher, Hasher};
 
@@ -34,10 +35,14 @@ pub(crate) fn are_sections(indexed: &Indexed, ends: &[Option<u32>]) -> bool {
     are_right
 }
 
-// What the hashers make of nothing: it tells them apart.
-pub(crate) fn has_hashers_of(indexed: &Indexed, text: &[u8]) -> bool {
+// Whether the trace has the hashers of this text, or None where memory was wanting. What they make of nothing tells
+// them apart.
+pub(crate) fn has_hashers_of(alloc: Global, indexed: &Indexed, text: &[u8]) -> Option<bool> {
     let kept = indexed.trace().raw().keyed().build_hasher().finish();
-    kept == TextKeyed::of(text).build_hasher().finish()
+    match parse(alloc, text) {
+        Ok(raw) => Some(kept == raw.keyed().build_hasher().finish()),
+        Err(_) => None,
+    }
 }
 
 const EVERY_OPERATION: &[u8] =
@@ -100,6 +105,27 @@ const TWO_LOCKS: &[u8] =
 
 const TAKEN_TWICE: &[u8] = b"T1|acq(l)|\nT1|acq(l)|\nT1|rel(l)|\nT1|rel(l)|";
 
+// Its first line is long, so that the key is made of the names; the second has no location.
+const LONG_LINE: &[u8] =
+    b"thread_of_a_long_name|w(variable_of_a_long_name)|/a/long/path/of/many/parts/so/that/\
+      the/line/has/more/bytes/than/a/short/one/and/some/more/file.c:1234567\nT|r(x)\nT|w(y)|file.c:7654321 far_behind";
+
+const OTHER_THREAD: &[u8] =
+    b"thread_of_a_long_nama|w(variable_of_a_long_name)|/a/long/path/of/many/parts/so/that/\
+      the/line/has/more/bytes/than/a/short/one/and/some/more/file.c:1234567\nT|r(x)\nT|w(y)|file.c:7654321 far_behind";
+
+const OTHER_NAME: &[u8] =
+    b"thread_of_a_long_name|w(variable_of_a_long_nama)|/a/long/path/of/many/parts/so/that/\
+      the/line/has/more/bytes/than/a/short/one/and/some/more/file.c:1234567\nT|r(x)\nT|w(y)|file.c:7654321 far_behind";
+
+const OTHER_LOCATION: &[u8] =
+    b"thread_of_a_long_name|w(variable_of_a_long_name)|/a/long/path/of/many/parts/so/that/\
+      the/line/has/more/bytes/than/a/short/one/and/some/more/file.c:1234567\nT|r(x)\nT|w(y)|file.c:7654321 far_behinc";
+
+const OTHER_LAST_NAME: &[u8] =
+    b"thread_of_a_long_name|w(variable_of_a_long_name)|/a/long/path/of/many/parts/so/that/\
+      the/line/has/more/bytes/than/a/short/one/and/some/more/file.c:1234567\nT|r(x)\nT|w(z)|file.c:7654321 far_behind";
+
 const ROWS: &[(&[u8], Question)] = &[
     (ONE_LOCK, Question::Text(ONE_LOCK)),
     (SPACED, Question::Text(TWO_LINES)),
@@ -135,6 +161,12 @@ const ROWS: &[(&[u8], Question)] = &[
     ),
     (TWO_PAIRS, Question::Hashers(TWO_PAIRS, true)),
     (TWO_PAIRS, Question::Hashers(ONE_LOCK, false)),
+    // Each name and each location is a part of the key, however far behind it stands.
+    (LONG_LINE, Question::Hashers(LONG_LINE, true)),
+    (LONG_LINE, Question::Hashers(OTHER_THREAD, false)),
+    (LONG_LINE, Question::Hashers(OTHER_NAME, false)),
+    (LONG_LINE, Question::Hashers(OTHER_LOCATION, false)),
+    (LONG_LINE, Question::Hashers(OTHER_LAST_NAME, false)),
 ];
 
 #[test]
