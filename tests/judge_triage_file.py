@@ -136,9 +136,11 @@ def refusal_of(text):
         table = tomllib.loads(text)
     except tomllib.TOMLDecodeError:
         return "not TOML"
-    if set(table) - {"race"} or not isinstance(table.get("race", []), list):
-        return "racebench: triage file has more than `[[race]]` entries"
     lines = text.split("\n")
+    if set(table) - {"race"} or not isinstance(table.get("race", []), list):
+        key = min(set(table) - {"race"}, default="race")
+        line = next((n for n, line in enumerate(lines) if re.match(rf"\[?\[?{key}(?![A-Za-z0-9_-])", line)), 0)
+        return f"racebench: triage file line {line + 1} column 1: not a `[[race]]` entry"
     heads = [at for at, line in enumerate(lines) if line.startswith("[[")]
     for wrong in (mistake_of, lambda entry: "expired" if entry.get("expires", TODAY) < TODAY else None):
         for at, entry in enumerate(table.get("race", [])):
@@ -233,7 +235,7 @@ def judge_file(program, folder, lines, races, text, reached):
         return
     if refusal:
         demand(done.returncode == 1 and done.stdout == b"" and done.stderr.decode() == refusal + "\n", f"{done.stderr.decode()} in place of {refusal}")
-        reached["expired" if refusal.endswith("expired") else "more than entries" if "more than" in refusal else "refused entry"] += 1
+        reached["expired" if refusal.endswith("expired") else "more than entries" if "not a" in refusal else "refused entry"] += 1
         return
     entries = tomllib.loads(text).get("race", [])
     kept = [race for race in races if not any(entry["verdict"] != "fixed" and is_about(entry, lines, *race) for entry in entries)]

@@ -16,7 +16,7 @@ use Rattle.triage_calls.specs.declared.triaged.TriagedFault.TheVariants.{Replay,
 -- the fault of a refusal
 abbrev pub fault_by : Refusal → TriagedFault
 fault_by (Toml spot) = File (Toml spot)
-fault_by Top = File Top
+fault_by (Top spot) = File (Top spot)
 fault_by (Entry spot number mistake) = File (Entry spot number mistake)
 fault_by (Expired spot number) = File (Expired spot number)
 fault_by OutOfMemory = Replay NoMemory
@@ -51,7 +51,7 @@ spot_words spot = concat (codes "triage file line " ∷ decimal spot.line ∷ co
 
 abbrev pub refusal_words : Refusal → List ℕ
 refusal_words (Toml spot) = spot_words spot ++ codes "not TOML"
-refusal_words Top = codes "triage file has more than `[[race]]` entries"
+refusal_words (Top spot) = spot_words spot ++ codes "not a `[[race]]` entry"
 refusal_words (Entry spot number mistake) = spot_words spot ++ concat (codes "entry " ∷ decimal number ∷ codes " " ∷ mistake_words mistake ∷ [])
 refusal_words (Expired spot number) = spot_words spot ++ concat (codes "entry " ∷ decimal number ∷ codes " " ∷ codes "has expired" ∷ [])
 refusal_words OutOfMemory = fault_words NoMemory

@@ -119,10 +119,10 @@ fn append_refusal(refusal: Refusal, out: &mut Vec<u8>) -> Result<(), OutOfMemory
             append_spot(spot, out)?;
             append_pieces(out, &[Piece::Words(b"not TOML")])
         }
-        Refusal::Top => append_pieces(
-            out,
-            &[Piece::Words(b"triage file has more than `[[race]]` entries")],
-        ),
+        Refusal::Top(spot) => {
+            append_spot(spot, out)?;
+            append_pieces(out, &[Piece::Words(b"not a `[[race]]` entry")])
+        }
         Refusal::Entry(spot, number, mistake) => {
             append_entry(spot, number, mistake_words(mistake), out)
         }

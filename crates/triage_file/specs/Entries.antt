@@ -119,10 +119,10 @@ place_mistake d =
 abbrev pub mistake_of : Data → Option Mistake
 mistake_of d = cond (is_none (as_table d)) (Some NoTable) (cond (not (list_all is_key (keys_of d))) (Some Unknown) (place_mistake d))
 
--- the key that a mistake is about
+-- the key that a mistake is about; the brackets of a header if it is about no key that is known
 abbrev pub key_of : Mistake → List ℕ
-key_of NoTable = []
-key_of Unknown = []
+key_of NoTable = codes "[["
+key_of Unknown = codes "[["
 key_of Paths = codes "paths"
 key_of Functions = codes "functions"
 key_of Variables = codes "variables"

@@ -88,7 +88,8 @@ IsOver text today ds refusal = ⊥
 -- why a text is refused
 abbrev pub IsRefusal : List ℕ → ℕ → Refusal → Type 0
 IsRefusal text today (Toml spot) = (IsUtf8 text → parse_document text ≡ None) × ((n : ℕ) × (n ≤ length text) × IsSpot text n spot)
-IsRefusal text today Top = (ms : Members) × IsDocument text ms × (is_top ms ≡ false)
+IsRefusal text today (Top spot) =
+    (ms : Members) × IsDocument text ms × (is_top ms ≡ false) × ((n : ℕ) × (n ≤ length text) × IsSpot text n spot)
 IsRefusal text today (Entry spot number mistake) = IsMistaken text spot number mistake
 IsRefusal text today (Expired spot number) =
     (ms : Members) × IsDocument text ms × (is_top ms ≡ true) × (mistaken_from 0 (races_in ms) ≡ None) × IsOutdated text today (races_in ms) spot number

@@ -1,5 +1,5 @@
 //! Reads a triage file.
-ghost use Rattle.std.specs.Prelude.{◌≡◌, ◌<◌, ℕ, length, map, option_map, position, None, IfErr, IfOk, IfSome, IsUtf8, OnOk};
+ghost use Rattle.std.specs.Prelude.{◌≡◌, ◌<◌, ◌≤◌, ℕ, length, map, option_map, position, None, IfErr, IfOk, IfSome, IsUtf8, OnOk};
 ghost use Rattle.std.specs.List.{list_all};
 ghost use Rattle.toml.specs.Data.{get_member};
 ghost use Rattle.toml.specs.Errors.{IsMemory, IsWithin};
@@ -7,12 +7,12 @@ ghost use Rattle.toml.specs.Parse.{parse_document};
 ghost use Rattle.toml.specs.View.{table_view, view};
 ghost use Rattle.triage_file.specs.Entries.{is_expired, keys_in};
 ghost use Rattle.triage_file.specs.Files.{first_expired, is_race_key, is_top, mistaken_from, races_in, IsDocument, IsKeyReport, IsOver, IsRefusal, IsTaken};
-ghost use Rattle.triage_file.specs.Spots.{IsHeader};
+ghost use Rattle.triage_file.specs.Spots.{IsHeader, IsSpot};
 
 use crate::dates::is_expired;
 use crate::fields::items_of;
 use crate::mistakes::{Mistake, key_of, mistake_of};
-use crate::spots::{Spot, header_of, key_in, spot_at};
+use crate::spots::{Spot, header_of, key_in, name_spot, spot_at};
 use std::alloc::Global;
 use toml::de::Error;
 use toml::{Table, Value, table_from_slice};
@@ -22,8 +22,8 @@ use toml::{Table, Value, table_from_slice};
 pub enum Refusal {
     /// 110: it is no TOML, which shows here.
     Toml(Spot),
-    /// 113: it has something beside an array `race`.
-    Top,
+    /// 113: it has something beside an array `race`, here.
+    Top(Spot),
     /// 111: the entry with this number, from 1, has a mistake.
     Entry(Spot, u64, Mistake),
     /// 112: the last day of the entry with this number, from 1, is over.
@@ -85,7 +85,7 @@ fn check(text: &[u8], table: &Table, today: u32) -> Result<(), Refusal>
     ensures err { IfErr result (IsRefusal text.now today) }
 {
     if !is_top(table) {
-        return Err(Refusal::Top);
+        return Err(Refusal::Top(top_spot(text, table)));
     }
     let entries = entries_of(table);
     match first_mistaken(entries) {
@@ -96,6 +96,23 @@ fn check(text: &[u8], table: &Table, today: u32) -> Result<(), Refusal>
         )),
         None => check_days(text, entries, today),
     }
+}
+
+/// Where the first key is that is not `race`, or else `race`.
+fn top_spot(text: &[u8], table: &Table) -> Spot
+    ensures { (n : ℕ) × (n ≤ length text.now) × IsSpot text.now n result }
+{
+    name_spot(other_key(table), text)
+}
+
+/// The first key that is not `race`, or else `race`.
+fn other_key(table: &Table) -> &[u8] {
+    for (key, _) in table.iter() {
+        if key.as_bytes() != b"race".as_slice() {
+            return key.as_bytes();
+        }
+    }
+    b"race"
 }
 
 /// A refusal if the last day of an entry is over.

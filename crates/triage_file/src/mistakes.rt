@@ -96,12 +96,12 @@ fn are_known(table: &Table) -> bool
     true
 }
 
-/// The key that the mistake is about; nothing if it is about no key that is known.
+/// The key that the mistake is about; the brackets of its header if it is about no key that is known.
 pub(crate) fn key_of(mistake: Mistake) -> &'static [u8]
     ensures { result.now ≡ key_of mistake }
 {
     match mistake {
-        Mistake::NoTable | Mistake::Unknown => b"",
+        Mistake::NoTable | Mistake::Unknown => b"[[",
         Mistake::Paths => b"paths",
         Mistake::Functions => b"functions",
         Mistake::Variables => b"variables",

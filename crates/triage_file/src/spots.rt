@@ -1,5 +1,5 @@
 //! Lines and columns of a text, both counted from 1, and where its entries and their keys are.
-ghost use Rattle.std.specs.Prelude.{◌≡◌, ◌≤◌, ◌<◌, None, IfSome, count_by, length, slice_index};
+ghost use Rattle.std.specs.Prelude.{◌≡◌, ◌≤◌, ◌<◌, ℕ, None, IfSome, count_by, length, slice_index};
 ghost use Rattle.triage_file.specs.Spots.{begins_at, headers_before, is_bare, is_feed, is_first_byte, is_header_at, is_key_at, HasNoKey, IsHeader, IsKeySpot, IsSpot};
 
 use source_places::cut_at_last;
@@ -121,4 +121,31 @@ pub(crate) fn key_in(key: &[u8], text: &[u8], start: usize) -> Option<usize>
         }
     }
     None
+}
+
+/// Where a line names this key, alone or in brackets; else the beginning.
+pub(crate) fn name_spot(key: &[u8], text: &[u8]) -> Spot
+    ensures { (n : ℕ) × (n ≤ length text.now) × IsSpot text.now n result }
+{
+    for at in 0..text.len() {
+        if (at == 0 || text[at - 1] == b'\n') && is_named_in(key, &text[at..]) {
+            return spot_at(text, at);
+        }
+    }
+    spot_at(text, 0)
+}
+
+/// Whether the text begins with this key, alone or in brackets.
+fn is_named_in(key: &[u8], text: &[u8]) -> bool {
+    is_name(key, text)
+        || match text {
+            [b'[', b'[', rest @ ..] => is_name(key, rest),
+            [b'[', rest @ ..] => is_name(key, rest),
+            _ => false,
+        }
+}
+
+/// Whether the text begins with this key.
+fn is_name(key: &[u8], text: &[u8]) -> bool {
+    text.starts_with(key) && !is_bare_at(text, key.len())
 }
