@@ -63,9 +63,9 @@ def steps_of(clock, events, lines, pair):
     steps, split = [], 0
     for place, event in enumerate(events):
         record, is_last = clock.record_of[event], last[clock.record_of[event]] == place
-        if last[record] > place or (is_last and record in ends):
-            split += place + 1 < len(events) and clock.record_of[events[place + 1]] != record
-        elif is_last:
+        is_part = last[record] > place or (record in ends and lines[event].split("|", 2)[1].startswith(("r(", "w(")))
+        split += is_part and place + 1 < len(events) and clock.record_of[events[place + 1]] != record
+        if is_last and record not in ends:
             steps.append(event)
     return steps, split
 

@@ -4,6 +4,7 @@ memory, and every read on the way has the writer that it had in the recording.
 What no other judge sees: an order that a program keeps and its trace does not have, so that a schedule is accepted that no run can make.
 """
 
+import contextlib
 import os
 import random
 import re
@@ -27,6 +28,8 @@ PATIENCE, TIMEOUT = 60_000, 600
 # The seeds of the programs that are always tried, and how many races they have at least. In the last one a read comes between the parts
 # of a free.
 FEW, LEAST_RACES = (7, 10, 16, 924734307), 40
+# The same for programs of teams of OpenMP.
+FEW_TEAMS, LEAST_OF_TEAMS = (6, 8, 51), 10
 
 HEAD = """#include <pthread.h>
 #include <semaphore.h>
@@ -126,6 +129,50 @@ def program(chance):
     return "".join(lines) + MAIN % {"threads": threads}
 
 
+TEAM_HEAD = """#include <omp.h>
+#include <stdlib.h>
+static volatile int v[4], seen[8];
+static volatile int *h;
+static omp_lock_t l;
+int main(void) {
+    h = calloc(4, sizeof *h);
+    omp_init_lock(&l);
+"""
+# What all threads of a team come to, with accesses as above; KIND is a schedule.
+TEAM_STEPS = [
+    "AC", "AC", "AC AD",
+    "#pragma omp critical\n{ AC AD }",
+    "#pragma omp critical(other)\n{ AC }",
+    "omp_set_lock(&l); AC omp_unset_lock(&l);",
+    "if (omp_test_lock(&l)) { AC omp_unset_lock(&l); }",
+    "#pragma omp barrier",
+    "#pragma omp single\n{ AC AD }",
+    "#pragma omp single nowait\n{ AC }",
+    "#pragma omp master\n{ AC }",
+    "#pragma omp for schedule(KIND)\nfor (int i = 0; i < 7; i++) { v[i & 3] = i; AC }",
+    "#pragma omp for schedule(KIND) nowait\nfor (int i = 0; i < 5; i++) { AC h[i & 3]++; }",
+    "#pragma omp for ordered schedule(KIND)\nfor (int i = 0; i < 5; i++) { AC\n#pragma omp ordered\n{ AD } }",
+    "#pragma omp sections\n{\n#pragma omp section\n{ AC }\n#pragma omp section\n{ AD }\n#pragma omp section\n{ AC }\n}",
+    "#pragma omp sections nowait\n{\n#pragma omp section\n{ AC }\n#pragma omp section\n{ AD }\n}",
+    "#pragma omp single copyprivate(own)\nown = v[0];\nv[own & 3] = own;",
+    "#pragma omp atomic\nv[0]++;",
+    "#pragma omp parallel num_threads(2)\n{ AC }",
+]  # fmt: skip
+KINDS = ["static", "static, 1", "dynamic", "dynamic, 2", "guided"]
+
+
+def team_program(chance):
+    """A program of some teams of OpenMP, all of whose threads come to the same constructs."""
+    lines = [TEAM_HEAD]
+    for _ in range(chance.randint(1, 2)):
+        lines.append(f"#pragma omp parallel num_threads({chance.randint(2, 4)})\n{{ int own = 0, T = omp_get_thread_num(); (void)own;\n")
+        for _ in range(chance.randint(3, 7)):
+            step = re.sub("A[CD]", lambda _: access(chance, "T"), chance.choice(TEAM_STEPS))
+            lines.append(step.replace("KIND", chance.choice(KINDS)) + "\n")
+        lines.append("}\n")
+    return "".join(lines) + "    return 0;\n}\n"
+
+
 def writers(data):
     """For each record its thread and clock, and for a read those of the last write to its first byte; a free writes its block."""
     head, last, found, sizes = raw_file.Head(data), {}, {}, {}
@@ -145,6 +192,19 @@ def writers(data):
     return found
 
 
+@contextlib.contextmanager
+def quiet():
+    """What a program says of its broken heap is not shown."""
+    kept = os.dup(2)
+    with open(os.devnull, "wb") as nowhere:
+        os.dup2(nowhere.fileno(), 2)
+    try:
+        yield
+    finally:
+        os.dup2(kept, 2)
+        os.close(kept)
+
+
 def follow(clock, words, racebench, pair):
     """What is wrong with a race that is followed; nothing if all is right. And how many reads were compared."""
     witness, _ = ran([racebench, "witness", "program.std", *pair])
@@ -152,7 +212,7 @@ def follow(clock, words, racebench, pair):
         file.write(witness)
     with open("witness.txt", encoding="utf-8") as file:
         plan = plans.Plan(clock, plans.read_witness(file, clock), tuple(map(int, pair)), PATIENCE)
-    with tempfile.TemporaryFile() as records:
+    with tempfile.TemporaryFile() as records, quiet():
         result = following.followed(plan, "first", words, 1, TIMEOUT, records=records)
         for number in (signal.SIGINT, signal.SIGTERM):
             signal.signal(number, signal.SIG_DFL)
@@ -163,8 +223,10 @@ def follow(clock, words, racebench, pair):
     # Accesses between whose parts others come are done whole, and that is told.
     if plan.split:
         return "", 0
-    before, reads = writers(clock.raw), 0
+    before, reads, ends = writers(clock.raw), 0, {clock.record_of[event] for event in plan.pair}
     for event in plan.events:
+        if clock.record_of[event] in ends:
+            continue
         record = clock.record(event)
         who = record.thread, record.pos
         if record.kind in READS and who in before:
@@ -174,13 +236,14 @@ def follow(clock, words, racebench, pair):
     return "", reads
 
 
-def judge(racebench, seed, tally):
+def judge(racebench, seed, tally, make=program):
     """A program, recorded with two seeds, and all of its races."""
     with open("program.c", "w", encoding="ascii") as file:
-        file.write(program(random.Random(seed)))
-    ran([os.path.join(RECORD, "cc"), "-O1", "-g", "program.c", "-o", "program"])
+        file.write(make(random.Random(seed)))
+    ran([os.path.join(RECORD, "cc"), "-O1", "-g", *(["-fopenmp"] if make is team_program else []), "program.c", "-o", "program"])
     for run in range(2):
-        trace, _ = ran([os.path.join(RECORD, "run"), "--seed", str(seed + run), "--yield", "5", "--clock", "program.clock", "./program"], None)
+        words = ["--seed", str(seed + run), "--yield", "5", "--clock", "program.clock", "./program"]
+        trace, _ = ran([os.path.join(RECORD, "run"), *words], None)
         with open("program.std", "w", encoding="utf-8") as file:
             file.write(trace)
         clock = clocks.Clock("program.clock") if trace else None
@@ -203,8 +266,17 @@ def judge_few(racebench):
         raise WrongFollow(f"programs by chance have {tally['races']} races alone: {dict(tally)}")
 
 
+def judge_teams(racebench):
+    """The same of programs of OpenMP."""
+    tally = Counter()
+    for seed in FEW_TEAMS:
+        judge(racebench, seed, tally, team_program)
+    if tally["races"] < LEAST_OF_TEAMS:
+        raise WrongFollow(f"programs of OpenMP by chance have {tally['races']} races alone: {dict(tally)}")
+
+
 def cases(racebench):
-    return [("programs by chance", judge_few, (racebench,))]
+    return [("programs by chance", judge_few, (racebench,)), ("teams by chance", judge_teams, (racebench,))]
 
 
 def soak(racebench, first, programs):
@@ -216,10 +288,11 @@ def soak(racebench, first, programs):
             os.chdir(folder)
             try:
                 judge(racebench, seed, tally)
+                judge(racebench, seed, tally, team_program)
             except WrongFollow as why:
                 wrong += 1
                 print(why, flush=True)
             os.chdir(top)
-    print(f"soak: {programs} programs by chance, {tally['recordings']} recordings, {tally['races']} races stood, "
+    print(f"soak: {programs} programs by chance and as many of OpenMP, {tally['recordings']} recordings, {tally['races']} races stood, "
           f"{tally['reads']} reads had their writers; {wrong} programs did not")
     return 1 if wrong or not tally["reads"] else 0

@@ -74,6 +74,7 @@ static void begin_region(struct region *r) {
         take();
         r->size = size;
         bring_back(r);
+        short_wait = 0;
     } else {
         come_back(r);
     }
@@ -85,11 +86,12 @@ static void begin_region(struct region *r) {
 static void end_region(struct region *r) {
     if (me >= MOST_THREADS || r->is_planned || r->has_tasks || ++r->in < r->size) {
         give();
-    } else if (me != r->master) {
-        lock_turns();
-        if (holder == me) hand_to(r->master);
-        unlock_turns();
+        return;
     }
+    short_wait = 1;
+    lock_turns();
+    if (me != r->master && holder == me) hand_to(r->master);
+    unlock_turns();
 }
 
 static void in_region(void *p) {
@@ -99,7 +101,8 @@ static void in_region(void *p) {
     making_team = 0;
     my_region = r, my_team = r->team, my_share = FIRST_ROUND + 1, my_round = FIRST_ROUND + 2;
     if (!idle) begin_region(r);
-    meet_team(WENT_ON, my_team, FIRST_ROUND, r->pc);
+    /* The library lets the team go on when all of its threads are made: after that the master is here. */
+    meet_team(me == r->master ? ARRIVED : WENT_ON, my_team, FIRST_ROUND, r->pc);
     r->body(r->data);
     meet_team(ARRIVED, my_team, LAST_ROUND, r->pc);
     my_region = region_before, my_team = team_before, my_round = round_before, my_share = share_before;
@@ -123,12 +126,12 @@ static int is_of_openmp(void *(*body)(void *)) {
         struct region r = {.body = body, .data = data, .team = __atomic_add_fetch(&teams, 1, SC), .pc = PC}; \
         int idle = IDLE; \
         if (!idle) maybe_give(), r.master = me, r.is_planned = (u8)following; \
-        if (!idle) meet_team(ARRIVED, r.team, FIRST_ROUND, PC); \
         if (r.is_planned) give(); \
+        else if (!idle) short_wait = 1; \
         making_team = PC; \
         real passed_on; \
         making_team = 0; \
-        if (!idle) take(), meet_team(WENT_ON, r.team, LAST_ROUND, PC); \
+        if (!idle) take(), short_wait = 0, meet_team(WENT_ON, r.team, LAST_ROUND, PC); \
     }
 REGION(GOMP_parallel, (void (*body)(void *), void *data, unsigned n, unsigned g), (in_region, &r, n, g))
 REGION(GOMP_parallel_sections, (void (*body)(void *), void *data, unsigned n, unsigned k, unsigned g),

@@ -16,7 +16,8 @@ static volatile u8 turns_lock;
 static u64 chance;
 /* How many accesses are left of this turn. */
 static u64 left_of_turn = 1;
-/* The holder sleeps, but not for long: it waits for the end of a thread that has had its last turn. */
+/* The holder waits, but not for long: for the end of a thread that has had its last turn, or for a team of OpenMP that
+ * is made or ended. */
 static volatile u8 short_wait;
 /* Parked threads look whether what they wait for came from outside: nothing is drawn meanwhile. */
 static u8 rescuing;

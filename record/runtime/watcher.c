@@ -34,7 +34,7 @@ static void *watcher(void *none) {
         still = same ? still + 1 : 0;
         sleeps = looks && who != NOBODY && !short_wait && is_asleep(who) ? sleeps + 1 : 0;
         if (!looks) ran = ran_ms(holder);
-        look(looks, sleeps >= 2, ran_ms(holder) >= ran + LONG_RUN);
+        look(looks, sleeps >= 2, !short_wait && ran_ms(holder) >= ran + LONG_RUN);
         who = holder;
         seen = progress;
         if (following && still * 20 > plan->patience_ms) hangs();
