@@ -18,7 +18,7 @@ const space = $("space");
 export const events = { act: null };
 
 // What an answer brings in sight: the end, a position, or what is in sight already (null).
-export const END = "end";
+const END = "end";
 
 let win = null;
 let asked = 0;

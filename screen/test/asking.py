@@ -35,6 +35,8 @@ class Session:
         words = line.split()
         if words[0] != "?":
             return self.ask(line)
+        if os.environ.get("QUESTIONS") == "unknown":
+            return "line 1: 81 bad word"
         if words[1] == "rows":
             names = self.ask("list").split()[1:]
             return " ".join([f"rows {self.length()}", *(f"{name}:0:0:1" for name in names)])

@@ -51,3 +51,12 @@ async def test_questions_and_batches_say_the_same(program):
     os.environ["WITNESS"] = "unknown"  # a program that answers some questions and not this one
     same(await walked(ASKING), plain)
     del os.environ["WITNESS"]
+    os.rename("log", "some.log")
+    os.remove("asked")
+    os.environ["QUESTIONS"] = "unknown"  # one that answers none: it is asked by batches that are refused
+    same(await walked(ASKING), plain)
+    del os.environ["QUESTIONS"]
+    with open("asked", encoding="ascii") as file:
+        lines = file.read().splitlines()
+    assert any(line.startswith("batch") and " ; new " in line for line in lines), lines
+    same([line for line in lines if line.startswith("? ") and line != "? rows"], [])
