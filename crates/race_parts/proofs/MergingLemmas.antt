@@ -1,0 +1,87 @@
+-- The parts of a merged report, taken in one after another.
+use Rattle.std.proofs.Common.{◌≡◌, ℕ, ◌+◌, ◌-◌, All, List, [], ◌∷◌, ◌++◌, append_assoc, length, map, Vec, Result, Ok, Err, OnOk, refl, sym, ap, ◌∙◌, subst, arith}
+use Rattle.std.specs.BTreeMap.{BTreeMap}
+use Rattle.std.specs.declared.alloc.Global.{Global}
+use Rattle.std.proofs.lemmas.List.{length-append}
+use Rattle.std.proofs.lemmas.List.Elements.{All-cons}
+use Rattle.serde_json.specs.declared.value.Value.{Value}
+use Rattle.serde_json.specs.View.{view}
+use Rattle.race_parts.specs.Merging.{AreWrong, IsLineRefused, IsPartText, IsUntaken, told_of}
+use Rattle.race_parts.specs.Parts.{IsPutFault, joined, single, text_at, told_in}
+use Rattle.race_parts.specs.declared.lines.PartRefusal.{PartRefusal}
+use Rattle.race_parts.specs.declared.lines.PartRefusal.TheVariants.{Line, Version, Clash, OutOfMemory}
+use Rattle.race_parts.specs.declared.parts.Part.{Part}
+use Rattle.race_parts.proofs.UnionLemmas.{joined-assoc, told-cons}
+
+abbrev Named : Type 0
+Named = BTreeMap (Vec ℕ Global) Part
+
+-- Of these lines, some were taken in, and the others are left.
+pub record IsTaking (old now : Named) (lines left : List Value) (place : ℕ) : Type 0 where
+  pub each : (q : Vec ℕ Global) → joined (text_at now q) (told_in (map told_of left) q.items) ≡ joined (text_at old q) (told_in (map told_of lines) q.items)
+  pub parts : All (λ p. IsPartText p.1) (map told_of left) → All (λ p. IsPartText p.1) (map told_of lines)
+  pub done : List Value
+  pub all : lines ≡ done ++ left
+  pub place_is : place ≡ length done + 1
+
+pub taking_begins : (old : Named) (lines : List Value) → IsTaking old old lines lines 1
+taking_begins old lines = record { each = λ q. refl; parts = λ all. all; done = []; all = refl; place_is = refl }
+
+pub taking_goes_on : (old now new : Named) (lines left behind : List Value) (v : Value) (place next : ℕ)
+    → IsTaking old now lines left place
+    → left ≡ v ∷ behind
+    → IsPartText (told_of v).1
+    → ((q : Vec ℕ Global) → text_at new q ≡ joined (text_at now q) (single (told_of v).0 (told_of v).1 q.items))
+    → next ≡ length lines - length behind + 1
+    → IsTaking old new lines behind next
+taking_goes_on old now new lines left behind v place next taking cut one took next_is =
+    let first : map told_of left ≡ told_of v ∷ map told_of behind = ap (map told_of) cut in
+    let all : lines ≡ (taking.done ++ v ∷ []) ++ behind =
+    taking.all ∙ ap (λ (vs : List Value). taking.done ++ vs) cut ∙ sym (append_assoc taking.done (v ∷ []) behind) in
+    let long : length lines ≡ length (taking.done ++ v ∷ []) + length behind = ap length all ∙ length-append (taking.done ++ v ∷ []) behind in
+    record {
+      each = λ q.
+          ap (λ o. joined o (told_in (map told_of behind) q.items)) (took q)
+          ∙ joined-assoc (text_at now q) (single (told_of v).0 (told_of v).1 q.items) (told_in (map told_of behind) q.items)
+          ∙ ap (joined (text_at now q)) (sym (told-cons (told_of v) (map told_of behind) q.items))
+          ∙ ap (λ (es : List (List ℕ × List ℕ)). joined (text_at now q) (told_in es q.items)) (sym first)
+          ∙ taking.each q;
+      parts = λ rest. taking.parts (subst (λ (es : List (List ℕ × List ℕ)). All (λ p. IsPartText p.1) es) (sym first) (All-cons (λ (p : List ℕ × List ℕ). IsPartText p.1) (told_of v) (map told_of behind) one rest));
+      done = taking.done ++ v ∷ [];
+      all = all;
+      place_is = omega (arith, long, next_is);
+    }
+
+-- the first of what is left is refused
+pub taking_stops : (old now : Named) (lines left behind : List Value) (v : Value) (place : ℕ) (why : PartRefusal)
+    → IsTaking old now lines left place → left ≡ v ∷ behind → IsLineRefused (told_of v).1 place why → IsUntaken lines why
+taking_stops old now lines left behind v place (Line line) taking cut refused = record {
+  done = taking.done;
+  value = v;
+  behind = behind;
+  all = taking.all ∙ ap (λ (vs : List Value). taking.done ++ vs) cut;
+  line_is = refused.0 ∙ taking.place_is;
+  why = refused.1.0;
+  refused = refused.1.1;
+}
+taking_stops old now lines left behind v place Version taking cut refused = refused
+taking_stops old now lines left behind v place (Clash file) taking cut refused = tt
+taking_stops old now lines left behind v place OutOfMemory taking cut refused = tt
+
+-- what is not put is not taken
+pub put_line : (text : List ℕ) (place : ℕ) (why : PartRefusal) → IsPutFault why → IsLineRefused text place why
+put_line text place (Line line) h = absurd h
+put_line text place Version h = h
+put_line text place (Clash file) h = tt
+put_line text place OutOfMemory h = tt
+
+pub put_wrong : (vs : List Value) (why : PartRefusal) → IsPutFault why → AreWrong vs why
+put_wrong vs (Line line) h = absurd h
+put_wrong vs Version h = h
+put_wrong vs (Clash file) h = tt
+put_wrong vs OutOfMemory h = tt
+
+-- what a call says of its success says what follows from it
+pub on_ok-map : {P Q : Type 0} (r : Result (Unit {0}) PartRefusal) → (P → Q) → OnOk r P → OnOk r Q
+on_ok-map (Ok u) f h = f h
+on_ok-map (Err e) f h = tt

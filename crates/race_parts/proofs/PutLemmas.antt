@@ -1,0 +1,72 @@
+-- A part more.
+use Rattle.std.proofs.Common.{◌≡◌, ℕ, true, false, cond, List, Vec, Option, Some, None, refl, sym, ap, ◌∙◌, inl, inr}
+use Rattle.std.specs.declared.alloc.Global.{Global}
+use Rattle.std.specs.declared.cmp.Ordering.{Ordering}
+use Rattle.std.specs.declared.cmp.Ordering.TheVariants.{Less, Equal, Greater}
+use Rattle.std.specs.Ordering.{is_eq}
+use Rattle.std.specs.Option.{option_map}
+use Rattle.std.specs.BTreeMap.{BTreeMap, Updates, get, get_by, is_at}
+use Rattle.std.specs.Cmp.Lexicographic.{nat_list_cmp_total}
+use Rattle.std.proofs.lemmas.Cmp.{tied_itself}
+use Rattle.std.proofs.lemmas.Map.Lookups.{exact_bytes}
+use Rattle.std.proofs.lemmas.Bool.{cases_Bool, true≢false, false≢true}
+use Rattle.race_parts.specs.Parts.{bytes_cmp, joined, name_cmp, single, text_at}
+use Rattle.race_parts.specs.declared.parts.Part.{Part}
+use Rattle.race_parts.proofs.UnionLemmas.{joined-none}
+
+equal_is : (r : Ordering) → is_eq r ≡ true → r ≡ Equal
+equal_is Less h = absurd (false≢true h)
+equal_is Equal h = refl
+equal_is Greater h = absurd (false≢true h)
+
+same_bytes : (xs ys : List ℕ) → is_at (bytes_cmp xs) ys ≡ true → xs ≡ ys
+same_bytes xs ys h = exact_bytes xs ys (equal_is (bytes_cmp xs ys) h)
+
+at_itself : (xs : List ℕ) → is_at (bytes_cmp xs) xs ≡ true
+at_itself xs = ap is_eq (tied_itself nat_list_cmp_total xs)
+
+single-here : (name text q : List ℕ) → is_at (bytes_cmp q) name ≡ true → single name text q ≡ Some text
+single-here name text q here = ap (λ b. cond b (Some text) None) here
+
+single-other : (name text q : List ℕ) → is_at (bytes_cmp q) name ≡ false → single name text q ≡ None
+single-other name text q other = ap (λ b. cond b (Some text) None) other
+
+abbrev text_of : Option Part → Option (List ℕ)
+text_of o = option_map (λ p. p.text.items) o
+
+-- a look-up depends on the bytes of a name alone
+text_at-same : (m : BTreeMap (Vec ℕ Global) Part) (q k : Vec ℕ Global) → q.items ≡ k.items → text_at m q ≡ text_at m k
+text_at-same m q k same = ap (λ (bytes : List ℕ). option_map (λ p. p.text.items) (get_by (λ e. bytes_cmp bytes e.items) m)) same
+
+-- the part is there
+pub kept : (m : BTreeMap (Vec ℕ Global) Part) (k : Vec ℕ Global) (text : List ℕ) → text_at m k ≡ Some text → (q : Vec ℕ Global) → text_at m q ≡ joined (text_at m q) (single k.items text q.items)
+kept m k text found q =
+    elim (cases_Bool (is_at (bytes_cmp q.items) k.items)) [
+      | inl here ↦
+          let there : text_at m q ≡ Some text = text_at-same m q k (same_bytes q.items k.items here) ∙ found in
+          there ∙ sym (ap (λ o. joined o (single k.items text q.items)) there)
+      | inr other ↦ sym (joined-none (text_at m q)) ∙ sym (ap (joined (text_at m q)) (single-other k.items text q.items other))
+    ]
+
+-- the part is new
+pub added : (m n : BTreeMap (Vec ℕ Global) Part) (k : Vec ℕ Global) (p : Part) → text_at m k ≡ None → Updates name_cmp m n k (Some p)
+    → (q : Vec ℕ Global) → text_at n q ≡ joined (text_at m q) (single k.items p.text.items q.items)
+added m n k p none updates q =
+    elim (cases_Bool (is_at (bytes_cmp k.items) q.items)) [
+      | inl here ↦
+          let same : k.items ≡ q.items = same_bytes k.items q.items here in
+          let back : is_at (bytes_cmp q.items) k.items ≡ true = ap (λ (b : List ℕ). is_at (bytes_cmp b) k.items) (sym same) ∙ at_itself k.items in
+          let written : text_at n q ≡ Some p.text.items = ap text_of (updates.0 q) ∙ ap (λ b. text_of (cond b (Some p) (get name_cmp m q))) here in
+          let before : text_at m q ≡ None = text_at-same m q k (sym same) ∙ none in
+          written ∙ sym (ap (λ o. joined o (single k.items p.text.items q.items)) before ∙ single-here k.items p.text.items q.items back)
+      | inr other ↦
+          let back : is_at (bytes_cmp q.items) k.items ≡ false =
+          elim (cases_Bool (is_at (bytes_cmp q.items) k.items)) [
+            | inr fails ↦ fails
+            | inl passes ↦
+                let same : q.items ≡ k.items = same_bytes q.items k.items passes in
+                absurd (true≢false (sym (ap (λ (b : List ℕ). is_at (bytes_cmp k.items) b) same ∙ at_itself k.items) ∙ other))
+          ] in
+          ap text_of (updates.0 q) ∙ ap (λ b. text_of (cond b (Some p) (get name_cmp m q))) other
+          ∙ sym (joined-none (text_at m q)) ∙ sym (ap (joined (text_at m q)) (single-other k.items p.text.items q.items back))
+    ]

@@ -1,0 +1,119 @@
+-- The rows of all parts, and the order in which they are told. All notions here are this project's own.
+use Rattle.std.specs.Prelude.{◌≡◌, ℕ, ◌+◌, suc, Bool, ◌&&◌, cond, List, [], ◌∷◌, ◌++◌, map, flat_map, drop, unwrap_or, option_and_then, Vec, Option, Some, None, codes, bytes_eq}
+use Rattle.std.specs.declared.alloc.Global.{Global}
+use Rattle.std.specs.declared.cmp.Ordering.{Ordering}
+use Rattle.std.specs.Ordering.{nat_cmp, ordering_then, is_gt}
+use Rattle.std.specs.List.Sorted.{IsPermutation, IsSorted}
+use Rattle.serde_json.specs.Data.{Data}
+use Rattle.serde_json.specs.View.{view}
+use Rattle.serde_json.specs.declared.value.Value.{Value}
+use Rattle.race_parts.specs.Members.{access_in, find_number, find_text, is_kind, said_number, said_text}
+use Rattle.race_parts.specs.Parts.{bytes_cmp}
+use Rattle.race_parts.specs.declared.cells.Cell.{Cell}
+use Rattle.race_parts.specs.declared.cells.Row.{Row}
+use Rattle.race_parts.specs.declared.parts.Part.{Part}
+
+-- a row: the name of its part, and what it says
+abbrev pub Said : Type 0
+Said = List ℕ × Value
+
+abbrev pub row_said : Row → Said
+row_said r = (r.part.now, r.value.now)
+
+-- the rows of a part are its lines but the first
+abbrev pub rows_of_part : List ℕ → Part → List Said
+rows_of_part name p = map (λ v. (name, v)) (drop 1 p.lines.items)
+
+-- those of all parts, by the names of the parts
+abbrev pub rows_in : List (Vec ℕ Global × Part) → List Said
+rows_in es = flat_map (λ e. rows_of_part e.0.items e.1) es
+
+abbrev pub location_by : Option Data → List ℕ
+location_by None = []
+location_by (Some d) = said_text (codes "location") d
+
+abbrev pub location_in : ℕ → Data → List ℕ
+location_in place d = location_by (access_in place d)
+
+abbrev pub event_by : Option Data → ℕ
+event_by None = 0
+event_by (Some d) = said_number (codes "event") d
+
+abbrev pub event_in : ℕ → Data → ℕ
+event_in place d = event_by (access_in place d)
+
+-- 0 for a race, 1 for what is undecided, 2 for what is apart
+abbrev pub rank_of : Data → ℕ
+rank_of d = cond (is_kind (codes "race") d) 0 (cond (is_kind (codes "undecided") d) 1 2)
+
+-- how many events the schedule of a race has
+abbrev pub size_of : Data → ℕ
+size_of d = cond (is_kind (codes "race") d) (said_number (codes "events") d) 0
+
+abbrev pub lesser_of : List ℕ → List ℕ → List ℕ
+lesser_of one other = cond (is_gt (bytes_cmp one other)) other one
+
+abbrev pub greater_of : List ℕ → List ℕ → List ℕ
+greater_of one other = cond (is_gt (bytes_cmp one other)) one other
+
+-- What a row is ordered by: its two locations, the lesser first; a race before what is undecided, and that before what is apart; the fewest
+-- events of a schedule; the name of the part; the later event; the earlier event; its number.
+pub record Key : Type 0 where
+  pub first : List ℕ
+  pub second : List ℕ
+  pub rank : ℕ
+  pub size : ℕ
+  pub part : List ℕ
+  pub later : ℕ
+  pub earlier : ℕ
+  pub number : ℕ
+
+abbrev pub key_of : ℕ → Said → Key
+key_of number said = record {
+  first = lesser_of (location_in 0 (view said.1)) (location_in 1 (view said.1));
+  second = greater_of (location_in 0 (view said.1)) (location_in 1 (view said.1));
+  rank = rank_of (view said.1);
+  size = size_of (view said.1);
+  part = said.0;
+  later = event_in 1 (view said.1);
+  earlier = event_in 0 (view said.1);
+  number = number;
+}
+
+abbrev pub cell_key : Cell → Key
+cell_key c = record {
+  first = c.first.now;
+  second = c.second.now;
+  rank = c.rank;
+  size = c.size;
+  part = c.part.now;
+  later = c.later;
+  earlier = c.earlier;
+  number = c.number;
+}
+
+abbrev pub key_cmp : Key → Key → Ordering
+key_cmp a b =
+    ordering_then (bytes_cmp a.first b.first)
+    (ordering_then (bytes_cmp a.second b.second)
+    (ordering_then (nat_cmp a.rank b.rank)
+    (ordering_then (nat_cmp a.size b.size)
+    (ordering_then (bytes_cmp a.part b.part)
+    (ordering_then (nat_cmp a.later b.later)
+    (ordering_then (nat_cmp a.earlier b.earlier) (nat_cmp a.number b.number)))))))
+
+-- the keys of rows, whose numbers begin at this one
+abbrev pub keys_from : ℕ → List Said → List Key
+keys_from n [] = []
+keys_from n (s ∷ ss) = key_of n s ∷ keys_from (suc n) ss
+
+-- The cells are those of the rows, in the order of their keys.
+pub record AreSorted (rows : List Said) (cells : List Cell) : Type 0 where
+  pub before : List Cell
+  pub keys : map cell_key before ≡ keys_from 0 rows
+  pub permutation : IsPermutation before cells
+  pub sorted : IsSorted (λ a b. key_cmp (cell_key a) (cell_key b)) cells
+
+-- of one pair of places
+abbrev pub is_same : Cell → Cell → Bool
+is_same a b = bytes_eq a.first.now b.first.now && bytes_eq a.second.now b.second.now

@@ -1,0 +1,9 @@
+pub mod Cells
+pub mod Laws
+pub mod Lines
+pub mod Members
+pub mod Merging
+pub mod Objects
+pub mod Parts
+pub mod Rows
+pub mod Texts

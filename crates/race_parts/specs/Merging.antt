@@ -1,0 +1,134 @@
+-- What a file gives: a part, or the parts of a merged report. All notions here are this project's own.
+use Rattle.std.specs.Prelude.{◌≡◌, ◌⊎◌, ℕ, ◌+◌, ◌-◌, nat_eq, nat_lt, Bool, ◌&&◌, not, true, false, cond, All, List, [], ◌∷◌, ◌++◌, length, map, take, position, slice_get, Option, Some, None, codes, ⊤}
+use Rattle.serde_json.specs.Data.{Data}
+use Rattle.serde_json.specs.View.{view}
+use Rattle.serde_json.specs.declared.value.Value.{Value}
+use Rattle.race_parts.specs.Lines.{AreLines, StopsAt}
+use Rattle.race_parts.specs.Members.{has_number, has_text, is_kind, said_number, said_text}
+use Rattle.race_parts.specs.Rows.{is_other_version, wrong_line}
+use Rattle.race_parts.specs.declared.lines.PartRefusal.{PartRefusal}
+use Rattle.race_parts.specs.declared.lines.PartRefusal.TheVariants.{Line, Version, Clash, OutOfMemory}
+
+-- whether the first line says that the file is of another version
+abbrev pub is_foreign : List Value → Bool
+is_foreign [] = false
+is_foreign (v ∷ vs) = is_other_version (view v)
+
+-- whether the first line is that of a merged report
+abbrev pub is_merged_head : Data → Bool
+is_merged_head d = is_kind (codes "merged") d && has_number (codes "parts") d && has_number (codes "pairs") d
+
+abbrev pub is_merged : List Value → Bool
+is_merged [] = false
+is_merged (v ∷ vs) = is_merged_head (view v)
+
+-- the line of a part in a merged report
+abbrev pub is_part_line : Data → Bool
+is_part_line d = is_kind (codes "part") d && has_text (codes "name") d && has_text (codes "text") d
+
+-- the place behind the first line
+abbrev pub one_behind : Option ℕ → Option ℕ
+one_behind None = None
+one_behind (Some at) = Some (at + 1)
+
+-- how many parts the first line counts, and how many pairs of places
+abbrev pub part_count : Data → ℕ
+part_count d = said_number (codes "parts") d
+
+abbrev pub pair_count : Data → ℕ
+pair_count d = said_number (codes "pairs") d
+
+-- Behind the first line there are as many lines as it counts, and those of parts come first. What stands in the lines of pairs means nothing.
+abbrev pub wrong_behind_head : Data → List Value → Option ℕ
+wrong_behind_head d vs =
+    cond (nat_lt (length vs) (part_count d)) (Some (length vs + 1))
+    (cond (nat_eq (pair_count d) (length vs - part_count d))
+    (one_behind (position (λ v. not (is_part_line (view v))) (take (part_count d) vs)))
+    (Some (length vs + 1)))
+
+-- the place of the first line that does not fit into a merged report
+abbrev pub wrong_merged : List Value → Option ℕ
+wrong_merged [] = Some 0
+wrong_merged (v ∷ vs) = wrong_behind_head (view v) vs
+
+-- the lines of its parts, and each as a name with a text
+abbrev pub part_lines : List Value → List Value
+part_lines [] = []
+part_lines (v ∷ vs) = take (part_count (view v)) vs
+
+abbrev pub told_of : Value → List ℕ × List ℕ
+told_of v = (said_text (codes "name") (view v), said_text (codes "text") (view v))
+
+abbrev pub told_parts : List Value → List (List ℕ × List ℕ)
+told_parts vs = map told_of (part_lines vs)
+
+-- the text is that of a part
+abbrev pub IsPartText : List ℕ → Type 0
+IsPartText text = (vs : List Value) × AreLines text vs × (wrong_line vs ≡ None)
+
+-- a file of this name gives these parts
+abbrev pub Gives : List ℕ → List ℕ → List (List ℕ × List ℕ) → Type 0
+Gives name text given =
+    (vs : List Value) × AreLines text vs × (is_foreign vs ≡ false)
+    × (((is_merged vs ≡ false) × (wrong_line vs ≡ None) × (given ≡ (name, text) ∷ []))
+    ⊎ ((is_merged vs ≡ true) × (wrong_merged vs ≡ None) × (given ≡ told_parts vs) × All (λ p. IsPartText p.1) given))
+
+-- the line of this place does not fit
+abbrev pub IsAt : Option ℕ → PartRefusal → Type 0
+IsAt (Some at) (Line line) = line ≡ at
+IsAt (Some at) why = ⊥
+IsAt None why = ⊥
+
+-- why the text is no part
+abbrev pub IsPartRefused : List ℕ → PartRefusal → Type 0
+IsPartRefused text (Line line) = StopsAt text line ⊎ ((vs : List Value) × AreLines text vs × IsAt (wrong_line vs) (Line line))
+IsPartRefused text Version = (vs : List Value) × AreLines text vs × (is_foreign vs ≡ true)
+IsPartRefused text (Clash file) = ⊥
+IsPartRefused text OutOfMemory = ⊤
+
+-- why the part in a line is refused
+abbrev pub IsLineRefused : List ℕ → ℕ → PartRefusal → Type 0
+IsLineRefused text number (Line line) = (line ≡ number) × ((why : PartRefusal) × IsPartRefused text why)
+IsLineRefused text number Version = ⊥
+IsLineRefused text number (Clash file) = ⊤
+IsLineRefused text number OutOfMemory = ⊤
+
+-- the part in one of these lines, which begin with the second of a file, is none
+pub record IsNoPartIn (lines : List Value) (line : ℕ) : Type 0 where
+  pub done : List Value
+  pub value : Value
+  pub behind : List Value
+  pub all : lines ≡ done ++ value ∷ behind
+  pub line_is : line ≡ length done + 1
+  pub why : PartRefusal
+  pub refused : IsPartRefused (said_text (codes "text") (view value)) why
+
+abbrev pub IsUntaken : List Value → PartRefusal → Type 0
+IsUntaken lines (Line line) = IsNoPartIn lines line
+IsUntaken lines Version = ⊥
+IsUntaken lines (Clash file) = ⊤
+IsUntaken lines OutOfMemory = ⊤
+
+-- why a merged report with these lines is refused
+abbrev pub AreWrongIn : List Value → PartRefusal → Type 0
+AreWrongIn vs (Line line) = IsAt (wrong_merged vs) (Line line) ⊎ IsNoPartIn (part_lines vs) line
+AreWrongIn vs Version = ⊥
+AreWrongIn vs (Clash file) = ⊤
+AreWrongIn vs OutOfMemory = ⊤
+
+-- why lines that are to be a part are refused
+abbrev pub AreWrong : List Value → PartRefusal → Type 0
+AreWrong vs (Line line) = IsAt (wrong_line vs) (Line line)
+AreWrong vs Version = ⊥
+AreWrong vs (Clash file) = ⊤
+AreWrong vs OutOfMemory = ⊤
+
+abbrev pub AreRefused : List Value → PartRefusal → Type 0
+AreRefused vs why = ((is_merged vs ≡ false) × AreWrong vs why) ⊎ ((is_merged vs ≡ true) × AreWrongIn vs why)
+
+-- why a file is refused: a line of it does not fit, it is of another version, or a part of it has the name of another part
+abbrev pub IsRefused : List ℕ → PartRefusal → Type 0
+IsRefused text (Line line) = StopsAt text line ⊎ ((vs : List Value) × AreLines text vs × (is_foreign vs ≡ false) × AreRefused vs (Line line))
+IsRefused text Version = (vs : List Value) × AreLines text vs × (is_foreign vs ≡ true)
+IsRefused text (Clash file) = ⊤
+IsRefused text OutOfMemory = ⊤

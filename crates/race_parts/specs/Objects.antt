@@ -1,0 +1,85 @@
+-- What is told of the parts as JSON. The members of an object stand in the order of their names. All notions here are this project's own.
+use Rattle.std.specs.Prelude.{ℕ, ◌+◌, ◌-◌, nat_eq, Bool, cond, List, [], ◌∷◌, ◌++◌, flat_map, length, Vec, Option, Some, None, codes}
+use Rattle.std.specs.declared.alloc.Global.{Global}
+use Rattle.std.specs.Str.Lossy.{utf8_lossy}
+use Rattle.serde_json.specs.Data.{Data, number, unsigned, string, object, no_members, member}
+use Rattle.serde_json.specs.Written.{compact_text}
+use Rattle.race_parts.specs.Texts.{is_new, one_if, run_count}
+use Rattle.race_parts.specs.declared.cells.Cell.{Cell}
+use Rattle.race_parts.specs.declared.parts.Part.{Part}
+
+-- a number
+abbrev pub whole : ℕ → Data
+whole n = number (unsigned n)
+
+-- bytes as a text: what is no UTF-8 becomes U+FFFD
+abbrev pub text : List ℕ → Data
+text bytes = string (utf8_lossy bytes)
+
+-- an object's text, and the end of its line
+abbrev pub json_line : Data → List ℕ
+json_line d = compact_text d ++ codes "\n"
+
+-- the first line: how many parts, and how many pairs of places
+abbrev pub merged_object : ℕ → ℕ → Data
+merged_object parts pairs =
+    object
+    (member (codes "kind") (string (codes "merged"))
+    (member (codes "pairs") (whole pairs)
+    (member (codes "parts") (whole parts)
+    (member (codes "version") (whole 1)
+    no_members))))
+
+-- a part, with all that it says
+abbrev pub part_object : List ℕ → List ℕ → Data
+part_object name bytes =
+    object
+    (member (codes "kind") (string (codes "part"))
+    (member (codes "name") (text name)
+    (member (codes "text") (text bytes)
+    no_members)))
+
+abbrev pub verdict_word : ℕ → List ℕ
+verdict_word rank = cond (nat_eq rank 0) (codes "race") (cond (nat_eq rank 1) (codes "undecided") (codes "apart"))
+
+-- a pair of places: what its first cell says, and in how many parts it is a race, undecided, apart and not met
+abbrev pub pair_object : Cell → ℕ → ℕ → ℕ → ℕ → Data
+pair_object c races undecided apart unmet =
+    object
+    (member (codes "apart") (whole apart)
+    (member (codes "earlier") (whole c.earlier)
+    (member (codes "events") (whole c.size)
+    (member (codes "first") (text c.first.now)
+    (member (codes "kind") (string (codes "pair"))
+    (member (codes "later") (whole c.later)
+    (member (codes "part") (text c.part.now)
+    (member (codes "race") (whole races)
+    (member (codes "second") (text c.second.now)
+    (member (codes "undecided") (whole undecided)
+    (member (codes "unmet") (whole unmet)
+    (member (codes "verdict") (string (verdict_word c.rank))
+    no_members))))))))))))
+
+abbrev pub pair_object_at : ℕ → Cell → List Cell → Data
+pair_object_at parts c cs =
+    pair_object c (run_count c 0 cs) (run_count c 1 cs) (run_count c 2 cs)
+    (parts - run_count c 0 cs - run_count c 1 cs - run_count c 2 cs)
+
+abbrev pub part_lines : List (Vec ℕ Global × Part) → List ℕ
+part_lines es = flat_map (λ e. json_line (part_object e.0.items e.1.text.items)) es
+
+-- a line for each pair of places
+abbrev pub pair_lines : ℕ → Option Cell → List Cell → List ℕ
+pair_lines parts before [] = []
+pair_lines parts before (c ∷ cs) =
+    cond (is_new before c) (json_line (pair_object_at parts c (c ∷ cs))) [] ++ pair_lines parts (Some c) cs
+
+-- how many there are
+abbrev pub news_count : Option Cell → List Cell → ℕ
+news_count before [] = 0
+news_count before (c ∷ cs) = one_if (is_new before c) + news_count (Some c) cs
+
+-- all lines
+abbrev pub merged_lines : List (Vec ℕ Global × Part) → List Cell → List ℕ
+merged_lines es cells =
+    json_line (merged_object (length es) (news_count None cells)) ++ part_lines es ++ pair_lines (length es) None cells

@@ -1,0 +1,42 @@
+-- Parts by their names, and how they are joined. All notions here are this project's own.
+use Rattle.std.specs.Prelude.{◌≡◌, ℕ, cond, List, [], ◌∷◌, ◌++◌, Vec, Option, Some, None, option_map, ⊤}
+use Rattle.std.specs.declared.alloc.Global.{Global}
+use Rattle.std.specs.declared.cmp.Ordering.{Ordering}
+use Rattle.std.specs.BTreeMap.{BTreeMap, get, is_at}
+use Rattle.std.specs.Cmp.Lexicographic.{slice_cmp}
+use Rattle.std.specs.Ordering.{nat_cmp}
+use Rattle.std.specs.Map.{lookup}
+use Rattle.race_parts.specs.declared.lines.PartRefusal.{PartRefusal}
+use Rattle.race_parts.specs.declared.lines.PartRefusal.TheVariants.{Line, Version, Clash, OutOfMemory}
+use Rattle.race_parts.specs.declared.parts.Part.{Part}
+
+-- names in the order of their bytes
+abbrev pub bytes_cmp : List ℕ → List ℕ → Ordering
+bytes_cmp = slice_cmp nat_cmp
+
+abbrev pub name_cmp : Vec ℕ Global → Vec ℕ Global → Ordering
+name_cmp a b = bytes_cmp a.items b.items
+
+-- the text of the part with this name, if there is one
+abbrev pub text_at : BTreeMap (Vec ℕ Global) Part → Vec ℕ Global → Option (List ℕ)
+text_at parts q = option_map (λ p. p.text.items) (get name_cmp parts q)
+
+-- a text that is there stays
+abbrev pub joined : Option (List ℕ) → Option (List ℕ) → Option (List ℕ)
+joined None o = o
+joined (Some s) o = Some s
+
+-- the text of one part, at its name
+abbrev pub single : List ℕ → List ℕ → List ℕ → Option (List ℕ)
+single name text q = cond (is_at (bytes_cmp q) name) (Some text) None
+
+-- the text at a name, among names with their texts: the first, if there are several
+abbrev pub told_in : List (List ℕ × List ℕ) → List ℕ → Option (List ℕ)
+told_in given q = lookup (is_at (bytes_cmp q)) given
+
+-- no part is put at a clash, or for want of memory
+abbrev pub IsPutFault : PartRefusal → Type 0
+IsPutFault (Line line) = ⊥
+IsPutFault Version = ⊥
+IsPutFault (Clash file) = ⊤
+IsPutFault OutOfMemory = ⊤

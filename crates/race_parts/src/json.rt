@@ -1,0 +1,315 @@
+//! What is told of the parts, as JSON: an object a line, with each part as a text, so that it may be merged again.
+ghost use Rattle.std.specs.Prelude.{◌≡◌, ◌-◌, ◌≤◌, ◌++◌, [], IfOk, None, OnOk, drop, false, length};
+ghost use Rattle.serde_json.specs.Data.{object, put as with_member, string};
+ghost use Rattle.serde_json.specs.View.{members_view, view};
+ghost use Rattle.serde_json.specs.Written.{has_float};
+ghost use Rattle.race_parts.specs.Objects.{json_line, merged_lines, merged_object, news_count, pair_lines, pair_object, pair_object_at, part_lines, part_object, text, verdict_word, whole};
+ghost use Rattle.race_parts.specs.Texts.{is_new, run_count};
+
+use crate::cells::{Cell, cell_at, is_same};
+use crate::parts::Parts;
+use crate::text::{run_count, unmet_of};
+use rapid_text::OutOfMemory;
+use serde_json::{Map, Value, put};
+use std::alloc::{AllocError, Global};
+
+/// Puts a number.
+fn put_number(
+    members: &mut Map<String, Value>,
+    alloc: Global,
+    name: &str,
+    number: u64,
+) -> Result<(), AllocError>
+    ensures { OnOk result (members_view members.new.entries ≡ with_member name.now (whole number) (members_view members.old.entries)) }
+{
+    put(members, alloc, name, Value::from(number))
+}
+
+/// Puts a word.
+fn put_word(
+    members: &mut Map<String, Value>,
+    alloc: Global,
+    name: &str,
+    word: &str,
+) -> Result<(), AllocError>
+    ensures { OnOk result (members_view members.new.entries ≡ with_member name.now (string word.now) (members_view members.old.entries)) }
+{
+    match Value::try_from_str(alloc, word) {
+        Ok(value) => put(members, alloc, name, value),
+        Err(refused) => Err(refused),
+    }
+}
+
+/// Puts bytes as a text: what is no UTF-8 becomes U+FFFD.
+fn put_text(
+    members: &mut Map<String, Value>,
+    alloc: Global,
+    name: &str,
+    bytes: &[u8],
+) -> Result<(), AllocError>
+    ensures { OnOk result (members_view members.new.entries ≡ with_member name.now (text bytes.now) (members_view members.old.entries)) }
+{
+    match text_of(alloc, bytes) {
+        Ok(value) => put(members, alloc, name, value),
+        Err(refused) => Err(refused),
+    }
+}
+
+/// Bytes as a text: what is no UTF-8 becomes U+FFFD.
+fn text_of(alloc: Global, bytes: &[u8]) -> Result<Value, AllocError>
+    ensures { IfOk result (λ value. view value ≡ text bytes.now) }
+{
+    Ok(Value::String(String::from_utf8_lossy(alloc, bytes)?))
+}
+
+/// Puts the members of the first line.
+fn put_merged(
+    members: &mut Map<String, Value>,
+    alloc: Global,
+    parts: usize,
+    pairs: usize,
+) -> Result<(), AllocError>
+    requires { members.old.entries ≡ [] }
+    ensures { OnOk result (object (members_view members.new.entries) ≡ merged_object parts pairs) }
+{
+    put_word(members, alloc, "kind", "merged")?;
+    put_number(members, alloc, "parts", parts as u64)?;
+    put_number(members, alloc, "pairs", pairs as u64)?;
+    put_number(members, alloc, "version", 1)?;
+    Ok(())
+}
+
+/// The object of the first line.
+fn merged_of(alloc: Global, parts: usize, pairs: usize) -> Result<Value, AllocError>
+    ensures { IfOk result (λ made. view made ≡ merged_object parts pairs) }
+{
+    let mut members = Map::new(alloc);
+    match put_merged(&mut members, alloc, parts, pairs) {
+        Ok(()) => Ok(Value::Object(members)),
+        Err(refused) => Err(refused),
+    }
+}
+
+/// Puts the members of a part.
+fn put_part(
+    members: &mut Map<String, Value>,
+    alloc: Global,
+    name: &[u8],
+    bytes: &[u8],
+) -> Result<(), AllocError>
+    requires { members.old.entries ≡ [] }
+    ensures { OnOk result (object (members_view members.new.entries) ≡ part_object name.now bytes.now) }
+{
+    put_word(members, alloc, "kind", "part")?;
+    put_text(members, alloc, "name", name)?;
+    put_text(members, alloc, "text", bytes)?;
+    Ok(())
+}
+
+/// The object of a part.
+fn part_of(alloc: Global, name: &[u8], bytes: &[u8]) -> Result<Value, AllocError>
+    ensures { IfOk result (λ made. view made ≡ part_object name.now bytes.now) }
+{
+    let mut members = Map::new(alloc);
+    match put_part(&mut members, alloc, name, bytes) {
+        Ok(()) => Ok(Value::Object(members)),
+        Err(refused) => Err(refused),
+    }
+}
+
+/// In how many parts two places are a race, undecided and apart, and in how many they are not met.
+#[derive(Clone, Copy)]
+struct Tally {
+    races: usize,
+    undecided: usize,
+    apart: usize,
+    unmet: usize,
+}
+
+/// The word for what a cell says.
+fn word_of(rank: u8) -> &'static str
+    ensures { result.now ≡ verdict_word rank }
+{
+    match rank {
+        0 => "race",
+        1 => "undecided",
+        _ => "apart",
+    }
+}
+
+/// Puts the members of a pair of places.
+fn put_pair(
+    members: &mut Map<String, Value>,
+    alloc: Global,
+    cell: Cell<'_>,
+    tally: Tally,
+) -> Result<(), AllocError>
+    requires { members.old.entries ≡ [] }
+    ensures { OnOk result (object (members_view members.new.entries) ≡ pair_object cell.entry tally.races tally.undecided tally.apart tally.unmet) }
+{
+    put_word(members, alloc, "kind", "pair")?;
+    put_word(members, alloc, "verdict", word_of(cell.rank))?;
+    put_text(members, alloc, "part", cell.part)?;
+    put_number(members, alloc, "earlier", cell.earlier)?;
+    put_number(members, alloc, "later", cell.later)?;
+    put_number(members, alloc, "events", cell.size)?;
+    put_text(members, alloc, "first", cell.first)?;
+    put_text(members, alloc, "second", cell.second)?;
+    put_number(members, alloc, "race", tally.races as u64)?;
+    put_number(members, alloc, "undecided", tally.undecided as u64)?;
+    put_number(members, alloc, "apart", tally.apart as u64)?;
+    put_number(members, alloc, "unmet", tally.unmet as u64)?;
+    Ok(())
+}
+
+/// The object of a pair of places.
+fn pair_of(alloc: Global, cell: Cell<'_>, tally: Tally) -> Result<Value, AllocError>
+    ensures { IfOk result (λ made. view made ≡ pair_object cell.entry tally.races tally.undecided tally.apart tally.unmet) }
+{
+    let mut members = Map::new(alloc);
+    match put_pair(&mut members, alloc, cell, tally) {
+        Ok(()) => Ok(Value::Object(members)),
+        Err(refused) => Err(refused),
+    }
+}
+
+/// Appends the text of an object that has no fraction in it, and the end of the line.
+fn append_line(out: &mut Vec<u8>, object: &Value) -> Result<(), OutOfMemory>
+    requires { has_float (view object.now) ≡ false }
+    ensures { OnOk result (out.new.items ≡ out.old.items ++ json_line (view object.now)) }
+{
+    let text = object.to_vec(*out.allocator())?;
+    out.extend_from_slice(text.as_slice())?;
+    out.push(b'\n')?;
+    Ok(())
+}
+
+/// Appends the first line.
+fn append_merged(out: &mut Vec<u8>, parts: usize, pairs: usize) -> Result<(), OutOfMemory>
+    ensures { OnOk result (out.new.items ≡ out.old.items ++ json_line (merged_object parts pairs)) }
+{
+    let object = merged_of(*out.allocator(), parts, pairs)?;
+    append_line(out, &object)
+}
+
+/// Appends the line of a part.
+fn append_part(out: &mut Vec<u8>, name: &[u8], bytes: &[u8]) -> Result<(), OutOfMemory>
+    ensures { OnOk result (out.new.items ≡ out.old.items ++ json_line (part_object name.now bytes.now)) }
+{
+    let object = part_of(*out.allocator(), name, bytes)?;
+    append_line(out, &object)
+}
+
+/// Appends a line for each part.
+fn append_parts(out: &mut Vec<u8>, parts: &Parts) -> Result<(), OutOfMemory>
+    ensures { OnOk result (out.new.items ≡ out.old.items ++ part_lines parts.now.entries) }
+{
+    for (name, part) in parts {
+        append_part(out, name.as_slice(), part.text.as_slice())?;
+    }
+    Ok(())
+}
+
+/// Whether no cell of the same places stands directly before the cell.
+fn is_new(before: Option<Cell<'_>>, cell: Cell<'_>) -> bool
+    ensures { result ≡ is_new before.entry cell.entry }
+{
+    match before {
+        Some(before) => !is_same(&before, &cell),
+        None => true,
+    }
+}
+
+/// How many pairs of places there are.
+fn news_count(cells: &[Cell<'_>]) -> usize
+    ensures { result ≡ news_count None cells.now }
+{
+    let mut count = 0;
+    let mut before = None;
+    let mut at = 0;
+    'cells: while at < cells.len() {
+        let cell = cell_at(cells, at);
+        if is_new(before, cell) {
+            count += 1;
+        }
+        before = Some(cell);
+        at += 1;
+    }
+    count
+}
+
+/// In how many parts the places of the cell at this place are what.
+fn tally_of(parts: usize, cell: Cell<'_>, cells: &[Cell<'_>], at: usize) -> Tally
+    requires { at ≤ length cells.now }
+    ensures races { result.races ≡ run_count cell.entry 0 (drop at cells.now) }
+    ensures undecided { result.undecided ≡ run_count cell.entry 1 (drop at cells.now) }
+    ensures apart { result.apart ≡ run_count cell.entry 2 (drop at cells.now) }
+    ensures unmet { result.unmet ≡ parts - result.races - result.undecided - result.apart }
+{
+    let races = run_count(cell, 0, cells, at);
+    let undecided = run_count(cell, 1, cells, at);
+    let apart = run_count(cell, 2, cells, at);
+    Tally {
+        races,
+        undecided,
+        apart,
+        unmet: unmet_of(parts, races, undecided, apart),
+    }
+}
+
+/// The object of the pair of places of the cell at this place, which is the first of its places.
+fn pair_at(
+    alloc: Global,
+    parts: usize,
+    cell: Cell<'_>,
+    cells: &[Cell<'_>],
+    at: usize,
+) -> Result<Value, AllocError>
+    requires { at ≤ length cells.now }
+    ensures { IfOk result (λ made. view made ≡ pair_object_at parts cell.entry (drop at cells.now)) }
+{
+    pair_of(alloc, cell, tally_of(parts, cell, cells, at))
+}
+
+/// Appends the line of the pair of places of the cell at this place, which is the first of its places.
+fn append_pair(
+    out: &mut Vec<u8>,
+    parts: usize,
+    cell: Cell<'_>,
+    cells: &[Cell<'_>],
+    at: usize,
+) -> Result<(), OutOfMemory>
+    requires { at ≤ length cells.now }
+    ensures { OnOk result (out.new.items ≡ out.old.items ++ json_line (pair_object_at parts cell.entry (drop at cells.now))) }
+{
+    let object = pair_at(*out.allocator(), parts, cell, cells, at)?;
+    append_line(out, &object)
+}
+
+/// Appends a line for each pair of places.
+fn append_pairs(out: &mut Vec<u8>, parts: usize, cells: &[Cell<'_>]) -> Result<(), OutOfMemory>
+    ensures { OnOk result (out.new.items ≡ out.old.items ++ pair_lines parts None cells.now) }
+{
+    let mut before = None;
+    let mut at = 0;
+    'cells: while at < cells.len() {
+        let cell = cell_at(cells, at);
+        if is_new(before, cell) {
+            append_pair(out, parts, cell, cells, at)?;
+        }
+        before = Some(cell);
+        at += 1;
+    }
+    Ok(())
+}
+
+/// What is told of these parts as JSON: a merged report, which may be merged again.
+pub fn merged_json(alloc: Global, parts: &Parts, cells: &[Cell<'_>]) -> Result<Vec<u8>, OutOfMemory>
+    ensures { IfOk result (λ text. text.items ≡ merged_lines parts.now.entries cells.now) }
+{
+    let mut text = Vec::new(alloc);
+    append_merged(&mut text, parts.len(), news_count(cells))?;
+    append_parts(&mut text, parts)?;
+    append_pairs(&mut text, parts.len(), cells)?;
+    Ok(text)
+}

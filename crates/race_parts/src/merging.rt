@@ -1,0 +1,240 @@
+//! How a file is taken in: as a part, or as a merged report with the parts in it.
+ghost use Rattle.std.specs.Prelude.{◌≡◌, ◌<◌, ◌∷◌, All, codes, List, ℕ, None, Some, Vec, IfErr, IfOk, OnOk, false, length, map, not, option_map, position, take, true, slice_get};
+ghost use Rattle.std.specs.declared.alloc.Global.{Global};
+ghost use Rattle.serde_json.specs.View.{view};
+ghost use Rattle.race_parts.specs.Merging.{told_of, told_parts, Gives, IsPartRefused, IsPartText, IsRefused, is_foreign, is_merged, is_part_line, wrong_behind_head, wrong_merged, AreWrong, AreWrongIn, IsLineRefused, IsUntaken, one_behind, part_lines};
+ghost use Rattle.race_parts.specs.Lines.{AreLines};
+ghost use Rattle.race_parts.specs.Members.{said_text};
+ghost use Rattle.race_parts.specs.Rows.{wrong_line};
+ghost use Rattle.race_parts.specs.Parts.{joined, told_in, single, text_at};
+
+use crate::lines::{PartRefusal, lines_in};
+use crate::members::{has_number, has_text, is_kind, number_of, text_of};
+use crate::parts::{Part, Parts, put};
+use crate::rows::{is_other_version, wrong_line};
+use rapid_text::OutOfMemory;
+use serde_json::Value;
+use std::alloc::Global;
+
+/// Takes in a file: a part, which has this name, or a merged report, whose parts have names of their own. If it is refused, some of its
+/// parts may have been taken in.
+pub fn take_file(
+    alloc: Global,
+    parts: &mut Parts,
+    name: &[u8],
+    text: &[u8],
+    file: u32,
+) -> Result<(), PartRefusal>
+    ensures ok { OnOk result ((given : List (List ℕ × List ℕ)) × Gives name.now text.now given
+        × ((q : Vec ℕ Global) → text_at parts.new q ≡ joined (text_at parts.old q) (told_in given q.items))) }
+    ensures err { IfErr result (IsRefused text.now) }
+{
+    let lines = lines_in(alloc, text)?;
+    if is_foreign(&lines) {
+        return Err(PartRefusal::Version);
+    }
+    if is_merged(&lines) {
+        take_merged(alloc, parts, &lines, file)
+    } else {
+        take_part(alloc, parts, name, text, lines, file)
+    }
+}
+
+/// Whether the first line says that it is of another version.
+fn is_foreign(lines: &[Value]) -> bool
+    ensures { result ≡ is_foreign lines.now }
+{
+    match lines.first() {
+        Some(head) => is_other_version(head),
+        None => false,
+    }
+}
+
+/// Whether the first line is that of a merged report.
+fn is_merged(lines: &[Value]) -> bool
+    ensures { result ≡ is_merged lines.now }
+{
+    match lines.first() {
+        Some(head) => {
+            is_kind(head, "merged") && has_number(head, "parts") && has_number(head, "pairs")
+        }
+        None => false,
+    }
+}
+
+/// The same bytes.
+fn copied(alloc: Global, bytes: &[u8]) -> Result<Vec<u8>, OutOfMemory>
+    ensures { IfOk result (λ copy. copy.items ≡ bytes.now) }
+{
+    Ok(Vec::from_slice(alloc, bytes)?)
+}
+
+/// Takes in lines that are to be a part.
+fn take_part(
+    alloc: Global,
+    parts: &mut Parts,
+    name: &[u8],
+    text: &[u8],
+    lines: Vec<Value>,
+    file: u32,
+) -> Result<(), PartRefusal>
+    ensures ok { OnOk result ((wrong_line lines.items ≡ None)
+        × ((q : Vec ℕ Global) → text_at parts.new q ≡ joined (text_at parts.old q) (single name.now text.now q.items))) }
+    ensures err { IfErr result (AreWrong lines.items) }
+{
+    if let Some(at) = wrong_line(&lines) {
+        return Err(PartRefusal::Line(at));
+    }
+    let name = copied(alloc, name)?;
+    let text = copied(alloc, text)?;
+    put(parts, name, Part { text, lines, file })?;
+    Ok(())
+}
+
+/// Whether the value is the line of a part in a merged report.
+fn is_part_line(value: &Value) -> bool
+    ensures { result ≡ is_part_line (view value.now) }
+{
+    is_kind(value, "part") && has_text(value, "name") && has_text(value, "text")
+}
+
+/// The place of the first line that is not that of a part.
+fn wrong_part(lines: &[Value]) -> Option<usize>
+    ensures { result ≡ position (λ v. not (is_part_line (view v))) lines.now }
+{
+    lines.iter().position(|line| !is_part_line(line))
+}
+
+/// The same, where another line stands before these.
+fn wrong_part_behind(lines: &[Value]) -> Option<usize>
+    ensures { result ≡ one_behind (position (λ v. not (is_part_line (view v))) lines.now) }
+{
+    match wrong_part(lines) {
+        Some(at) => Some(at + 1),
+        None => None,
+    }
+}
+
+/// The place of the first line that does not fit into a merged report, whose first line is there.
+fn wrong_merged(lines: &[Value]) -> Option<usize>
+    ensures { result ≡ wrong_merged lines.now }
+{
+    match lines.split_first() {
+        Some((head, rest)) => wrong_behind_head(head, rest),
+        None => Some(0),
+    }
+}
+
+/// The same behind the first line.
+fn wrong_behind_head(head: &Value, rest: &[Value]) -> Option<usize>
+    ensures { result ≡ wrong_behind_head (view head.now) rest.now }
+{
+    let parts = number_of(head, "parts") as usize;
+    if rest.len() < parts {
+        return Some(rest.len() + 1);
+    }
+    if number_of(head, "pairs") as usize == rest.len() - parts {
+        wrong_part_behind(&rest[..parts])
+    } else {
+        Some(rest.len() + 1)
+    }
+}
+
+/// The lines of a text that is to be a part.
+fn part_in(alloc: Global, text: &[u8]) -> Result<Vec<Value>, PartRefusal>
+    ensures ok { IfOk result (λ lines. AreLines text.now lines.items × (wrong_line lines.items ≡ None)) }
+    ensures err { IfErr result (IsPartRefused text.now) }
+{
+    let lines = lines_in(alloc, text)?;
+    if is_foreign(&lines) {
+        return Err(PartRefusal::Version);
+    }
+    match wrong_line(&lines) {
+        Some(at) => Err(PartRefusal::Line(at)),
+        None => Ok(lines),
+    }
+}
+
+/// Takes in the part in a line of a merged report, the line at this place.
+fn take_line(
+    alloc: Global,
+    parts: &mut Parts,
+    line: &Value,
+    place: usize,
+    file: u32,
+) -> Result<(), PartRefusal>
+    ensures ok { OnOk result (IsPartText (said_text (codes "text") (view line.now))
+        × ((q : Vec ℕ Global) → text_at parts.new q
+        ≡ joined (text_at parts.old q) (single (said_text (codes "name") (view line.now)) (said_text (codes "text") (view line.now)) q.items))) }
+    ensures err { IfErr result (IsLineRefused (said_text (codes "text") (view line.now)) place) }
+{
+    let text = text_of(line, "text");
+    match part_in(alloc, text) {
+        Ok(lines) => {
+            let name = copied(alloc, text_of(line, "name"))?;
+            let text = copied(alloc, text)?;
+            put(parts, name, Part { text, lines, file })?;
+            Ok(())
+        }
+        Err(PartRefusal::OutOfMemory) => Err(PartRefusal::OutOfMemory),
+        Err(_) => Err(PartRefusal::Line(place)),
+    }
+}
+
+/// The first line, and the others.
+fn first_line(lines: &[Value]) -> (&Value, &[Value])
+    requires { 0 < length lines.now }
+    ensures { lines.now ≡ result.0.now ∷ result.1.now }
+{
+    (&lines[0], &lines[1..])
+}
+
+/// Takes in the parts in these lines, the first of which is the second of the file.
+fn take_told(
+    alloc: Global,
+    parts: &mut Parts,
+    lines: &[Value],
+    file: u32,
+) -> Result<(), PartRefusal>
+    ensures ok { OnOk result (All (λ p. IsPartText p.1) (map told_of lines.now)
+        × ((q : Vec ℕ Global) → text_at parts.new q ≡ joined (text_at parts.old q) (told_in (map told_of lines.now) q.items))) }
+    ensures err { IfErr result (IsUntaken lines.now) }
+{
+    let mut left = lines;
+    let mut place = 1;
+    'lines: while !left.is_empty() {
+        let (line, behind) = first_line(left);
+        take_line(alloc, parts, line, place, file)?;
+        left = behind;
+        place = lines.len().saturating_sub(behind.len()) + 1;
+    }
+    Ok(())
+}
+
+/// Takes in the parts of a merged report.
+fn take_merged(
+    alloc: Global,
+    parts: &mut Parts,
+    lines: &[Value],
+    file: u32,
+) -> Result<(), PartRefusal>
+    ensures ok { OnOk result ((wrong_merged lines.now ≡ None) × All (λ p. IsPartText p.1) (told_parts lines.now)
+        × ((q : Vec ℕ Global) → text_at parts.new q ≡ joined (text_at parts.old q) (told_in (told_parts lines.now) q.items))) }
+    ensures err { IfErr result (AreWrongIn lines.now) }
+{
+    if let Some(at) = wrong_merged(lines) {
+        return Err(PartRefusal::Line(at));
+    }
+    take_told(alloc, parts, part_lines(lines), file)
+}
+
+/// The lines of the parts.
+fn part_lines(lines: &[Value]) -> &[Value]
+    requires { wrong_merged lines.now ≡ None }
+    ensures { result.now ≡ part_lines lines.now }
+{
+    match lines.split_first() {
+        Some((head, rest)) => &rest[..number_of(head, "parts") as usize],
+        None => lines,
+    }
+}
