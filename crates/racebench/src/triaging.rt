@@ -20,9 +20,10 @@ use std::sync::Wait;
 use std::sync::atomic::AtomicU64;
 use std::thread::Threads;
 use std::{io, thread};
+use toml::Value;
 use triage_calls::{
     About, Asked, ConfirmedFault, Filters, Followed, Form, Hears, Silent, SourceLine, Sources,
-    TriageFault, Value, Watch, entries_of, read_confirmed, read_triaged, triage, triage_on,
+    TriageFault, Watch, entries_of, read_confirmed, read_triaged, triage, triage_on,
 };
 
 /// The status if a race is printed, for `--fail`.
