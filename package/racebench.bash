@@ -1,7 +1,7 @@
 # Completion of racebench for bash. `tools/flags --write` writes the commands and flags of the help.
 
 _racebench() {
-    local commands="info replay session log threads triage explain witness cut" word=${COMP_WORDS[COMP_CWORD]} command= flags= at
+    local commands="info replay session log threads triage explain witness cut merge" word=${COMP_WORDS[COMP_CWORD]} command= flags= at
     for ((at = 1; at < COMP_CWORD; at++)); do
         if [[ " $commands " == *" ${COMP_WORDS[at]} "* ]]; then
             command=${COMP_WORDS[at]}
@@ -19,6 +19,7 @@ _racebench() {
         explain) flags="--all --help -h" ;;
         witness) flags="--script --std --svg --help -h" ;;
         cut) flags="--windows --window --help -h" ;;
+        merge) flags="--apart --json --fail --help -h" ;;
     esac
     if [[ " --workers --client --tries --only --hide --windows --window " == *" ${COMP_WORDS[COMP_CWORD - 1]} "* ]]; then
         COMPREPLY=() # a number or a text

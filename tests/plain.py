@@ -698,3 +698,38 @@ class Log:
     def text(self):
         lines = [f"log {len(self.entries)}"] + [self.line(number) for number in range(len(self.entries))]
         return "".join(line + "\n" for line in lines)
+
+
+RANKS = ["race", "undecided", "apart"]
+
+
+def merged(parts, with_apart):
+    """What `merge` prints of the parts, each a name with the objects of its lines, the counts first."""
+    rows = sorted(
+        (*sorted(access["location"].encode() for access in row["accesses"]), RANKS.index(row["kind"]), row.get("events", 0), name.encode(), *(access["event"] for access in reversed(row["accesses"])), number)
+        for name, objects in parts.items()
+        for number, row in enumerate(objects[1:])
+    )
+    places = {}
+    for row in rows:
+        places.setdefault(row[:2], []).append(row)
+    lines = [f"parts {len(parts)}"]
+    lines += [f"{word} {sum(found[0][2] == rank for found in places.values())}" for rank, word in enumerate(["races", "undecided", "apart"])]
+    for rank in range(3 if with_apart else 2):
+        for found in places.values():
+            if found[0][2] == rank:
+                name, told = found[0][4].decode(), parts[found[0][4].decode()][1 + found[0][-1]]
+                counts = [sum(row[2] == each for row in found) for each in range(3)]
+                lines += block(told)
+                lines.append(f"    parts race {counts[0]} undecided {counts[1]} apart {counts[2]} unmet {len(parts) - sum(counts)}")
+                lines.append(f"    part {name}")
+    return "".join(line + "\n" for line in lines)
+
+
+def block(told):
+    """The lines of text of a row."""
+    numbers = [f"{name} {told[name]}" for name in ["pairs", "variables", "events", "threads", "tried"] if name in told]
+    yield " ".join([told["kind"], *(str(access["event"]) for access in told["accesses"]), *([told["how"]] if "how" in told else []), *numbers])
+    for access in told["accesses"]:
+        yield f"  {access['thread']}|{access['operation']}({access['variable']})|{access['location']}"
+        yield from (f"    holds {lock}" for lock in access["holds"])

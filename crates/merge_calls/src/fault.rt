@@ -13,7 +13,7 @@ pub enum MergeFault {
     Line(usize),
     /// 104: the file is of another version of the format.
     Version,
-    /// 109: a part of the file has the name of another part, which the file of this number holds.
+    /// 114: a part of the file has the name of another part, which the file of this number holds.
     Clash(u32),
 }
 

@@ -6,7 +6,7 @@ use Rattle.program_words.specs.declared.task.SessionTask.{SessionTask}
 use Rattle.program_words.specs.declared.task.ThreadsTask.{ThreadsTask}
 use Rattle.program_words.specs.declared.task.TriageTask.{TriageTask}
 use Rattle.program_words.specs.declared.task.Task.{Task}
-use Rattle.program_words.specs.declared.task.Task.TheVariants.{Joint, Info, Replay, Session, Log, Threads, Triage, Explain, Witness, Cut}
+use Rattle.program_words.specs.declared.task.Task.TheVariants.{Joint, Info, Replay, Session, Log, Threads, Triage, Explain, Witness, Cut, Merge}
 
 -- the client, where one is named, is one of those that there may be
 abbrev pub IsSessionWithin : Limits → SessionTask → Type 0
@@ -36,3 +36,4 @@ IsWithin limits (Triage task) = IsTriageWithin limits task
 IsWithin limits (Explain pair all) = ⊤
 IsWithin limits (Witness pair form) = ⊤
 IsWithin limits (Cut task) = IsCutWithin task
+IsWithin limits (Merge task) = ⊤

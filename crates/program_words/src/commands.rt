@@ -12,10 +12,11 @@ pub(crate) enum CommandName {
     Explain,
     Witness,
     Cut,
+    Merge,
 }
 
 /// All of them, in the order of help.
-pub(crate) const COMMANDS: [CommandName; 9] = [
+pub(crate) const COMMANDS: [CommandName; 10] = [
     CommandName::Info,
     CommandName::Replay,
     CommandName::Session,
@@ -25,6 +26,7 @@ pub(crate) const COMMANDS: [CommandName; 9] = [
     CommandName::Explain,
     CommandName::Witness,
     CommandName::Cut,
+    CommandName::Merge,
 ];
 
 /// What is said of a command, or of the program itself, and the words that it takes.
@@ -438,6 +440,42 @@ says where the window lies, and how many events come before its first own event.
     ],
 };
 
+const MERGE: Words = Words {
+    name: "merge",
+    about: "Merge reports of `triage --json` into one",
+    example: "For example
+
+  racebench triage a.std --json > a.json
+  racebench triage b.std --json > b.json
+  racebench merge a.json b.json
+
+For each pair of locations the report counts the parts in which it is a race, and shows the race
+with the shortest schedule. With `--json` the report may itself be merged again. The order of the
+parts means nothing, and a part that comes twice counts once.",
+    words: &[
+        Word {
+            name: "PART",
+            kind: Kind::SeveralNeeded,
+            help: Some("Output of `triage --json` or `merge --json`; `-` is standard input"),
+        },
+        Word {
+            name: "apart",
+            kind: Kind::Flag(&[]),
+            help: Some("Also show what is apart, if the parts have it"),
+        },
+        Word {
+            name: "json",
+            kind: Kind::Flag(&[]),
+            help: Some("Print one JSON object per line; it holds the parts"),
+        },
+        Word {
+            name: "fail",
+            kind: Kind::Flag(&[]),
+            help: Some("Exit with status 3 if there is a race"),
+        },
+    ],
+};
+
 /// The words of a command. They are handed out one command at a time, since a proof carries all of a constant that it meets.
 pub(crate) fn words_of(command: CommandName) -> Words {
     match command {
@@ -450,6 +488,7 @@ pub(crate) fn words_of(command: CommandName) -> Words {
         CommandName::Explain => EXPLAIN,
         CommandName::Witness => WITNESS,
         CommandName::Cut => CUT,
+        CommandName::Merge => MERGE,
     }
 }
 

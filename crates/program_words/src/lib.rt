@@ -11,7 +11,7 @@ mod told;
 pub use program::{LISTED_BEHIND, overview};
 pub use reading::task_of;
 pub use task::{
-    CutTask, Limits, Named, PairTask, RacesForm, ScheduleForm, SessionTask, Task, ThreadsTask,
-    TriageTask,
+    CutTask, Limits, MergeTask, Named, PairTask, RacesForm, ScheduleForm, SessionTask, Task,
+    ThreadsTask, TriageTask,
 };
 pub use told::{Told, no_text};

@@ -5,8 +5,8 @@ ghost use Rattle.program_words.specs.Tasks.{IsWithin, IsCutWithin, IsSessionWith
 use crate::building::words_taken;
 use crate::commands::{CommandName, command_of};
 use crate::task::{
-    CutTask, Limits, Named, PairTask, RacesForm, ScheduleForm, SessionTask, Task, ThreadsTask,
-    TriageTask,
+    CutTask, Limits, MergeTask, Named, PairTask, RacesForm, ScheduleForm, SessionTask, Task,
+    ThreadsTask, TriageTask,
 };
 use crate::told::{Told, refused, told_of};
 use clap::ArgMatches;
@@ -322,6 +322,18 @@ fn window<'a>(given: &ArgMatches<'a>, limits: Limits) -> Result<CutTask<'a>, Unr
     })
 }
 
+/// What `merge` is asked for.
+fn merge<'a>(alloc: Global, given: &ArgMatches<'a>) -> Result<MergeTask<'a>, Unread> {
+    let parts = texts(alloc, given, "PART")?;
+    check_inputs(&parts)?;
+    Ok(MergeTask {
+        parts,
+        apart: given.get_flag("apart"),
+        json: given.get_flag("json"),
+        fail: given.get_flag("fail"),
+    })
+}
+
 /// What a command is asked for.
 fn command_task<'a>(
     alloc: Global,
@@ -341,6 +353,7 @@ fn command_task<'a>(
         CommandName::Explain => Ok(Task::Explain(pair(given), given.get_flag("all"))),
         CommandName::Witness => Ok(Task::Witness(pair(given), schedule_form(given))),
         CommandName::Cut => Ok(Task::Cut(window(given, limits)?)),
+        CommandName::Merge => Ok(Task::Merge(merge(alloc, given)?)),
     }
 }
 

@@ -143,6 +143,19 @@ pub struct CutTask<'a> {
     pub most: u32,
 }
 
+/// Reports that are merged.
+#[derive(Drop)]
+pub struct MergeTask<'a> {
+    /// The paths of the parts, at least one.
+    pub parts: Vec<&'a str>,
+    /// Whether blocks are printed of what is apart.
+    pub apart: bool,
+    /// Whether an object is printed a line, in place of text.
+    pub json: bool,
+    /// Whether a race that is printed makes the status 3.
+    pub fail: bool,
+}
+
 /// What the words ask for.
 #[derive(Drop)]
 pub enum Task<'a> {
@@ -166,4 +179,6 @@ pub enum Task<'a> {
     Witness(PairTask<'a>, ScheduleForm),
     /// A window of a trace.
     Cut(CutTask<'a>),
+    /// One report of many.
+    Merge(MergeTask<'a>),
 }

@@ -1,5 +1,5 @@
-//! The workbench as a program: replays a script on a trace, runs several at once, answers lines as they come, prints what a trace holds, lists its races, or
-//! explains a pair of its events.
+//! The workbench as a program: replays a script on a trace, runs several at once, answers lines as they come, prints what a trace holds, lists its races,
+//! explains a pair of its events, or merges reports.
 #![tactic(auto)]
 
 ghost use Rattle.program_words.specs.Tasks.{IsWithin};
@@ -9,6 +9,7 @@ mod doing;
 mod input;
 mod likeness;
 mod lines;
+mod merging;
 mod notes;
 mod output;
 mod pair_notes;
@@ -25,6 +26,7 @@ use crate::doing::{
     cut_of_file, explain_in_file, info_of_file, replay_files, replay_input, threads_on_files,
     witness_in_file,
 };
+use crate::merging::merge_files;
 use crate::sessions::{log_of_file, session_on_files};
 use crate::telling::tell_words;
 use crate::triaging::triage_file;
@@ -78,6 +80,7 @@ fn work<R: Threads + Wait + Sync + Clone + Send + Drop + 'static>(
         Task::Explain(pair, all) => explain_in_file(rt, pair, *all),
         Task::Witness(pair, form) => witness_in_file(rt, pair, *form),
         Task::Cut(task) => cut_of_file(rt, task),
+        Task::Merge(task) => merge_files(rt, task),
     }
 }
 

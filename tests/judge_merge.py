@@ -1,0 +1,198 @@
+#!/usr/bin/env python3
+"""Compares what `merge` prints of parts drawn by chance with tests/plain.py.
+
+Takes the program's path, how many lists of parts to draw, and the first seed. The parts are merged at once; in another order, with some of them
+twice; and in groups whose merged reports are merged. Each must print the same text, and the same JSON. A part that is cut anywhere is
+refused, and so are lines that are no line of a report, another version, and two parts of one name. Some parts are what `triage --json`
+prints of drawn traces.
+Says what is wrong, if something is, and ends with status 1 then, also if something that has to be seen was never met.
+"""
+
+import collections
+import json
+import os
+import random
+import sys
+import tempfile
+
+sys.dont_write_bytecode = True
+import by_chance
+import plain
+import running
+
+LISTS = 150
+PLACES = ["a.c:1 < f", "a.c:2", "b.c:10", "b.c:9", "é.c:3", "", 'q"\\.c:4']
+REACHED = ["race", "undecided", "apart", "least", "unmet", "twice", "grouped", "cut", "cut at a line", "refused", "other version", "clash", "failed", "triage", "no parts apart"]
+
+
+class Wrong(Exception):
+    """What the program prints is not what the definitions say."""
+
+
+def access(chance, place):
+    holds = chance.sample(["m", "n", "mü"], chance.choice([0, 0, 1, 2]))
+    return {"event": chance.randint(0, 40), "holds": holds, "location": place, "operation": chance.choice("rw"), "thread": chance.choice(["T1", "T2"]), "variable": chance.choice("xy")}
+
+
+def row(chance, places):
+    kind = chance.choice(plain.RANKS)
+    told = {"accesses": [access(chance, place) for place in places], "kind": kind, "pairs": chance.randint(1, 9)}
+    if kind != "apart":
+        told["variables"] = chance.randint(1, 3)
+    if kind == "race":
+        told |= {"events": chance.randint(0, 4), "how": chance.choice(["candidate", "beyond", "turned"]), "threads": chance.randint(2, 3)}
+    if kind == "undecided":
+        told["tried"] = chance.randint(0, 16)
+    return told
+
+
+def part(chance):
+    """The objects of a part."""
+    pairs = [(one, other) for one in PLACES for other in PLACES if one <= other]
+    rows = [row(chance, chance.sample(pair, 2)) for pair in chance.sample(pairs, chance.choice([0, 1, 2, 5, 12]))]
+    rows.sort(key=lambda told: plain.RANKS.index(told["kind"]))
+    counts = {word: sum(told["kind"] == kind for told in rows) for word, kind in [("races", "race"), ("undecided", "undecided"), ("apart", "apart")]}
+    if chance.random() < 0.2:
+        rows = [told for told in rows if told["kind"] != "apart"]
+    return [{"kind": "counts", "events": chance.randint(0, 99), "threads": 3, **counts}, *rows]
+
+
+def line(told):
+    return json.dumps(told, sort_keys=True, separators=(",", ":"), ensure_ascii=False) + "\n"
+
+
+def write(name, text):
+    with open(name, "wb") as out:
+        out.write(text)
+
+
+class Judge:
+    def __init__(self, program):
+        self.program = program
+        self.seen = collections.Counter()
+
+    def printed(self, words):
+        return running.printed(self.program, ["merge", *words])
+
+    def refused(self, words, text):
+        """The fault that is told of the words, before which nothing is written."""
+        if running.ended(self.program, ["merge", *words]) != (1, b"", f"racebench: {text}\n".encode()):
+            raise Wrong(f"merge {words} does not end with `{text}`, but {running.ended(self.program, ['merge', *words])}")
+        self.seen["refused"] += 1
+
+    def list_of(self, chance, seed):
+        """The parts by their names, as objects; each is written into a file of its name."""
+        parts = {f"{chance.choice('abc')}{number}.json": part(chance) for number in range(chance.randint(1, 5))}
+        for name, objects in parts.items():
+            if seed % 3 == 0:
+                running.write("trace", by_chance.trace(chance, chance.choice([8, 14])).text())
+                text = running.printed(self.program, ["triage", "trace", "--json", *chance.choice([[], ["--apart"]])])
+                parts[name] = [json.loads(told) for told in text.splitlines()]
+                write(name, text)
+                self.seen["triage"] += 1
+            else:
+                write(name, "".join(map(line, objects)).encode())
+        return parts
+
+    def note(self, parts):
+        for objects in parts.values():
+            self.seen.update(told["kind"] for told in objects[1:])
+            self.seen["no parts apart"] += objects[0]["apart"] > sum(told["kind"] == "apart" for told in objects[1:])
+        met = collections.Counter(tuple(sorted(access["location"] for access in told["accesses"])) for objects in parts.values() for told in objects[1:])
+        self.seen["least"] += any(count > 1 for count in met.values())
+        self.seen["unmet"] += any(count < len(parts) for count in met.values())
+
+    def same(self, words, parts):
+        """Both texts of these words are those of the parts."""
+        for flags in [[], ["--apart"]]:
+            wanted = plain.merged(parts, bool(flags)).encode()
+            found = self.printed([*words, *flags])
+            if found != wanted:
+                raise Wrong(f"merge {words} {flags} prints\n{found.decode()}and not\n{wanted.decode()}")
+
+    def judge_groups(self, chance, parts):
+        names = list(parts)
+        whole = self.printed([*names, "--json"])
+        shuffled = chance.sample(names, len(names)) + chance.sample(names, chance.randint(0, len(names)))
+        self.seen["twice"] += len(shuffled) > len(names)
+        self.same(shuffled, parts)
+        if self.printed([*shuffled, "--json"]) != whole:
+            raise Wrong(f"merge {shuffled} --json prints other lines than {names}")
+        groups = []
+        for number in range(chance.randint(1, 3)):
+            group = chance.sample(shuffled + groups, chance.randint(1, len(names)))
+            write(f"group{number}", self.printed([*group, "--json"]))
+            groups.append(f"group{number}")
+        self.seen["grouped"] += 1
+        again = chance.sample(groups + names, len(groups + names))
+        self.same(again, parts)
+        if self.printed([*again, "--json"]) != whole:
+            raise Wrong(f"merge {again} --json prints other lines than {names}")
+        write("whole", whole)
+        if self.printed(["whole", "--json"]) != whole:
+            raise Wrong("a merged report that is merged alone is another one")
+
+    def judge_refusals(self, chance, parts):
+        name = chance.choice(list(parts))
+        with open(name, "rb") as given:
+            text = given.read()
+        objects = parts[name]
+        ends = [place + 1 for place in range(len(text) - 1) if text[place : place + 1] == b"\n"]
+        at = chance.choice(ends) if ends and chance.random() < 0.5 else chance.randrange(len(text))
+        lines = text[:at].count(b"\n")
+        kept = objects[:lines]
+        write("cut", text[:at])
+        whole = text[:at].endswith(b"\n") and all(sum(told["kind"] == kind for told in kept) == objects[0][word] for word, kind in [("races", "race"), ("undecided", "undecided")])
+        if whole and not any(told["kind"] == "apart" for told in kept):
+            self.same(["cut"], {"cut": kept})
+        else:
+            self.refused(["cut"], f"cut line {lines + 1}: no line of a report")
+            self.seen["cut"] += 1
+            self.seen["cut at a line"] += text[:at].endswith(b"\n")
+        index = chance.randrange(len(objects))
+        other = [*objects[:index], {**objects[index], "kind": "reported"}, *objects[index + 1 :]]
+        write("other", "".join(map(line, other)).encode())
+        self.refused([*parts, "other"], f"other line {index + 1}: no line of a report")
+        write("newer", "".join(map(line, [{**objects[0], "version": 2}, *objects[1:]])).encode())
+        self.refused(["newer"], "newer: another version of the format")
+        self.seen["other version"] += 1
+        write("one", self.printed([name, "--json"]))
+        changed = part(chance)
+        if changed != objects:
+            write(name, "".join(map(line, changed)).encode())
+            self.refused(["one", name], f"one and {name}: two different parts of one name")
+            self.seen["clash"] += 1
+
+    def judge(self, seed):
+        chance = random.Random(seed)
+        parts = self.list_of(chance, seed)
+        self.note(parts)
+        self.same(list(parts), parts)
+        self.judge_groups(chance, parts)
+        races = plain.merged(parts, False).split("\n")[1] != "races 0"
+        if running.ended(self.program, ["merge", *parts, "--fail"])[0] != (3 if races else 0):
+            raise Wrong("--fail ends with another status")
+        self.seen["failed"] += races
+        self.judge_refusals(chance, parts)
+
+
+def main():
+    judge = Judge(os.path.abspath(sys.argv[1]))
+    lists = int(sys.argv[2]) if len(sys.argv) > 2 else LISTS
+    first = int(sys.argv[3]) if len(sys.argv) > 3 else 0
+    for seed in range(first, first + lists):
+        with tempfile.TemporaryDirectory() as folder:
+            os.chdir(folder)
+            try:
+                judge.judge(seed)
+            except Wrong as wrong:
+                sys.exit(f"seed {seed}: {wrong}")
+            os.chdir("/")
+    missed = [what for what in REACHED if not judge.seen[what]]
+    print(f"{lists} lists of parts: " + ", ".join(f"{what} {count}" for what, count in sorted(judge.seen.items())))
+    if missed:
+        sys.exit(f"never met: {', '.join(missed)}")
+
+
+if __name__ == "__main__":
+    main()
