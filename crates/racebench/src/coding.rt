@@ -80,15 +80,16 @@ fn add_files(
     root: &[u8],
     places: &[&[u8]],
 ) -> Result<(), OutOfMemory> {
-    let mut rest = places;
+    let mut at = 0;
     for _ in 0..places.len() {
-        let Some(first) = rest.first() else {
+        if at >= places.len() {
             return Ok(());
-        };
-        let file = file_of(*first);
+        }
+        let rest = &places[at..];
+        let file = file_of(places[at]);
         let count = count_of(rest, file);
         add_file(rt, lines, root, file, &rest[..count])?;
-        rest = &rest[count..];
+        at += count;
     }
     Ok(())
 }
