@@ -2,8 +2,8 @@
 """Judges `triage --triage` and `--init-triage` by a second reader of triage files, Python's tomllib, and the rules of docs/FORMATS.md.
 
 Draws traces with locations that resemble one another and triage files that resemble their races. The races that are printed must be those of `triage`
-without the file that no entry leaves out, and the notes must name the entries that these rules name. A file that `--init-triage` wrote must leave out each race.
-A file that is changed by chance must be refused exactly if tomllib or the table of keys refuses it, at the same line if the mistake is a key's.
+without the file that no entry leaves out, and the notes must name the entries that these rules name. With workers the text is the same.
+A file that `--init-triage` wrote must leave out each race. A file that is changed by chance must be refused exactly if tomllib or the table of keys refuses it, at the same line if the mistake is a key's.
 
     judge_triage_file.py PROGRAM [TRACES [SEED]]      so many drawn traces, the first of this seed
 
@@ -255,6 +255,8 @@ def judge_file(program, folder, lines, races, text, reached):
         reached["by function"] += met and "functions" in entry and "variables" in entry
         reached["by line"] += met and "lines" in entry and "functions" not in entry
     demand(done.stderr.decode() == notes, f"{done.stderr.decode()} in place of {notes}")
+    with_workers = run(program, folder, "--triage", "f.toml", "--today", day, "--workers", "3")
+    demand((with_workers.stdout, with_workers.stderr) == (done.stdout, done.stderr), "three workers print another text")
     reached["left out"] += len(races) - len(kept)
     reached["printed"] += len(kept)
 
