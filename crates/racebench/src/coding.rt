@@ -2,12 +2,13 @@
 ghost use Rattle.std.specs.Prelude.{◌≤◌, length};
 
 use crate::lines::first_line;
-use crate::notes::bytes_of;
+use client_scripts::{FromRead, ReadFault, read_all};
 use event_index::Indexed;
 use rapid_text::{OutOfMemory, trim};
 use source_places::{is_line, place_of};
 use std::alloc::Global;
 use std::fs::{File, metadata};
+use std::io;
 use triage_calls::{SourceLine, file_of, line_of, relative};
 
 /// The most bytes of a file of code. A larger one is not read.
@@ -136,20 +137,44 @@ fn add_read(
     path: &str,
     places: &[&[u8]],
 ) -> Result<(), OutOfMemory> {
-    match code_at(rt, path) {
+    match code_at(rt, path)? {
         Some(text) => add_lines(rt.alloc(), lines, text.as_slice(), places),
         None => Ok(()),
     }
 }
 
-/// What a plain file of code holds, if it is not too large.
-fn code_at(rt: &HostRuntime, path: &str) -> Option<Vec<u8>> {
+/// What a plain file of code holds, if it is not too large and can be read.
+fn code_at(rt: &HostRuntime, path: &str) -> Result<Option<Vec<u8>>, OutOfMemory> {
     match metadata(rt, path) {
-        Ok(found) if found.is_file() && found.len() <= MAX_CODE => match File::open(rt, path) {
-            Ok(file) => bytes_of(rt, file),
-            Err(_) => None,
-        },
-        _ => None,
+        Ok(found) if found.is_file() && found.len() <= MAX_CODE => opened_at(rt, path),
+        Ok(_) => Ok(None),
+        Err(why) => none_for(&why),
+    }
+}
+
+/// What the file at this path holds, if it can be read.
+fn opened_at(rt: &HostRuntime, path: &str) -> Result<Option<Vec<u8>>, OutOfMemory> {
+    match File::open(rt, path) {
+        Ok(file) => bytes_in(rt.alloc(), file),
+        Err(why) => none_for(&why),
+    }
+}
+
+/// What a file holds, if it can be read whole.
+fn bytes_in(alloc: Global, file: File) -> Result<Option<Vec<u8>>, OutOfMemory> {
+    let mut source = FromRead::new(file);
+    match read_all(alloc, &mut source) {
+        Ok(bytes) => Ok(Some(bytes)),
+        Err(ReadFault::OutOfMemory) => Err(OutOfMemory),
+        Err(_) => Ok(None),
+    }
+}
+
+/// Nothing, if a file could not be opened; a refusal, if memory was refused.
+fn none_for(why: &io::Error) -> Result<Option<Vec<u8>>, OutOfMemory> {
+    match why.kind() {
+        io::ErrorKind::OutOfMemory => Err(OutOfMemory),
+        _ => Ok(None),
     }
 }
 

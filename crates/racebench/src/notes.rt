@@ -196,7 +196,7 @@ fn bytes_again(rt: &HostRuntime, path: &str) -> Option<Vec<u8>> {
 }
 
 /// What is read of a file, if it can be read whole.
-pub(crate) fn bytes_of(rt: &HostRuntime, file: File) -> Option<Vec<u8>> {
+fn bytes_of(rt: &HostRuntime, file: File) -> Option<Vec<u8>> {
     let mut source = FromRead::new(file);
     match read_all(rt.alloc(), &mut source) {
         Ok(bytes) => Some(bytes),
