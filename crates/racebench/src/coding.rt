@@ -2,7 +2,7 @@
 ghost use Rattle.std.specs.Prelude.{◌≤◌, length};
 
 use crate::lines::first_line;
-use client_scripts::{FromRead, ReadFault, read_all};
+use client_scripts::{FromRead, ReadCause, ReadFault, ReplayFault, read_all};
 use event_index::Indexed;
 use rapid_text::{OutOfMemory, trim};
 use source_places::{is_line, place_of};
@@ -13,6 +13,12 @@ use triage_calls::{SourceLine, file_of, line_of, relative};
 
 /// The most bytes of a file of code. A larger one is not read.
 const MAX_CODE: u64 = 16_777_216;
+
+/// 94: a file of code, which is input 5, could not be read.
+const UNREAD: ReplayFault = ReplayFault::Read {
+    input: 5,
+    why: ReadCause::Device,
+};
 
 /// The most lines that are kept.
 const MAX_KEPT: usize = 65_536;
@@ -43,7 +49,7 @@ pub(crate) fn lines_of(
     rt: &HostRuntime,
     indexed: &Indexed,
     root: &[u8],
-) -> Result<Vec<SourceLine>, OutOfMemory> {
+) -> Result<Vec<SourceLine>, ReplayFault> {
     let places = places_in(rt.alloc(), indexed)?;
     lines_at(rt, root, places.as_slice())
 }
@@ -66,7 +72,7 @@ fn lines_at(
     rt: &HostRuntime,
     root: &[u8],
     places: &[&[u8]],
-) -> Result<Vec<SourceLine>, OutOfMemory> {
+) -> Result<Vec<SourceLine>, ReplayFault> {
     let mut lines = Vec::new(rt.alloc());
     match add_files(rt, &mut lines, root, places) {
         Ok(()) => Ok(lines),
@@ -80,7 +86,7 @@ fn add_files(
     lines: &mut Vec<SourceLine>,
     root: &[u8],
     places: &[&[u8]],
-) -> Result<(), OutOfMemory> {
+) -> Result<(), ReplayFault> {
     let mut at = 0;
     for _ in 0..places.len() {
         if at >= places.len() {
@@ -112,7 +118,7 @@ fn add_file(
     root: &[u8],
     file: &[u8],
     places: &[&[u8]],
-) -> Result<(), OutOfMemory> {
+) -> Result<(), ReplayFault> {
     let mut path = Vec::new(rt.alloc());
     append_path(&mut path, root, relative(root, file))?;
     match std::str::from_utf8(path.as_slice()) {
@@ -136,45 +142,49 @@ fn add_read(
     lines: &mut Vec<SourceLine>,
     path: &str,
     places: &[&[u8]],
-) -> Result<(), OutOfMemory> {
+) -> Result<(), ReplayFault> {
     match code_at(rt, path)? {
-        Some(text) => add_lines(rt.alloc(), lines, text.as_slice(), places),
+        Some(text) => Ok(add_lines(rt.alloc(), lines, text.as_slice(), places)?),
         None => Ok(()),
     }
 }
 
 /// What a plain file of code holds, if it is not too large and can be read.
-fn code_at(rt: &HostRuntime, path: &str) -> Result<Option<Vec<u8>>, OutOfMemory> {
+fn code_at(rt: &HostRuntime, path: &str) -> Result<Option<Vec<u8>>, ReplayFault> {
     match metadata(rt, path) {
         Ok(found) if found.is_file() && found.len() <= MAX_CODE => opened_at(rt, path),
         Ok(_) => Ok(None),
-        Err(why) => none_for(&why),
-    }
-}
-
-/// What the file at this path holds, if it can be read.
-fn opened_at(rt: &HostRuntime, path: &str) -> Result<Option<Vec<u8>>, OutOfMemory> {
-    match File::open(rt, path) {
-        Ok(file) => bytes_in(rt.alloc(), file),
-        Err(why) => none_for(&why),
-    }
-}
-
-/// What a file holds, if it can be read whole.
-fn bytes_in(alloc: Global, file: File) -> Result<Option<Vec<u8>>, OutOfMemory> {
-    let mut source = FromRead::new(file);
-    match read_all(alloc, &mut source) {
-        Ok(bytes) => Ok(Some(bytes)),
-        Err(ReadFault::OutOfMemory) => Err(OutOfMemory),
+        Err(why) if why.kind() == io::ErrorKind::OutOfMemory => Err(ReplayFault::OutOfMemory),
         Err(_) => Ok(None),
     }
 }
 
-/// Nothing, if a file could not be opened; a refusal, if memory was refused.
-fn none_for(why: &io::Error) -> Result<Option<Vec<u8>>, OutOfMemory> {
+/// What the file at this path holds, if it can be read.
+fn opened_at(rt: &HostRuntime, path: &str) -> Result<Option<Vec<u8>>, ReplayFault> {
+    match File::open(rt, path) {
+        Ok(file) => bytes_in(rt.alloc(), file),
+        Err(why) => unopened(&why),
+    }
+}
+
+/// What a file holds, if it can be read whole.
+fn bytes_in(alloc: Global, file: File) -> Result<Option<Vec<u8>>, ReplayFault> {
+    let mut source = FromRead::new(file);
+    match read_all(alloc, &mut source) {
+        Ok(bytes) => Ok(Some(bytes)),
+        Err(ReadFault::TooLong) => Ok(None),
+        Err(ReadFault::Device) => Err(UNREAD),
+        Err(ReadFault::OutOfMemory) => Err(ReplayFault::OutOfMemory),
+    }
+}
+
+/// Nothing, if a file is not there or may not be read; a fault, if it could not be opened for another reason.
+fn unopened(why: &io::Error) -> Result<Option<Vec<u8>>, ReplayFault> {
     match why.kind() {
-        io::ErrorKind::OutOfMemory => Err(OutOfMemory),
-        _ => Ok(None),
+        io::ErrorKind::NotFound => Ok(None),
+        io::ErrorKind::PermissionDenied => Ok(None),
+        io::ErrorKind::OutOfMemory => Err(ReplayFault::OutOfMemory),
+        _ => Err(UNREAD),
     }
 }
 
