@@ -65,9 +65,9 @@ SHOWN = 40
 
 
 def apart(first, second):
-    """What tells the outputs of two orders apart: a word, or how many there are, that is always one in an order and always another in
-    the other; None if there is none. If other words vary, there have to be enough seeds that this is not theirs by chance (as if each
-    had two values)."""
+    """What tells the outputs of two orders apart: a word, or how many there are, that is always one in an order and
+    always another in the other; None if there is none. If other words vary, there have to be enough seeds that this is
+    not theirs by chance (as if each had two values)."""
     ours, theirs = first.words, second.words
     pairs = [*zip(ours[:-1], theirs[:-1]), (ours[-1], theirs[-1])]
     vary = sum(max(len(one), len(other)) > 1 for one, other in pairs)

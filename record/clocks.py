@@ -10,7 +10,6 @@ import json
 import os
 import shutil
 import struct
-import sys
 import zlib
 from array import array
 
@@ -51,10 +50,18 @@ def program_of(word):
 def write(given, recorded, kept):
     """Writes the clock of a trace that was written to `kept`."""
     main = next((path for _, _, path, is_main in recorded.head.modules if is_main), "")
-    words = {"argv": [given.program] + given.args, "cwd": os.getcwd(), "free": given.free,
-             "yield": getattr(given, "yield"), "room": given.room, "seed": given.seed,
-             "trace": kept.whole.hexdigest(), "events": len(kept.lines),
-             "program": digest_of(program_of(given.program)), "main": digest_of(main) if os.path.exists(main) else ""}
+    words = {
+        "argv": [given.program] + given.args,
+        "cwd": os.getcwd(),
+        "free": given.free,
+        "yield": getattr(given, "yield"),
+        "room": given.room,
+        "seed": given.seed,
+        "trace": kept.whole.hexdigest(),
+        "events": len(kept.lines),
+        "program": digest_of(program_of(given.program)),
+        "main": digest_of(main) if os.path.exists(main) else "",
+    }
     text = json.dumps(words).encode()
     with open(given.clock, "wb") as file:
         file.write(MAGIC + SIZE.pack(len(text)) + text)
@@ -68,7 +75,7 @@ def read_words(file, path):
     if len(begin) < len(MAGIC) + SIZE.size or not begin.startswith(MAGIC):
         raise Bad("%s is no clock of record/run --clock" % path)
     try:
-        return json.loads(file.read(SIZE.unpack(begin[len(MAGIC):])[0]))
+        return json.loads(file.read(SIZE.unpack(begin[len(MAGIC) :])[0]))
     except ValueError:
         raise Bad("%s is cut or damaged" % path) from None
 
@@ -109,7 +116,7 @@ class Clock:
         mine, end = self.ticks.setdefault(record.thread, array("Q")), 3 * (record.pos >> 16)
         if end > len(mine):
             mine.extend([0] * (end - len(mine)))
-        mine[end - 3:end] = array("Q", (record.pc << 16 | flag | record.kind, record.at, record.answer))
+        mine[end - 3 : end] = array("Q", (record.pc << 16 | flag | record.kind, record.at, record.answer))
 
     def record(self, event):
         return self.of[self.record_of[event]]

@@ -1,4 +1,5 @@
-"""From the raw records of the recorder to a trace text: which bytes are which variable, which lines a record becomes."""
+"""From the raw records of the recorder to a trace text: which bytes are which variable, which lines a record
+becomes."""
 import bisect
 from array import array
 
@@ -13,9 +14,16 @@ ALLOCATED, FREED, RESIZED, STACK = (KINDS[name] for name in "ALLOCATED FREED RES
 ATOMIC_READ, ATOMIC_WRITE, ATOMIC_UPDATE = (KINDS[name] for name in "ATOMIC_READ ATOMIC_WRITE ATOMIC_UPDATE".split())
 ACCESSES = (READ, WRITE, ATOMIC_READ, ATOMIC_WRITE, ATOMIC_UPDATE)
 ATOMICS = (ATOMIC_READ, ATOMIC_WRITE, ATOMIC_UPDATE)
-SYNCHRONIZATION = tuple(KINDS[name] for name in "ACQUIRE RELEASE PASS WRITER TRIED READER_IN READER_OUT ARRIVED WENT_ON".split())
+SYNCHRONIZATION = tuple(
+    KINDS[name] for name in "ACQUIRE RELEASE PASS WRITER TRIED READER_IN READER_OUT ARRIVED WENT_ON".split()
+)
 # What an object is that is no memory, by the number in the record.
-NO_MEMORY = {OBJECTS["OF_DESCRIPTOR"]: b"fd", OBJECTS["OF_CHANNEL"]: b"channel", OBJECTS["OF_CHANCE"]: b"chance", OBJECTS["OF_TEAM"]: b"team"}
+NO_MEMORY = {
+    OBJECTS["OF_DESCRIPTOR"]: b"fd",
+    OBJECTS["OF_CHANNEL"]: b"channel",
+    OBJECTS["OF_CHANCE"]: b"chance",
+    OBJECTS["OF_TEAM"]: b"team",
+}
 
 # The limits of a trace text (docs/FORMATS.md).
 MOST_EVENTS = 1_048_576
@@ -25,7 +33,8 @@ MOST_PARTS = 64
 
 
 class Objects:
-    """What lies where, as the records go by: blocks and stacks that live, symbols, and the rest in pieces of a megabyte."""
+    """What lies where, as the records go by: blocks and stacks that live, symbols, and the rest in pieces of a
+    megabyte."""
 
     def __init__(self, modules):
         self.modules = modules
@@ -35,7 +44,7 @@ class Objects:
     def begin(self, start, size, what):
         """A block that was given back keeps its name until its memory is given out again."""
         first = max(0, bisect.bisect_right(self.starts, start) - 1)
-        for other in self.starts[first:bisect.bisect_left(self.starts, start + max(size, 1))]:
+        for other in self.starts[first : bisect.bisect_left(self.starts, start + max(size, 1))]:
             if other + max(self.living[other][1], 1) > start:
                 self.end(other)
         self.all.append(what)
@@ -63,7 +72,7 @@ class Objects:
         symbol = self.modules.symbol_at(address)
         if symbol:
             return self.lasting(symbol[0], ("symbol", symbol[1])), address - symbol[0]
-        return self.lasting(("memory", address >> 20), ("memory", address >> 20)), address & 0xfffff
+        return self.lasting(("memory", address >> 20), ("memory", address >> 20)), address & 0xFFFFF
 
 
 class Trace:
@@ -100,7 +109,9 @@ class Trace:
                 if self.frees and at in self.objects.living:
                     self.object[number], self.length[number] = self.objects.living[at]
             elif record.of and (record.of, at) not in alone:
-                self.object[number] = self.objects.lasting((record.of, at), ("named", b"%s:%d" % (NO_MEMORY[record.of], at)))
+                self.object[number] = self.objects.lasting(
+                    (record.of, at), ("named", b"%s:%d" % (NO_MEMORY[record.of], at))
+                )
             elif not record.of and (kind in ACCESSES or kind in SYNCHRONIZATION):
                 self.object[number], self.place[number] = self.objects.at(at)
 
@@ -122,7 +133,8 @@ class Trace:
                     yield number, self.object[number], 0, self.length[number], record.thread, WRITE
 
     def find_parts(self):
-        """An object is cut at both ends of each access to it. Kept are the parts that two threads access, one of them writing."""
+        """An object is cut at both ends of each access to it. Kept are the parts that two threads access, one of them
+        writing."""
         shared = Shared()
         for _, thing, _, _, thread, kind in self.accesses():
             shared.see(thing, thread, kind)
@@ -137,7 +149,8 @@ class Trace:
                 self.kept.see((thing, part), thread, kind)
 
     def choose(self):
-        """Of the parts that are kept those that the files of `only` access; the others are left out whole, and counted."""
+        """Of the parts that are kept those that the files of `only` access; the others are left out whole, and
+        counted."""
         self.chosen, chosen_places = set(), {}
         for number, thing, place, size, _, _ in self.accesses() if self.only else ():
             record = raw_file.record_at(self.raw, self.head, number)
@@ -147,7 +160,9 @@ class Trace:
             if chosen_places[key]:
                 self.chosen.update((thing, part) for part in self.parts(thing, place, size))
         parts = [(thing, part) for thing, ends in self.cuts.items() for part in ends]
-        self.not_chosen = sum(1 for part in parts if self.kept.has(part) and part not in self.chosen) if self.only else 0
+        self.not_chosen = (
+            sum(1 for part in parts if self.kept.has(part) and part not in self.chosen) if self.only else 0
+        )
 
     def is_written(self, part):
         return self.kept.has(part) and (not self.only or part in self.chosen)
@@ -159,7 +174,7 @@ class Trace:
         first, last = bisect.bisect_left(ends, place), bisect.bisect_left(ends, place + size)
         if last - first > MOST_PARTS:
             self.cut_short += 1
-        return ends[first:min(last, first + MOST_PARTS)]
+        return ends[first : min(last, first + MOST_PARTS)]
 
     def find_locks(self):
         self.locks = {}
@@ -224,8 +239,17 @@ class Trace:
                 continue
             thread, operations = record.thread, self.operations(number, record)
             where = self.location(record.pc, record.stack, record.kind) if operations else None
-            yield [(b"T%d|%s(%s)|%s\n" % (thread, word, places.fitting(name), where), word, name, thread,
-                    record.at if names_thread else thread, number) for word, name in operations]
+            yield [
+                (
+                    b"T%d|%s(%s)|%s\n" % (thread, word, places.fitting(name), where),
+                    word,
+                    name,
+                    thread,
+                    record.at if names_thread else thread,
+                    number,
+                )
+                for word, name in operations
+            ]
 
 
 class Shared:
@@ -245,7 +269,8 @@ class Shared:
 
 
 class Beginning:
-    """What stands in place of the events before the first one that is wanted: the acquires of the locks that are held there."""
+    """What stands in place of the events before the first one that is wanted: the acquires of the locks that are held
+    there."""
 
     def __init__(self, first):
         self.first, self.before, self.held, self.open = first, 0, {}, first == 0
@@ -261,7 +286,10 @@ class Beginning:
 
     def acquires(self):
         self.open = True
-        return [event for _, event in sorted((each for group in self.held.values() for each in group), key=lambda each: each[0])]
+        return [
+            event
+            for _, event in sorted((each for group in self.held.values() for each in group), key=lambda each: each[0])
+        ]
 
 
 def wanted_events(trace, beginning):

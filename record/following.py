@@ -26,8 +26,22 @@ class Result:
 
     def __init__(self, data, plan, rows, status, timed_out):
         words = plans.HEAD.unpack_from(data)
-        (self.state, self.step, self.why, self.thread, self.pos, self.kind, self.pc, self.expected, self.spurious,
-         self.passed, self.last_pc, self.early, self.refused_tries, _) = words[16:]
+        (
+            self.state,
+            self.step,
+            self.why,
+            self.thread,
+            self.pos,
+            self.kind,
+            self.pc,
+            self.expected,
+            self.spurious,
+            self.passed,
+            self.last_pc,
+            self.early,
+            self.refused_tries,
+            _,
+        ) = words[16:]
         self.plan, self.rows, self.status, self.timed_out = plan, rows, status, timed_out
         self.standing = [self.stand(data, k) for k in range(2)]
         self.at_tick = struct.unpack_from("<%dQ" % plans.TOLD, data, plans.HEAD.size + 2 * plans.STANDING.size)
@@ -37,7 +51,7 @@ class Result:
     def stand(data, k):
         words = plans.STANDING.unpack_from(data, plans.HEAD.size + k * plans.STANDING.size)
         thread, _, at, size, kind, pc, _, low, high, there, after_low, after_high, after_there, count = words[:14]
-        frames = [words[14 + 2 * i:16 + 2 * i] for i in range(min(count, plans.FRAMES))]
+        frames = [words[14 + 2 * i : 16 + 2 * i] for i in range(min(count, plans.FRAMES))]
         value, after = (low, high) if there else None, (after_low, after_high) if after_there else None
         return Standing(thread, at, size, kind, pc, value, after, frames)
 
@@ -86,15 +100,17 @@ def keyboard():
 
 
 def followed(plan, then, words, seed, timeout, gdb=False, out=sys.stderr, source=None, records=None):
-    """Runs the program by the plan; the result. Nothing is left of its files, unless one is given for the raw records."""
+    """Runs the program by the plan; the result. Nothing is left of its files, unless one is given for the raw
+    records."""
     clock = plan.clock
     file = records or running.nameless_file()[0]
     path = "/proc/%d/fd/%d" % (os.getpid(), file.fileno())
     with contextlib.nullcontext() if records else file, tempfile.TemporaryFile(prefix="record") as planned:
         rows = plan.write(planned, then)
         plan_path = "/proc/%d/fd/%d" % (os.getpid(), planned.fileno())
-        surroundings = running.environment(path, seed, clock.words["yield"], clock.words["room"],
-                                           RACEBENCH_FOLLOW=plan_path)
+        surroundings = running.environment(
+            path, seed, clock.words["yield"], clock.words["room"], RACEBENCH_FOLLOW=plan_path
+        )
         ran = [running.path_of(words[0])] + words[1:]
         if gdb:
             status, timed_out = running.run(*gdb_of(ran, surroundings), None, None, source)

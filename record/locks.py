@@ -24,9 +24,9 @@ def states_of(names, word):
 
 
 class Lock:
-    """What was seen of a lock or semaphore: whether its sections are none, since it is let go by a thread that does not hold it or
-    taken while another does; whether a try was refused; which readers came in. A semaphore that each thread takes and then posts,
-    one at a time, has sections too."""
+    """What was seen of a lock or semaphore: whether its sections are none, since it is let go by a thread that does
+    not hold it or taken while another does; whether a try was refused; which readers came in. A semaphore that each
+    thread takes and then posts, one at a time, has sections too."""
 
     def __init__(self):
         self.holder = self.times = 0
@@ -42,7 +42,9 @@ class Lock:
         if kind in (READER_IN, READER_OUT):
             self.readers.add(thread)
         taken_by_other = self.times and (self.holder != thread or (kind == PASS and takes))
-        if (kind == PASS and not takes and not lets_go) or ((takes or lets_go) and (taken_by_other or (lets_go and not self.times))):
+        if (kind == PASS and not takes and not lets_go) or (
+            (takes or lets_go) and (taken_by_other or (lets_go and not self.times))
+        ):
             self.is_uneven, self.times = True, 0
         elif takes:
             self.holder, self.times = thread, self.times + 1
@@ -53,8 +55,10 @@ class Lock:
     def ways(record):
         """Whether a record takes a lock or semaphore, and whether it lets it go."""
         kind, way = record.kind, record.order
-        return (kind in (ACQUIRE, WRITER) or (kind == PASS and way == WAYS["WAITED"]),
-                kind == RELEASE or (kind == PASS and way == WAYS["POSTED"]))
+        return (
+            kind in (ACQUIRE, WRITER) or (kind == PASS and way == WAYS["WAITED"]),
+            kind == RELEASE or (kind == PASS and way == WAYS["POSTED"]),
+        )
 
     @property
     def is_chain(self):
@@ -66,8 +70,9 @@ class Lock:
         return self.is_uneven and not self.passes
 
     def words(self, name, record):
-        """The operations that a record becomes: pairs of a word and a name. A reader holds a lock of its own, and a writer those of
-        all readers. The state of a lock is written beside it if a try was refused: who was refused comes between."""
+        """The operations that a record becomes: pairs of a word and a name. A reader holds a lock of its own, and a
+        writer those of all readers. The state of a lock is written beside it if a try was refused: who was refused
+        comes between."""
         kind = record.kind
         if kind in (ARRIVED, WENT_ON):
             return met(name, record.answer, kind == ARRIVED)

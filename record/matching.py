@@ -2,6 +2,8 @@
 import re
 
 PLACE = re.compile(r"(.+):(\d+)$")
+# A header without its folder.
+HEADER = re.compile(r"[^/.]+$|[^/]+\.(h|hh|hpp|hxx|tcc|ipp)$")
 # Of several pairs that fit, which counts.
 ORDER = {"race": 0, "undecided": 1, "apart": 2}
 
@@ -27,10 +29,9 @@ def function_of(text):
     return re.split(r"[(<]", text)[0].split("::")[-1]
 
 
-def fits(access, location, operations):
-    """How well an access of a report fits a location: 2 by its line, where the trace reads or writes as the report
-    says; 1 by its function, since a compiler that makes code faster moves lines; 0 not at all."""
-    call = next(iter(access.places()), None)
+def fits(access, call, location, operations):
+    """How well a call of an access of a report fits a location: 2 by its line, where the trace reads or writes as the
+    report says; 1 by its function, since a compiler that makes code faster moves lines; 0 not at all."""
     if not call or not same_file(call[1], location.path):
         return 0
     is_function = not location.function or function_of(call[0]) == function_of(location.function)
@@ -46,16 +47,24 @@ class Recording:
         self.pairs = [(pair, [Location(access["location"]) for access in pair["accesses"]]) for pair in pairs]
         self.locations = [Location(text) for text in {text for _, text in accesses}]
         self.operations = {(word, text.split(" < ")[0]) for word, text in accesses}
+        self.places = {(location.path, location.line) for location in self.locations}
+
+    def call_of(self, access):
+        """The innermost call of the program. Valgrind's text names the headers of C++ without their folder, and traces
+        name the line that calls them: a header counts if the trace has the line."""
+        places = access.places()
+        known = (call for call in places if not HEADER.match(call[1]) or call[1:3] in self.places)
+        return next(known, places[0] if places else None)
+
+    def how_well(self, access, location):
+        return fits(access, self.call_of(access), location, self.operations)
 
     def fit(self, report, locations):
         """How well a report fits a pair of locations. A report of one access fits each pair that has it."""
         if len(report.accesses) == 1:
-            return 2 * max(fits(report.accesses[0], location, self.operations) for location in locations)
+            return 2 * max(self.how_well(report.accesses[0], location) for location in locations)
         first, second = report.accesses[:2]
-        both = [
-            (fits(first, a, self.operations), fits(second, b, self.operations))
-            for a, b in (locations, locations[::-1])
-        ]
+        both = [(self.how_well(first, a), self.how_well(second, b)) for a, b in (locations, locations[::-1])]
         return max(sum(each) if all(each) else 0 for each in both)
 
     def pair_of(self, report):
@@ -89,8 +98,8 @@ class Recording:
     def why_not_met(self, report):
         missing = []
         for access in report.accesses:
-            call = next(iter(access.places()), None)
-            if call and not any(fits(access, location, self.operations) == 2 for location in self.locations):
+            call = self.call_of(access)
+            if call and not any(self.how_well(access, location) == 2 for location in self.locations):
                 missing.append("%s:%d" % (call[1].split("/")[-1], call[2]))
         if not any(access.places() for access in report.accesses):
             return "the report has no line of the program: compile it with -g"

@@ -12,8 +12,17 @@ STANDING = struct.Struct("<14Q%dQ" % (2 * FRAMES))
 STEP = struct.Struct("<IIQQQQQQQ")
 MAGIC = 0x3257464252524352
 # The orders in which the two accesses are done, and who is held back then: nobody, the thread of A, that of B.
-ORDERS = {"first": ("ab", 0), "second": ("ba", 0), "first-a": ("ab", 2), "first-b": ("ab", 1), "second-a": ("ba", 2),
-          "second-b": ("ba", 1), "far-first": ("a", 2), "far-second": ("b", 1), "stop": ("", 0)}
+ORDERS = {
+    "first": ("ab", 0),
+    "second": ("ba", 0),
+    "first-a": ("ab", 2),
+    "first-b": ("ab", 1),
+    "second-a": ("ba", 2),
+    "second-b": ("ba", 1),
+    "far-first": ("a", 2),
+    "far-second": ("b", 1),
+    "stop": ("", 0),
+}
 
 
 class BadWitness(Exception):
@@ -46,7 +55,8 @@ def check_pair(clock, events, pair):
 
 
 def places_of(clock, events, lines):
-    """For each record the place of the event where it is done: the last, and of a try that was refused the last read."""
+    """For each record the place of the event where it is done: the last, and of a try that was refused the last
+    read."""
     last = {}
     for place, event in enumerate(events):
         is_read = lines[event].split("|", 2)[1].startswith("r(")
@@ -120,8 +130,10 @@ class Plan:
         found = [(self.clock.record(event), EVENT, event) for event in self.steps]
         found += [(self.clock.record(event), STAND, event) for event in self.pair]
         last = [self.pair["ab".index(letter)] for letter in order]
-        rows = [(record.thread, kind, record.pos, event) for record, kind, event in
-                found + [(self.clock.record(event), EVENT, event) for event in last]]
+        rows = [
+            (record.thread, kind, record.pos, event)
+            for record, kind, event in found + [(self.clock.record(event), EVENT, event) for event in last]
+        ]
         return rows + ([(self.clock.record(last[-1]).thread, LAST, 0, last[-1])] if last else [])
 
     def tables(self, rows):
@@ -141,9 +153,17 @@ class Plan:
             flat.extend(mine)
         forks = [struct.pack("<QQQ", *fork) for fork in self.clock.forks]
         start = raw_file.WORDS.size
-        modules = self.clock.raw[start:start + self.clock.head.module_count * raw_file.MODULE.size]
+        modules = self.clock.raw[start : start + self.clock.head.module_count * raw_file.MODULE.size]
         first = array("Q", first)
-        return [b"".join(known), b"".join(forks), b"".join(steps), flat.tobytes(), first.tobytes(), ticks.tobytes(), modules]
+        return [
+            b"".join(known),
+            b"".join(forks),
+            b"".join(steps),
+            flat.tobytes(),
+            first.tobytes(),
+            ticks.tobytes(),
+            modules,
+        ]
 
     def write(self, file, then):
         order, held_back = ORDERS[then]
@@ -154,9 +174,25 @@ class Plan:
             end += len(part)
         threads_at, forks_at, steps_at, needs_at, first_at, ticks_at, modules_at = places
         frees, modules = int(self.clock.words["free"]), self.clock.head.module_count
-        head = HEAD.pack(MAGIC, self.threads, len(rows), len(self.clock.forks), len(parts[5]) // 24, frees, held_back,
-                         self.patience, threads_at, forks_at, steps_at, ticks_at, needs_at, first_at, modules_at, modules,
-                         *[0] * 14)
+        head = HEAD.pack(
+            MAGIC,
+            self.threads,
+            len(rows),
+            len(self.clock.forks),
+            len(parts[5]) // 24,
+            frees,
+            held_back,
+            self.patience,
+            threads_at,
+            forks_at,
+            steps_at,
+            ticks_at,
+            needs_at,
+            first_at,
+            modules_at,
+            modules,
+            *[0] * 14
+        )
         file.write(head.ljust(places[0], b"\0") + b"".join(parts))
         file.flush()
         return rows

@@ -26,7 +26,8 @@ def say(text):
 
 
 class Recorded:
-    """A raw file that was written, as it is needed beside its trace; with the modules and calls if it is wanted whole."""
+    """A raw file that was written, as it is needed beside its trace; with the modules and calls if it is wanted
+    whole."""
 
     def __init__(self, file, whole):
         self.file = file

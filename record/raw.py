@@ -51,8 +51,24 @@ class Words:
 
     def __init__(self, raw):
         words = WORDS.unpack_from(raw.ljust(WORDS.size, b"\0"), 0)
-        (magic, room, self.used, self.stack_room, self.stacks, self.stacks_at, self.records_at, self.turns, self.forced,
-         self.strangers, self.module_count, self.units, self.full, whole, _, _) = words
+        (
+            magic,
+            room,
+            self.used,
+            self.stack_room,
+            self.stacks,
+            self.stacks_at,
+            self.records_at,
+            self.turns,
+            self.forced,
+            self.strangers,
+            self.module_count,
+            self.units,
+            self.full,
+            whole,
+            _,
+            _,
+        ) = words
         self.there = magic == MAGIC and len(raw) >= HEAD_SIZE
         room = min(room, whole) if self.full else room
         self.lost = max(0, self.used - room)
@@ -83,12 +99,12 @@ def compact(file):
     file.seek(head.stacks_at)
     nodes = file.read(head.stacks * NODE.size)
     file.seek(head.records_at)
-    return WORDS.pack(*words) + first[WORDS.size:] + nodes + file.read(head.used * RECORD.size)
+    return WORDS.pack(*words) + first[WORDS.size :] + nodes + file.read(head.used * RECORD.size)
 
 
 def all_records(raw, head):
     """All records, each with its number, with those that are no event."""
-    whole = memoryview(raw)[head.records_at:head.records_at + head.used * RECORD.size]
+    whole = memoryview(raw)[head.records_at : head.records_at + head.used * RECORD.size]
     for number, words in enumerate(RECORD.iter_unpack(whole)):
         record = Record._make(words)
         if record.done:

@@ -1,7 +1,8 @@
 """Relaxed atomics: in C++ they order nothing, so they are no events of the trace. They are written as atomics with
-order where they have to be: beside plain accesses of the same variable, which may race with them, and beside fences,
-which give them an order.
+order where they have to be: beside plain accesses of the same variable, which may race with them, beside fences, which
+give them an order, and where a lock gives a write and a read of it their order.
 """
+import locks
 from raw import KINDS, records
 
 FORK, JOIN, FENCE = (KINDS[name] for name in "FORK JOIN FENCE".split())
@@ -18,11 +19,14 @@ class Relaxed:
     def __init__(self, trace):
         self.forks, self.joins, self.first_fence, self.last_fence = {}, {}, {}, {}
         self.plain, self.atomic, self.answers, self.stronger = {}, {}, {}, 0
-        self.there = any(record.kind in ATOMICS and record.order == RELAXED
-                         for _, record in records(trace.raw, trace.head))
+        self.held, self.written, self.read, self.ordered = {}, {}, {}, set()
+        self.there = any(
+            record.kind in ATOMICS and record.order == RELAXED for _, record in records(trace.raw, trace.head)
+        )
         if self.there:
             self.see_threads(trace)
             self.see_parts(trace)
+            self.see_locks(trace)
 
     def see_threads(self, trace):
         for number, record in records(trace.raw, trace.head):
@@ -42,6 +46,48 @@ class Relaxed:
                 else:
                     ends = self.atomic.setdefault((thing, part), {}).setdefault(thread, [number, number])
                     ends[1] = number
+
+    def see_locks(self, trace):
+        """Each lock that is taken or let go, and each atomic access of a part, in their order."""
+        for number, record in records(trace.raw, trace.head):
+            thing, place = trace.object[number], trace.place[number]
+            if thing < 0:
+                continue
+            if record.kind in ATOMICS:
+                for part in trace.parts(thing, place, record.size):
+                    self.see_atomic(number, record, (thing, part))
+            elif (thing, place) in trace.locks and not trace.locks[thing, place].is_chain:
+                self.see_lock(record, (thing, place))
+
+    def see_lock(self, record, lock):
+        """A lock whose sections are written as such; readers share it."""
+        mine, kind = self.held.setdefault(record.thread, []), record.kind
+        takes, lets_go = locks.Lock.ways(record)
+        if takes or kind == locks.READER_IN:
+            mine.append((lock, kind == locks.READER_IN))
+        elif lets_go or kind == locks.READER_OUT:
+            last = next((k for k in reversed(range(len(mine))) if mine[k][0] == lock), None)
+            if last is not None:
+                del mine[last]
+
+    def see_atomic(self, number, record, part):
+        thread, now = record.thread, (number, tuple(self.held.get(record.thread, ())))
+        if record.kind != WRITE:
+            writer, write = self.written.get(part, (thread, None))
+            if writer != thread:
+                self.order(write, now)
+            self.read.setdefault(part, {})[thread] = now
+        if record.kind != READ:
+            for reader, read in self.read.pop(part, {}).items():
+                if reader != thread:
+                    self.order(read, now)
+            self.written[part] = thread, now
+
+    def order(self, first, second):
+        """A write and a read of it, or a read and the write behind it, in two sections of a lock: another order of the
+        sections gives the read another writer."""
+        if any(one == other and not (mine and theirs) for one, mine in first[1] for other, theirs in second[1]):
+            self.ordered |= {first[0], second[0]}
 
     def comes_after(self, thread, number, other):
         """Whether all of a thread comes after that event of the other thread, since it was made later by it."""
@@ -67,7 +113,9 @@ class Relaxed:
             plain, threads = self.plain.get(part, ()), self.atomic.get(part, {})
             self.answers[part] = len(plain) <= MOST_PLAIN and all(
                 self.is_ordered(number, thread, other, ends)
-                for number, thread in plain for other, ends in threads.items())
+                for number, thread in plain
+                for other, ends in threads.items()
+            )
         return self.answers[part]
 
     def meets_fence(self, number, record):
@@ -77,6 +125,8 @@ class Relaxed:
 
     def is_no_event(self, number, record, parts):
         """Whether an atomic access is no event. One that is written with more order than it has is counted."""
+        if record.order == RELAXED and number in self.ordered:
+            return False
         if record.order == RELAXED and not self.meets_fence(number, record) and all(map(self.is_pure, parts)):
             return True
         one_way = record.kind == UPDATE and record.order in (CONSUME, ACQUIRE, RELEASE)

@@ -16,7 +16,9 @@ TSAN_ACCESS = re.compile(
 )
 TSAN_FRAME = re.compile(r"    #\d+ (.+)$")
 TSAN_MODULE = re.compile(r"( \([^()]*\+0x[0-9a-f]+\)| \(BuildId: [^()]*\))+$")
-PLACE_LAST = re.compile(r"^(.*) (\S+?):(\d+)(?::\d+)?$")
+TSAN_PLACE = re.compile(r"^(.+?):(\d+)(?::\d+)?$")
+# What may follow the arguments of a function of C++.
+AFTER_ARGUMENTS = re.compile(r"(?: const| volatile| &&?| \[[^\]]*\])* ")
 VALGRIND_LINE = re.compile(r"^(?:==\d+==|--\d+--) ?(.*)$")
 VALGRIND_ACCESS = re.compile(
     r"(Possible data race during|This conflicts with a previous|Conflicting) (read|write|load|store)\b"
@@ -67,10 +69,27 @@ class Reports:
         self.all, self.others, self.cut = [], Counter(), ""
 
 
+def function_end(text):
+    """Where the function of a frame ends, before the blank and the path: both may have blanks. Arguments follow a name
+    without a blank. Without arguments, a name has no blank."""
+    if " /" in text:
+        return text.index(" /")
+    depth = 0
+    for at, letter in enumerate(text):
+        if letter == "(" and (depth or text[at - 1 : at].strip()):
+            depth += 1
+        elif letter == ")" and depth:
+            depth -= 1
+            after = AFTER_ARGUMENTS.match(text, at + 1)
+            if not depth and after:
+                return after.end() - 1
+    return text.find(" ")
+
+
 def tsan_call(text):
-    text = TSAN_MODULE.sub("", text)
-    found = PLACE_LAST.match(text)
-    return (found[1], found[2], int(found[3])) if found else (text.split(" ")[0], "<null>", 0)
+    found = TSAN_PLACE.match(TSAN_MODULE.sub("", text))
+    end = function_end(found[1]) if found else -1
+    return (found[1][:end], found[1][end + 1 :], int(found[2])) if end > 0 else (text.split(" ")[0], "<null>", 0)
 
 
 def read_tsan(lines):

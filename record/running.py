@@ -34,10 +34,28 @@ def nameless_file():
     return file, "/proc/%d/fd/%d" % (os.getpid(), file.fileno())
 
 
-def prepare():
-    """In the child: the same addresses at each run, if the system allows it; and the child ends with this process."""
+def open_standard_files(command):
+    """Opens nothing in place of each standard file that is closed: else another file would get its number, and what is
+    said would go there. Without standard output the command ends."""
+    for number in range(3):
+        try:
+            os.fstat(number)
+        except OSError:
+            os.open(os.devnull, os.O_RDWR)
+    if sys.stderr is None:
+        sys.stderr = open(os.devnull, "w", encoding="utf-8")
+    if sys.stdout is None:
+        say(command, "standard output is closed")
+        sys.exit(1)
+
+
+def prepare(parent):
+    """In the child: the same addresses at each run, if the system allows it; and the child ends with this process, also
+    if that has ended by now."""
     C_LIBRARY.personality(NO_RANDOM_ADDRESSES)
     C_LIBRARY.prctl(SIGNAL_AT_PARENTS_DEATH, signal.SIGKILL)
+    if os.getppid() != parent:
+        os._exit(1)
 
 
 def path_of(program):
@@ -45,21 +63,33 @@ def path_of(program):
 
 
 def environment(raw, seed, one_in, room, **more):
-    return dict(os.environ, RACEBENCH_RECORD=raw, RACEBENCH_RECORD_SEED=str(seed), RACEBENCH_RECORD_YIELD=str(one_in),
-                RACEBENCH_RECORD_ROOM=str(room), **more)
+    return dict(
+        os.environ,
+        RACEBENCH_RECORD=raw,
+        RACEBENCH_RECORD_SEED=str(seed),
+        RACEBENCH_RECORD_YIELD=str(one_in),
+        RACEBENCH_RECORD_ROOM=str(room),
+        **more
+    )
 
 
-def run(words, surroundings, out, patience=None, source=None):
+def run(words, surroundings, out, patience=None, source=None, begun=None):
     """Runs a program; its status, and whether it was ended since its time was over. A key that ends it (control-C)
-    does not end this script, and a signal that asks this script to end is passed on."""
+    does not end this script, and a signal that asks this script to end is passed on. `begun` is called when the program
+    has begun: a thread that was there before could keep `prepare` from its end."""
+    parent = os.getpid()
     try:
-        started = subprocess.Popen(words, stdin=source, stdout=out, env=surroundings, preexec_fn=prepare)
+        started = subprocess.Popen(
+            words, stdin=source, stdout=out, env=surroundings, preexec_fn=lambda: prepare(parent)
+        )
     except OSError as error:
         raise Unrunnable("%s: %s" % (words[0], error.strerror)) from None
     signal.signal(signal.SIGINT, signal.SIG_IGN)
     signal.signal(signal.SIGQUIT, signal.SIG_IGN)
     for number in (signal.SIGTERM, signal.SIGHUP):
         signal.signal(number, lambda number, _: pass_on(started, number))
+    if begun:
+        begun()
     try:
         return started.wait(patience), False
     except subprocess.TimeoutExpired:
@@ -73,8 +103,8 @@ def pass_on(started, number):
 
 
 def be_deaf():
-    """In a child that works up what there is after a signal ended the program: more of that kind, as a whole group of processes
-    gets it, do not end it."""
+    """In a child that works up what there is after a signal ended the program: more of that kind, as a whole group of
+    processes gets it, do not end it."""
     for number in passed_on:
         signal.signal(number, signal.SIG_IGN)
 
@@ -99,13 +129,15 @@ def look_at(file, program):
     if not head.there or not head.used:
         raise Unrunnable("nothing was recorded: the folder for the records, %s, has no room" % tempfile.gettempdir())
     if not head.units:
-        raise Unrunnable("nothing was recorded: no part of the program has hooks, so compile its sources with record/cc "
-                         "or record/c++")
+        raise Unrunnable(
+            "nothing was recorded: no part of the program has hooks, so compile its sources with record/cc "
+            "or record/c++"
+        )
 
 
 def racebench_of(given):
-    """The program racebench: the one that is given, the one of $RACEBENCH, the one that was built beside this folder, or the
-    one in PATH; None if there is none."""
+    """The program racebench: the one that is given, the one of $RACEBENCH, the one that was built beside this folder,
+    or the one in PATH; None if there is none."""
     return given or os.environ.get("RACEBENCH") or (BUILT if os.access(BUILT, os.X_OK) else shutil.which("racebench"))
 
 

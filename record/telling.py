@@ -6,9 +6,19 @@ import raw as raw_file
 from following import DEPARTED, HANGS, MISSED, OTHER_CODE, OTHER_OUTCOME, OTHER_WORLD, WOULD_WAIT
 
 # Kinds that have other names than in the header.
-KIND_WORDS = {"VOID": "hook", "ACQUIRE": "lock", "RELEASE": "unlock", "FREED": "free", "WRITER": "write lock", "ANSWER": "call",
-              "TRIED": "refused try-lock", "READER_IN": "read lock", "READER_OUT": "read unlock", "ARRIVED": "meeting",
-              "WENT_ON": "end of a meeting"}
+KIND_WORDS = {
+    "VOID": "hook",
+    "ACQUIRE": "lock",
+    "RELEASE": "unlock",
+    "FREED": "free",
+    "WRITER": "write lock",
+    "ANSWER": "call",
+    "TRIED": "refused try-lock",
+    "READER_IN": "read lock",
+    "READER_OUT": "read unlock",
+    "ARRIVED": "meeting",
+    "WENT_ON": "end of a meeting",
+}
 WORDS_OF = {number: KIND_WORDS.get(name, name.lower().replace("_", " ")) for name, number in raw_file.KINDS.items()}
 # How a run ended that stood at the race and did not come to both accesses.
 GONE = "departed"
@@ -65,8 +75,16 @@ class Telling:
             return "the program did not come so far in time (--timeout)"
         expected = result.expected
         wanted = "%s at %s" % (self.a_kind(expected), self.line(expected >> 16)) if expected else "its end"
-        came = "T%d came to %s at %s, where the recording has %s" % (result.thread, self.a_kind(result.kind), where, wanted)
-        world = "T%d: a call at %s that waits for the world was not answered as in the recording" % (result.thread, where)
+        came = "T%d came to %s at %s, where the recording has %s" % (
+            result.thread,
+            self.a_kind(result.kind),
+            where,
+            wanted,
+        )
+        world = "T%d: a call at %s that waits for the world was not answered as in the recording" % (
+            result.thread,
+            where,
+        )
         return {
             OTHER_CODE: came,
             MISSED: "T%d went past it, at %s" % (result.thread, where),

@@ -1,9 +1,11 @@
 #!/usr/bin/env python3
-"""Judges record/: programs of tests/recorded and examples/count.c are compiled, run and recorded, and `info` and `replay` of the
-program have to accept each trace and to find the one race that is in it, and no other.
+"""Judges record/: programs of tests/recorded and examples/count.c are compiled, run and recorded, and `info` and
+`replay` of the program have to accept each trace and to find the one race that is in it, and no other.
 
-Takes the program's path. Says what is wrong; the last line is `N passed, M failed`. Where no C compiler with the hooks is there,
-nothing is judged, and a line says so.
+    judge_record.py PROGRAM [CASE ..]      with texts, only the cases whose names have one of them
+
+Says what is wrong; the last line is `N passed, M failed`. If no C compiler with the hooks is there, nothing is judged,
+and a line says so.
 """
 
 import os
@@ -12,6 +14,8 @@ import subprocess
 import sys
 import tempfile
 
+sys.dont_write_bytecode = True
+import judging
 import recorded_chance
 import recorded_ci
 import recorded_follow
@@ -19,6 +23,8 @@ import recorded_options
 import recorded_places
 import recorded_reports
 import recorded_runs
+import recorded_strangers
+from judging import Wrong
 
 TOP = os.path.dirname(os.path.dirname(os.path.abspath(__file__)))
 RECORD = os.path.join(TOP, "record")
@@ -26,8 +32,8 @@ RECORD = os.path.join(TOP, "record")
 PATIENCE = recorded_places.PATIENCE
 # Runs of each program; every further compiler makes one.
 SEEDS = (1, 2, 3)
-# Each program, the words for the recorder, and the pairs of lines that race in it: RACE are the lines that say so, and TRIAGED the
-# same where locks come between, so that no candidate but a schedule shows it.
+# Each program, the words for the recorder, and the pairs of lines that race in it: RACE are the lines that say so, and
+# TRIAGED the same where locks come between, so that no candidate but a schedule shows it.
 PROGRAMS = [
     ("examples/count.c", [], {("count.c:13", "count.c:7")}),
     ("tests/recorded/each_kind.c", [], {"RACE"}),
@@ -45,13 +51,6 @@ PROGRAMS = [
     ("tests/recorded/teams.c", [], {"RACE"}),
     ("tests/recorded/region.c", [], {"RACE"}),
 ]
-
-
-WRONGS = (recorded_places.WrongPlace, recorded_runs.WrongRun, recorded_follow.WrongFollow)
-
-
-class Wrong(Exception):
-    pass
 
 
 def done(words, wanted=0, **more):
@@ -81,7 +80,11 @@ def has_hooks(compiler, language):
 def lines_at_race(source):
     """The pair of lines of a source that say RACE behind their code; one line is a pair with itself."""
     with open(os.path.join(TOP, source), encoding="utf-8") as text:
-        found = [f"{os.path.basename(source)}:{number}" for number, line in enumerate(text, start=1) if re.search(r"; /[/*] RACE", line)]
+        found = [
+            f"{os.path.basename(source)}:{number}"
+            for number, line in enumerate(text, start=1)
+            if re.search(r"; /[/*] RACE", line)
+        ]
     return tuple(sorted(found * 2 if len(found) == 1 else found))
 
 
@@ -105,7 +108,13 @@ def compiled(source, c, cxx):
     """Compiles a source, in one call or in two, to `program`."""
     environment = dict(os.environ, RECORD_CC=c, RECORD_CXX=cxx or "")
     path, language = os.path.join(TOP, source), os.path.join(RECORD, "c++" if source.endswith(".cpp") else "cc")
-    words = ["-std=c++17"] if source.endswith(".cpp") else ["-fopenmp"] if source.endswith(("openmp.c", "teams.c", "region.c")) else []
+    words = (
+        ["-std=c++17"]
+        if source.endswith(".cpp")
+        else ["-fopenmp"]
+        if source.endswith(("openmp.c", "teams.c", "region.c"))
+        else []
+    )
     if c == "gcc":
         done([language, "-O1", *words, path, "-o", "program"], env=environment)
     else:
@@ -174,16 +183,8 @@ def judge_stranger():
         raise Wrong(f"a program without the recorder: {out}{said}")
 
 
-def main():
-    racebench = os.path.abspath(sys.argv[1])
-    pairs = list(compilers())
-    if not pairs:
-        print("record/: not tested, since no C compiler with the hooks of -fsanitize=thread is here")
-        print("0 passed, 0 failed")
-        return 0
-    why = recorded_options.why_no_decoder()
-    if why:
-        print(f"record/: the decoder in C++ is not tested, since it can't be compiled: {why}")
+def cases_of(racebench, pairs):
+    """Each case: its name, the function that judges it, and its arguments."""
     cases = [("a program without the recorder", judge_stranger, ())]
     for place, (c, cxx) in enumerate(pairs):
         seeds = SEEDS if place == 0 else SEEDS[:1]
@@ -192,27 +193,49 @@ def main():
         if place == 0:
             cases += recorded_options.cases(c) + recorded_runs.cases(c) + recorded_follow.cases(racebench)
             cases += recorded_chance.cases(racebench) + recorded_ci.cases(racebench)
+            cases += recorded_strangers.cases(racebench, c, cxx)
         for source, words, races in PROGRAMS:
             if source.endswith(("openmp.c", "teams.c", "region.c")) and c != "gcc":
                 continue
             if source.endswith(".cpp") and cxx is None:
                 print(f"record/: {source} is not tested with {c}, since its C++ compiler is not here")
                 continue
-            cases.append((" ".join([source, *words, c]), judge_program, (racebench, source, words, races, c, cxx, seeds)))
-    passed = failed = 0
-    for name, judge, about in cases:
-        with tempfile.TemporaryDirectory() as folder:
-            os.chdir(folder)
-            try:
-                judge(*about)
-                passed += 1
-            except (Wrong, *WRONGS, subprocess.TimeoutExpired) as wrong:
-                print(f"{name}: {wrong}")
-                failed += 1
+            cases.append(
+                (" ".join([source, *words, c]), judge_program, (racebench, source, words, races, c, cxx, seeds))
+            )
+    return cases
+
+
+def wrong_of(judge, about):
+    """What is wrong with a case, which is judged in a folder of its own."""
+    with tempfile.TemporaryDirectory() as folder:
+        os.chdir(folder)
+        try:
+            judge(*about)
+            return []
+        except Wrong as wrong:
+            return [str(wrong)]
+        except judging.UNREADABLE as what:
+            return [judging.unreadable(what)]
+        finally:
             os.chdir(TOP)
-    print(f"{passed} passed, {failed} failed")
-    return 1 if failed else 0
+
+
+def judged(run):
+    pairs = list(compilers())
+    if not pairs:
+        run.tally["no compiler"] += 1
+        return (
+            "record/: not tested, since no C compiler with the hooks of -fsanitize=thread is here\n0 passed, 0 failed"
+        )
+    why = recorded_options.why_no_decoder()
+    if why:
+        print(f"record/: the decoder in C++ is not tested, since it can't be compiled: {why}")
+    for name, judge, about in cases_of(run.program, pairs):
+        if not run.texts or any(text in name for text in run.texts):
+            run.case(name, wrong_of(judge, about))
+    return None
 
 
 if __name__ == "__main__":
-    sys.exit(main())
+    sys.exit(judging.main("record", judged, texts="CASE"))

@@ -1,7 +1,8 @@
-"""Judges record/ on programs made by chance: each race of triage is followed on the program, both threads stand at their accesses of one
-memory, and every read on the way has the writer that it had in the recording.
+"""Judges record/ on programs made by chance: each race of triage is followed on the program, both threads stand at
+their accesses of one memory, and every read on the way has the writer that it had in the recording.
 
-What no other judge sees: an order that a program keeps and its trace does not have, so that a schedule is accepted that no run can make.
+What no other judge sees: an order that a program keeps and its trace does not have, so that a schedule is accepted
+that no run can make.
 """
 
 import contextlib
@@ -13,7 +14,8 @@ import sys
 import tempfile
 from collections import Counter
 
-from recorded_follow import RECORD, WrongFollow, ran
+from judging import Wrong
+from recorded_follow import RECORD, ran
 
 sys.path.insert(0, RECORD)
 import clocks  # noqa: E402
@@ -25,8 +27,8 @@ READS = tuple(raw_file.KINDS[name] for name in "READ ATOMIC_READ ATOMIC_UPDATE".
 WRITES = tuple(raw_file.KINDS[name] for name in "WRITE ATOMIC_WRITE ATOMIC_UPDATE".split())
 ALLOCATED, FREED = raw_file.KINDS["ALLOCATED"], raw_file.KINDS["FREED"]
 PATIENCE, TIMEOUT = 60_000, 600
-# The seeds of the programs that are always tried, and how many races they have at least. In the last one a read comes between the parts
-# of a free.
+# The seeds of the programs that are always tried, and how many races they have at least. In the last one a read comes
+# between the parts of a free.
 FEW, LEAST_RACES = (7, 10, 16, 924734307), 40
 # The same for programs of teams of OpenMP.
 FEW_TEAMS, LEAST_OF_TEAMS = (6, 8, 51), 10
@@ -98,7 +100,9 @@ GIVES = [
 
 
 def access(chance, thread):
-    place = chance.choice(["v[%d]" % chance.randrange(4), "v[%d]" % chance.randrange(2), "h[%d]" % chance.randrange(3)])
+    place = chance.choice(
+        ["v[%d]" % chance.randrange(4), "v[%d]" % chance.randrange(2), "h[%d]" % chance.randrange(3)]
+    )
     return chance.choice([f"{place} = {chance.randrange(100)};", f"seen[{thread}] = {place};"])
 
 
@@ -165,7 +169,9 @@ def team_program(chance):
     """A program of some teams of OpenMP, all of whose threads come to the same constructs."""
     lines = [TEAM_HEAD]
     for _ in range(chance.randint(1, 2)):
-        lines.append(f"#pragma omp parallel num_threads({chance.randint(2, 4)})\n{{ int own = 0, T = omp_get_thread_num(); (void)own;\n")
+        lines.append(
+            f"#pragma omp parallel num_threads({chance.randint(2, 4)})\n{{ int own = 0, T = omp_get_thread_num(); (void)own;\n"
+        )
         for _ in range(chance.randint(3, 7)):
             step = re.sub("A[CD]", lambda _: access(chance, "T"), chance.choice(TEAM_STEPS))
             lines.append(step.replace("KIND", chance.choice(KINDS)) + "\n")
@@ -174,7 +180,8 @@ def team_program(chance):
 
 
 def writers(data):
-    """For each record its thread and clock, and for a read those of the last write to its first byte; a free writes its block."""
+    """For each record its thread and clock, and for a read those of the last write to its first byte; a free writes
+    its block."""
     head, last, found, sizes = raw_file.Head(data), {}, {}, {}
     for _, record in raw_file.all_records(data, head):
         who = record.thread, record.pos
@@ -232,7 +239,10 @@ def follow(clock, words, racebench, pair):
         if record.kind in READS and who in before:
             reads += 1
             if there.get(who, "none") != before[who]:
-                return f"event {event} of the race {' '.join(pair)} reads what {there.get(who, 'none')} wrote, and not {before[who]}", reads
+                return (
+                    f"event {event} of the race {' '.join(pair)} reads what {there.get(who, 'none')} wrote, and not {before[who]}",
+                    reads,
+                )
     return "", reads
 
 
@@ -240,7 +250,17 @@ def judge(racebench, seed, tally, make=program):
     """A program, recorded with two seeds, and all of its races."""
     with open("program.c", "w", encoding="ascii") as file:
         file.write(make(random.Random(seed)))
-    ran([os.path.join(RECORD, "cc"), "-O1", "-g", *(["-fopenmp"] if make is team_program else []), "program.c", "-o", "program"])
+    ran(
+        [
+            os.path.join(RECORD, "cc"),
+            "-O1",
+            "-g",
+            *(["-fopenmp"] if make is team_program else []),
+            "program.c",
+            "-o",
+            "program",
+        ]
+    )
     for run in range(2):
         words = ["--seed", str(seed + run), "--yield", "5", "--clock", "program.clock", "./program"]
         trace, _ = ran([os.path.join(RECORD, "run"), *words], None)
@@ -252,7 +272,7 @@ def judge(racebench, seed, tally, make=program):
         for pair in re.findall(r"^race (\d+) (\d+) ", printed, re.MULTILINE):
             why, reads = follow(clock, ["./program"], racebench, pair)
             if why:
-                raise WrongFollow(f"program by chance, seed {seed}, --seed {seed + run} --yield 5: {why}")
+                raise Wrong(f"program by chance, seed {seed}, --seed {seed + run} --yield 5: {why}")
             tally["races"] += 1
             tally["reads"] += reads
 
@@ -263,7 +283,7 @@ def judge_few(racebench):
     for seed in FEW:
         judge(racebench, seed, tally)
     if tally["races"] < LEAST_RACES:
-        raise WrongFollow(f"programs by chance have {tally['races']} races alone: {dict(tally)}")
+        raise Wrong(f"programs by chance have {tally['races']} races alone: {dict(tally)}")
 
 
 def judge_teams(racebench):
@@ -272,7 +292,7 @@ def judge_teams(racebench):
     for seed in FEW_TEAMS:
         judge(racebench, seed, tally, team_program)
     if tally["races"] < LEAST_OF_TEAMS:
-        raise WrongFollow(f"programs of OpenMP by chance have {tally['races']} races alone: {dict(tally)}")
+        raise Wrong(f"programs of OpenMP by chance have {tally['races']} races alone: {dict(tally)}")
 
 
 def cases(racebench):
@@ -289,10 +309,12 @@ def soak(racebench, first, programs):
             try:
                 judge(racebench, seed, tally)
                 judge(racebench, seed, tally, team_program)
-            except WrongFollow as why:
+            except Wrong as why:
                 wrong += 1
                 print(why, flush=True)
             os.chdir(top)
-    print(f"soak: {programs} programs by chance and as many of OpenMP, {tally['recordings']} recordings, {tally['races']} races stood, "
-          f"{tally['reads']} reads had their writers; {wrong} programs did not")
+    print(
+        f"soak: {programs} programs by chance and as many of OpenMP, {tally['recordings']} recordings, {tally['races']} races stood, "
+        f"{tally['reads']} reads had their writers; {wrong} programs did not"
+    )
     return 1 if wrong or not tally["reads"] else 0

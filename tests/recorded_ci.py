@@ -11,7 +11,8 @@ import stat
 import subprocess
 
 import sarif_rules
-from recorded_places import RECORD, TOP, WrongPlace, ran
+from judging import Wrong
+from recorded_places import RECORD, TOP, ran
 
 FOLDER = os.path.join(TOP, "examples", "ci")
 MAKEFILE = "tests: tests.c\n\t$(CC) -g tests.c -o tests\n"
@@ -30,14 +31,20 @@ int main(void) {
   return pthread_join(b, NULL);
 }
 """
-QUIET = "#include <stdio.h>\nint main(void) { puts(\"quiet\"); return 0; }\n"
+QUIET = '#include <stdio.h>\nint main(void) { puts("quiet"); return 0; }\n'
 
 
-# How a service runs the lines of its file: the shell, with the words that it is called with, and what it sets in the environment. GitHub
-# and Jenkins run each line by itself, GitLab all in one script.
+# How a service runs the lines of its file: the shell, with the words that it is called with, and what it sets in the
+# environment. GitHub and Jenkins run each line by itself, GitLab all in one script.
 SERVICES = {
-    "github.yml": (["bash", "-e"], {"CI": "true", "GITHUB_ACTIONS": "true", "GITHUB_WORKSPACE": ".", "RUNNER_OS": "Linux"}),
-    "gitlab.yml": (["bash", "-eo", "pipefail"], {"CI": "true", "GITLAB_CI": "true", "CI_PROJECT_DIR": ".", "CI_JOB_NAME": "races"}),
+    "github.yml": (
+        ["bash", "-e"],
+        {"CI": "true", "GITHUB_ACTIONS": "true", "GITHUB_WORKSPACE": ".", "RUNNER_OS": "Linux"},
+    ),
+    "gitlab.yml": (
+        ["bash", "-eo", "pipefail"],
+        {"CI": "true", "GITLAB_CI": "true", "CI_PROJECT_DIR": ".", "CI_JOB_NAME": "races"},
+    ),
     "Jenkinsfile": (["sh", "-xe"], {"JENKINS_URL": "http://localhost/", "WORKSPACE": ".", "BUILD_NUMBER": "1"}),
 }
 # What stands for the commands that change a machine: they write down how they are called.
@@ -57,14 +64,16 @@ def scripts(name):
 
 
 def served(name, environment):
-    """Runs what a service runs, up to the first script that fails: its status, what all printed, and what was said as an error. A shell
-    that traces says its commands."""
+    """Runs what a service runs, up to the first script that fails: its status, what all printed, and what was said as
+    an error. A shell that traces says its commands."""
     shell, sets = SERVICES[name]
     printed, told = "", ""
     for script in scripts(name):
         with open("script.sh", "w", encoding="ascii") as file:
             file.write(script + "\n")
-        done = subprocess.run([*shell, "script.sh"], capture_output=True, text=True, env={**environment, **sets}, check=False)
+        done = subprocess.run(
+            [*shell, "script.sh"], capture_output=True, text=True, env={**environment, **sets}, check=False
+        )
         printed += done.stdout
         told += "".join(line for line in done.stderr.splitlines(True) if not line.startswith("+"))
         if done.returncode:
@@ -102,34 +111,34 @@ def judge_log(rules):
     sarif_rules.check(log)
     results = log["runs"][0]["results"]
     if sorted({result["ruleId"] for result in results}) != rules:
-        raise WrongPlace(f"races/races.sarif has other results: {results}")
+        raise Wrong(f"races/races.sarif has other results: {results}")
     for location in (location for result in results for location in sarif_rules.locations_of(result)):
         uri = location.get("physicalLocation", {}).get("artifactLocation", {}).get("uri", ".")
         if not os.path.exists(uri):
-            raise WrongPlace(f"races/races.sarif names {uri}, which is not there")
+            raise Wrong(f"races/races.sarif names {uri}, which is not there")
 
 
 def judge_service(racebench, name):
     environment = lay_out(racebench)
     status, said, told = served(name, environment)
     if status != 3 or "record/" in told:
-        raise WrongPlace(f"an empty file of known races: status {status}, {said!r}, {told!r}")
+        raise Wrong(f"an empty file of known races: status {status}, {said!r}, {told!r}")
     if "seed 2: a new race\nrace " not in said or not os.path.exists("races/2.html"):
-        raise WrongPlace(f"a new race is not shown: {said!r}")
+        raise Wrong(f"a new race is not shown: {said!r}")
     if name != "Jenkinsfile":
         with open("installed", encoding="ascii") as file:
             if f"install -y ./{DEB} " not in file.read():
-                raise WrongPlace("the package is not installed")
+                raise Wrong("the package is not installed")
     judge_log(["data-race"])
     with open("ci/known.txt", "w", encoding="ascii") as known:
         known.write("none\n")
     if served(name, environment)[1].count("has no block `race`") != 1:
-        raise WrongPlace("a file of known races without one is not told once")
+        raise Wrong("a file of known races without one is not told once")
     with open("races/1.txt", encoding="ascii") as old, open("ci/known.txt", "w", encoding="ascii") as known:
         known.write(old.read())
     status, said, _ = served(name, environment)
     if status or not said.endswith("seed 1: no new race\nseed 2: no new race\n"):
-        raise WrongPlace(f"a known race is new: status {status}, {said!r}")
+        raise Wrong(f"a known race is new: status {status}, {said!r}")
     judge_log([])
 
 
@@ -141,7 +150,7 @@ def judge_locks(racebench):
     ran(["make", "CC=racebench-cc"], env=environment)
     said = ran(["sh", "ci/triage.sh", "ci/known.txt", "./tests"], wanted=3, env=environment)
     if not re.search(r"^race .*\n  T1\|w\(n\)\|.*\n    holds m\n  T2\|w\(n\)\|.*\n\Z", said, re.MULTILINE):
-        raise WrongPlace(f"a race with a lock is not shown whole: {said!r}")
+        raise Wrong(f"a race with a lock is not shown whole: {said!r}")
 
 
 def judge_no_green(racebench):
@@ -152,19 +161,19 @@ def judge_no_green(racebench):
     os.rename("ci/known.txt", "known.txt")
     done = subprocess.run(judge, capture_output=True, text=True, env=environment, check=False)
     if done.returncode != 1 or not done.stderr.startswith("ci/known.txt, "):
-        raise WrongPlace(f"a file of known races that is not there is not said: {done}")
+        raise Wrong(f"a file of known races that is not there is not said: {done}")
     os.rename("known.txt", "ci/known.txt")
     with open("tests.c", "w", encoding="ascii") as file:
         file.write(QUIET)
     ran(["gcc", "tests.c", "-o", "tests"])
     if "seed 1: not recorded" not in ran(judge, wanted=1, env=environment):
-        raise WrongPlace("a program without hooks is not said")
+        raise Wrong("a program without hooks is not said")
     shutil.copy(os.path.join(TOP, "examples", "count.c"), "tests.c")
     ran(["make", "-B", "CC=racebench-cc"], env=environment)
     with open("bin/racebench", "w", encoding="ascii") as file:
         file.write("#!/bin/sh\nexit 4\n")
     if "seed 1: not judged, status 4" not in ran(judge, wanted=1, env=environment):
-        raise WrongPlace("a trace that is not judged is not said")
+        raise Wrong("a trace that is not judged is not said")
 
 
 def cases(racebench):

@@ -14,24 +14,35 @@ import shutil
 import subprocess
 import tempfile
 
+from judging import Wrong
 from recorded_places import PATIENCE
 
 TOP = os.path.dirname(os.path.dirname(os.path.abspath(__file__)))
 RECORD = os.path.join(TOP, "record")
 SOURCES = os.path.join(TOP, "tests", "recorded", "races")
+# A slow machine has time for a run, and for what comes between two hooks.
+LIMITS = ["--timeout", str(PATIENCE), "--patience", "60000"]
+FOLLOW = [os.path.join(RECORD, "follow"), *LIMITS]
 OKAY, ASSERTION, FAULT = "status 0", "signal 6 (SIGABRT)", "signal 11 (SIGSEGV)"
 ANY = (OKAY, ASSERTION, FAULT)
 BAD = (ASSERTION, FAULT)
-# For each program the words for the recorder, and for each of its races: the lines of both accesses, the lower first, and how the
-# program may end with the lower first and with the higher first. Of two accesses in one line either is the lower.
+# For each program the words for the recorder, and for each of its races: the lines of both accesses, the lower first,
+# and how the program may end with the lower first and with the higher first. Of two accesses in one line either is the
+# lower.
 PROGRAMS = {
     "lost.c": ([], [(6, 6, (ASSERTION,), (OKAY,))]),
     "checked_twice.c": ([], [(10, 13, (OKAY,), (FAULT,)), (15, 23, (OKAY,), (FAULT,))]),
-    "stopping.c": ([], [(13, 13, BAD, ANY), (13, 26, BAD, ANY), (13, 26, ANY, BAD), (10, 27, ANY, ANY), (12, 27, ANY, ANY)]),
+    "stopping.c": (
+        [],
+        [(13, 13, BAD, ANY), (13, 26, BAD, ANY), (13, 26, ANY, BAD), (10, 27, ANY, ANY), (12, 27, ANY, ANY)],
+    ),
     "freed_early.c": ([], [(11, 18, (FAULT,), (OKAY,)), (11, 19, (OKAY,), ANY), (11, 20, (FAULT,), (FAULT,))]),
     "aba.c": (["--yield", "2"], [(14, 20, (ASSERTION,), (OKAY,))]),
     "bank.c": ([], [(8, 10, (ASSERTION,), (OKAY,))]),
-    "ring.c": ([], [(11, 13, (ASSERTION,), ANY), (12, 12, (ASSERTION,), (ASSERTION,)), (13, 13, (ASSERTION,), (ASSERTION,))]),
+    "ring.c": (
+        [],
+        [(11, 13, (ASSERTION,), ANY), (12, 12, (ASSERTION,), (ASSERTION,)), (13, 13, (ASSERTION,), (ASSERTION,))],
+    ),
     "counted_twice.cpp": ([], [(11, 11, BAD, (OKAY,))]),
     "passed.c": ([], [(14, 22, (ASSERTION,), ANY)]),
 }
@@ -41,18 +52,23 @@ DIFFER = "the order matters: the outputs differ: 1 with A first, 0 with B first"
 NO_DIFFERENCE = "it makes no difference"
 # The members of a line of JSON for a race that stands and for one that departed, as docs/FORMATS.md has them.
 BOTH = {"ended", "events", "locations", "places", "text"}
-MEMBERS = {"stands": BOTH | {"first", "liberties", "matters", "same_memory", "second", "why"}, "departed": BOTH | {"at"}}
+MEMBERS = {
+    "stands": BOTH | {"first", "liberties", "matters", "same_memory", "second", "why"},
+    "departed": BOTH | {"at"},
+}
 UNKNOWN = "whether the order matters is not known: the outputs vary by themselves"
-# What outputs.c shows, how many tries, whether the order matters, and what is told: a value that hangs on the order, alone and beside
-# others that do not; nothing; one of two values that come in both orders; values that are others in each run.
+# What outputs.c shows, how many tries, whether the order matters, and what is told: a value that hangs on the order,
+# alone and beside others that do not; nothing; one of two values that come in both orders; values that are others in
+# each run.
 OUTPUTS = [
-    ("seen", 1, True, DIFFER), ("seen order", 1, True, DIFFER), ("seen order", 3, True, DIFFER), ("", 3, False, NO_DIFFERENCE),
-    ("half", 6, None, UNKNOWN), ("order", 3, None, UNKNOWN), ("process", 1, None, UNKNOWN),
+    ("seen", 1, True, DIFFER),
+    ("seen order", 1, True, DIFFER),
+    ("seen order", 3, True, DIFFER),
+    ("", 3, False, NO_DIFFERENCE),
+    ("half", 6, None, UNKNOWN),
+    ("order", 3, None, UNKNOWN),
+    ("process", 1, None, UNKNOWN),
 ]
-
-
-class WrongFollow(Exception):
-    pass
 
 
 def ran(words, wanted=0, text=None, **more):
@@ -60,7 +76,7 @@ def ran(words, wanted=0, text=None, **more):
     done = subprocess.run(words, input=given, capture_output=True, timeout=PATIENCE, check=False, **more)
     out, said = done.stdout.decode("utf-8", "surrogateescape"), done.stderr.decode(errors="replace")
     if wanted is not None and done.returncode != wanted:
-        raise WrongFollow(f"{' '.join(words)}: status {done.returncode}, and not {wanted}: {said[-900:]}")
+        raise Wrong(f"{' '.join(words)}: status {done.returncode}, and not {wanted}: {said[-900:]}")
     return out, said
 
 
@@ -74,20 +90,36 @@ def recorded(source, words, name="program", flags=(), args=()):
 
 
 def confirmed(racebench, name="program", *words, wanted=0, **more):
-    """What record/confirm found of each race. A slow machine has time for it."""
-    limits = ["--timeout", str(PATIENCE), "--patience", "60000"]
-    out, _ = ran([os.path.join(RECORD, "confirm"), "--racebench", racebench, "--json", name + ".json", *limits, *words,
-                  name + ".std", name + ".clock"], wanted, **more)
+    """What record/confirm found of each race."""
+    out, _ = ran(
+        [
+            os.path.join(RECORD, "confirm"),
+            "--racebench",
+            racebench,
+            "--json",
+            name + ".json",
+            *LIMITS,
+            *words,
+            name + ".std",
+            name + ".clock",
+        ],
+        wanted,
+        **more,
+    )
     with open(name + ".json", encoding="ascii") as lines:
         found = [json.loads(line) for line in lines]
     if not out.splitlines()[-1].startswith(f"races {len(found)}, stand "):
-        raise WrongFollow(f"the last line counts other races than there are: {out}")
+        raise Wrong(f"the last line counts other races than there are: {out}")
     with open(name + ".std", encoding="utf-8", errors="surrogateescape") as file:
         there = [line.rstrip("\n").split("|", 2)[2] for line in file]
     for one in found:
         locations = [there[event] for event in one["events"]]
-        if set(one) != MEMBERS[one["ended"]] or one["locations"] != locations or one["places"] != [each.split(" < ")[0] for each in locations]:
-            raise WrongFollow(f"a line of JSON: {one}")
+        if (
+            set(one) != MEMBERS[one["ended"]]
+            or one["locations"] != locations
+            or one["places"] != [each.split(" < ")[0] for each in locations]
+        ):
+            raise Wrong(f"a line of JSON: {one}")
     return found
 
 
@@ -99,10 +131,10 @@ def judge_races(racebench):
         found = confirmed(racebench)
         wrong = [one for one in found if why_wrong(source, one)]
         if not found or wrong:
-            raise WrongFollow(f"{source}: of {len(found)} races: {why_wrong(source, wrong[0]) if wrong else 'none'}")
+            raise Wrong(f"{source}: of {len(found)} races: {why_wrong(source, wrong[0]) if wrong else 'none'}")
         stood += len(found)
     if stood < ALL_RACES:
-        raise WrongFollow(f"{stood} races stood, and {ALL_RACES} have to")
+        raise Wrong(f"{stood} races stood, and {ALL_RACES} have to")
 
 
 def why_wrong(source, one):
@@ -131,28 +163,32 @@ def judge_orders(racebench):
     """The two accesses of count.c come in the order that is asked for: the value after both says which was last."""
     recorded(os.path.join(TOP, "examples", "count.c"), [])
     pair, witness = witness_of(racebench, "program")
-    out, told = ran([os.path.join(RECORD, "follow"), "--then", "both", "program.clock", *pair, "./program"], text=witness)
-    if "the race stands: T1 at count.c:7, T2 at count.c:13" not in told or "the order matters: the outputs differ" not in told:
-        raise WrongFollow(f"count.c in both orders: {told}")
+    out, told = ran([*FOLLOW, "--then", "both", "program.clock", *pair, "./program"], text=witness)
+    if (
+        "the race stands: T1 at count.c:7, T2 at count.c:13" not in told
+        or "the order matters: the outputs differ" not in told
+    ):
+        raise Wrong(f"count.c in both orders: {told}")
     for then, printed in (("first", "42\n2\n"), ("second", "42\n1\n")):
-        _, told = ran([os.path.join(RECORD, "follow"), "--then", then, "program.clock", *pair, "./program"], text=witness)
+        _, told = ran([*FOLLOW, "--then", then, "program.clock", *pair, "./program"], text=witness)
         if not told.startswith(printed):
-            raise WrongFollow(f"count.c, {then}: {told}")
+            raise Wrong(f"count.c, {then}: {told}")
 
 
 def judge_outputs(racebench):
-    """Whether the order matters is told by outputs that hang on the order alone, and is not known where they vary by themselves."""
+    """Whether the order matters is told by outputs that hang on the order alone, and is not known where they vary by
+    themselves."""
     recorded(os.path.join(SOURCES, "outputs.c"), [])
     pair, witness = witness_of(racebench, "program")
-    follow = [os.path.join(RECORD, "follow"), "--then", "both", "program.clock", *pair]
+    follow = ["--then", "both", "program.clock", *pair]
     for shown, tries, matters, told in OUTPUTS:
         env = dict(os.environ, SHOWN=shown)
         found = confirmed(racebench, "program", "--tries", str(tries), env=env)
         if [one["matters"] for one in found] != [matters]:
-            raise WrongFollow(f"outputs that show {shown}, {tries} tries: {found}")
-        _, said = ran([*follow[:1], "--tries", str(tries), *follow[1:]], text=witness, env=env)
+            raise Wrong(f"outputs that show {shown}, {tries} tries: {found}")
+        _, said = ran([*FOLLOW, "--tries", str(tries), *follow], text=witness, env=env)
         if said.splitlines()[-1] != f"record/follow: {told}":
-            raise WrongFollow(f"outputs that show {shown}, {tries} tries: {said}")
+            raise Wrong(f"outputs that show {shown}, {tries} tries: {said}")
 
 
 def judge_program(racebench):
@@ -161,30 +197,36 @@ def judge_program(racebench):
     confirm = [os.path.join(RECORD, "confirm"), "program.std", "program.clock"]
     ways = [("--racebench", racebench), ("--program", racebench), ()]
     env = dict(os.environ, RACEBENCH="/nowhere")
-    told = [ran([confirm[0], *way, *confirm[1:]], env=env if way else dict(env, RACEBENCH=racebench))[0] for way in ways]
+    told = [
+        ran([confirm[0], *way, *confirm[1:]], env=env if way else dict(env, RACEBENCH=racebench))[0] for way in ways
+    ]
     if "stand 1" not in told[0] or told != [told[0]] * 3:
-        raise WrongFollow(f"three ways to name racebench: {told}")
+        raise Wrong(f"three ways to name racebench: {told}")
 
 
 def judge_departs(racebench):
     """A run whose addresses are others goes another way: that is told, with the places of both ways."""
     recorded(os.path.join(SOURCES, "departs.c"), [])
     if [one["ended"] for one in confirmed(racebench)] != ["stands"]:
-        raise WrongFollow("the race of departs.c does not stand with the addresses of the recording")
+        raise Wrong("the race of departs.c does not stand with the addresses of the recording")
     pair, witness = witness_of(racebench, "program")
-    words = [os.path.join(RECORD, "follow"), "--patience", "2000", "program.clock", *pair, "./program"]
+    words = [*FOLLOW, "program.clock", *pair, "./program"]
     _, told = ran(words, 1, witness, env=dict(os.environ, SIZE_BEFORE="72"))
-    if not re.search(r"departed at event \d+ .*\(step \d+ of \d+\): T[12] .*departs\.c:\d+", told) or "the race stands" in told:
-        raise WrongFollow(f"a run with other addresses: {told}")
+    if (
+        not re.search(r"departed at event \d+ .*\(step \d+ of \d+\): T[12] .*departs\.c:\d+", told)
+        or "the race stands" in told
+    ):
+        raise Wrong(f"a run with other addresses: {told}")
 
 
 def judge_teams(racebench):
-    """Races of teams of OpenMP stand: who comes first has the next part of a loop, a section, and what one thread does."""
+    """Races of teams of OpenMP stand: who comes first has the next part of a loop, a section, and what one thread
+    does."""
     for source, seed in itertools.product(("region.c", "teams.c", "openmp.c"), ("1", "2")):
         recorded(os.path.join(TOP, "tests", "recorded", source), ["--seed", seed, "--yield", "5"], flags=["-fopenmp"])
         found = confirmed(racebench)
         if [one["ended"] for one in found] != ["stands"] or not found[0]["same_memory"]:
-            raise WrongFollow(f"{source}, seed {seed}: {found}")
+            raise Wrong(f"{source}, seed {seed}: {found}")
 
 
 def judge_debugger(racebench):
@@ -196,10 +238,10 @@ def judge_debugger(racebench):
     pair, witness = witness_of(racebench, "program")
     with open("witness", "w", encoding="utf-8") as file:
         file.write(witness)
-    words = [os.path.join(RECORD, "follow"), "--gdb", "--witness", "witness", "program.clock", *pair]
+    words = [*FOLLOW, "--gdb", "--witness", "witness", "program.clock", *pair]
     out, told = ran(words, text="bt\nkill\nquit\n")
     if "the race stands: T1 at words.c:8, T2 at words.c:8" not in told or "in work (" not in out:
-        raise WrongFollow(f"under gdb: {out}{told}")
+        raise Wrong(f"under gdb: {out}{told}")
 
 
 def judge_waits(racebench):
@@ -208,7 +250,7 @@ def judge_waits(racebench):
     found = confirmed(racebench, wanted=1)
     said = "came to an atomic read at waits.c:12, where the recording has a read at waits.c:13"
     if [one["ended"] for one in found] != ["departed"] or said not in found[0]["text"]:
-        raise WrongFollow(f"a thread that waits for a relaxed flag: {found}")
+        raise Wrong(f"a thread that waits for a relaxed flag: {found}")
 
 
 def judge_refusals(racebench):
@@ -222,30 +264,44 @@ def judge_refusals(racebench):
     for size in (0, 7, 100, len(whole) // 3, len(whole) - 1):
         with open(f"cut{size}.clock", "wb") as file:
             file.write(whole[:size])
-    cases = [(follow, other), (follow, ""), (follow, "hello\n"), (follow + ["./other"], witness), (follow[:2] + ["0", "999999"], witness)]
-    cases += [([follow[0], f"cut{size}.clock", *pair], witness) for size in (0, 7, 100, len(whole) // 3, len(whole) - 1)]
+    cases = [
+        (follow, other),
+        (follow, ""),
+        (follow, "hello\n"),
+        (follow + ["./other"], witness),
+        (follow[:2] + ["0", "999999"], witness),
+    ]
+    cases += [
+        ([follow[0], f"cut{size}.clock", *pair], witness) for size in (0, 7, 100, len(whole) // 3, len(whole) - 1)
+    ]
     cases.append(([os.path.join(RECORD, "confirm"), "--racebench", racebench, "other.std", "program.clock"], ""))
     second = str(int(pair[1]) - 1)
     cases.append(([*follow[:2], pair[0], second], witness))
     for words, text in cases:
         _, told = ran(words, 3, text)
         if "Traceback" in told or len(told.splitlines()) != 1:
-            raise WrongFollow(f"{' '.join(words)}: {told}")
+            raise Wrong(f"{' '.join(words)}: {told}")
     _, told = ran([os.path.join(RECORD, "confirm"), "--racebench", racebench, "nothing.std", "program.clock"], 1)
     if told != "record/confirm: nothing.std: No such file or directory\n":
-        raise WrongFollow(f"a trace that is not there: {told}")
+        raise Wrong(f"a trace that is not there: {told}")
 
 
 JUDGES = [
-    ("races stand", judge_races), ("both orders", judge_orders), ("outputs", judge_outputs), ("the program's name", judge_program),
-    ("a departure", judge_departs), ("a thread that waits", judge_waits), ("teams of OpenMP", judge_teams), ("gdb", judge_debugger),
+    ("races stand", judge_races),
+    ("both orders", judge_orders),
+    ("outputs", judge_outputs),
+    ("the program's name", judge_program),
+    ("a departure", judge_departs),
+    ("a thread that waits", judge_waits),
+    ("teams of OpenMP", judge_teams),
+    ("gdb", judge_debugger),
     ("refusals", judge_refusals),
 ]
 
 
 def soak(racebench):
-    """Follows the races of all programs in recordings of several seeds and lengths of turns; how many departed, or led to
-    something else."""
+    """Follows the races of all programs in recordings of several seeds and lengths of turns; how many departed, or led
+    to something else."""
     stood = departed = 0
     with tempfile.TemporaryDirectory() as folder:
         os.chdir(folder)

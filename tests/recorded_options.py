@@ -11,7 +11,8 @@ import subprocess
 import sys
 import tempfile
 
-from recorded_places import PATIENCE, RECORD, SOURCES, WrongPlace, ran
+from judging import Wrong
+from recorded_places import PATIENCE, RECORD, SOURCES, ran
 
 MOST_EVENTS = 1_048_576
 # The decoder is compiled once, which takes minutes on a machine that does much else.
@@ -22,7 +23,7 @@ def run(*words):
     """What record/run writes of `program`, and what it says."""
     done = subprocess.run([os.path.join(RECORD, "run"), *words], capture_output=True, timeout=PATIENCE, check=False)
     if done.returncode:
-        raise WrongPlace(
+        raise Wrong(
             f"record/run {' '.join(words)}: status {done.returncode}: {done.stderr.decode(errors='replace')[:600]}"
         )
     return done.stdout.decode().splitlines(), done.stderr.decode(errors="replace")
@@ -53,9 +54,7 @@ def decoded(*words):
     ]
     if told[0][0] or told[0] != told[1]:
         pairs = zip(told[0][1] + [told[0][2]], told[1][1] + [told[1][2]])
-        raise WrongPlace(
-            f"the decoders differ with {words}: {next((pair for pair in pairs if pair[0] != pair[1]), told)}"
-        )
+        raise Wrong(f"the decoders differ with {words}: {next((pair for pair in pairs if pair[0] != pair[1]), told)}")
     return told[0][1], told[0][2]
 
 
@@ -64,7 +63,7 @@ def judge_decoders(words):
     trace = ran([os.path.join(RECORD, "run"), *words, "--raw", "kept.raw", "./program"]).splitlines()
     again, _ = decoded(*[word for word in words if word == "--no-free"])
     if not trace or trace != again:
-        raise WrongPlace("the trace is not the one of the records that were kept")
+        raise Wrong("the trace is not the one of the records that were kept")
 
 
 def held_wrongly(lines):
@@ -90,9 +89,9 @@ def judge_beginning():
         before = int(re.search(r"^fact before (\d+)$", facts, re.MULTILINE)[1])
         added, tail = rest[: len(rest) - len(whole) + before], whole[before:]
         if not first <= before < first + 40 or rest[len(added) :] != tail:
-            raise WrongPlace(f"--from {first}: the trace does not end as the whole one does")
+            raise Wrong(f"--from {first}: the trace does not end as the whole one does")
         if any("|acq(" not in line or line not in whole[:before] for line in added) or held_wrongly(rest):
-            raise WrongPlace(f"--from {first}: begins with {added}, and {held_wrongly(rest)} lets go what nobody has")
+            raise Wrong(f"--from {first}: begins with {added}, and {held_wrongly(rest)} lets go what nobody has")
 
 
 def judge_only():
@@ -102,7 +101,7 @@ def judge_only():
     some, said = decoded("--only", "p/util.c")
     wanted = [line for line in whole if not re.search(r"\|[rw]\(", line) or "(p_count)" in line]
     if some != wanted or "fact not_chosen 3" not in said:
-        raise WrongPlace(f"--only p/util.c: {some}, and {said}")
+        raise Wrong(f"--only p/util.c: {some}, and {said}")
 
 
 def judge_length():
@@ -110,24 +109,25 @@ def judge_length():
     are said."""
     whole, said = run("--stream", "--yield", "5000", "./program", str(MOST_EVENTS // 4 + 100))
     if len(whole) <= MOST_EVENTS or "left out" in said or f"recorded {len(whole)} events" not in said:
-        raise WrongPlace(f"--stream: {len(whole)} events, and {said}")
+        raise Wrong(f"--stream: {len(whole)} events, and {said}")
     limited, said = run("--max", "1000", "./program", "1000")
     if len(limited) != 1000 or "events left out after the first 1000" not in said:
-        raise WrongPlace(f"--max 1000: {len(limited)} events, and {said}")
+        raise Wrong(f"--max 1000: {len(limited)} events, and {said}")
     judge_seconds()
 
 
 def judge_seconds():
-    """--for ends the trace early, and the program goes on. A turn of its loop pauses for 10 ms at least, so with four times as many
-    turns as fit into the time a part is left out; on a slow machine the time may be over before much is recorded."""
+    """--for ends the trace early, and the program goes on. A turn of its loop pauses for 10 ms at least, so with four
+    times as many turns as fit into the time a part is left out; on a slow machine the time may be over before much is
+    recorded."""
     for seconds in (0.3, 1, 3, 10):
         turns = int(400 * seconds)
         short, said = run("--for", str(seconds), "./program", str(turns), "10000")
         if len(short) > 4 * turns or "(--for)" not in said or "ended with status 0" not in said:
-            raise WrongPlace(f"--for {seconds}: {len(short)} events, and {said}")
+            raise Wrong(f"--for {seconds}: {len(short)} events, and {said}")
         if len(short) > 4:
             return
-    raise WrongPlace(f"--for {seconds}: {len(short)} events")
+    raise Wrong(f"--for {seconds}: {len(short)} events")
 
 
 def compile_with(c, *sources):

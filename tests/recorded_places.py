@@ -10,6 +10,8 @@ import os
 import re
 import subprocess
 
+from judging import Wrong
+
 TOP = os.path.dirname(os.path.dirname(os.path.abspath(__file__)))
 RECORD = os.path.join(TOP, "record")
 SOURCES = os.path.join(TOP, "tests", "recorded")
@@ -20,14 +22,10 @@ PATIENCE = 900
 COMMON = ["p_work", "both main.c:8", "down main.c:15", "down main.c:13"]
 
 
-class WrongPlace(Exception):
-    pass
-
-
 def ran(words, wanted=0, **more):
     done = subprocess.run(words, capture_output=True, timeout=PATIENCE, check=False, **more)
     if done.returncode != wanted:
-        raise WrongPlace(f"{' '.join(words)}: status {done.returncode}: {done.stderr.decode(errors='replace')[:600]}")
+        raise Wrong(f"{' '.join(words)}: status {done.returncode}: {done.stderr.decode(errors='replace')[:600]}")
     return done.stdout.decode()
 
 
@@ -39,7 +37,7 @@ def locations(*words):
         place, *calls = location.split(" < ")
         found.append((operation, place, calls))
     if not found:
-        raise WrongPlace("nothing was recorded")
+        raise Wrong("nothing was recorded")
     return found
 
 
@@ -49,20 +47,20 @@ def judge_names():
     found = locations()
     places = {place for operation, place, _ in found if operation.startswith(("r(p_", "w(p_", "r(q_", "w(q_"))}
     if places != {"p/util.c:1", "q/util.c:1"}:
-        raise WrongPlace(f"the places of the two files are {sorted(places)}")
+        raise Wrong(f"the places of the two files are {sorted(places)}")
     calls = [calls for operation, place, calls in found if place == "p/util.c:1"]
     ends = {tuple(each[len(COMMON) :]) for each in calls}
     if any(each[: len(COMMON)] != COMMON for each in calls) or ends != {("go main.c:18",), ("give_back main.c:22",)}:
-        raise WrongPlace(f"the calls around the accesses of p/util.c are {calls}")
+        raise Wrong(f"the calls around the accesses of p/util.c are {calls}")
 
 
 def judge_free():
     """A block that is given back is written at `free in FUNCTION`, and with --no-free it is not."""
     frees = [(place, calls) for _, place, calls in locations() if calls and calls[0].startswith("free")]
     if frees != [("main.c:23", ["free in give_back"])]:
-        raise WrongPlace(f"the block that is given back is written at {frees}")
+        raise Wrong(f"the block that is given back is written at {frees}")
     if any(calls and calls[0].startswith("free") for _, _, calls in locations("--no-free")):
-        raise WrongPlace("with --no-free a block is written where it is given back")
+        raise Wrong("with --no-free a block is written where it is given back")
 
 
 def judge_frames():
@@ -70,7 +68,7 @@ def judge_frames():
     for most in (0, 1, 3, 8):
         longest = max(len(calls) for _, _, calls in locations("--frames", str(most)))
         if longest != min(most, 5):
-            raise WrongPlace(f"with --frames {most} a location has {longest} calls")
+            raise Wrong(f"with --frames {most} a location has {longest} calls")
 
 
 @functools.cache
@@ -119,24 +117,24 @@ def judge_lines(cxx):
     found = locations()
     own = {place for operation, place, _ in found if operation.startswith(("r(by_", "w(by_", "r(racy", "w(racy"))}
     if not own or not all(place.startswith("each_kind.cpp:") for place in own):
-        raise WrongPlace(f"the places of the program's own variables are {sorted(own)}")
+        raise Wrong(f"the places of the program's own variables are {sorted(own)}")
     for word, text in (("fork", "emplace_back("), ("join", ".join()")):
         wanted = {f"each_kind.cpp:{number}" for number, line in enumerate(lines_in(source), start=1) if text in line}
         threads = {place for operation, place, _ in found if operation.startswith(word)}
         if threads != wanted:
-            raise WrongPlace(
+            raise Wrong(
                 f"the library of C++ makes the call of {word}, and its places are {sorted(threads)} "
                 f"in place of {sorted(wanted)}"
             )
     outside = [calls for _, place, calls in found if place.startswith("each_kind.cpp:") and not is_within(calls)]
     if outside:
-        raise WrongPlace(f"calls of the library stand beside the program's: {outside[0]}")
+        raise Wrong(f"calls of the library stand beside the program's: {outside[0]}")
     places = {place.split(" ")[-1] for _, place, calls in found for place in [place, *calls[1:]]}
     for place in sorted(places):
         parted = PLACE.match(place)
         most = lines_of(parted[1]) if parted else None
         if most is None or not 1 <= int(parted[2]) <= most:
-            raise WrongPlace(f"{place}: the file has {most} lines")
+            raise Wrong(f"{place}: the file has {most} lines")
 
 
 def judge_stripped():
@@ -144,7 +142,7 @@ def judge_stripped():
     ran(["strip", "program"])
     places = {place for operation, place, _ in locations() if operation.startswith(("r(", "w("))}
     if len(places) < 4 or not all(re.match(r"program\+0x[0-9a-f]+$", place) for place in places):
-        raise WrongPlace(f"the places of a program without lines are {sorted(places)}")
+        raise Wrong(f"the places of a program without lines are {sorted(places)}")
 
 
 def judge_places(c):

@@ -9,7 +9,8 @@ import re
 import shutil
 import subprocess
 
-from recorded_places import PATIENCE, RECORD, SOURCES, TOP, WrongPlace, ran
+from judging import Wrong
+from recorded_places import PATIENCE, RECORD, SOURCES, TOP, ran
 
 SOURCE = os.path.join(TOP, "examples", "count.c")
 # How often a program runs until its race is reported.
@@ -27,7 +28,7 @@ def reported(racebench, report, trace="count.std"):
     )
     out, err = done.stdout.decode(errors="replace"), done.stderr.decode(errors="replace")
     if "Traceback" in err or done.returncode not in (0, 1) or (done.returncode == 1 and not err):
-        raise WrongPlace(f"record/reported {report}: status {done.returncode}: {err[-600:]}")
+        raise Wrong(f"record/reported {report}: status {done.returncode}: {err[-600:]}")
     return done.returncode, out, err
 
 
@@ -37,18 +38,21 @@ def record(*sources):
         file.write(ran([os.path.join(RECORD, "run"), "./program"]))
 
 
-def tsan_report(c):
+def tsan_report(c, source=SOURCE):
     """A report of the program by ThreadSanitizer; addresses are not drawn, which its older versions can't bear."""
-    ran([c, "-g", "-O0", "-fsanitize=thread", "-pthread", SOURCE, "-o", "watched"])
+    ran([c, "-g", "-O0", "-fsanitize=thread", "-pthread", source, "-o", "watched"])
     for _ in range(RUNS):
-        said = subprocess.run(["setarch", "-R", "./watched"], capture_output=True, timeout=PATIENCE, check=False).stderr
+        said = subprocess.run(
+            ["setarch", "-R", "./watched"], capture_output=True, timeout=PATIENCE, check=False
+        ).stderr
         if b"WARNING: ThreadSanitizer: data race" in said:
             return said
-    raise WrongPlace(f"ThreadSanitizer of {c} reports no race in {RUNS} runs")
+    raise Wrong(f"ThreadSanitizer of {c} reports no race in {RUNS} runs")
 
 
 def valgrind_report(tool, words):
-    """A report of the program; which thread is first is the system's choice, and in one order there is nothing to report."""
+    """A report of the program; which thread is first is the system's choice, and in one order there is nothing to
+    report."""
     ran(["gcc", "-g", "-O0", "-pthread", SOURCE, "-o", "plain"])
     for _ in range(RUNS):
         done = subprocess.run(
@@ -60,7 +64,7 @@ def valgrind_report(tool, words):
                 said = file.read()
         if RACE.search(said):
             return said
-    raise WrongPlace(f"{tool} reports no race in {RUNS} runs")
+    raise Wrong(f"{tool} reports no race in {RUNS} runs")
 
 
 def judge_report(racebench, said):
@@ -72,7 +76,7 @@ def judge_report(racebench, said):
     wanted = f"racebench explain count.std {race[1]} {race[2]}"
     counts = re.search(r"^(\d+) reports: (\d+) a race here, 0 apart, 0 undecided, 0 not met$", out, re.MULTILINE)
     if status or wanted not in out or not counts or counts[1] != counts[2] or counts[1] == "0":
-        raise WrongPlace(f"the report is answered by {out}{err}")
+        raise Wrong(f"the report is answered by {out}{err}")
 
 
 def judge_cuts(racebench, said):
@@ -83,7 +87,7 @@ def judge_cuts(racebench, said):
             file.write(said[:end])
         status, out, err = reported(racebench, "cut")
         if status == 0 and "0 reports" in out or status == 1 and not re.search(r"cut|is no report", err):
-            raise WrongPlace(f"a report that was cut at byte {end}: {out}{err}")
+            raise Wrong(f"a report that was cut at byte {end}: {out}{err}")
 
 
 def judge_other_forms(racebench):
@@ -94,27 +98,54 @@ def judge_other_forms(racebench):
             file.write(text)
         status, _, err = reported(racebench, "other")
         if status != 1 or "is no report" not in err and "defines entities" not in err:
-            raise WrongPlace(f"{text[:40]!r} is taken: {err}")
+            raise Wrong(f"{text[:40]!r} is taken: {err}")
     hostile = tsan_report("gcc").replace(b"reader", b"\x1b[2J\x1b]0;x\x07").replace(b"count.c", b"other\x1b.c")
     with open("hostile", "wb") as file:
         file.write(hostile)
     status, out, err = reported(racebench, "hostile")
     if "\x1b" in out + err or status or "1 not met" not in out:
-        raise WrongPlace(f"a report with hostile names: {out!r}{err!r}")
+        raise Wrong(f"a report with hostile names: {out!r}{err!r}")
+
+
+def judge_blanks(racebench, c):
+    """Folders and files whose names have blanks, quotes and parentheses."""
+    source = 'a folder (1) of/my "count".c'
+    os.makedirs(os.path.dirname(source))
+    shutil.copy(SOURCE, source)
+    record(source)
+    judge_report(racebench, tsan_report(c, source))
+    os.rename(os.path.dirname(source), "gone")
+
+
+def judge_apart(racebench, c):
+    """A block that is published without a lock: the race of the pointer is shown, and the answer on the block, whose
+    accesses are apart by that race, names it."""
+    source = os.path.join(SOURCES, "published.c")
+    record(source)
+    with open("report", "wb") as file:
+        file.write(tsan_report(c, source))
+    status, out, err = reported(racebench, "report")
+    race = re.search(r"^race (\d+) (\d+) ", ran([racebench, "triage", "count.std"]), re.MULTILINE)
+    named = f"\n  its order rests on a race: racebench explain count.std {race[1]} {race[2]}\n"
+    if status or named not in out or "reports: 1 a race here, 1 apart, 0 undecided, 0 not met" not in out:
+        raise Wrong(f"the report of a block that is published without a lock is answered by {out}{err}")
 
 
 def judge_reports(racebench, c):
+    judge_blanks(racebench, c)
     record(SOURCE)
     said = tsan_report(c)
     judge_report(racebench, said)
     judge_cuts(racebench, said)
+    judge_apart(racebench, c)
+    record(SOURCE)
     if c == "gcc":
         judge_other_forms(racebench)
         record(os.path.join(SOURCES, "freed.c"))
         with open("report", "wb") as file:
             file.write(said)
         if "1 not met" not in reported(racebench, "report")[1]:
-            raise WrongPlace("a report is answered by the trace of another program")
+            raise Wrong("a report is answered by the trace of another program")
 
 
 def judge_valgrind(racebench):
@@ -126,6 +157,9 @@ def judge_valgrind(racebench):
     ):
         said = valgrind_report(tool, words)
         judge_report(racebench, said)
+    in_header = rb"   at \1: push_back (stl_vector.h:1278)\n==1==    by \1: \2"
+    said = re.sub(rb"   at (0x\w+): (\w+ \(count.c:\d+\))", in_header, valgrind_report("helgrind", []))
+    judge_report(racebench, said)
     judge_cuts(racebench, valgrind_report("helgrind", ["--xml=yes", "--xml-file=report.xml"]))
 
 

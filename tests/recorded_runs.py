@@ -14,6 +14,7 @@ import subprocess
 import tempfile
 import time
 
+from judging import Wrong
 from recorded_places import PATIENCE
 
 TOP = os.path.dirname(os.path.dirname(os.path.abspath(__file__)))
@@ -39,15 +40,11 @@ int main(int count, char **words) {
 """
 
 
-class WrongRun(Exception):
-    pass
-
-
 def ran(words, wanted=0, **more):
     done = subprocess.run(words, capture_output=True, timeout=PATIENCE, check=False, **more)
     out, said = done.stdout.decode(errors="replace"), done.stderr.decode(errors="replace")
     if wanted is not None and done.returncode != wanted:
-        raise WrongRun(f"{' '.join(words)}: status {done.returncode}, and not {wanted}: {said[:600]}")
+        raise Wrong(f"{' '.join(words)}: status {done.returncode}, and not {wanted}: {said[:600]}")
     return out, said
 
 
@@ -62,25 +59,36 @@ def recorded(*words, wanted=0, **more):
 
 
 def raw_records(words, seed):
-    """The records of a run, without its trace: for each its thread, clock, kind and place, and of those that no clock answered the rest."""
+    """The records of a run, without its trace: for each its thread, clock, kind and place, and of those that no clock
+    answered the rest."""
     with tempfile.TemporaryFile() as file:
-        surroundings = dict(os.environ, RACEBENCH_RECORD=f"/proc/{os.getpid()}/fd/{file.fileno()}", RACEBENCH_RECORD_SEED=str(seed),
-                            RACEBENCH_RECORD_YIELD="5", RACEBENCH_RECORD_ROOM="65536")
+        surroundings = dict(
+            os.environ,
+            RACEBENCH_RECORD=f"/proc/{os.getpid()}/fd/{file.fileno()}",
+            RACEBENCH_RECORD_SEED=str(seed),
+            RACEBENCH_RECORD_YIELD="5",
+            RACEBENCH_RECORD_ROOM="65536",
+        )
         ran(["setarch", "-R", *words], env=surroundings)
         head = HEAD.unpack(file.read(HEAD.size))
         file.seek(head[6])
         whole = file.read(min(head[2], head[1]) * RECORD_SIZE)
-    records = [whole[at:at + RECORD_SIZE] for at in range(0, len(whole), RECORD_SIZE)]
+    records = [whole[at : at + RECORD_SIZE] for at in range(0, len(whole), RECORD_SIZE)]
     return [record if record[42] != ANSWER else record[8:24] + record[40:] for record in records]
 
 
 def judge_same_runs(c):
     """The same seed gives the same records, for each kind of synchronization; and another seed can give others."""
-    ran([os.path.join(RECORD, "cc"), "-O1", os.path.join(SOURCES, "kinds.c"), "-o", "kinds"], env=dict(os.environ, RECORD_CC=c))
+    ran(
+        [os.path.join(RECORD, "cc"), "-O1", os.path.join(SOURCES, "kinds.c"), "-o", "kinds"],
+        env=dict(os.environ, RECORD_CC=c),
+    )
     kinds = ran(["./kinds"])[0].split()
-    differ = sum(is_run_of_its_seed(kind, lambda seed, words=("./kinds", kind): raw_records(words, seed)) for kind in kinds)
+    differ = sum(
+        is_run_of_its_seed(kind, lambda seed, words=("./kinds", kind): raw_records(words, seed)) for kind in kinds
+    )
     if len(kinds) < 22 or differ < len(kinds) // 2:
-        raise WrongRun(f"of {len(kinds)} kinds {differ} differ by another seed")
+        raise Wrong(f"of {len(kinds)} kinds {differ} differ by another seed")
 
 
 def is_run_of_its_seed(name, record):
@@ -88,7 +96,7 @@ def is_run_of_its_seed(name, record):
     first = record(1)
     others = sum(record(1) != first for _ in range(RUNS - 1))
     if not first or others:
-        raise WrongRun(f"{name}: {others} of {RUNS - 1} recordings differ from the first, of one seed")
+        raise Wrong(f"{name}: {others} of {RUNS - 1} recordings differ from the first, of one seed")
     return record(2) != first
 
 
@@ -98,7 +106,7 @@ def judge_same_teams(c):
         return
     ran([os.path.join(RECORD, "cc"), "-O1", "-fopenmp", os.path.join(SOURCES, "teams.c"), "-o", "teams"])
     if not is_run_of_its_seed("teams.c", lambda seed: recorded("--seed", str(seed), "./teams")[0]):
-        raise WrongRun("teams.c is one recording with both seeds")
+        raise Wrong("teams.c is one recording with both seeds")
 
 
 def judge_ends(c):
@@ -107,55 +115,61 @@ def judge_ends(c):
     for words, status, said in (([], 0, "status 7"), (["--status"], 7, "status 7")):
         out, told = recorded(*words, "./program", wanted=status)
         if f"the program ended with {said}" not in told or out.count("\n") < 6:
-            raise WrongRun(f"a program that ended with 7: {told}{out}")
+            raise Wrong(f"a program that ended with 7: {told}{out}")
     out, told = recorded("--status", "./program", "crash", wanted=128 + signal.SIGABRT)
     if "ended by signal 6 (SIGABRT)" not in told or "|w(x)|" not in out:
-        raise WrongRun(f"a program that crashed: {told}{out}")
+        raise Wrong(f"a program that crashed: {told}{out}")
     compiled("int main(void) { return 0; }\n", to="alone")
     if recorded("./alone", wanted=1)[0] or "the program ended with status 0" not in recorded("./alone", wanted=1)[1]:
-        raise WrongRun("a program without a second thread has a trace")
+        raise Wrong("a program without a second thread has a trace")
 
 
 def judge_hooks(c):
-    """Link-time optimization takes no hooks out, other sanitizers are refused, and a program without hooks is not recorded."""
+    """Link-time optimization takes no hooks out, other sanitizers are refused, and a program without hooks is not
+    recorded."""
     compiled(TWO_THREADS, "-flto", "-O2", by="cc")
     out, _ = recorded("--frames", "0", "./program")
     if "|w(x)|source.c:4" not in out:
-        raise WrongRun(f"with -flto nothing of source.c is in the trace: {out}")
+        raise Wrong(f"with -flto nothing of source.c is in the trace: {out}")
     for words in (["-fsanitize=address"], ["-fsanitize=thread,memory"], ["-c", "-fsanitize=leak"]):
         _, told = compiled(TWO_THREADS, *words, by="cc", to="refused", wanted=1)
         if "can't be recorded with -fsanitize=" not in told or os.path.exists("refused"):
-            raise WrongRun(f"{' '.join(words)}: {told}")
+            raise Wrong(f"{' '.join(words)}: {told}")
     ran([c, "-c", "source.c", "-o", "plain.o"])
     ran([os.path.join(RECORD, "cc"), "plain.o", "-o", "program"], env=dict(os.environ, RECORD_CC=c))
     out, told = recorded("./program", wanted=1)
     if out or "no part of the program has hooks" not in told:
-        raise WrongRun(f"a program without hooks: {told}{out}")
+        raise Wrong(f"a program without hooks: {told}{out}")
 
 
 def judge_words(c):
-    """A source is told by -x too, in one word or in two; words come from a file; and what chooses the linker is a word for the link
-    alone, since build systems read it in what the compiler says of its calls."""
+    """A source is told by -x too, in one word or in two; words come from a file; and what chooses the linker is a word
+    for the link alone, since build systems read it in what the compiler says of its calls."""
     environment = dict(os.environ, RECORD_CC=c)
     with open("source.txt", "w", encoding="ascii") as source:
         source.write(TWO_THREADS)
     with open("words", "w", encoding="ascii") as words:
         words.write("-O1 '-DNAME=\"a b\"'\n-x c source.txt")
     for given in (["-xc", "source.txt"], ["-x", "c", "source.txt", "-x", "none"], ["@words"], ["-O2", "-xc", "-"]):
-        subprocess.run([os.path.join(RECORD, "cc"), *given, "-o", "program"], input=TWO_THREADS.encode(), check=True, timeout=PATIENCE,
-                       env=environment)
+        subprocess.run(
+            [os.path.join(RECORD, "cc"), *given, "-o", "program"],
+            input=TWO_THREADS.encode(),
+            check=True,
+            timeout=PATIENCE,
+            env=environment,
+        )
         if "|w(x)|" not in recorded("./program")[0]:
-            raise WrongRun(f"compiled by {given}: nothing of x is recorded")
+            raise Wrong(f"compiled by {given}: nothing of x is recorded")
     with open("words", "w", encoding="ascii") as words:
         words.write("-DNAME='a\n")
     _, told = ran([os.path.join(RECORD, "cc"), "@words", "source.c"], wanted=1, env=environment)
     if told != "record: words: no closing quotation\n":
-        raise WrongRun(f"a file of words that ends in a quote: {told}")
+        raise Wrong(f"a file of words that ends in a quote: {told}")
     compiled(TWO_THREADS, wanted=0)
     _, told = ran([os.path.join(RECORD, "cc"), "source.c", "-o", "program", "-fuse-ld=bfd", "-v"], env=environment)
     chosen = next((word for word in told.split() if "-fuse-ld" in word), "")
     if c == "gcc" and chosen != "'-fuse-ld=bfd'":
-        raise WrongRun(f"the choice of the linker is no word by itself: {chosen}")
+        raise Wrong(f"the choice of the linker is no word by itself: {chosen}")
 
 
 # Each command, how its usage ends, and what it lacks if it is called without words.
@@ -172,23 +186,61 @@ def judge_usages(_):
     for name, usage, lacking in USAGES:
         _, told = ran([os.path.join(RECORD, name)], wanted=2)
         if not told.endswith(f"{usage}\nrecord/{name}: error: the following arguments are required: {lacking}\n"):
-            raise WrongRun(f"record/{name} without words: {told}")
+            raise Wrong(f"record/{name} without words: {told}")
+
+
+# Numbers that the recorder could not take, with what is said of each.
+NUMBERS = [
+    ("--yield", 0, "from 1 to 4294967295"),
+    ("--yield", 1 << 32, "from 1 to 4294967295"),
+    ("--seed", -1, "from 0 to 18446744073709551615"),
+    ("--seed", 1 << 64, "from 0 to 18446744073709551615"),
+    ("--room", 0, "from 1 to 68719476736"),
+    ("--room", 10**20, "from 1 to 68719476736"),
+    ("--frames", 9, "from 0 to 8"),
+    ("--max", 1_048_577, "from 0 to 1048576"),
+]
+
+
+def judge_numbers(_):
+    """A number that is too small or too large is refused, and nothing is run."""
+    for name, number, told in NUMBERS:
+        said = ran([os.path.join(RECORD, "run"), f"{name}={number}", "false"], 2)[1]
+        if not said.endswith(f"record/run: error: {name} is {told}\n"):
+            raise Wrong(f"{name}={number}: {said}")
+
+
+def judge_closed(_):
+    """Without standard output nothing is run, and a line says why."""
+    compiled(TWO_THREADS)
+    for command in (["run", "./program"], ["reported", "report", "trace"]):
+        words = [os.path.join(RECORD, command[0]), *command[1:]]
+        done = subprocess.run(
+            ["sh", "-c", 'exec "$@" >&-', "sh", *words], capture_output=True, timeout=PATIENCE, check=False
+        )
+        if (done.returncode, done.stderr) != (1, f"record/{command[0]}: standard output is closed\n".encode()):
+            raise Wrong(f"{command} without standard output: {done.returncode} {done.stderr!r}")
 
 
 def judge_language(_):
-    """A link of C++ by the compiler of C fails, and the other compiler is named. A fault of a program in C names none."""
+    """A link of C++ by the compiler of C fails, and the other compiler is named. A fault of a program in C names
+    none."""
     text = "#include <thread>\nint main() { std::thread([] {}).join(); return 0; }\n"
     with open("source.cpp", "w", encoding="ascii") as source:
         source.write(text)
     _, told = ran([os.path.join(RECORD, "cc"), "source.cpp", "-o", "program"], wanted=1)
     if told.splitlines()[-1] != "record: for C++ use record/c++":
-        raise WrongRun(f"C++ by record/cc: {told}")
+        raise Wrong(f"C++ by record/cc: {told}")
     _, told = compiled("int main(void) { return other(); }\n", wanted=1)
     if "record: for C++" in told:
-        raise WrongRun(f"a fault in C: {told}")
-    _, told = ran([os.path.join(RECORD, "cc"), "source.c", "-o", "program"], wanted=1, env=dict(os.environ, RECORD_CC="no-compiler"))
+        raise Wrong(f"a fault in C: {told}")
+    _, told = ran(
+        [os.path.join(RECORD, "cc"), "source.c", "-o", "program"],
+        wanted=1,
+        env=dict(os.environ, RECORD_CC="no-compiler"),
+    )
     if told != "record: no-compiler: No such file or directory\n":
-        raise WrongRun(f"a compiler that is not here: {told}")
+        raise Wrong(f"a compiler that is not here: {told}")
 
 
 FULL_DISK = """mount -t tmpfs -o size=%s none small 2>/dev/null || exit 99
@@ -200,21 +252,31 @@ def judge_full_disk(c):
     compiled(TWO_THREADS, by="cc")
     os.mkdir("small")
     command = FULL_DISK % ("64k", os.path.join(RECORD, "run"))
-    done = subprocess.run(["unshare", "--map-root-user", "--mount", "sh", "-c", command], capture_output=True, check=False, timeout=PATIENCE)
+    done = subprocess.run(
+        ["unshare", "--map-root-user", "--mount", "sh", "-c", command],
+        capture_output=True,
+        check=False,
+        timeout=PATIENCE,
+    )
     if done.returncode == 99 or b"unshare" in done.stderr:
         print("record/: a full disk is not tested, since no small one can be mounted here")
         return
     told = done.stderr.decode(errors="replace")
     if done.returncode != 1 or done.stdout or "has no room" not in told or "Traceback" in told:
-        raise WrongRun(f"a full disk: status {done.returncode}: {told}{done.stdout.decode(errors='replace')}")
+        raise Wrong(f"a full disk: status {done.returncode}: {told}{done.stdout.decode(errors='replace')}")
 
 
 def judge_killed(c):
     """A run that is killed leaves neither a file nor its program."""
-    compiled("#include <unistd.h>\nint main(void) { write(1, \"on\\n\", 3); sleep(600); return 0; }\n")
+    compiled('#include <unistd.h>\nint main(void) { write(1, "on\\n", 3); sleep(600); return 0; }\n')
     os.mkdir("records")
     words = [os.path.join(RECORD, "run"), "./program"]
-    started = subprocess.Popen(words, stdout=subprocess.DEVNULL, stderr=subprocess.PIPE, env=dict(os.environ, TMPDIR=os.path.abspath("records")))
+    started = subprocess.Popen(
+        words,
+        stdout=subprocess.DEVNULL,
+        stderr=subprocess.PIPE,
+        env=dict(os.environ, TMPDIR=os.path.abspath("records")),
+    )
     started.stderr.readline()
     started.kill()
     started.wait()
@@ -223,13 +285,18 @@ def judge_killed(c):
         time.sleep(0.1)
         here = [pid for pid in filter(str.isdigit, os.listdir("/proc")) if is_ours(pid)]
     if here or os.listdir("records"):
-        raise WrongRun(f"a killed run leaves {os.listdir('records')} and the processes {here}")
+        raise Wrong(f"a killed run leaves {os.listdir('records')} and the processes {here}")
     started.stderr.close()
 
 
 def judge_group(c):
-    """A signal to the whole group of processes, as `timeout` sends it, ends the program and not what works up its records."""
-    compiled(TWO_THREADS.replace("abort();", 'puts("on"), fflush(0), pause();').replace("<stdlib.h>", "<stdio.h>\n#include <unistd.h>"))
+    """A signal to the whole group of processes, as `timeout` sends it, ends the program and not what works up its
+    records."""
+    compiled(
+        TWO_THREADS.replace("abort();", 'puts("on"), fflush(0), pause();').replace(
+            "<stdlib.h>", "<stdio.h>\n#include <unistd.h>"
+        )
+    )
     words = [os.path.join(RECORD, "run"), "./program", "waits"]
     started = subprocess.Popen(words, stdout=subprocess.PIPE, stderr=subprocess.PIPE, start_new_session=True)
     started.stderr.readline()
@@ -238,7 +305,7 @@ def judge_group(c):
         time.sleep(0.05)
     out, told = started.communicate(timeout=PATIENCE)
     if b"ended by signal 15 (SIGTERM)" not in told or b"recorded" not in told or out.count(b"\n") < 6:
-        raise WrongRun(f"a group that is ended: {told}{out}")
+        raise Wrong(f"a group that is ended: {told}{out}")
 
 
 def is_ours(pid):
@@ -259,12 +326,24 @@ def judge_once(c):
         folder = os.path.join("cache", "racebench")
         kept.append([(name, os.stat(os.path.join(folder, name)).st_mtime_ns) for name in sorted(os.listdir(folder))])
     if kept[0] != kept[1] or len(kept[0]) != 1 or not re.match(r"recorder-[0-9a-f]+\.o$", kept[0][0][0]):
-        raise WrongRun(f"the recorder was not kept: {kept}")
+        raise Wrong(f"the recorder was not kept: {kept}")
 
 
-JUDGES = [("ten recordings of one seed", judge_same_runs), ("ten recordings of OpenMP", judge_same_teams), ("how programs end", judge_ends), ("hooks", judge_hooks), ("words of a compiler", judge_words),
-          ("a full disk", judge_full_disk), ("a killed run", judge_killed), ("a group that is ended", judge_group), ("the recorder is compiled once", judge_once),
-          ("C++ by the compiler of C", judge_language), ("usages", judge_usages)]
+JUDGES = [
+    ("ten recordings of one seed", judge_same_runs),
+    ("ten recordings of OpenMP", judge_same_teams),
+    ("how programs end", judge_ends),
+    ("hooks", judge_hooks),
+    ("words of a compiler", judge_words),
+    ("a full disk", judge_full_disk),
+    ("a killed run", judge_killed),
+    ("a group that is ended", judge_group),
+    ("the recorder is compiled once", judge_once),
+    ("C++ by the compiler of C", judge_language),
+    ("usages", judge_usages),
+    ("numbers", judge_numbers),
+    ("no standard output", judge_closed),
+]
 
 
 def cases(c):

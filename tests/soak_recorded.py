@@ -1,5 +1,6 @@
 #!/usr/bin/env python3
-"""soak_recorded.py PROGRAM [N]: what `tools/soak --recorded` tries, in a process of its own: record/ and tests/ each have a `running`."""
+"""soak_recorded.py PROGRAM [N]: what `tools/soak --recorded` tries, in a process of its own: record/ and tests/ each
+have a `running`."""
 
 import secrets
 import sys

@@ -125,8 +125,8 @@ std::vector<const Body *> Unit::bodies_at(Dwarf_Addr place) {
     if (!was_read) read();
     std::vector<const Body *> chain;
     for (const std::vector<Body> *level = &bodies; level;) {
-        auto found = std::find_if(level->begin(), level->end(),
-                                  [place](const Body &body) { return holds(body.ranges, place); });
+        auto found =
+            std::find_if(level->begin(), level->end(), [place](const Body &body) { return holds(body.ranges, place); });
         if (found == level->end()) break;
         chain.push_back(&*found);
         level = &found->inside;

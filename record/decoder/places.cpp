@@ -150,7 +150,7 @@ static bool ends_in(const std::string &path, const std::string &file) {
 bool Modules::is_in(u64 pc, u32 call, const std::vector<std::string> &files) {
     const Frames &found = ordered_stack(pc, call);
     return !found.empty() &&
-           std::any_of(files.begin(), files.end(), [&](auto &file) { return ends_in(found[0].path, file); });
+        std::any_of(files.begin(), files.end(), [&](auto &file) { return ends_in(found[0].path, file); });
 }
 
 std::string Modules::location(u64 pc, u32 call, size_t most, const std::string &inside) {

@@ -12,8 +12,8 @@ bool is_access(const record &one) {
 bool is_write(const record &one) { return one.kind != READ && one.kind != ATOMIC_READ; }
 
 bool is_synchronization(int kind) {
-    return kind == ACQUIRE || kind == RELEASE || kind == PASS || kind == WRITER || kind == TRIED ||
-           kind == READER_IN || kind == READER_OUT || kind == ARRIVED || kind == WENT_ON;
+    return kind == ACQUIRE || kind == RELEASE || kind == PASS || kind == WRITER || kind == TRIED || kind == READER_IN ||
+        kind == READER_OUT || kind == ARRIVED || kind == WENT_ON;
 }
 
 static u64 key_of(const record &one) { return static_cast<u64>(one.of) << 56 ^ one.at; }
@@ -110,20 +110,29 @@ void Trace::find_kept() {
         const parts::Cuts &ends = cuts[cuts_of[of.thing]];
         parts::Span span = span_of(of);
         if (span.end() < span.to) counts.cut_short = true;
-        for (size_t part = span.from; part < span.end(); part++)
-            kept[ends.first + part].see(one.thread, is_write(one));
+        for (size_t part = span.from; part < span.end(); part++) kept[ends.first + part].see(one.thread, is_write(one));
     });
 }
 
 void Trace::find_relaxed() {
     each([this](size_t number, const record &one, const Resolved &of) {
+        if (of.there() && is_synchronization(one.kind)) see_lock(one, of);
         if (!of.there() || !is_access(one) || !cuts_of[of.thing]) return;
         const parts::Cuts &ends = cuts[cuts_of[of.thing]];
         parts::Span span = span_of(of);
         for (size_t part = span.from; part < span.end(); part++) {
             relaxed.see_part(number, one.thread, is_atomic(one.kind), ends.first + part);
+            if (is_atomic(one.kind)) relaxed.see_atomic(number, one, ends.first + part);
         }
     });
+}
+
+// A lock whose sections are written as such is taken or let go.
+void Trace::see_lock(const record &one, const Resolved &of) {
+    bool is_reader = one.kind == READER_IN || one.kind == READER_OUT;
+    bool takes = is_taken(one) || one.kind == READER_IN, lets_go = is_let_go(one) || one.kind == READER_OUT;
+    if ((takes || lets_go) && !locks[{of.thing, of.place}].is_chain())
+        relaxed.see_lock(one.thread, {of.thing, of.place, is_reader}, takes);
 }
 
 bool Trace::is_chosen(const record &one) {

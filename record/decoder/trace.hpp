@@ -106,6 +106,7 @@ private:
     void find_kept();
     void choose();
     void find_relaxed();
+    void see_lock(const record &one, const Resolved &of);
     parts::Span span_of(const Resolved &of);
     bool is_chosen(const record &one);
     void find_operations(const record &one, size_t number, const Resolved &of);

@@ -40,8 +40,7 @@ void LockSeen::see(const record &one) {
 void Trace::add_states(const Resolved &of, const std::vector<int> &threads, const char *word) {
     for (int thread : threads) operations.push_back({"acq", "atomic:held:", of.thing, of.place, thread});
     for (int thread : threads) operations.push_back({word, "held:", of.thing, of.place, thread});
-    for (size_t k = threads.size(); k--;)
-        operations.push_back({"rel", "atomic:held:", of.thing, of.place, threads[k]});
+    for (size_t k = threads.size(); k--;) operations.push_back({"rel", "atomic:held:", of.thing, of.place, threads[k]});
 }
 
 // The begin or end of a section: of a lock, and of the locks of readers. The state is that of the first.
@@ -69,8 +68,7 @@ void Trace::find_accesses(const record &one, size_t number, const Resolved &of) 
     for (size_t part = span.from; part < span.end(); part++) {
         if (kept[ends.first + part].shared()) written_parts.push_back(ends.first + part);
     }
-    bool atomic = is_atomic(one.kind),
-         reads = one.kind == READ || one.kind == ATOMIC_READ || one.kind == ATOMIC_UPDATE;
+    bool atomic = is_atomic(one.kind), reads = one.kind == READ || one.kind == ATOMIC_READ || one.kind == ATOMIC_UPDATE;
     if (written_parts.empty() || (atomic && relaxed.is_no_event(number, one, written_parts))) return;
     u64 first = ends.at(written_parts[0] - ends.first);
     if (atomic) operations.push_back({"acq", "atomic:", of.thing, first});

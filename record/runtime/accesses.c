@@ -69,8 +69,14 @@ static inline void access_(int kind, const volatile void *at, u64 size, u64 pc) 
     void __tsan_volatile_write##n(void *a) { access_(WRITE, a, n, PC); } \
     void __tsan_unaligned_volatile_read##n(void *a) { access_(READ, a, n, PC); } \
     void __tsan_unaligned_volatile_write##n(void *a) { access_(WRITE, a, n, PC); } \
-    void __tsan_read_write##n(void *a) { access_(READ, a, n, PC); access_(WRITE, a, n, PC); } \
-    void __tsan_unaligned_read_write##n(void *a) { access_(READ, a, n, PC); access_(WRITE, a, n, PC); }
+    void __tsan_read_write##n(void *a) { \
+        access_(READ, a, n, PC); \
+        access_(WRITE, a, n, PC); \
+    } \
+    void __tsan_unaligned_read_write##n(void *a) { \
+        access_(READ, a, n, PC); \
+        access_(WRITE, a, n, PC); \
+    }
 ACCESSES(1)
 ACCESSES(2)
 ACCESSES(4)
@@ -105,7 +111,10 @@ void *__wrap_memmove(void *to, const void *from, size_t n) {
     copied(to, from, n, PC);
     return __real_memmove(to, from, n);
 }
-void *__wrap_memset(void *to, int c, size_t n) { access_(WRITE, to, n, PC); return __real_memset(to, c, n); }
+void *__wrap_memset(void *to, int c, size_t n) {
+    access_(WRITE, to, n, PC);
+    return __real_memset(to, c, n);
+}
 void *__tsan_memcpy(void *to, const void *from, size_t n) {
     copied(to, from, n, PC);
     return __real_memcpy(to, from, n);
@@ -114,4 +123,7 @@ void *__tsan_memmove(void *to, const void *from, size_t n) {
     copied(to, from, n, PC);
     return __real_memmove(to, from, n);
 }
-void *__tsan_memset(void *to, int c, size_t n) { access_(WRITE, to, n, PC); return __real_memset(to, c, n); }
+void *__tsan_memset(void *to, int c, size_t n) {
+    access_(WRITE, to, n, PC);
+    return __real_memset(to, c, n);
+}

@@ -36,6 +36,7 @@ static u64 atomic_(int kind, const volatile void *at, u64 size, int order, u64 p
         exchange##bits(a, &w, v, m, f, PC); \
         return w; \
     }
+/* clang-format off */
 #define ATOMICS(bits, T) \
     T __tsan_atomic##bits##_load(const volatile T *a, int order) { \
         atomic_(ATOMIC_READ, a, bits / 8, order, PC); \
@@ -49,8 +50,11 @@ static u64 atomic_(int kind, const volatile void *at, u64 size, int order, u64 p
     UPDATE(bits, T, fetch_sub, __atomic_fetch_sub) UPDATE(bits, T, fetch_and, __atomic_fetch_and) \
     UPDATE(bits, T, fetch_or, __atomic_fetch_or) UPDATE(bits, T, fetch_xor, __atomic_fetch_xor) \
     UPDATE(bits, T, fetch_nand, __atomic_fetch_nand) \
-    static int compare##bits(volatile T *a, T *wanted, T v) { return __atomic_compare_exchange_n(a, wanted, v, 0, SC, SC); } \
+    static int compare##bits(volatile T *a, T *wanted, T v) { \
+        return __atomic_compare_exchange_n(a, wanted, v, 0, SC, SC); \
+    } \
     EXCHANGE(bits, T)
+/* clang-format on */
 ATOMICS(8, u8)
 ATOMICS(16, u16)
 ATOMICS(32, u32)
@@ -58,12 +62,18 @@ ATOMICS(64, u64)
 
 /* Not every processor has these for 16 bytes: a lock stands for them. */
 static volatile u8 wide_lock;
-static void lock_wide(void) { while (__atomic_exchange_n(&wide_lock, 1, SC)) syscall(SYS_sched_yield); }
+static void lock_wide(void) {
+    while (__atomic_exchange_n(&wide_lock, 1, SC)) syscall(SYS_sched_yield);
+}
 static void unlock_wide(void) { __atomic_store_n(&wide_lock, 0, SC); }
 #define WIDE(name, value) \
     u128 __tsan_atomic128_##name(volatile u128 *a, u128 v, int order) { \
         atomic_(ATOMIC_UPDATE, a, 16, order, PC); \
-        lock_wide(); u128 old = *a; *a = (value); unlock_wide(); return old; \
+        lock_wide(); \
+        u128 old = *a; \
+        *a = (value); \
+        unlock_wide(); \
+        return old; \
     }
 u128 __tsan_atomic128_load(const volatile u128 *a, int order) {
     atomic_(ATOMIC_READ, a, 16, order, PC);
@@ -78,6 +88,7 @@ void __tsan_atomic128_store(volatile u128 *a, u128 v, int order) {
     *a = v;
     unlock_wide();
 }
+/* clang-format off */
 WIDE(exchange, v)
 WIDE(fetch_add, old + v)
 WIDE(fetch_sub, old - v)
@@ -85,6 +96,7 @@ WIDE(fetch_and, old & v)
 WIDE(fetch_or, old | v)
 WIDE(fetch_xor, old ^ v)
 WIDE(fetch_nand, ~(old & v))
+/* clang-format on */
 static int compare128(volatile u128 *a, u128 *wanted, u128 v) {
     lock_wide();
     u128 old = *a;
@@ -101,3 +113,57 @@ void __tsan_atomic_thread_fence(int order) {
     __atomic_thread_fence(SC);
 }
 void __tsan_atomic_signal_fence(int order) { (void)order; }
+
+/* ---- atomics of any size, which the compiler calls by names that C has for itself ---- */
+
+void racebench_load(size_t n, const volatile void *at, void *to, int order) __asm__("__atomic_load");
+void racebench_store(size_t n, volatile void *at, void *from, int order) __asm__("__atomic_store");
+void racebench_exchange(size_t n, volatile void *at, void *from, void *to, int order) __asm__("__atomic_exchange");
+_Bool racebench_compare(size_t n, volatile void *at, void *wanted, void *from, int order,
+                        int failed) __asm__("__atomic_compare_exchange");
+
+static void copy(volatile void *to, const volatile void *from, size_t n) {
+    for (size_t k = 0; k < n; k++) ((volatile u8 *)to)[k] = ((const volatile u8 *)from)[k];
+}
+
+void racebench_load(size_t n, const volatile void *at, void *to, int order) {
+    atomic_(ATOMIC_READ, at, n, order, PC);
+    lock_wide();
+    copy(to, at, n);
+    unlock_wide();
+}
+
+void racebench_store(size_t n, volatile void *at, void *from, int order) {
+    atomic_(ATOMIC_WRITE, at, n, order, PC);
+    lock_wide();
+    copy(at, from, n);
+    unlock_wide();
+}
+
+void racebench_exchange(size_t n, volatile void *at, void *from, void *to, int order) {
+    atomic_(ATOMIC_UPDATE, at, n, order, PC);
+    lock_wide();
+    for (size_t k = 0; k < n; k++) {
+        u8 old = ((volatile u8 *)at)[k];
+        ((volatile u8 *)at)[k] = ((u8 *)from)[k];
+        ((u8 *)to)[k] = old;
+    }
+    unlock_wide();
+}
+
+static _Bool compare_wide(size_t n, volatile void *at, void *wanted, void *from) {
+    size_t same = 0;
+    lock_wide();
+    while (same < n && ((volatile u8 *)at)[same] == ((u8 *)wanted)[same]) same++;
+    copy(same == n ? at : wanted, same == n ? from : at, n);
+    unlock_wide();
+    return same == n;
+}
+
+_Bool racebench_compare(size_t n, volatile void *at, void *wanted, void *from, int order, int failed) {
+    u64 place = atomic_(ATOMIC_UPDATE, at, n, order, PC);
+    _Bool done = compare_wide(n, at, wanted, from);
+    if (place != NO_PLACE) check_swap(done, PC);
+    if (!done && place != NO_PLACE) records[place].kind = ATOMIC_READ, records[place].order = (u8)failed;
+    return done;
+}

@@ -2,14 +2,17 @@
  * and the line is the one of the program that called `join`. */
 #include <unwind.h>
 
-struct range { u64 start, size; };
+struct range {
+    u64 start, size;
+};
 #define MOST_RANGES 64
 /* The programs and libraries that have hooks. */
 static struct range hooked[MOST_RANGES];
 static u32 hooked_count;
 
 static int is_hooked(u64 pc) {
-    for (u32 k = 0; k < hooked_count; k++) if (pc - hooked[k].start < hooked[k].size) return 1;
+    for (u32 k = 0; k < hooked_count; k++)
+        if (pc - hooked[k].start < hooked[k].size) return 1;
     return 0;
 }
 
@@ -40,7 +43,10 @@ static void note_program(u64 pc) {
         if (pc - hooked[k].start < hooked[k].size) main_start = hooked[k].start, main_size = hooked[k].size;
 }
 
-struct walk { u64 from, found; int steps; };
+struct walk {
+    u64 from, found;
+    int steps;
+};
 #define MOST_STEPS 64
 
 /* The calls before `from` are the recorder's own. */

@@ -13,20 +13,29 @@ static int at_once(int f, short what) {
 
 static int is_nonblocking(int f) { return !!(syscall(SYS_fcntl, f, F_GETFL, 0) & O_NONBLOCK); }
 
-/* Waits in the recorder until the call on a channel will not wait; whether it is to be made in the turn. */
+/* How a call on a channel is to be made: in the turn, without it, or not since a handler came. */
+enum { WITHOUT_TURN, IN_TURN, INTERRUPTED };
+
+/* Waits in the recorder until the call on a channel will not wait. */
 static int comes_at_once(int f, u32 channel, short what, int flags) {
-    if (IDLE || !channel) return 0;
+    if (IDLE || !channel) return WITHOUT_TURN;
     /* Where a plan is followed, what is sent is there when its pass is done. */
     if (!following || what == POLLIN) maybe_give();
-    if ((flags & MSG_DONTWAIT) || is_nonblocking(f)) return 1;
+    if ((flags & MSG_DONTWAIT) || is_nonblocking(f)) return IN_TURN;
+    was_interrupted = 0;
     while (!at_once(f, what)) {
-        if (has_forked) return 0;
+        if (has_forked) return WITHOUT_TURN;
+        if (was_interrupted) return INTERRUPTED;
         park(key_of(channel), NULL, 0);
     }
-    return 1;
+    return IN_TURN;
 }
 
-#define ON_CHANNEL(f, channel, what, flags, call) (comes_at_once(f, channel, what, flags) ? (call) : OUTSIDE(call))
+#define ON_CHANNEL(f, channel, what, flags, call) \
+    ({ \
+        int how_ = comes_at_once(f, channel, what, flags); \
+        how_ == INTERRUPTED ? (errno = EINTR, -1) : how_ == IN_TURN ? (call) : OUTSIDE(call); \
+    })
 
 /* After a call that received, or was told that nothing more comes, or was refused. */
 static ssize_t received(int f, ssize_t n, u64 pc) {
@@ -109,7 +118,9 @@ static ssize_t send_pieces(int f, const char *from, size_t n, int flags) {
     REAL(send, ssize_t, int, const void *, size_t, int);
     size_t there = 0;
     do {
-        if (!comes_at_once(f, out_of(f), POLLOUT, 0)) return OUTSIDE(real(f, from + there, n - there, flags));
+        int how = comes_at_once(f, out_of(f), POLLOUT, 0);
+        if (how == WITHOUT_TURN) return OUTSIDE(real(f, from + there, n - there, flags));
+        if (how == INTERRUPTED) return there ? (ssize_t)there : (errno = EINTR, -1);
         ssize_t more = real(f, from + there, n - there, flags | MSG_DONTWAIT);
         if (more < 0 && errno == EAGAIN) let_others();
         else if (more < 0) return there ? (ssize_t)there : more;

@@ -28,11 +28,12 @@ static void remove_waiter(struct waiter *w) {
 
 static void wake_waiters(pthread_cond_t *c, int all) {
     lock_turns();
-    for (struct waiter *w = waiters; w; w = w->next) if (w->c == c && !w->signaled) {
-        w->signaled = 1;
-        unpark_locked(w);
-        if (!all) break;
-    }
+    for (struct waiter *w = waiters; w; w = w->next)
+        if (w->c == c && !w->signaled) {
+            w->signaled = 1;
+            unpark_locked(w);
+            if (!all) break;
+        }
     unlock_turns();
 }
 
@@ -88,12 +89,14 @@ static int wait_for(pthread_cond_t *c, pthread_mutex_t *m, const struct timespec
 /* The waiters of a variable that processes share are kept by the system. */
 #define SHARED_COND(c) ((c)->__data.__wrefs & 1)
 #define CLOCK_OF_COND(c) ((c)->__data.__wrefs & 2 ? CLOCK_MONOTONIC : CLOCK_REALTIME)
-#define WAITED(call) ({ \
-    put(RELEASE, (u64)m, 0, PC); \
-    unpark(m); \
-    int waited_ = OUTSIDE(call); \
-    put_answer(ACQUIRE, (u64)m, (u64)waited_, PC); \
-    waited_; })
+#define WAITED(call) \
+    ({ \
+        put(RELEASE, (u64)m, 0, PC); \
+        unpark(m); \
+        int waited_ = OUTSIDE(call); \
+        put_answer(ACQUIRE, (u64)m, (u64)waited_, PC); \
+        waited_; \
+    })
 
 int pthread_cond_wait(pthread_cond_t *c, pthread_mutex_t *m) {
     REAL_OF(pthread_cond_wait, "GLIBC_2.3.2", int, pthread_cond_t *, pthread_mutex_t *);

@@ -2,7 +2,10 @@
  * the two ways of a socket pair are channels, by the number of the descriptor. */
 
 #define MOST_DESCRIPTORS 65536
-static struct end { u32 reads, writes; u8 is_pipe; } ends[MOST_DESCRIPTORS];
+static struct end {
+    u32 reads, writes;
+    u8 is_pipe;
+} ends[MOST_DESCRIPTORS];
 static u32 channels;
 /* A child process has the ends too: what comes through a channel then may not be of this process. */
 static volatile u8 has_forked;
@@ -12,6 +15,25 @@ static u32 in_of(int f) { return is_known(f) ? ends[f].reads : 0; }
 static u32 out_of(int f) { return is_known(f) ? ends[f].writes : 0; }
 /* What threads that wait for a channel are parked at. */
 static const void *key_of(u32 channel) { return (const char *)ends + channel; }
+
+/* The channel of a queue, of semaphores, or of what a poll watches: by their kind and their number in the system. */
+enum { QUEUE, MESSAGES, SEMAPHORES, WATCHED };
+static struct numbered {
+    u64 kind, number;
+    u32 channel;
+    struct numbered *next;
+} * all_numbered[1024];
+
+/* In the thread's turn. */
+static u32 channel_of(u64 kind, u64 number) {
+    struct numbered **first = &all_numbered[((number ^ kind << 20) * 0x9e3779b97f4a7c15ull) >> 54];
+    for (struct numbered *n = *first; n; n = n->next)
+        if (n->kind == kind && n->number == number) return n->channel;
+    struct numbered *made = __libc_calloc(1, sizeof *made);
+    if (!made) abort();
+    *made = (struct numbered){kind, number, __atomic_add_fetch(&channels, 1, SC), *first};
+    return (*first = made)->channel;
+}
 
 static void pass_of(int of, u64 at, u64 pc) {
     int error = errno;
@@ -76,7 +98,10 @@ GIVES(creat, (const char *p, mode_t m), (p, m))
 
 #define OPENS(name, before, passed_on) \
     int name(before, int g, ...) { \
-        va_list more; va_start(more, g); mode_t m = va_arg(more, mode_t); va_end(more); \
+        va_list more; \
+        va_start(more, g); \
+        mode_t m = va_arg(more, mode_t); \
+        va_end(more); \
         REAL(name, int, before, int, ...); \
         if (!IDLE) maybe_give(); \
         return gives(real passed_on, PC); \
@@ -143,7 +168,10 @@ static int control(int f, int what, void *more, int (*real)(int, int, ...), u64 
 
 #define CONTROLS(name) \
     int name(int f, int what, ...) { \
-        va_list words; va_start(words, what); void *more = va_arg(words, void *); va_end(words); \
+        va_list words; \
+        va_start(words, what); \
+        void *more = va_arg(words, void *); \
+        va_end(words); \
         REAL(name, int, int, int, ...); \
         return control(f, what, more, real, PC); \
     }

@@ -3,7 +3,10 @@
 /* The calls that the hooks saw begin, and the numbers of their nodes, of which the first `known_nodes` are found.
  * Deeper calls than these have the node of the last. They lie outside of the thread's stack, which may be small. */
 #define CALLS 16384
-struct call { u64 site, body; u32 node; };
+struct call {
+    u64 site, body, stack;
+    u32 node;
+};
 static __thread struct call *calls;
 static __thread u32 depth, known_nodes;
 
@@ -163,10 +166,10 @@ static void take_back(u64 place) {
 }
 
 static int make_calls(void) {
-    void *p =
-        mmap(NULL, CALLS * sizeof *calls, PROT_READ | PROT_WRITE, MAP_PRIVATE | MAP_ANONYMOUS | MAP_NORESERVE, -1, 0);
-    if (p == MAP_FAILED) return 0;
-    calls = p;
+    int way = MAP_PRIVATE | MAP_ANONYMOUS | MAP_NORESERVE;
+    long p = syscall(SYS_mmap, NULL, CALLS * sizeof *calls, PROT_READ | PROT_WRITE, way, -1, 0);
+    if (p == -1) return 0;
+    calls = (struct call *)p;
     return 1;
 }
 
@@ -181,6 +184,7 @@ void __tsan_func_entry(void *site) {
     if (depth < CALLS) {
         calls[depth].site = (u64)site;
         calls[depth].body = PC;
+        calls[depth].stack = (u64)__builtin_frame_address(0);
         if (known_nodes > depth) known_nodes = depth;
     }
     depth++;
@@ -194,8 +198,8 @@ void __tsan_func_exit(void) {
  * with it. */
 static int is_openmp(const char *name) { return !strncmp(name, "GOMP_", 5) || !strncmp(name, "omp_", 4); }
 
-/* The real function of a name that the recorder has taken. */
-static void *next(const char *name, const char *version) {
+/* The real function of a name that the recorder has taken, or NULL. */
+static void *found(const char *name, const char *version) {
     u8 was = inside;
     inside = 1;
     void *f = version ? dlvsym(RTLD_NEXT, name, version) : NULL;
@@ -203,6 +207,11 @@ static void *next(const char *name, const char *version) {
     void *library = !f && is_openmp(name) ? dlopen("libgomp.so.1", RTLD_NOW | RTLD_GLOBAL) : NULL;
     if (library) f = dlsym(library, name);
     inside = was;
+    return f;
+}
+
+static void *next(const char *name, const char *version) {
+    void *f = found(name, version);
     if (!f) abort();
     return f;
 }
@@ -215,7 +224,8 @@ static int note_module(struct dl_phdr_info *info, size_t size, void *none) {
         if (p->p_type == PT_LOAD && p->p_vaddr + p->p_memsz > end) end = p->p_vaddr + p->p_memsz;
     }
     end += info->dlpi_addr;
-    for (u64 i = 0; i < n; i++) if (head->module[i].base == info->dlpi_addr && head->module[i].end == end) return 0;
+    for (u64 i = 0; i < n; i++)
+        if (head->module[i].base == info->dlpi_addr && head->module[i].end == end) return 0;
     if (n == MOST_MODULES) return 1;
     struct module *m = &head->module[n];
     m->base = info->dlpi_addr;

@@ -11,7 +11,10 @@ static volatile u64 record_count;
  * what it waits for may be a message of theirs. */
 static volatile int open_to_others;
 /* What the thread is about to do at its hook, for the one who stands there. */
-static __thread struct { int kind; u64 at, size, pc; } about;
+static __thread struct {
+    int kind;
+    u64 at, size, pc;
+} about;
 static u32 futile;
 
 static void about_to(int kind, u64 at, u64 size, u64 pc) {
@@ -32,7 +35,8 @@ static u32 current(void) {
 static int is_due(u32 thread) { return plan && current() == thread; }
 
 static int needs_done(struct step *s) {
-    for (u64 i = 0; i < s->needs_count; i++) if (!steps[needs[s->needs + i]].done) return 0;
+    for (u64 i = 0; i < s->needs_count; i++)
+        if (!steps[needs[s->needs + i]].done) return 0;
     return 1;
 }
 
@@ -93,7 +97,7 @@ static int fits(u64 expected, int kind, u64 pc) {
     if (!expected) return 1;
     if (PLACE_OF(expected) != as_recorded(pc)) return 0;
     return k == kind || (kind == ATOMIC_UPDATE && k == ATOMIC_READ) ||
-           (k == VOID && kind != ACQUIRE && kind != WRITER && kind != PASS);
+        (k == VOID && kind != ACQUIRE && kind != WRITER && kind != PASS);
 }
 
 /* Whether the thread is before the access that the recording has at this clock. */
@@ -216,7 +220,8 @@ static void check_swap(int done, u64 pc) {
 static u32 choose_in_plan(void) {
     static u32 round;
     round++;
-    for (u32 k = 0; k < waiting_count; k++) if (is_due(waiting[k])) return k;
+    for (u32 k = 0; k < waiting_count; k++)
+        if (is_due(waiting[k])) return k;
     for (u32 i = 0; i < waiting_count; i++) {
         u32 k = (i + round) % waiting_count;
         if (may_run_on(waiting[k])) return k;
@@ -234,7 +239,8 @@ static u32 choose(void) {
     idle_turns = record_count == last_count ? idle_turns + 1 : 0;
     last_count = record_count;
     if (waiting_count == 1 || idle_turns > 400) held_back = NOBODY;
-    else while (waiting[k] == held_back) k = (k + 1) % waiting_count;
+    else
+        while (waiting[k] == held_back) k = (k + 1) % waiting_count;
     return k;
 }
 
@@ -312,7 +318,9 @@ static void lend_to(u32 thread) {
     if (lends < 64) lent[lends++] = thread;
 }
 
-static void take_back_lent(void) { if (lends) lends--; }
+static void take_back_lent(void) {
+    if (lends) lends--;
+}
 
 /* A joiner waits while the other runs by its leave. */
 static void take_again(void) {

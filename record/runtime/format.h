@@ -9,11 +9,13 @@ typedef uint32_t u32;
 typedef uint64_t u64;
 
 /* Kinds of records. */
+/* clang-format off */
 enum {
     VOID, READ, WRITE, ACQUIRE, RELEASE, FORK, JOIN, ALLOCATED, FREED, STACK, ATOMIC_READ, ATOMIC_WRITE, ATOMIC_UPDATE,
     PASS, WRITER, RESIZED, ANSWER, TRIED, READER_IN, READER_OUT, FENCE,
     ARRIVED, WENT_ON
 };
+/* clang-format on */
 
 /* What `at` of a record is. */
 enum { OF_MEMORY, OF_DESCRIPTOR, OF_CHANNEL, OF_CHANCE, OF_TEAM };

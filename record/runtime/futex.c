@@ -27,6 +27,8 @@ long syscall(long number, ...) {
         return OUTSIDE(raw_syscall(number, a, b, c, d, e, f));
     }
     keep_turn();
-    if (what == FUTEX_WAKE || what == FUTEX_WAKE_BITSET) unpark((void *)a);
+    /* Those that are moved to another place are woken too. */
+    unpark((void *)a);
+    if (what == FUTEX_WAKE_OP) unpark((void *)e);
     return raw_syscall(number, a, b, c, d, e, f);
 }

@@ -4,8 +4,10 @@ extern void *__libc_malloc(size_t), *__libc_calloc(size_t, size_t), *__libc_real
     *__libc_memalign(size_t, size_t);
 extern void __libc_free(void *);
 
-/* A library that the thread is in without its turn, as one that waits, goes on without it. */
-static int is_outside(void) { return !IDLE && !following && me < MOST_THREADS && holder != me; }
+#define PAGE (size_t) sysconf(_SC_PAGESIZE)
+
+/* A library that the thread is in without its turn, as one that waits or that made the thread, goes on without it. */
+static int is_outside(void) { return !IDLE && !following && (me == NOBODY || me < MOST_THREADS) && holder != me; }
 
 static void *got(void *block, size_t n, u64 pc) {
     int outside = is_outside();
@@ -16,43 +18,62 @@ static void *got(void *block, size_t n, u64 pc) {
 
 void *malloc(size_t n) { return got(__libc_malloc(n), n, PC); }
 void *calloc(size_t count, size_t n) { return got(__libc_calloc(count, n), count * n, PC); }
+void *valloc(size_t n) { return got(__libc_memalign(PAGE, n), n, PC); }
+void *pvalloc(size_t n) { return got(__libc_memalign(PAGE, (n + PAGE - 1) / PAGE * PAGE), n, PC); }
 void *memalign(size_t align, size_t n) { return got(__libc_memalign(align, n), n, PC); }
 void *aligned_alloc(size_t align, size_t n) { return got(__libc_memalign(align, n), n, PC); }
 int posix_memalign(void **block, size_t align, size_t n) {
+    if (!align || align % sizeof(void *) || (align & (align - 1))) return EINVAL;
     void *p = __libc_memalign(align, n);
     if (!p) return ENOMEM;
     *block = got(p, n, PC);
     return 0;
 }
 
+/* What the library of C++ gives back as its own counts say, which are not recorded. */
+static __thread u8 is_counted;
+
 /* Recorded before it is done: from then on another thread may be given the block. */
 static inline void give_back(void *block, u64 pc) {
     int outside = is_outside();
-    if (block) put(FREED, (u64)block, 0, pc);
+    if (block && !is_counted) put(FREED, (u64)block, 0, pc);
     if (outside) give();
     __libc_free(block);
 }
 void free(void *block) { give_back(block, PC); }
 
+/* An exception that threads share is given back by the last one that is done with it: its bytes, and what it has. */
+#define COUNTED(name, types, given, passed_on) \
+    __attribute__((weak)) void name given { \
+        REAL(name, void, types); \
+        u8 was = is_counted; \
+        is_counted = 1; \
+        real passed_on; \
+        is_counted = was; \
+    }
+COUNTED(__cxa_free_exception, void *, (void *thrown), (thrown))
+COUNTED(__cxa_end_catch, void, (void), ())
+COUNTED(_ZNSt15__exception_ptr13exception_ptr10_M_releaseEv, void *, (void *pointer), (pointer))
+
 /* What C++ calls for `new` and `delete`. Here the place is that of the program, and not one in the library of C++.
  * Where the program has its own, or there is no memory, the library's does what it has to do. */
-void *own_new(size_t n);
-void own_delete(void *block);
-void *_Znwm(size_t n) __attribute__((weak, alias("own_new")));
-void _ZdlPv(void *block) __attribute__((weak, alias("own_delete")));
-static int are_own(void) { return _Znwm == own_new && _ZdlPv == own_delete; }
+void *racebench_new(size_t n);
+void racebench_delete(void *block);
+void *_Znwm(size_t n) __attribute__((weak, alias("racebench_new")));
+void _ZdlPv(void *block) __attribute__((weak, alias("racebench_delete")));
+static int are_own(void) { return _Znwm == racebench_new && _ZdlPv == racebench_delete; }
 
 #define NEW(attributes, name, real_name, given, passed_on, block) \
     attributes void *name given { \
         void *p = are_own() ? (block) : NULL; \
         if (p) return got(p, n, PC); \
-        static void *(*real) given; \
-        if (!real) real = (void *(*) given)next(real_name, NULL); \
+        static void *(*real)given; \
+        if (!real) real = (void *(*)given)next(real_name, NULL); \
         return real passed_on; \
     }
 #define WEAK __attribute__((weak))
 #define ROOM (n ? n : 1)
-NEW(, own_new, "_Znwm", (size_t n), (n), __libc_malloc(ROOM))
+NEW(, racebench_new, "_Znwm", (size_t n), (n), __libc_malloc(ROOM))
 NEW(WEAK, _Znam, "_Znam", (size_t n), (n), __libc_malloc(ROOM))
 NEW(WEAK, _ZnwmRKSt9nothrow_t, "_ZnwmRKSt9nothrow_t", (size_t n, const void *t), (n, t), __libc_malloc(ROOM))
 NEW(WEAK, _ZnamRKSt9nothrow_t, "_ZnamRKSt9nothrow_t", (size_t n, const void *t), (n, t), __libc_malloc(ROOM))
@@ -61,12 +82,12 @@ NEW(WEAK, _ZnamSt11align_val_t, "_ZnamSt11align_val_t", (size_t n, size_t a), (n
 
 #define DELETE(attributes, name, real_name, given, passed_on) \
     attributes void name given { \
-        static void (*real) given; \
+        static void(*real) given; \
         if (are_own()) return give_back(block, PC); \
-        if (!real) real = (void (*) given)next(real_name, NULL); \
+        if (!real) real = (void(*) given)next(real_name, NULL); \
         real passed_on; \
     }
-DELETE(, own_delete, "_ZdlPv", (void *block), (block))
+DELETE(, racebench_delete, "_ZdlPv", (void *block), (block))
 DELETE(WEAK, _ZdaPv, "_ZdaPv", (void *block), (block))
 DELETE(WEAK, _ZdlPvm, "_ZdlPvm", (void *block, size_t n), (block, n))
 DELETE(WEAK, _ZdaPvm, "_ZdaPvm", (void *block, size_t n), (block, n))
@@ -96,5 +117,36 @@ void *realloc(void *block, size_t n) {
     got(p, n, PC);
     if (block && p) put(WRITE, (u64)p, before < n ? before : n, PC);
     else if (block) pass_silently(PC);
+    return p;
+}
+
+/* ---- memory of the system: what is mapped where something else was is another variable ---- */
+
+extern void *__real_mmap(void *, size_t, int, int, int, off_t), *__real_mremap(void *, size_t, size_t, int, void *);
+
+static void *mapped(void *at, size_t n, u64 pc) {
+    if (at != MAP_FAILED && !IDLE) put(ALLOCATED, (u64)at, (n + PAGE - 1) / PAGE * PAGE, pc);
+    return at;
+}
+
+void *__wrap_mmap(void *at, size_t n, int way, int how, int f, off_t from) {
+    if (!IDLE) keep_turn();
+    return mapped(__real_mmap(at, n, way, how, f, from), n, PC);
+}
+void *__wrap_mmap64(void *at, size_t n, int way, int how, int f, off_t from) {
+    if (!IDLE) keep_turn();
+    return mapped(__real_mmap(at, n, way, how, f, from), n, PC);
+}
+
+/* Memory that stays where it is keeps its name. */
+void *__wrap_mremap(void *at, size_t before, size_t n, int how, ...) {
+    va_list words;
+    va_start(words, how);
+    void *wanted = how & MREMAP_FIXED ? va_arg(words, void *) : NULL;
+    va_end(words);
+    if (!IDLE) keep_turn();
+    void *p = __real_mremap(at, before, n, how, wanted);
+    if (p != at) return mapped(p, n, PC);
+    put(RESIZED, (u64)p, n, PC);
     return p;
 }

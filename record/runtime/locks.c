@@ -8,13 +8,15 @@ static int is_past(const struct timespec *t, clockid_t clock) {
 }
 
 /* A call that tries, again and again while it is answered `busy`, for as long as `until` says. */
-#define TRIES(busy, call, at, until, clock) ({ \
-    int answer_, late_ = 0; \
-    while ((answer_ = (call)) == (busy) && !late_) { \
-        late_ = park((const void *)(at), (until), (clock)); \
-        if (!late_ && (until) && is_past((until), (clock))) late_ = 1; \
-    } \
-    answer_ == (busy) ? ETIMEDOUT : answer_; })
+#define TRIES(busy, call, at, until, clock) \
+    ({ \
+        int answer_, late_ = 0; \
+        while ((answer_ = (call)) == (busy) && !late_) { \
+            late_ = park((const void *)(at), (until), (clock)); \
+            if (!late_ && (until) && is_past((until), (clock))) late_ = 1; \
+        } \
+        answer_ == (busy) ? ETIMEDOUT : answer_; \
+    })
 
 static int took(int answer, const volatile void *at, u64 pc) {
     int error = errno;

@@ -36,6 +36,7 @@ int sem_post(sem_t *s) {
     pass_semaphore(POSTED, s, PC);
     int answer = real(s);
     if (!IDLE) unpark(s);
+    else if (on) looks_again = LOOKS_AGAIN;
     return answer;
 }
 
@@ -50,9 +51,17 @@ int sem_trywait(sem_t *s) {
     return passed(real(s), s, PC);
 }
 
+/* A wait ends where a handler came that ends what it interrupts. */
+static int still_waits(sem_t *s) {
+    pthread_testcancel();
+    int error = try_semaphore(s);
+    return error == EAGAIN && was_interrupted ? EINTR : error;
+}
+
 static int wait_semaphore(sem_t *s, const struct timespec *t, clockid_t c, u64 pc) {
     maybe_give();
-    int error = TRIES(EAGAIN, (pthread_testcancel(), try_semaphore(s)), s, t, c);
+    was_interrupted = 0;
+    int error = TRIES(EAGAIN, still_waits(s), s, t, c);
     if (error) errno = error;
     return passed(error ? -1 : 0, s, pc);
 }
@@ -83,7 +92,8 @@ static struct meeting *meetings[MEETING_HEADS];
 
 static struct meeting *meeting_of(const void *at) {
     struct meeting **m = &meetings[((u64)at >> 3) % MEETING_HEADS];
-    for (struct meeting *o = *m; o; o = o->next) if (o->at == at) return o;
+    for (struct meeting *o = *m; o; o = o->next)
+        if (o->at == at) return o;
     struct meeting *made = __libc_calloc(1, sizeof *made);
     if (!made) abort();
     *made = (struct meeting){at, 0, 0, NOBODY, *m};
@@ -91,7 +101,10 @@ static struct meeting *meeting_of(const void *at) {
 }
 
 /* The fields of glibc's barrier that do not change while threads wait. */
-struct barrier { u32 in, round, count; int shared; };
+struct barrier {
+    u32 in, round, count;
+    int shared;
+};
 
 static int meet_at_barrier(pthread_barrier_t *b, u32 count, u64 pc) {
     struct meeting *m = meeting_of(b);
@@ -132,7 +145,11 @@ static void wait_for_once(struct meeting *m) {
     while (m->who != NOBODY && m->who != me) park(m->at, NULL, 0);
 }
 
-static __thread struct { void (*routine)(void); void *at; u64 pc; } once;
+static __thread struct {
+    void (*routine)(void);
+    void *at;
+    u64 pc;
+} once;
 
 /* The routine passes when it is done; it may itself call pthread_once, or throw. */
 static void once_body(void) {
@@ -157,8 +174,18 @@ static int do_once(pthread_once_t *o, void (*routine)(void), u64 pc) {
 
 int pthread_once(pthread_once_t *o, void (*routine)(void)) { return do_once(o, routine, PC); }
 
+/* The library of C++ may be linked into the program, where the recorder stands for its guards: their first byte says
+ * that the static is made. */
+#define GUARD(name, type, own) \
+    static type (*real)(u64 *); \
+    if (!real && !(real = (type(*)(u64 *))found(name, NULL))) real = own;
+
+static int own_acquire(u64 *guard) { return !__atomic_load_n((u8 *)guard, __ATOMIC_ACQUIRE); }
+static void own_release(u64 *guard) { __atomic_store_n((u8 *)guard, 1, __ATOMIC_RELEASE); }
+static void own_abort(u64 *guard) { (void)guard; }
+
 int __cxa_guard_acquire(u64 *guard) {
-    REAL(__cxa_guard_acquire, int, u64 *);
+    GUARD("__cxa_guard_acquire", int, own_acquire);
     if (IDLE) return real(guard);
     maybe_give();
     struct meeting *m = meeting_of(guard);
@@ -171,7 +198,7 @@ int __cxa_guard_acquire(u64 *guard) {
 }
 
 void __cxa_guard_release(u64 *guard) {
-    REAL(__cxa_guard_release, void, u64 *);
+    GUARD("__cxa_guard_release", void, own_release);
     struct meeting *m = meeting_of(guard);
     if (!IDLE) put_record((struct record){.kind = ATOMIC_WRITE, .at = (u64)guard, .size = 1, .pc = PC, .order = SC});
     real(guard);
@@ -179,7 +206,7 @@ void __cxa_guard_release(u64 *guard) {
 }
 
 void __cxa_guard_abort(u64 *guard) {
-    REAL(__cxa_guard_abort, void, u64 *);
+    GUARD("__cxa_guard_abort", void, own_abort);
     struct meeting *m = meeting_of(guard);
     if (!IDLE) keep_turn();
     real(guard);

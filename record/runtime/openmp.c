@@ -3,7 +3,10 @@
 
 /* Who comes back from the library waits for the others of the team: one that has the token brings all in line, in the
  * order of their numbers, so that nothing hangs on whom the system wakes first. */
-struct comer { u32 thread; struct comer *next; };
+struct comer {
+    u32 thread;
+    struct comer *next;
+};
 
 struct region {
     void (*body)(void *);
@@ -141,7 +144,8 @@ REGION(GOMP_parallel_sections, (void (*body)(void *), void *data, unsigned n, un
            (void (*body)(void *), void *data, unsigned n, long from, long to, long by, long chunk, unsigned g), \
            (in_region, &r, n, from, to, by, chunk, g))
 #define LOOP_BY_ITSELF(kind) \
-    REGION(GOMP_parallel_loop_##kind, (void (*body)(void *), void *data, unsigned n, long from, long to, long by, unsigned g), \
+    REGION(GOMP_parallel_loop_##kind, \
+           (void (*body)(void *), void *data, unsigned n, long from, long to, long by, unsigned g), \
            (in_region, &r, n, from, to, by, g))
 LOOP(static)
 LOOP(dynamic)
@@ -204,6 +208,7 @@ static void take_share(u64 pc) {
         return real passed_on; \
     }
 typedef unsigned long long ull;
+/* clang-format off */
 #define LOOP_SHARES(kind) \
     SHARES(_Bool, GOMP_loop_##kind##_start, 1, (long a, long b, long by, long n, long *from, long *to), \
            (a, b, by, n, from, to)) \
@@ -217,6 +222,7 @@ typedef unsigned long long ull;
     SHARES(_Bool, GOMP_loop_ull_##kind##_start, 1, (_Bool up, ull a, ull b, ull by, ull *from, ull *to), \
            (up, a, b, by, from, to)) \
     SHARES(_Bool, GOMP_loop_ull_##kind##_next, 0, (ull *from, ull *to), (from, to))
+/* clang-format on */
 LOOP_SHARES(dynamic)
 LOOP_SHARES(guided)
 LOOP_SHARES(nonmonotonic_dynamic)

@@ -2,24 +2,37 @@
  * the recording. The clock of a thread is the number of hooks that it came to (tick), and in between the number of
  * blocks that it gave back (sub). No name and no address is compared, only places of code. */
 
-enum { EVENT, STAND, LAST };                        /* types of steps */
+enum { EVENT, STAND, LAST }; /* types of steps */
 enum { NOT_FOLLOWING, FOLLOWING, STANDS, DEPARTED, DONE };
 enum { OTHER_CODE = 1, MISSED, WOULD_WAIT, HANGS, ENDED, OTHER_OUTCOME, OTHER_WORLD };
 
 /* A step of the plan: the thread and its clock, the event, the thread's next step, and which steps of others have to
  * be done before. */
-struct step { u32 thread, type; u64 pos, event, next, needs, needs_count, done, unused; };
+struct step {
+    u32 thread, type;
+    u64 pos, event, next, needs, needs_count, done, unused;
+};
 /* Where the ticks of a thread are, and how many. */
-struct known { u64 first, count; };
-struct fork_of { u64 parent, pos, child; };
+struct known {
+    u64 first, count;
+};
+struct fork_of {
+    u64 parent, pos, child;
+};
 /* A tick of the recording: pc << 16, 128 where an event of the trace is of it, and the kind; then what the record
  * says. */
-struct tick_entry { u64 code, at, answer; };
+struct tick_entry {
+    u64 code, at, answer;
+};
+/* clang-format off */
 #define KIND_OF(code) ((int)((code) & 127))
 #define IS_EVENT(code) ((code) & 128)
+/* clang-format on */
 #define PLACE_OF(code) ((code) >> 16)
 
-struct frame { u64 body, site; };
+struct frame {
+    u64 body, site;
+};
 #define MOST_FRAMES 64
 #define MOST_TOLD 64
 /* A thread that stands before its access. */
@@ -51,6 +64,12 @@ static u8 is_shifted;
 static volatile u64 at_step;
 static volatile u64 ticks_of[MOST_THREADS];
 
+/* By no function of the C library, which the recorder takes. */
+static int are_same(const char *a, const char *b) {
+    while (*a && *a == *b) a++, b++;
+    return *a == *b;
+}
+
 /* A place of code as the recording has it. */
 static u64 as_recorded(u64 pc) {
     if (!is_shifted) return pc;
@@ -58,16 +77,17 @@ static u64 as_recorded(u64 pc) {
         struct module *m = &head->module[k];
         if (pc < m->base || pc >= m->end) continue;
         for (u64 i = 0; i < plan->modules; i++)
-            if (!strcmp(recorded_modules[i].path, m->path)) return pc - m->base + recorded_modules[i].base;
+            if (are_same(recorded_modules[i].path, m->path)) return pc - m->base + recorded_modules[i].base;
     }
     return pc;
 }
 
 static void look_for_shift(void) {
-    for (u64 k = 0; plan && k < head->modules; k++) for (u64 i = 0; i < plan->modules; i++) {
-        struct module *m = &head->module[k], *o = &recorded_modules[i];
-        if (!strcmp(o->path, m->path) && o->base != m->base) is_shifted = 1;
-    }
+    for (u64 k = 0; plan && k < head->modules; k++)
+        for (u64 i = 0; i < plan->modules; i++) {
+            struct module *m = &head->module[k], *o = &recorded_modules[i];
+            if (are_same(o->path, m->path) && o->base != m->base) is_shifted = 1;
+        }
 }
 
 static void map_plan(void *p) {

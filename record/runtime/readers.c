@@ -1,21 +1,26 @@
 /* Reader-writer locks. Each reader holds a lock of its own, and a writer all of these. */
 
 #define MOST_READ_HOLDS 64
-static __thread struct { void *lock; u32 times; } read_holds[MOST_READ_HOLDS];
+static __thread struct {
+    void *lock;
+    u32 times;
+} read_holds[MOST_READ_HOLDS];
 static __thread u32 read_hold_count;
 
 /* After a call that takes the lock, or is refused: then it comes while another thread has the lock. */
 static void put_taken(int kind, int answer, void *at, u64 pc) {
     int refused = answer == EBUSY || answer == ETIMEDOUT;
-    put_record((struct record){.kind = (u8)(!answer ? kind : refused ? TRIED : ANSWER), .at = (u64)at, .pc = pc,
-                               .answer = (u64)answer, .size = kind == READER_IN});
+    int becomes = !answer ? kind : refused ? TRIED : ANSWER;
+    u64 by = (u64)answer;
+    put_record((struct record){.kind = (u8)becomes, .at = (u64)at, .pc = pc, .answer = by, .size = kind == READER_IN});
 }
 
 static int reads(int answer, void *at, u64 pc) {
     if (IDLE) return answer;
     put_taken(READER_IN, answer, at, pc);
     if (answer) return answer;
-    for (u32 i = 0; i < read_hold_count; i++) if (read_holds[i].lock == at) return read_holds[i].times++, answer;
+    for (u32 i = 0; i < read_hold_count; i++)
+        if (read_holds[i].lock == at) return read_holds[i].times++, answer;
     if (read_hold_count < MOST_READ_HOLDS)
         read_holds[read_hold_count].lock = at, read_holds[read_hold_count++].times = 1;
     return answer;
@@ -23,10 +28,11 @@ static int reads(int answer, void *at, u64 pc) {
 
 /* Whether this thread read-holds the lock; it then holds it once less. */
 static int leaves_read_hold(void *at) {
-    for (u32 i = 0; i < read_hold_count; i++) if (read_holds[i].lock == at) {
-        if (!--read_holds[i].times) read_holds[i] = read_holds[--read_hold_count];
-        return 1;
-    }
+    for (u32 i = 0; i < read_hold_count; i++)
+        if (read_holds[i].lock == at) {
+            if (!--read_holds[i].times) read_holds[i] = read_holds[--read_hold_count];
+            return 1;
+        }
     return 0;
 }
 
@@ -44,6 +50,9 @@ static int try_writing(pthread_rwlock_t *m) {
     REAL(pthread_rwlock_trywrlock, int, pthread_rwlock_t *);
     return real(m);
 }
+
+/* The library refuses a thread that has the lock as a writer. */
+static int is_own(pthread_rwlock_t *m) { return m->__data.__cur_writer == syscall(SYS_gettid); }
 
 /* A reader may be let in later than now for many reasons: it tries again. */
 static int read_lock(pthread_rwlock_t *m, const struct timespec *t, clockid_t c, u64 pc) {
@@ -68,32 +77,32 @@ int pthread_rwlock_trywrlock(pthread_rwlock_t *m) {
 
 int pthread_rwlock_rdlock(pthread_rwlock_t *m) {
     REAL(pthread_rwlock_rdlock, int, pthread_rwlock_t *);
-    return IDLE ? real(m) : read_lock(m, NULL, 0, PC);
+    return IDLE || is_own(m) ? real(m) : read_lock(m, NULL, 0, PC);
 }
 
 int pthread_rwlock_wrlock(pthread_rwlock_t *m) {
     REAL(pthread_rwlock_wrlock, int, pthread_rwlock_t *);
-    return IDLE ? real(m) : write_lock(m, NULL, 0, PC);
+    return IDLE || is_own(m) ? real(m) : write_lock(m, NULL, 0, PC);
 }
 
 int pthread_rwlock_timedrdlock(pthread_rwlock_t *m, const struct timespec *t) {
     REAL(pthread_rwlock_timedrdlock, int, pthread_rwlock_t *, const struct timespec *);
-    return IDLE ? real(m, t) : read_lock(m, t, CLOCK_REALTIME, PC);
+    return IDLE || is_own(m) ? real(m, t) : read_lock(m, t, CLOCK_REALTIME, PC);
 }
 
 int pthread_rwlock_timedwrlock(pthread_rwlock_t *m, const struct timespec *t) {
     REAL(pthread_rwlock_timedwrlock, int, pthread_rwlock_t *, const struct timespec *);
-    return IDLE ? real(m, t) : write_lock(m, t, CLOCK_REALTIME, PC);
+    return IDLE || is_own(m) ? real(m, t) : write_lock(m, t, CLOCK_REALTIME, PC);
 }
 
 int pthread_rwlock_clockrdlock(pthread_rwlock_t *m, clockid_t c, const struct timespec *t) {
     REAL(pthread_rwlock_clockrdlock, int, pthread_rwlock_t *, clockid_t, const struct timespec *);
-    return IDLE ? real(m, c, t) : read_lock(m, t, c, PC);
+    return IDLE || is_own(m) ? real(m, c, t) : read_lock(m, t, c, PC);
 }
 
 int pthread_rwlock_clockwrlock(pthread_rwlock_t *m, clockid_t c, const struct timespec *t) {
     REAL(pthread_rwlock_clockwrlock, int, pthread_rwlock_t *, clockid_t, const struct timespec *);
-    return IDLE ? real(m, c, t) : write_lock(m, t, c, PC);
+    return IDLE || is_own(m) ? real(m, c, t) : write_lock(m, t, c, PC);
 }
 
 int pthread_rwlock_unlock(pthread_rwlock_t *m) {

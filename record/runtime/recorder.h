@@ -54,6 +54,10 @@ static __thread u32 me = NOBODY;
 /* The clock of this thread: the hooks that it passed, and the blocks that it gave back since. */
 static __thread u64 tick;
 static __thread u32 sub;
+/* The stack of this thread. */
+static __thread u64 stack_start, stack_size;
+/* This thread may be cancelled wherever it is; while it is in the recorder it is not: it could have its lock. */
+static __thread u8 cancels_at_once, holds_cancel;
 /* Where the program begins a region of OpenMP, while the library makes threads for it. */
 static __thread u64 making_team;
 
@@ -65,7 +69,9 @@ static inline u64 in_program(u64 pc) { return pc - main_start < main_size || IDL
 static inline long by_kernel(long number, long a, long b, long c, long d, long e, long f) {
     long answer;
     register long r10 __asm__("r10") = d, r8 __asm__("r8") = e, r9 __asm__("r9") = f;
-    __asm__ volatile("syscall" : "=a"(answer) : "a"(number), "D"(a), "S"(b), "d"(c), "r"(r10), "r"(r8), "r"(r9)
+    __asm__ volatile("syscall"
+                     : "=a"(answer)
+                     : "a"(number), "D"(a), "S"(b), "d"(c), "r"(r10), "r"(r8), "r"(r9)
                      : "rcx", "r11", "memory");
     return answer;
 }
@@ -107,10 +113,13 @@ static u64 put(int kind, u64 at, u64 size, u64 pc);
 static u64 put_of(int of, int kind, u64 at, u64 pc);
 static void take_back(u64 place);
 static void note_modules(void);
+static void *found(const char *name, const char *version);
 static void *next(const char *name, const char *version);
 /* accesses.c */
 static void maybe_give(void);
 /* threads.c */
+static u8 hold_cancel(void);
+static void let_cancel(u8 held);
 static void stranger(void);
 static void own_stack(void);
 /* follow.c: where a plan is followed. */
@@ -127,10 +136,10 @@ static void count_record(void);
 #define CLOCK(tick, sub) ((tick) << 16 | (sub))
 #define REAL(name, type, ...) \
     static type (*real)(__VA_ARGS__); \
-    if (!real) real = (type (*)(__VA_ARGS__))next(#name, NULL)
+    if (!real) real = (type(*)(__VA_ARGS__))next(#name, NULL)
 #define REAL_OF(name, version, type, ...) \
     static type (*real)(__VA_ARGS__); \
-    if (!real) real = (type (*)(__VA_ARGS__))next(#name, version)
+    if (!real) real = (type(*)(__VA_ARGS__))next(#name, version)
 /* A call that waits in the C library, without the token. */
 #define OUTSIDE(call) \
     ({ \

@@ -1,14 +1,41 @@
 /* Signals. A handler that comes while its thread waits outside of its turn takes the turn at its first hook, and gives
- * it back at its end: else the thread would wait on with the token. */
+ * it back at its end: else the thread would wait on with the token. One that comes while its thread waits in the
+ * recorder gets the turn first, and the thread goes on in it. */
 
 static struct sigaction handlers[NSIG];
 
+static int is_in_line(void) {
+    for (u32 k = 0; k < waiting_count; k++)
+        if (waiting[k] == me) return 1;
+    return woken[me] != 0;
+}
+
+/* Gets the turn, where this thread waits for it or is parked; who is parked looks again when the handler is done. */
+static int gets_turn(void) {
+    if (!is_waiting || !on || following || me >= MOST_THREADS) return 0;
+    lock_turns();
+    for (u32 k = 0; k < parked_count; k++)
+        if (parked[k] == me) {
+            leave_parked(k);
+            get_in_line_locked();
+            break;
+        }
+    int comes = is_in_line();
+    unlock_turns();
+    if (comes) wait_in_line();
+    return comes;
+}
+
 static void handle(int number, siginfo_t *info, void *context) {
     struct sigaction *a = &handlers[number];
-    int outside = !IDLE && me < MOST_THREADS && holder != me;
+    int outside = !IDLE && me < MOST_THREADS && holder != me, error = errno, waits = gets_turn();
+    if (waits) inside = 0;
+    if (!(a->sa_flags & SA_RESTART)) was_interrupted = 1;
+    errno = error;
     if (a->sa_flags & SA_SIGINFO) a->sa_sigaction(number, info, context);
     else a->sa_handler(number);
     if (outside) give();
+    if (waits) keep_turn(), inside = 1;
 }
 
 static int is_handler(const struct sigaction *a) {

@@ -2,7 +2,9 @@
  * accept(). Both ends know the two addresses, the connecting end as its own and the other's. */
 
 #define MOST_ADDRESS 32
-struct address { u8 bytes[MOST_ADDRESS]; };
+struct address {
+    u8 bytes[MOST_ADDRESS];
+};
 struct connection {
     struct address from, to;
     u32 way;
@@ -11,7 +13,11 @@ struct connection {
 };
 static struct connection *connections;
 /* Descriptors on which the process listens. */
-static struct listener { int f; struct listener *next; } *listeners;
+struct listener {
+    int f;
+    struct listener *next;
+};
+static struct listener *listeners;
 
 /* What tells two ends of a family apart: IPv4 and IPv6 alike. */
 static int address_of(const struct sockaddr_storage *a, struct address *to) {
@@ -41,7 +47,8 @@ static int is_listened_to(const struct address *to) {
     for (struct listener *l = listeners; l; l = l->next) {
         struct address own;
         if (!address_by(SYS_getsockname, l->f, &own) || memcmp(own.bytes + 16, to->bytes + 16, 2)) continue;
-        if (!memcmp(own.bytes, to->bytes, 16) || !memcmp(own.bytes, any, 16) || !memcmp(own.bytes, any_four, 16)) return 1;
+        if (!memcmp(own.bytes, to->bytes, 16) || !memcmp(own.bytes, any, 16) || !memcmp(own.bytes, any_four, 16))
+            return 1;
     }
     return 0;
 }

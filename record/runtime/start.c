@@ -49,9 +49,11 @@ static int map_file(const char *name) {
     return has_first_room();
 }
 
-/* The file's descriptor is high, where programs do not look. */
+/* The file's descriptor is high, where programs do not look, or as high as the limit allows. */
 static void hide_file(void) {
-    int high = (int)syscall(SYS_fcntl, raw_file, F_DUPFD_CLOEXEC, 900);
+    int high = -1;
+    for (int at = 900; high < 0 && at > 2; at /= 2) high = (int)syscall(SYS_fcntl, raw_file, F_DUPFD_CLOEXEC, at);
+    if (high < 0) return;
     syscall(SYS_close, raw_file);
     raw_file = high;
 }
@@ -93,7 +95,10 @@ void __tsan_init(void) {
     if (head) head->units++;
     else early_units++;
     start();
+    if (on) note_modules();
 }
 __attribute__((constructor(101))) static void at_start(void) { start(); }
 /* Libraries that were opened late have names too. */
-__attribute__((destructor(101))) static void at_end(void) { if (on) note_modules(); }
+__attribute__((destructor(101))) static void at_end(void) {
+    if (on) note_modules();
+}

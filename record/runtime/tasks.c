@@ -1,5 +1,5 @@
-/* Tasks of OpenMP (libgomp). A task comes after its maker made it. Its end comes before its maker's next taskwait is over,
- * before the end of its task group, and before the end of the next barrier of its team. */
+/* Tasks of OpenMP (libgomp). A task comes after its maker made it. Its end comes before its maker's next taskwait is
+ * over, before the end of its task group, and before the end of the next barrier of its team. */
 
 #define DEPENDS 8
 #define DEPENDS_AT_MOST 16
@@ -13,7 +13,10 @@ struct task {
     u32 depends;
     void *depend[DEPENDS_AT_MOST];
 };
-struct group { u64 number; struct group *outer; };
+struct group {
+    u64 number;
+    struct group *outer;
+};
 /* What this thread's task waits for at taskwait, the how many-th time, and its task group. */
 static __thread u64 my_waits, my_wait_round, my_group;
 static __thread struct group *my_groups;
@@ -70,7 +73,8 @@ static void read_depends(struct task *t, void **depend) {
 
 void GOMP_task(void (*body)(void *), void *data, void (*copy)(void *, void *), long size, long align, _Bool deferred,
                unsigned flags, void **depend, int priority, void *detach) {
-    REAL(GOMP_task, void, void (*)(void *), void *, void (*)(void *, void *), long, long, _Bool, unsigned, void **, int, void *);
+    REAL(GOMP_task, void, void (*)(void *), void *, void (*)(void *, void *), long, long, _Bool, unsigned, void **, int,
+         void *);
     if (IDLE || align > 64) {
         real(body, data, copy, size, align, deferred, flags, depend, priority, detach);
         return;
@@ -79,8 +83,10 @@ void GOMP_task(void (*body)(void *), void *data, void (*copy)(void *, void *), l
     if (my_region) my_region->has_tasks = 1;
     if (!my_waits) my_waits = new_number(), my_wait_round = 1;
     u64 wide = align < 16 ? 16 : (u64)align;
-    struct task t = {body, copy, data, (u64)size, (sizeof(struct task) + wide - 1) / wide * wide, new_number(), my_waits,
-                     my_wait_round, my_team, my_round, my_group, PC, 0, {0}};
+    /* clang-format off */
+    struct task t = {body, copy, data, (u64)size, (sizeof(struct task) + wide - 1) / wide * wide, new_number(),
+                     my_waits, my_wait_round, my_team, my_round, my_group, PC, 0, {0}};
+    /* clang-format on */
     if (flags & DEPENDS) read_depends(&t, depend);
     meet(ARRIVED, OF_TEAM, t.number, 1, PC);
     int waits = (flags & DEPENDS) && !deferred;

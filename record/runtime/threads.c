@@ -4,6 +4,7 @@ struct child {
     void *(*body)(void *);
     void *argument;
     u32 number;
+    u8 is_detached;
     sigset_t mask;
 };
 
@@ -14,6 +15,15 @@ static volatile u8 joinable[MOST_THREADS], came[MOST_THREADS], gone[MOST_THREADS
 /* A thread of libgomp ends when the library is done with it, in nobody's turn. */
 static u8 in_library[MOST_THREADS];
 static pthread_key_t last_turn;
+/* The function that this thread runs. */
+static __thread u64 my_body;
+
+static u32 number_of(pthread_t id) {
+    u32 n = threads < MOST_THREADS ? threads : MOST_THREADS;
+    for (u32 k = 0; k < n; k++)
+        if (joinable[k] && pthread_equal(ids[k], id)) return k;
+    return NOBODY;
+}
 
 /* The stack is a variable of the thread's own. */
 static void own_stack(void) {
@@ -28,7 +38,9 @@ static void own_stack(void) {
         pthread_attr_destroy(&attributes);
     }
     inside = was;
-    if (there) put(STACK, (u64)at, n, 0);
+    if (!there) return;
+    stack_start = (u64)at, stack_size = n;
+    put(STACK, (u64)at, n, 0);
 }
 
 /* A thread that was not made by pthread_create has a number and no fork. */
@@ -39,6 +51,23 @@ static void stranger(void) {
     __atomic_fetch_add(&head->strangers, 1, SC);
     __atomic_fetch_add(&living, 1, SC);
     pthread_setspecific(last_turn, (void *)1);
+    watch();
+}
+
+/* A thread ends with robust mutexes: it lets go of them, and the kernel tells the next owner. `entry` is in the list of
+ * the kernel, so far behind the word of the mutex as the list says. */
+#define MOST_ROBUST 64
+static void leave_robust_mutexes(void) {
+    struct robust_list_head *held = NULL;
+    size_t n;
+    if (IDLE || syscall(SYS_get_robust_list, 0, &held, &n) || !held) return;
+    struct robust_list *entry = held->list.next;
+    for (u32 k = 0; k < MOST_ROBUST && entry && entry != &held->list; k++) {
+        entry = (struct robust_list *)((u64)entry & ~1ull);
+        put(RELEASE, (u64)entry + (u64)held->futex_offset, 0, my_body);
+        looks_again = LOOKS_AGAIN;
+        entry = entry->next;
+    }
 }
 
 /* Destructors of other keys may run code of the program: the last turn ends in the last round of them. */
@@ -46,7 +75,7 @@ static void end_of_thread(void *round) {
     u64 k = (u64)round;
     if (k < PTHREAD_DESTRUCTOR_ITERATIONS && pthread_setspecific(last_turn, (void *)(k + 1)) == 0) return;
     if (me < MOST_THREADS) {
-        if (on && !in_library[me]) take();
+        if (on && !in_library[me]) take(), leave_robust_mutexes();
         gone[me] = 1;
         unpark(&gone[me]);
         give();
@@ -56,15 +85,23 @@ static void end_of_thread(void *round) {
     end_calls();
 }
 
+/* One that is made detached can't be joined. Who had this id before has ended, and was not joined. */
+static void note_id(int is_detached) {
+    pthread_t mine = pthread_self();
+    for (u32 k = number_of(mine); k != NOBODY; k = number_of(mine)) joinable[k] = 0;
+    ids[me] = mine;
+    joinable[me] = !is_detached;
+}
+
 static void *child_body(void *p) {
     inside = 1;
     struct child c = *(struct child *)p;
     __libc_free(p);
     me = c.number;
+    my_body = (u64)c.body + 1;
     pthread_setspecific(last_turn, (void *)1);
-    ids[me] = pthread_self();
     kernel_ids[me] = (pid_t)syscall(SYS_gettid);
-    joinable[me] = 1;
+    note_id(c.is_detached);
     if (is_of_openmp(c.body)) {
         in_library[me] = 1;
         __atomic_store_n(&came[me], 1, SC);
@@ -80,6 +117,11 @@ static void *child_body(void *p) {
     own_stack();
     pthread_sigmask(SIG_SETMASK, &c.mask, NULL);
     return c.body(c.argument);
+}
+
+static int is_detached(const pthread_attr_t *attributes) {
+    int state;
+    return attributes && !pthread_attr_getdetachstate(attributes, &state) && state == PTHREAD_CREATE_DETACHED;
 }
 
 /* A thread that begins has no signals until it has its number and its turn. `mask` is the one that it gets then. */
@@ -101,7 +143,7 @@ static int create(pthread_t *id, const pthread_attr_t *attributes, void *(*body)
     if (number == NOBODY) number = __atomic_fetch_add(&threads, 1, SC);
     struct child *c = number < MOST_THREADS ? __libc_malloc(sizeof *c) : NULL;
     if (!c) return real(id, attributes, body, argument);
-    *c = (struct child){.body = body, .argument = argument, .number = number};
+    *c = (struct child){body, argument, number, (u8)is_detached(attributes), {{0}}};
     sigset_t before;
     u64 place = put(FORK, number, 0, pc);
     __atomic_fetch_add(&living, 1, SC);
@@ -109,7 +151,8 @@ static int create(pthread_t *id, const pthread_attr_t *attributes, void *(*body)
     hold_signals(attributes, &c->mask, &before);
     int answer = real(id, attributes, child_body, c);
     pthread_sigmask(SIG_SETMASK, &before, NULL);
-    if (!answer) while (!__atomic_load_n(&came[number], SC)) syscall(SYS_sched_yield);
+    if (!answer)
+        while (!__atomic_load_n(&came[number], SC)) syscall(SYS_sched_yield);
     inside = 0;
     if (answer) {
         __libc_free(c);
@@ -121,12 +164,6 @@ static int create(pthread_t *id, const pthread_attr_t *attributes, void *(*body)
 
 int pthread_create(pthread_t *id, const pthread_attr_t *attributes, void *(*body)(void *), void *argument) {
     return create(id, attributes, body, argument, PC);
-}
-
-static u32 number_of(pthread_t id) {
-    u32 n = threads < MOST_THREADS ? threads : MOST_THREADS;
-    for (u32 k = 0; k < n; k++) if (joinable[k] && pthread_equal(ids[k], id)) return k;
-    return NOBODY;
 }
 
 static int joined(int answer, u32 number, u64 pc) {
@@ -178,6 +215,12 @@ int pthread_timedjoin_np(pthread_t id, void **value, const struct timespec *t) {
     return joined(OUTSIDE(real(id, value, t)), number, PC);
 }
 
+int pthread_clockjoin_np(pthread_t id, void **value, clockid_t c, const struct timespec *t) {
+    REAL(pthread_clockjoin_np, int, pthread_t, void **, clockid_t, const struct timespec *);
+    u32 number = number_of(id);
+    return joined(OUTSIDE(real(id, value, c, t)), number, PC);
+}
+
 int pthread_detach(pthread_t id) {
     REAL(pthread_detach, int, pthread_t);
     u32 number = number_of(id);
@@ -193,11 +236,37 @@ int pthread_cancel(pthread_t id) {
     u32 number = number_of(id);
     int answer = real(id);
     lock_turns();
-    for (u32 k = 0; k < parked_count; k++) if (parked[k] == number) {
-        leave_parked(k);
-        waiting[waiting_count++] = number;
-        break;
-    }
+    for (u32 k = 0; k < parked_count; k++)
+        if (parked[k] == number) {
+            leave_parked(k);
+            waiting[waiting_count++] = number;
+            break;
+        }
     unlock_turns();
+    return answer;
+}
+
+static void set_cancel_type(int type) {
+    REAL(pthread_setcanceltype, int, int, int *);
+    int before;
+    real(type, &before);
+}
+
+static u8 hold_cancel(void) {
+    if (!cancels_at_once || holds_cancel) return 0;
+    set_cancel_type(PTHREAD_CANCEL_DEFERRED);
+    return holds_cancel = 1;
+}
+
+static void let_cancel(u8 held) {
+    if (!held) return;
+    holds_cancel = 0;
+    set_cancel_type(PTHREAD_CANCEL_ASYNCHRONOUS);
+}
+
+int pthread_setcanceltype(int type, int *before) {
+    REAL(pthread_setcanceltype, int, int, int *);
+    int answer = real(type, before);
+    if (!answer) cancels_at_once = type == PTHREAD_CANCEL_ASYNCHRONOUS;
     return answer;
 }

@@ -78,9 +78,16 @@ static void get_in_line(void) {
     unlock_turns();
 }
 
+/* This thread waits in the kernel, without the recorder's lock. */
+static __thread volatile u8 is_waiting;
+/* A handler came that ends the call it interrupts. */
+static __thread volatile u8 was_interrupted;
+
 static void wait_in_line(void) {
+    is_waiting = 1;
     while (!__atomic_load_n(&woken[me], __ATOMIC_SEQ_CST))
         syscall(SYS_futex, &woken[me], FUTEX_WAIT_PRIVATE, 0, NULL, NULL, 0);
+    is_waiting = 0;
 }
 
 /* Waits for the token; a thread that has it keeps it. */
@@ -88,24 +95,26 @@ static void take(void) {
     if (me == NOBODY) stranger();
     if (me >= MOST_THREADS || holder == me) return;
     int error = errno;
-    u8 was = inside;
+    u8 was = inside, held = hold_cancel();
     inside = 1;
     get_in_line();
     wait_in_line();
     inside = was;
     errno = error;
+    let_cancel(held);
 }
 
 static void give(void) {
     if (me >= MOST_THREADS || holder != me) return;
     int error = errno;
-    u8 was = inside;
+    u8 was = inside, held = hold_cancel();
     inside = 1;
     lock_turns();
     if (holder == me) hand_on();
     unlock_turns();
     inside = was;
     errno = error;
+    let_cancel(held);
 }
 
 /* Gives the token to another thread that waits for it, and gets in line, in one step: else that thread could come to
@@ -117,7 +126,7 @@ static void give_and_take(void) {
         return;
     }
     int error = errno;
-    u8 was = inside;
+    u8 was = inside, held = hold_cancel();
     inside = 1;
     lock_turns();
     u32 k = choose();
@@ -131,6 +140,7 @@ static void give_and_take(void) {
     if (k != NOBODY) wait_in_line();
     inside = was;
     errno = error;
+    let_cancel(held);
 }
 
 /* For a thread that can't go on yet: it looks again after others ran, or after a moment where no other waits. */
@@ -156,14 +166,17 @@ static void leave_parked(u32 k) {
 static int wait_parked(const struct timespec *until, clockid_t clock) {
     int how = FUTEX_WAIT_BITSET | FUTEX_PRIVATE_FLAG | (clock == CLOCK_REALTIME ? FUTEX_CLOCK_REALTIME : 0), late = 0;
     while (until && !late && !__atomic_load_n(&woken[me], __ATOMIC_SEQ_CST)) {
+        is_waiting = 1;
         long answer = syscall(SYS_futex, &woken[me], how, 0, until, NULL, FUTEX_BITSET_MATCH_ANY);
+        is_waiting = 0;
         if (answer == 0 || (errno != ETIMEDOUT && errno != EINVAL)) continue;
         lock_turns();
-        for (u32 k = 0; k < parked_count && !late; k++) if (parked[k] == me) {
-            leave_parked(k);
-            get_in_line_locked();
-            late = 1;
-        }
+        for (u32 k = 0; k < parked_count && !late; k++)
+            if (parked[k] == me) {
+                leave_parked(k);
+                get_in_line_locked();
+                late = 1;
+            }
         unlock_turns();
         break;
     }
@@ -178,7 +191,7 @@ static int park(const volatile void *at, const struct timespec *until, clockid_t
         return 0;
     }
     int error = errno;
-    u8 was = inside;
+    u8 was = inside, held = hold_cancel();
     inside = 1;
     lock_turns();
     __atomic_store_n(&woken[me], 0, __ATOMIC_SEQ_CST);
@@ -189,6 +202,7 @@ static int park(const volatile void *at, const struct timespec *until, clockid_t
     int late = wait_parked(until, clock);
     inside = was;
     errno = error;
+    let_cancel(held);
     return late;
 }
 
@@ -208,9 +222,24 @@ static void unpark_locked(const volatile void *at) {
 
 static void unpark(const volatile void *at) {
     if (!parked_count) return;
+    u8 held = hold_cancel();
     lock_turns();
     unpark_locked(at);
     unlock_turns();
+    let_cancel(held);
+}
+
+/* For so many looks of the watcher parked threads look again: a handler that came while its thread was in the recorder
+ * may have posted what they wait for, or the kernel let go of a mutex. */
+#define LOOKS_AGAIN 3
+static volatile u32 looks_again;
+
+/* The turns' lock is held. */
+static void bring_parked_in_line(void) {
+    while (parked_count) {
+        waiting[waiting_count++] = parked[parked_count - 1];
+        leave_parked(parked_count - 1);
+    }
 }
 
 static void keep_turn(void) {
@@ -245,9 +274,6 @@ static u64 ran_ms(u32 thread) {
 
 static void rescue(void) {
     rescuing = 1;
-    while (parked_count) {
-        waiting[waiting_count++] = parked[parked_count - 1];
-        leave_parked(parked_count - 1);
-    }
+    bring_parked_in_line();
     hand_on();
 }

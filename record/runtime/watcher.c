@@ -4,17 +4,22 @@
 #define LONG_RUN 1000
 
 /* Takes the token from a thread that has neither made a record nor given it away while another waits for it: after two
- * looks where it sleeps in a call that the recorder does not know, and where it ran for a second without hooks. A thread
- * that waits for a processor keeps it. The turns' lock is held. */
+ * looks if it sleeps in a call that the recorder does not know, and if it ran for a second without hooks. A thread that
+ * waits for a processor keeps it. The turns' lock is held. */
 static void look(u64 looks, int asleep, int runs_long) {
     int idle = holder == NOBODY || asleep;
+    if (looks_again && parked_count && !following) {
+        looks_again--;
+        bring_parked_in_line();
+        if (holder == NOBODY) hand_on();
+        return;
+    }
     if (idle && looks >= LOOKS_BEFORE_RESCUE && !waiting_count && parked_count && !following) {
         head->forced += holder != NOBODY;
         rescue();
         return;
     }
-    if (!looks || holder == NOBODY || !waiting_count || !(asleep || runs_long) || (following && is_due(holder)))
-        return;
+    if (!looks || holder == NOBODY || !waiting_count || !(asleep || runs_long) || (following && is_due(holder))) return;
     u32 was = holder;
     hand_on();
     if (holder != was) head->forced++;

@@ -2,13 +2,15 @@
  * is waited for, or given again. */
 
 #define WAITS(type, name, given, passed_on) \
-    type name given { static type(*real) given; if (!real) real = (type(*) given)next(#name, NULL); \
-        return OUTSIDE(real passed_on); }
+    type name given { \
+        static type(*real) given; \
+        if (!real) real = (type(*) given)next(#name, NULL); \
+        return OUTSIDE(real passed_on); \
+    }
 WAITS(int, ppoll, (struct pollfd * f, nfds_t n, const struct timespec *t, const sigset_t *s), (f, n, t, s))
 WAITS(int, select, (int n, fd_set *r, fd_set *w, fd_set *e, struct timeval *t), (n, r, w, e, t))
 WAITS(int, pselect, (int n, fd_set *r, fd_set *w, fd_set *e, const struct timespec *t, const sigset_t *s),
       (n, r, w, e, t, s))
-WAITS(int, epoll_pwait, (int f, struct epoll_event *e, int n, int t, const sigset_t *s), (f, e, n, t, s))
 WAITS(int, nanosleep, (const struct timespec *t, struct timespec *rest), (t, rest))
 WAITS(int, clock_nanosleep, (clockid_t c, int g, const struct timespec *t, struct timespec *rest), (c, g, t, rest))
 WAITS(int, usleep, (useconds_t t), (t))
@@ -18,6 +20,8 @@ WAITS(pid_t, waitpid, (pid_t p, int *status, int g), (p, status, g))
 WAITS(pid_t, wait3, (int *status, int g, struct rusage *u), (status, g, u))
 WAITS(pid_t, wait4, (pid_t p, int *status, int g, struct rusage *u), (p, status, g, u))
 WAITS(int, waitid, (idtype_t of, id_t id, siginfo_t *info, int g), (of, id, info, g))
+WAITS(int, system, (const char *c), (c))
+WAITS(int, pclose, (FILE * f), (f))
 WAITS(int, pause, (void), ())
 WAITS(int, sigsuspend, (const sigset_t *s), (s))
 WAITS(int, sigwait, (const sigset_t *s, int *number), (s, number))
@@ -64,11 +68,36 @@ int poll(struct pollfd *f, nfds_t n, int t) {
 }
 
 static int find_event(const struct epoll_event *now, int there, struct tick_entry *w, struct epoll_event *to) {
-    for (int k = 0; w && k < there; k++) if (now[k].data.u64 == w->at && (now[k].events & w->answer) == w->answer) {
-        *to = (struct epoll_event){(u32)w->answer, {.u64 = w->at}};
-        return 1;
-    }
+    for (int k = 0; w && k < there; k++)
+        if (now[k].data.u64 == w->at && (now[k].events & w->answer) == w->answer) {
+            *to = (struct epoll_event){(u32)w->answer, {.u64 = w->at}};
+            return 1;
+        }
     return 0;
+}
+
+/* What a poll gives back with an event was given to it before: who gets it comes after. */
+static u32 watched(int f, const struct epoll_event *e) { return channel_of((u64)f << 8 | WATCHED, e->data.u64); }
+
+int epoll_ctl(int f, int what, int of, struct epoll_event *e) {
+    REAL(epoll_ctl, int, int, int, int, struct epoll_event *);
+    if (IDLE) return real(f, what, of, e);
+    maybe_give();
+    if (e && what != EPOLL_CTL_DEL) meet(ARRIVED, OF_CHANNEL, watched(f, e), 1, PC);
+    return real(f, what, of, e);
+}
+
+static int polled(int f, const struct epoll_event *all, int n, u64 pc) {
+    int error = errno;
+    for (int i = 0; i < n; i++) meet(WENT_ON, OF_CHANNEL, watched(f, &all[i]), 1, pc);
+    errno = error;
+    return n;
+}
+
+int epoll_pwait(int f, struct epoll_event *e, int n, int t, const sigset_t *s) {
+    REAL(epoll_pwait, int, int, struct epoll_event *, int, int, const sigset_t *);
+    int answer = OUTSIDE(real(f, e, n, t, s));
+    return IDLE ? answer : polled(f, e, answer, PC);
 }
 
 typedef int epoll_waits(int, struct epoll_event *, int, int);
@@ -95,7 +124,7 @@ int epoll_wait(int f, struct epoll_event *to, int n, int t) {
     put_answer(ANSWER, answer < 0 ? (u64)error : 0, (u64)answer, PC);
     for (int i = 0; i < answer; i++) put_answer(ANSWER, to[i].data.u64, to[i].events, PC);
     errno = error;
-    return answer;
+    return polled(f, to, answer, PC);
 }
 
 /* A connection is a descriptor that is given out. */

@@ -1,0 +1,21 @@
+// An object that is destroyed while another thread calls it.
+#include <cstdio>
+#include <thread>
+#include <unistd.h>
+struct Base {
+    virtual ~Base() { done = true; } // RACE
+    virtual int value() const { return 1; }
+    bool done = false;
+};
+struct Derived : Base { // RACE
+    int value() const override { return 2; }
+};
+int main() {
+    Base *p = new Derived;
+    long sum = 0;
+    std::thread t([p, &sum] { sum += p->value(); }); // RACE
+    usleep(20000);
+    delete p; // RACE
+    t.join();
+    std::printf("%ld\n", sum);
+}

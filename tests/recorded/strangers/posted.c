@@ -1,0 +1,42 @@
+/* A handler posts a semaphore, which ends what others do. */
+#include <pthread.h>
+#include <semaphore.h>
+#include <signal.h>
+#include <stdatomic.h>
+#include <stdio.h>
+#include <sys/time.h>
+#include <unistd.h>
+static sem_t s;
+static atomic_int stop;
+static long work_done[2];
+static void on_alarm(int n) {
+    (void)n;
+    sem_post(&s);
+}
+static void *waits(void *p) {
+    while (sem_wait(&s)) {}
+    stop = 1;
+    return p;
+}
+static void *works(void *p) {
+    while (!stop) ++*(long *)p;
+    return p;
+}
+int main(void) {
+    pthread_t t[3];
+    sigset_t set;
+    sem_init(&s, 0, 0);
+    signal(SIGALRM, on_alarm);
+    sigemptyset(&set), sigaddset(&set, SIGALRM);
+    pthread_sigmask(SIG_BLOCK, &set, NULL);
+    pthread_create(&t[0], NULL, waits, NULL);
+    pthread_create(&t[2], NULL, works, &work_done[0]);
+    pthread_sigmask(SIG_UNBLOCK, &set, NULL);
+    pthread_create(&t[1], NULL, works, &work_done[1]);
+    usleep(2000);
+    pthread_sigmask(SIG_BLOCK, &set, NULL);
+    kill(getpid(), SIGALRM);
+    for (int k = 0; k < 3; k++) pthread_join(t[k], NULL);
+    puts("done");
+    return 0;
+}

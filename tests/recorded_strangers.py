@@ -1,0 +1,179 @@
+"""Judges record/ on programs of the kinds that people bring: of each the races that its lines say are found, and no
+other, and the recorded program prints what the plain one prints, and ends as it does.
+
+What no other judge sees: an order that the recorder does not know, so that a race is shown which no run can have; an
+access in code that has no hooks; a program that hangs, is refused or ends otherwise only where it is recorded.
+
+A line that says `RACE` races with the other lines that say so; a word after it tells several races of a program apart.
+"""
+
+import json
+import os
+import re
+import subprocess
+
+from judging import Wrong
+from recorded_places import PATIENCE, RECORD, SOURCES
+
+FOLDER = os.path.join(SOURCES, "strangers")
+SEEDS = (1, 2)
+# What a program of this kind is compiled by, what it is called with, and what it reads.
+STATIC = ["-std=c++17", "-static-libstdc++", "-static-libgcc"]
+COMPILED = {"statics.cpp": STATIC, "cxx20.cpp": ["-std=c++20", "-latomic"], "wide_atomic.cpp": ["-std=c++17", "-latomic"]}
+CALLED = {"exits.c": ("exit", "quick", "under", "abort", "crash", "kill")}
+INPUT = {"input.c": b"a line\n" * 30}
+# How many seconds a recorded run may take; most take a part of one.
+LONGEST = 60
+
+
+def labels_of(paths):
+    """The places of each race that the lines of sources say."""
+    found = {}
+    for path in paths:
+        with open(path, encoding="utf-8") as text:
+            for number, line in enumerate(text, start=1):
+                said = re.search(r"/[/*] RACE ?(\w*)", line)
+                if said:
+                    found.setdefault(said[1], set()).add(f"{os.path.basename(path)}:{number}")
+    return found
+
+
+def ran(words, **more):
+    """How a command ended, and what it wrote."""
+    try:
+        done = subprocess.run(words, capture_output=True, timeout=PATIENCE, check=False, **more)
+    except subprocess.TimeoutExpired:
+        raise Wrong(f"{' '.join(words)}: does not end") from None
+    return done.returncode, done.stdout.decode(errors="replace"), done.stderr.decode(errors="replace")
+
+
+def compiled(name, compiler, to, environment=None):
+    """Compiles a program, and what it opens if there is something."""
+    words = COMPILED.get(name, ["-std=c++17"] if name.endswith(".cpp") else [])
+    source = os.path.join(FOLDER, name)
+    status, _, told = ran([compiler, "-O1", "-w", "-g", "-pthread", source, "-o", to, *words], env=environment)
+    if status:
+        raise Wrong(f"{name} is not compiled: {told[-600:]}")
+
+
+def compiled_both(name, c, cxx):
+    """Compiles a program to `plain` and to `program`."""
+    plain, hooked = (cxx, "c++") if name.endswith(".cpp") else (c, "cc")
+    compiled(name, plain, "plain")
+    compiled(name, os.path.join(RECORD, hooked), "program", dict(os.environ, RECORD_CC=c, RECORD_CXX=cxx))
+
+
+def judge_run(name, words, seed):
+    """The recorded program ends as the plain one, and writes the same words in any order; the trace is written."""
+    source = INPUT.get(name, b"")
+    plain, *written = ran(["./plain", *words], input=source)
+    recording = [os.path.join(RECORD, "run"), "--seed", str(seed), "--status", "./program", *words]
+    status, trace, told = ran(["timeout", str(LONGEST), *recording], input=source)
+    wanted = plain if plain >= 0 else 128 - plain
+    if status != wanted and (wanted or trace):
+        raise Wrong(f"seed {seed}: ends with {status}, and not with {wanted}: {told[-600:]}")
+    own = "".join(line for line in told.splitlines(True) if not line.startswith("record"))
+    if sorted(own.split()) != sorted("".join(written).split()):
+        raise Wrong(f"seed {seed}: prints {own!r}, and not {''.join(written)!r}")
+    if "left out" in told:
+        raise Wrong(f"seed {seed}: something is left out: {told[-600:]}")
+    with open("trace.std", "w", encoding="utf-8") as text:
+        text.write(trace)
+
+
+def races(racebench):
+    """The pairs of places of the races of a trace, with their lines."""
+    status, printed, told = ran([racebench, "triage", "trace.std", "--json"])
+    if status:
+        raise Wrong(f"the trace is refused: {told[-300:]}")
+    for line in printed.splitlines():
+        pair = json.loads(line)
+        if pair["kind"] == "race":
+            yield {access["location"].split(" < ")[0] for access in pair["accesses"]}, pair["accesses"]
+
+
+def judge_stranger(racebench, name, c, cxx, seeds=SEEDS):
+    wanted = labels_of([os.path.join(FOLDER, name)])
+    compiled_both(name, c, cxx)
+    for words in CALLED.get(name, ("",)):
+        met = set()
+        for seed in seeds:
+            judge_run(name, words.split(), seed)
+            for places, accesses in races(racebench) if os.path.getsize("trace.std") else ():
+                said = [label for label, lines in wanted.items() if places <= lines]
+                if not said:
+                    raise Wrong(f"seed {seed}: a race that is none: {accesses}")
+                met.update(said)
+        if set(wanted) - met:
+            raise Wrong(f"{words} no race at the lines that say RACE {sorted(set(wanted) - met)}")
+
+
+def judge_calls(c):
+    """Calls that were left by longjmp are over: those of later accesses are right."""
+    compiled("jumps.c", os.path.join(RECORD, "cc"), "program", dict(os.environ, RECORD_CC=c))
+    _, trace, _ = ran([os.path.join(RECORD, "run"), "./program"])
+    calls = {line.split("|", 2)[2] for line in trace.splitlines() if "(racy)" in line}
+    if len(calls) != 1 or not re.fullmatch(r"jumps\.c:\d+ < touch < work jumps\.c:\d+", *calls):
+        raise Wrong(f"the calls behind a longjmp are {sorted(calls)}")
+
+
+def judge_late(c):
+    """A library that a thread opens late has its lines, also if the program does not end by itself."""
+    environment, folder = dict(os.environ, RECORD_CC=c), os.path.join(SOURCES, "late")
+    library = ["-fPIC", "-shared", os.path.join(folder, "plugin.c"), "-Wl,--no-undefined,-z,defs", "-oplugin.so"]
+    for words in (library, [os.path.join(folder, "main.c"), "-oprogram"]):
+        status, _, told = ran([os.path.join(RECORD, "cc"), "-O1", *words], env=environment)
+        if status:
+            raise Wrong(f"{words[-1]} is not linked: {told[-600:]}")
+    status, trace, told = ran([os.path.join(RECORD, "run"), "--status", "./program", "crash"])
+    places = {line.split("|", 2)[2] for line in trace.splitlines() if "plugged)" in line}
+    if status != 134 or not places or not all(place.startswith("plugin.c:4 < touch") for place in places):
+        raise Wrong(f"status {status}, and the places in a library that is opened late are {sorted(places)}: {told}")
+
+
+def judge_header(c):
+    """A header that is compiled to be read faster is no program, and a program that reads it is recorded."""
+    environment = dict(os.environ, RECORD_CC=c)
+    with open("all.h", "w", encoding="ascii") as header, open("source.c", "w", encoding="ascii") as source:
+        header.write("#include <pthread.h>\n")
+        source.write('#include "all.h"\n' + LONG.replace("50000", "5"))
+    for words in (["all.h"], ["-xc-header", "all.h", "-oother.gch"], ["source.c", "-oprogram"]):
+        status, _, told = ran([os.path.join(RECORD, "cc"), *words], env=environment)
+        if status:
+            raise Wrong(f"{words}: {told[-600:]}")
+    if not (os.path.exists("all.h.gch") and os.path.exists("other.gch") and os.path.exists("program")):
+        raise Wrong(f"what is compiled is not there: {os.listdir()}")
+
+
+def judge_few_files(c):
+    """A low limit of open files does not end the recording."""
+    compiled("mutex_kinds.c", os.path.join(RECORD, "cc"), "program", dict(os.environ, RECORD_CC=c))
+    words = ["sh", "-c", 'ulimit -n 64 && exec "$@"', "sh", os.path.join(RECORD, "run"), "--room", "200000", "./program"]
+    _, trace, told = ran(words)
+    with open("source.c", "w", encoding="ascii") as source:
+        source.write(LONG)
+    status, _, said = ran([os.path.join(RECORD, "cc"), "source.c", "-o", "program"], env=dict(os.environ, RECORD_CC=c))
+    _, _, long_told = ran(words)
+    if status or not trace or "left out" in told or "left out" in long_told:
+        raise Wrong(f"with few files: {said}{told}{long_told}")
+
+
+# More records than the first piece of the file has.
+LONG = """#include <pthread.h>
+static volatile int x;
+static void *work(void *p) { for (int k = 0; k < 50000; k++) x++; return p; }
+int main(void) {
+    pthread_t t;
+    pthread_create(&t, 0, work, 0);
+    return pthread_join(t, 0);
+}
+"""
+
+
+def cases(racebench, c, cxx):
+    names = sorted(name for name in os.listdir(FOLDER) if name.endswith((".c", ".cpp")))
+    names = [name for name in names if cxx or name.endswith(".c")]
+    found = [(f"calls behind a jump, {c}", judge_calls), (f"a library that is opened late, {c}", judge_late)]
+    found += [(f"few open files, {c}", judge_few_files), (f"a header for later, {c}", judge_header)]
+    strangers = [(f"strangers/{name}, {c}", judge_stranger, (racebench, name, c, cxx)) for name in names]
+    return strangers + [(name, judge, (c,)) for name, judge in found]
