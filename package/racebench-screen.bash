@@ -9,7 +9,7 @@ _racebench_screen() {
         --program) COMPREPLY=($(compgen -c -- "$word")) && return ;;
     esac
     if [[ $word == -* ]]; then
-        COMPREPLY=($(compgen -W "--client --port --source --program --help -h" -- "$word"))
+        COMPREPLY=($(compgen -W "--client --port --source --known --triage --program --help -h" -- "$word"))
     fi
 }
 complete -o default -F _racebench_screen racebench-screen

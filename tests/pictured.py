@@ -1,7 +1,8 @@
 """Judges the picture of a schedule that `witness --svg` prints, by tests/plain.py and explained.py.
 
-The file has to be well formed, with no tag, no attribute and no address but those of a drawing. It is then read as a reader sees it: which lines of text lie in
-which box, in which order the boxes stand, whether each line fits into its box, and where the arrows lead.
+The file has to be well formed, with no tag, no attribute and no address but those of a drawing. It is then read as a
+reader sees it: which lines of text lie in which box, in which order the boxes stand, whether each line fits into its
+box, and where the arrows lead.
 """
 
 import collections
@@ -96,7 +97,11 @@ def judge_waiter(trace, listed, last, line):
     """Judges the line that tells which event waits for the last one of a run."""
     words, _, number = line.rpartition(" ")
     waiter = int(number)
-    if words not in WAITS or waiter not in listed[listed.index(last) :] or not WAITS[words](trace, listed, last, waiter):
+    if (
+        words not in WAITS
+        or waiter not in listed[listed.index(last) :]
+        or not WAITS[words](trace, listed, last, waiter)
+    ):
         raise Wrong(f"of {last} that is not so: {line!r}")
     return waiter
 
@@ -124,7 +129,8 @@ def waiters_of(trace, listed):
 
 
 def drawn_of(trace, listed, runs):
-    """The numbers, from 0, of the runs that are drawn one by one: all of a few; else the last, and the last of those for which one of these waited."""
+    """The numbers, from 0, of the runs that are drawn one by one: all of a few; else the last, and the last of those
+    for which one of these waited."""
     if len(runs) <= MOST_RUNS:
         return list(range(len(runs)))
     waiters = waiters_of(trace, listed)
@@ -136,7 +142,11 @@ def drawn_of(trace, listed, runs):
 
 def judge_run(trace, listed, number, run, lines):
     """Judges the lines of a run's box. Which event waits for it, if that is told."""
-    wanted = [cut(f"run {number}, {count(len(run), 'event')} of {trace.thread(run[0])}"), *[label(trace, run[0])] * (len(run) > 1), label(trace, run[-1])]
+    wanted = [
+        cut(f"run {number}, {count(len(run), 'event')} of {trace.thread(run[0])}"),
+        *[label(trace, run[0])] * (len(run) > 1),
+        label(trace, run[-1]),
+    ]
     if lines[: len(wanted)] != wanted or len(lines) > len(wanted) + 1:
         raise Wrong(f"the box of run {number} has {lines}, and plainly {wanted}")
     return judge_waiter(trace, listed, run[-1], lines[-1]) if len(lines) > len(wanted) else None
@@ -153,7 +163,8 @@ def judge_earlier(trace, picture, boxes, runs):
 
 
 def judge_places(trace, picture, boxes, runs, pair):
-    """Judges that the boxes stand in columns, those of the pair first, downwards, and within the picture, which is not too wide."""
+    """Judges that the boxes stand in columns, those of the pair first, downwards, and within the picture, which is not
+    too wide."""
     columns = {}
     for box, run in zip(boxes, runs):
         if columns.setdefault(trace.thread(run[0]), box.left) != box.left:
@@ -166,7 +177,9 @@ def judge_places(trace, picture, boxes, runs, pair):
     step = COLUMN
     if any(columns[thread] != lefts[0] + wide[thread] * step for thread in columns):
         raise Wrong(f"the columns are {columns}, and plainly {wide}")
-    names = sorted((int(line.get("x")), line.text or "") for line in picture.all("text", "name") if int(line.get("y")) == NAMES)
+    names = sorted(
+        (int(line.get("x")), line.text or "") for line in picture.all("text", "name") if int(line.get("y")) == NAMES
+    )
     heads = [(lefts[0] + wide[thread] * step, cut(thread)) for thread in threads if not is_shared or thread in own]
     if names != sorted(heads + [(lefts[0] + 2 * step, "other threads")] * is_shared):
         raise Wrong(f"over the columns stand {names}")
@@ -185,7 +198,9 @@ def judge_arrows(trace, picture, boxes, runs, waiters):
     wanted = []
     for box, waiter in zip(boxes, waiters):
         if waiter is not None:
-            wanted += [(box.left, box.bottom, other.left, other.top) for other, run in zip(boxes, runs) if waiter in run]
+            wanted += [
+                (box.left, box.bottom, other.left, other.top) for other, run in zip(boxes, runs) if waiter in run
+            ]
     found = []
     for path in picture.all("path", "arrow"):
         start, _, ends = path.get("d")[1:].partition("C")
@@ -205,7 +220,14 @@ def judge_accesses(trace, picture, pair):
     for event in pair:
         locks = trace.locks_before(event)
         more = [f"and {count(len(locks) - MOST_LOCKS, 'lock')} more"] * (len(locks) > MOST_LOCKS)
-        wanted.append([cut(trace.thread(event)), label(trace, event), *[cut(f"holds {lock}") for lock in locks[:MOST_LOCKS]], *more])
+        wanted.append(
+            [
+                cut(trace.thread(event)),
+                label(trace, event),
+                *[cut(f"holds {lock}") for lock in locks[:MOST_LOCKS]],
+                *more,
+            ]
+        )
     if found != wanted:
         raise Wrong(f"the boxes of the accesses have {found}, and plainly {wanted}")
     above = max((box.bottom for box in picture.boxes["box"]), default=0)
@@ -232,7 +254,10 @@ def judge_picture(trace, tally, text, pair, listed):
         raise Wrong(f"{len(boxes)} boxes are drawn of {len(runs)} runs")
     judge_earlier(trace, picture, boxes[:split], earlier)
     boxes = boxes[split:]
-    waiters = [judge_run(trace, listed, number + 1, run, picture.lines_in(box)) for number, box, run in zip(numbers, boxes, drawn)]
+    waiters = [
+        judge_run(trace, listed, number + 1, run, picture.lines_in(box))
+        for number, box, run in zip(numbers, boxes, drawn)
+    ]
     tally["pictures with a shared column"] += judge_places(trace, picture, boxes, drawn, pair)
     judge_arrows(trace, picture, boxes, drawn, waiters)
     judge_accesses(trace, picture, pair)

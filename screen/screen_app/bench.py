@@ -2,6 +2,7 @@
 
 from __future__ import annotations
 
+import re
 from array import array
 from typing import Any
 
@@ -14,6 +15,8 @@ from .trace import Trace
 
 # So many sheets are kept. Each holds four bytes for each event of the trace, and more for each of its own.
 SHEETS = 8
+# The answer to a call that was accepted begins with its entry.
+ACCEPTED = re.compile(r"(\d+): ")
 
 
 class Bench:
@@ -25,6 +28,7 @@ class Bench:
         self.layouts: dict[Sheet, tuple[int, Layout]] = {}
         self.witnesses: dict[tuple[int, int], array[int]] = {}
         self.needs: dict[tuple[int, ...], dict[int, int]] = {}  # of an aim, as its witness has them
+        self.decided: list[str] = []  # words of `triage` that leave out races
         self.questions = False  # whether the program answers lines that begin with `?`
 
     async def open(self) -> None:
@@ -35,7 +39,14 @@ class Bench:
     async def say(self, *lines: str) -> list[str]:
         answers = await self.session.ask(*lines)
         self.mirror.sync()
+        self._look_for(answers)
         return answers
+
+    def _look_for(self, answers: list[str]) -> None:
+        """What the program answered is in its log by then. If it is not in this file, another one has its name."""
+        accepted = [int(found[1]) for found in map(ACCEPTED.match, answers) if found]
+        if accepted and accepted[-1] >= len(self.mirror.entries):
+            self.mirror.fault = self.mirror.fault or "the log is not the file that the program writes"
 
     async def say_one(self, line: str) -> str:
         return (await self.say(line))[0]

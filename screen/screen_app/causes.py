@@ -20,7 +20,9 @@ class Causes:
         """What the program said of this event, as `25 lock held by T2`, for the browser."""
         code = said.split(" ", 1)[0]
         about = {
-            NOT_FORKED: self._not_forked, WRONG_WRITER: self._wrong_writer, LOCK_HELD: self._lock_held,
+            NOT_FORKED: self._not_forked,
+            WRONG_WRITER: self._wrong_writer,
+            LOCK_HELD: self._lock_held,
             JOIN_EARLY: self._join_early,
         }.get(code)
         answer: Told = {"said": clean(said), "code": code, **(about(event, said) if about else {})}

@@ -5,6 +5,7 @@ from __future__ import annotations
 import argparse
 import asyncio
 import errno
+import faulthandler
 import os
 import shutil
 import signal
@@ -22,38 +23,71 @@ if TYPE_CHECKING:
     from .server import Server
 
 CLIENTS, PORTS = 32, 65_535
+# So long it may take to end, in seconds.
+ENDING = 30
 
 
 def number_to(least: int, most: int) -> Callable[[str], int]:
     """Reads a number from one to another; else a line says which."""
+
     def read(text: str) -> int:
         if not (text.isascii() and text.isdigit() and len(text) < 10 and least <= int(text) <= most):
             raise argparse.ArgumentTypeError(f"{text!r} is no number from {least} to {most}")
         return int(text)
+
     return read
 
 
 def words() -> argparse.Namespace:
     parser = argparse.ArgumentParser(
         prog=os.path.basename(sys.argv[0]),
-        description="Shows a trace, its races and the schedules of a log in a browser.")
+        description="Shows a trace, its races and the schedules of a log in a browser.",
+    )
     parser.add_argument("trace", metavar="TRACE")
     parser.add_argument("log", metavar="LOG")
-    parser.add_argument("--client", type=number_to(1, CLIENTS), default=1, metavar="N",
-                        help="who you are, 1 to 32 (default: 1)")
-    parser.add_argument("--port", type=number_to(0, PORTS), default=0, metavar="P",
-                        help="port on 127.0.0.1 (default: any free port)")
+    parser.add_argument(
+        "--client", type=number_to(1, CLIENTS), default=1, metavar="N", help="who you are, 1 to 32 (default: 1)"
+    )
+    parser.add_argument(
+        "--port", type=number_to(0, PORTS), default=0, metavar="P", help="port on 127.0.0.1 (default: any free port)"
+    )
     parser.add_argument("--source", metavar="DIR", help="folder with the program's source files")
-    parser.add_argument("--program", metavar="FILE", default=os.environ.get("RACEBENCH") or shutil.which("racebench"),
-                        help="the program racebench (default: $RACEBENCH, or racebench on the path)")
+    parser.add_argument("--known", metavar="FILE", help="an earlier output of racebench triage: leaves out its races")
+    parser.add_argument("--triage", metavar="FILE", help="a triage file: leaves out the races that it has decided")
+    parser.add_argument(
+        "--program",
+        metavar="FILE",
+        default=os.environ.get("RACEBENCH") or shutil.which("racebench"),
+        help="the program racebench (default: $RACEBENCH, or racebench on the path)",
+    )
     given = parser.parse_args()
-    if not given.program:
-        parser.error("racebench is not on the path; name it with --program")
-    if not shutil.which(given.program):
-        parser.error(f"{given.program} is no program; name one with --program")
-    if given.source and not os.path.isdir(given.source):
-        parser.error(f"{given.source} is no folder")
+    why = wrong(given)
+    if why:
+        parser.error(why)
     return given
+
+
+def wrong(given: argparse.Namespace) -> str | None:
+    """Which word names nothing that can be used, if one does."""
+    if not given.program:
+        return "racebench is not on the path; name it with --program"
+    if not shutil.which(given.program):
+        return f"{given.program} is no program; name one with --program"
+    if given.source and not os.path.isdir(given.source):
+        return f"{given.source} is no folder"
+    for path in (given.trace, given.known, given.triage):
+        if path is not None and not (os.path.isfile(path) and os.access(path, os.R_OK)):
+            return f"{path} is no file that can be read"
+    if os.path.isdir(given.log):
+        return f"{given.log} is a folder, and no log"
+    folder = os.path.dirname(given.log) or "."
+    return None if os.path.isdir(folder) else f"{folder} is no folder for a log"
+
+
+def decided(given: argparse.Namespace) -> list[str]:
+    """Words of `triage` that leave out races."""
+    named = (("--known", given.known), ("--triage", given.triage))
+    return [word for flag, path in named if path for word in (flag, path)]
 
 
 def server_of(bench: Bench, given: argparse.Namespace) -> Server:
@@ -67,8 +101,15 @@ def server_of(bench: Bench, given: argparse.Namespace) -> Server:
 def listen_to_terminal(server: Server) -> None:
     """Control-C ends; Enter prints another link."""
     loop = asyncio.get_running_loop()
+
+    def end() -> None:
+        if not server.stopping.is_set():  # the terminal comes back, whatever has not ended by then
+            loop.call_later(ENDING / 2, tell_tasks)
+            faulthandler.dump_traceback_later(ENDING, exit=True)
+        server.stopping.set()
+
     for number in (signal.SIGINT, signal.SIGTERM, signal.SIGHUP):
-        loop.add_signal_handler(number, server.stopping.set)
+        loop.add_signal_handler(number, end)
 
     def another() -> None:
         if sys.stdin.readline():
@@ -78,6 +119,12 @@ def listen_to_terminal(server: Server) -> None:
 
     if sys.stdin and sys.stdin.isatty():
         loop.add_reader(sys.stdin, another)
+
+
+def tell_tasks() -> None:
+    """Tells what has not ended yet: the threads alone do not say what is waited for."""
+    for task in asyncio.all_tasks():
+        task.print_stack(file=sys.stderr)
 
 
 def tell_faults(loop: asyncio.AbstractEventLoop, context: dict[str, Any]) -> None:
@@ -90,6 +137,7 @@ async def run(given: argparse.Namespace, readers: Readers) -> None:
     asyncio.get_running_loop().set_exception_handler(tell_faults)
     trace = Trace(given.trace)
     bench = Bench(given.program, trace, given.log, given.client)
+    bench.decided = decided(given)
     server = server_of(bench, given)
     reading = asyncio.ensure_future(server.read_trace(readers))  # meanwhile the program reads it too
     try:
@@ -102,19 +150,40 @@ async def run(given: argparse.Namespace, readers: Readers) -> None:
         sys.exit(str(why))
     finally:
         if not server.guard.port:  # what the program refuses need not be readable
-            reading.add_done_callback(lambda task: task.cancelled() or task.exception())
-            reading.cancel()
-            readers.stop()
+            leave(reading, readers)
+            await bench.session.stop()
     listen_to_terminal(server)
     print(server.guard.link(), flush=True)
     enter = "Enter prints another; " if sys.stdin and sys.stdin.isatty() else ""
     print(f"The link opens once. {enter}control-C ends.", file=sys.stderr, flush=True)
-    await reading
-    await server.follow()
-    await server.stopping.wait()
+    await serve(server, reading, readers)
+
+
+def leave(reading: asyncio.Task[None], readers: Readers) -> None:
+    reading.add_done_callback(lambda task: task.cancelled() or task.exception())
+    reading.cancel()
+    readers.stop()
+
+
+async def serve(server: Server, reading: asyncio.Task[None], readers: Readers) -> None:
+    """Until the terminal says that it ends, which may be while a long trace is read."""
+    ending = asyncio.ensure_future(server.stopping.wait())
+    await asyncio.wait([reading, ending], return_when=asyncio.FIRST_COMPLETED)
+    if reading.done():
+        try:
+            await reading
+        except OSError as why:  # the program could read it, and the screen cannot
+            sys.exit(f"screen: {why}")
+        await server.follow()
+        await ending
+    else:
+        leave(reading, readers)
     await server.stop()
 
 
 def main() -> None:
     given = words()
-    asyncio.run(run(given, Readers(given.trace)))
+    try:
+        asyncio.run(run(given, Readers(given.trace)))
+    except KeyboardInterrupt:  # before the link is printed; from then on control-C is a signal that `run` takes
+        sys.exit(130)

@@ -71,8 +71,11 @@ def told(entry: Entry, trace: Trace) -> Told:
     """An entry for the browser."""
     text = entry.text
     answer = {
-        "i": entry.number, "c": entry.client, "k": entry.kind,
-        "w": text if len(text) <= LONG else text[:LONG] + " …", **told_kind(entry, trace),
+        "i": entry.number,
+        "c": entry.client,
+        "k": entry.kind,
+        "w": text if len(text) <= LONG else text[:LONG] + " …",
+        **told_kind(entry, trace),
     }
     if entry.undone is not None:
         answer["u"] = entry.undone

@@ -41,11 +41,21 @@ async def frontier(bench: Bench, name: str, aim: tuple[int, ...]) -> Told:
     events, pairs = asked
     causes, needs = Causes(sheet), needed(bench, aim)
     own = {bench.trace.thread[event] for event in aim}
-    told = [{**thread_told(bench, sheet, one.event, needs, own),
-             **({"why": causes.told(one.event, one.cause)} if one.cause else {})} for one in events]
+    told = [
+        {
+            **thread_told(bench, sheet, one.event, needs, own),
+            **({"why": causes.told(one.event, one.cause)} if one.cause else {}),
+        }
+        for one in events
+    ]
     return {
-        "name": name, "version": version, "length": len(sheet), "next": told, "pairs": pairs,
-        "ended": len(bench.trace.threads.raw) - len(told), "witnessed": aim in bench.witnesses,
+        "name": name,
+        "version": version,
+        "length": len(sheet),
+        "next": told,
+        "pairs": pairs,
+        "ended": len(bench.trace.threads.raw) - len(told),
+        "witnessed": aim in bench.witnesses,
     }
 
 
@@ -129,6 +139,8 @@ def ahead(bench: Bench, name: str, thread: int, first: int, count: int) -> Told:
     events = trace.events_of[thread]
     start = sheet.counts[thread] + first
     return {
-        "thread": thread, "left": len(events) - sheet.counts[thread], "from": first,
+        "thread": thread,
+        "left": len(events) - sheet.counts[thread],
+        "from": first,
         "events": [trace.told(event) for event in events[start : start + min(count, AHEAD)]],
     }

@@ -11,6 +11,8 @@ from .text import Told, clean
 # A file of names is read up to so many bytes, and a name up to so many characters.
 BYTES, LONGEST = 16_384, 40
 CLIENTS = 32
+# The number of a client is read up to so many digits; Python reads no number of thousands.
+DIGITS = 9
 # A file of endings is read up to so many bytes.
 MOST = 16 << 20
 MATTERS: dict[object, str] = {True: "the order matters", False: "the order makes no difference"}
@@ -48,9 +50,10 @@ class Seen:
     def write(self, digest: str, number: int) -> None:
         try:
             os.makedirs(os.path.dirname(self.path), mode=0o700, exist_ok=True)
-            with open(self.path + ".new", "w", encoding="ascii") as file:
+            own = f"{self.path}.{os.getpid()}.new"  # another screen of this analyst may write too
+            with open(own, "w", encoding="ascii") as file:
                 file.write(f"{digest} {number}\n")
-            os.replace(self.path + ".new", self.path)
+            os.replace(own, self.path)
         except OSError:
             pass  # then the next start calls more news than there are
 
@@ -61,20 +64,25 @@ class Names:
     def __init__(self, log: str) -> None:
         self.path = log + ".names"
         self.names: dict[int, str] = {}
-        self.stamp: tuple[int, int] | None = None
+        self.stamp: tuple[int, int, int] | None = None
+        self.is_fresh = False
 
     def changed(self) -> bool:
-        """Whether the file is another than was read; if so it is read."""
+        """Whether there are other names than were read before.
+
+        A file that was just written may still be at work, and its time may not tell of more. So it is read once more.
+        """
         try:
             found = os.stat(self.path)
-            stamp = (found.st_mtime_ns, found.st_size)
+            stamp = (found.st_mtime_ns, found.st_size, found.st_ino)
         except OSError:
             stamp = None
-        if stamp == self.stamp:
+        was_fresh, self.is_fresh = self.is_fresh, stamp != self.stamp
+        if not (was_fresh or self.is_fresh):
             return False
         self.stamp = stamp
-        self.names = self._read() if stamp else {}
-        return True
+        before, self.names = self.names, self._read() if stamp else {}
+        return self.names != before
 
     def _read(self) -> dict[int, str]:
         try:
@@ -83,8 +91,9 @@ class Names:
             return {}
         pairs = [line.split(None, 1) for line in lines]
         return {
-            int(pair[0]): clean(pair[1].strip())[:LONGEST] for pair in pairs
-            if len(pair) == 2 and pair[0].isdigit() and 1 <= int(pair[0]) <= CLIENTS
+            int(pair[0]): clean(pair[1].strip())[:LONGEST]
+            for pair in pairs
+            if len(pair) == 2 and pair[0].isdigit() and len(pair[0]) <= DIGITS and 1 <= int(pair[0]) <= CLIENTS
         }
 
 
@@ -111,7 +120,7 @@ def ending(line: bytes) -> tuple[tuple[int, int], Told] | None:
         word = readable(told["ended"])
         text = "\n".join(map(clean, [readable(told.get("text", word)), *outcome(told)]))
         return (first, second), {"word": clean(word), "text": text, "places": places}
-    except (ValueError, KeyError, TypeError, AttributeError):
+    except (ValueError, KeyError, TypeError, AttributeError, OverflowError, RecursionError):
         return None
 
 
@@ -126,6 +135,9 @@ def outcome(told: Told) -> list[str]:
     if "first" in told and "second" in told:
         one, other = told["events"]
         why = f": {readable(told['why'])}" if told.get("why") else ""
-        lines += [f"{one} first: {readable(told['first'])}", f"{other} first: {readable(told['second'])}",
-                  MATTERS.get(told.get("matters"), "it is not known whether the order matters") + why]
+        lines += [
+            f"{one} first: {readable(told['first'])}",
+            f"{other} first: {readable(told['second'])}",
+            MATTERS.get(told.get("matters"), "it is not known whether the order matters") + why,
+        ]
     return lines + [f"a run by itself may not: {readable(liberty)}" for liberty in told.get("liberties", [])]

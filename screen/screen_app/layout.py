@@ -163,9 +163,12 @@ class Layout:
         events = sheet.events[part.start : part.start + part.length]
         words = Counter(map(trace.word.__getitem__, events))
         return {
-            "b": part.length, "p": part.start, "t": trace.thread[events[0]],
+            "b": part.length,
+            "p": part.start,
+            "t": trace.thread[events[0]],
             "w": [words[kind] for kind in range(len(OPERATIONS))],
-            "first": trace.told(events[0]), "last": trace.told(events[-1]),
+            "first": trace.told(events[0]),
+            "last": trace.told(events[-1]),
         }
 
     def _locks(self, told: list[Told], first: int, last: int) -> list[Told]:
@@ -174,10 +177,14 @@ class Layout:
         low, high = told[0]["p"], told[-1]["p"] + told[-1].get("b", 1) - 1
         return [
             {
-                "t": section.thread, "n": sheet.trace.locks.text(section.lock), "lock": section.lock,
+                "t": section.thread,
+                "n": sheet.trace.locks.text(section.lock),
+                "lock": section.lock,
                 "from": self.row_of(section.begin) if section.begin >= low else first - 1,
                 "to": self.row_of(section.end) if section.end is not None and section.end <= high else last,
-                "open": section.end is None, "above": section.begin < low, "e": sheet.events[section.begin],
+                "open": section.end is None,
+                "above": section.begin < low,
+                "e": sheet.events[section.begin],
             }
             for section in sheet.sections.meeting(low, high)
         ]

@@ -16,6 +16,10 @@ from .trace import Trace
 
 # The first line, which names the trace by a digest; behind it a byte is the gate of the next entry.
 HEAD = 81
+# So many bytes before the known end are looked at again: they tell the file from another one.
+TAIL = 80
+# So many of the latest proposals are told at once.
+PROPOSALS = 6
 
 
 class Row:
@@ -39,6 +43,7 @@ class Mirror:
         self.pops: dict[str, tuple[object, ...]] = {}  # the step that takes back an event of a schedule, made once
         self.version = 0
         self.digest = ""  # of the trace, as the log's first line has it
+        self.tail = b""  # what stands before the known end
         self.fault: str | None = None  # why the file is followed no longer
 
     def grew(self) -> bool:
@@ -56,15 +61,16 @@ class Mirror:
         try:
             with open(self.path, "rb") as file:
                 self.digest = self.digest or file.read(HEAD).decode("ascii", "replace").strip()[-64:]
-                file.seek(self.offset)
+                file.seek(self.offset - len(self.tail))
                 text = file.read()
         except OSError as why:
             self.fault = f"the log cannot be read: {why.strerror}"
             return 0
-        if not text:
+        if len(text) <= len(self.tail):
             self.fault = "the log is shorter than it was"
-            return 0
-        return self._take_all(text)
+        elif not text.startswith(self.tail):
+            self.fault = "the log is not the one that was read before"
+        return 0 if self.fault else self._take_all(text[len(self.tail) :])
 
     def _take_all(self, text: bytes) -> int:
         """Takes the lines whose gate is open; the text begins at a gate."""
@@ -75,11 +81,12 @@ class Mirror:
                 break
             try:
                 self._take(text[at + 1 : end].decode("ascii").split())
-            except (ValueError, KeyError, IndexError, TypeError):
+            except (ValueError, KeyError, IndexError, TypeError, OverflowError):
                 self.fault = f"entry {len(self.entries)} of the log is no call that the program accepts"
                 break
             at, new = end + 1, new + 1
         self.offset += at
+        self.tail = (self.tail + text[:at])[-TAIL:]
         return new
 
     def _take(self, words: list[str]) -> None:
@@ -123,6 +130,8 @@ class Mirror:
     def _change(self, entry: Entry, word: str, name: str, number: int = 0) -> tuple[object, ...]:
         row = self.rows[name]
         if word == "add":
+            if number >= len(self.trace):
+                raise ValueError(number)
             row.events.append(number)
             row.since.append(entry.number)
             return self.pops.setdefault(name, ("pop", name))
@@ -166,7 +175,11 @@ class Mirror:
         if row is None:
             return None
         return {
-            "name": name, "owner": row.owner, "length": len(row.events), "birth": row.birth, "by": row.by,
+            "name": name,
+            "owner": row.owner,
+            "length": len(row.events),
+            "birth": row.birth,
+            "by": row.by,
             "touched": row.touched,
         }
 
@@ -176,6 +189,9 @@ class Mirror:
     def take_changes(self) -> dict[str, Told | None]:
         names, self.changed = list(self.changed), {}
         return {name: self.told_row(name) for name in names}
+
+    def told_proposals(self) -> list[Told]:
+        return [told for number in self.proposed[-PROPOSALS:] for told in self.told(number, 1)]
 
     def told(self, first: int, count: int) -> list[Told]:
         return [entries.told(entry, self.trace) for entry in self.entries[first : first + count]]

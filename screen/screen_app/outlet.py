@@ -9,8 +9,8 @@ from aiohttp import web
 
 from .text import Told
 
-# How long a browser has to take a message, and how many may wait for that.
-SLOW, MOST = 10, 1_000
+# How long a browser has to take a message, in seconds, and how many may wait for that.
+SLOW, MOST = 60, 1_000
 
 
 class Outlet:
@@ -28,17 +28,18 @@ class Outlet:
         try:
             self.queue.put_nowait(json.dumps(told, separators=(",", ":")))
         except asyncio.QueueFull:
-            self._let_go()
+            self.let_go()
 
     async def _write(self) -> None:
         try:
             while True:
                 text = await self.queue.get()
-                await asyncio.wait_for(self.socket.send_str(text), SLOW)
-        except (ConnectionResetError, RuntimeError, asyncio.TimeoutError):
-            self._let_go()
+                async with asyncio.timeout(SLOW):  # `wait_for` may swallow that this task is cancelled
+                    await self.socket.send_str(text)
+        except (OSError, RuntimeError, asyncio.TimeoutError):
+            self.let_go()
 
-    def _let_go(self) -> None:
+    def let_go(self) -> None:
         """Ends the connection. The page connects again when its browser is awake."""
         if self.transport:
             self.transport.abort()

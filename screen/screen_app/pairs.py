@@ -8,6 +8,7 @@ import sys
 from array import array
 from collections.abc import Callable
 from typing import Any
+from weakref import WeakKeyDictionary
 
 from .bench import Bench
 from .checked import Mistake
@@ -21,6 +22,9 @@ LINES = 400
 WITNESSES = 16
 # How far the look for races is, is told so often, in seconds.
 OFTEN = 0.5
+# What comes of a line that is no block of races.
+UNREAD = (ValueError, KeyError, TypeError, AttributeError, RecursionError)
+Look = asyncio.Task[tuple[int, bytes, str]]
 
 
 class Pairs:
@@ -28,8 +32,9 @@ class Pairs:
 
     def __init__(self, bench: Bench) -> None:
         self.bench = bench
-        self.latest: object = None
-        self.looking: asyncio.Task[tuple[int, bytes, str]] | None = None
+        # Who walks down the races looks at the last one alone. Each browser does so for itself.
+        self.latest: WeakKeyDictionary[object, object] = WeakKeyDictionary()
+        self.looking: WeakKeyDictionary[object, Look] = WeakKeyDictionary()
         self.looker: Session | None = None
         self.explained: dict[tuple[int, int], list[str]] = {}
         self.knows_witness = True  # until the program says that it is no question
@@ -38,13 +43,13 @@ class Pairs:
     def is_asked(self) -> bool:
         return self.bench.questions and self.knows_witness
 
-    async def witness(self, pair: tuple[int, int]) -> Told:
+    async def witness(self, pair: tuple[int, int], asker: object) -> Told:
         """The list that shows the pair, kept for views of it; what is said of the pair where there is none."""
         if pair[1] >= len(self.bench.trace):
             raise Mistake("no such event")
         told: Told = {"pair": list(pair), "told": [self.bench.trace.told(event) for event in pair]}
         if pair not in self.bench.witnesses:
-            none = await (self._ask(pair) if self.is_asked else self._run(pair))
+            none = await (self._ask(pair, asker) if self.is_asked else self._run(pair, asker))
             if none is not None:
                 return {**told, "none": clean(none)}
         return {**told, "length": len(self.bench.witnesses[pair])}
@@ -55,32 +60,32 @@ class Pairs:
             kept.pop(next(iter(kept)))
         kept[pair] = events
 
-    async def _run(self, pair: tuple[int, int]) -> str | None:
-        """Has `witness` of the program print the list. Who walks down the races looks at the last one alone."""
-        if self.looking:
-            self.looking.cancel()
+    async def _run(self, pair: tuple[int, int], asker: object) -> str | None:
+        """Has `witness` of the program print the list."""
+        if asker in self.looking:
+            self.looking[asker].cancel()
         mine = asyncio.ensure_future(output(self.bench.program, "witness", self.bench.trace.path, *map(str, pair)))
-        self.looking = mine
+        self.looking[asker] = mine
         try:
             status, out, error = await mine
         except asyncio.CancelledError:
             return "left for another"
         finally:
-            if self.looking is mine:
-                self.looking = None
+            if self.looking.get(asker) is mine:
+                del self.looking[asker]
         if status:
             return error.removeprefix("racebench: ")
         self._keep(pair, array("I", [int(line.split(b" ", 1)[0]) for line in out.splitlines() if line]))
         return None
 
-    async def _ask(self, pair: tuple[int, int]) -> str | None:
+    async def _ask(self, pair: tuple[int, int], asker: object) -> str | None:
         """Asks a second session, so that no step waits for it. It knows the trace already."""
-        self.latest = mine = object()
+        self.latest[asker] = mine = object()
         if self.looker is None:
             self.looker = Session(*self.bench.session.given)
         await self.looker.turn.acquire()
         self.looker.turn.release()
-        if self.latest is not mine:
+        if self.latest[asker] is not mine:
             return "left for another"
         try:
             (answer,) = await self.looker.ask(f"? witness {pair[0]} {pair[1]}")
@@ -88,7 +93,7 @@ class Pairs:
             answer = "line"
         if answer.startswith("line"):  # it is no question there, or too much for that session
             self.knows_witness = False
-            return await self._run(pair)
+            return await self._run(pair, asker)
         if not answer.startswith("witness "):
             return answer.removeprefix("refused ")
         self._keep(pair, array("I", list(map(int, answer.split(" ")[2:]))))
@@ -96,8 +101,7 @@ class Pairs:
 
     async def explain(self, pair: tuple[int, int]) -> Told:
         if pair not in self.explained:
-            status, out, error = await output(
-                self.bench.program, "explain", self.bench.trace.path, *map(str, pair))
+            status, out, error = await output(self.bench.program, "explain", self.bench.trace.path, *map(str, pair))
             lines = (error.encode() if status else out).split(b"\n")
             more = len(lines) - LINES
             rest = [f"and {more} lines more: racebench explain TRACE {pair[0]} {pair[1]}"] if more > 0 else []
@@ -105,8 +109,8 @@ class Pairs:
         return {"pair": list(pair), "lines": self.explained[pair]}
 
     async def stop(self) -> None:
-        if self.looking:
-            self.looking.cancel()
+        for looking in self.looking.values():
+            looking.cancel()
         if self.looker:
             await self.looker.stop()
 
@@ -123,29 +127,38 @@ class Races:
     async def look(self, bench: Bench, changed: Callable[[], None]) -> None:
         """Looks for the races; says when there is something new of how far that is."""
         loop = asyncio.get_running_loop()
-        told_at = loop.time()
+        due: asyncio.TimerHandle | None = None
+
+        def tell() -> None:
+            nonlocal due
+            due = None
+            changed()
 
         def hear(progress: str) -> None:
-            nonlocal told_at
+            nonlocal due
             self.state["progress"] = progress
-            if loop.time() > told_at + OFTEN:
-                told_at = loop.time()
-                changed()
+            due = due or loop.call_later(OFTEN, tell)  # the last one is told too, though nothing comes after it
 
         confirmed = Confirmed(bench.trace.path).read()
         try:
             counts, more = await triage(
-                bench.program, bench.trace.path, hear, lambda block: self._take(block, confirmed))
+                bench.program, bench.trace.path, hear, lambda block: self._take(block, confirmed), *bench.decided
+            )
+            self.state = {"state": "found", "counts": counts, "kept": len(self.blocks), "more": more}
         except Gone as why:
             self.state = {"state": "failed", "why": clean(str(why))}
-            return
-        self.state = {"state": "found", "counts": counts, "kept": len(self.blocks), "more": more}
+        except UNREAD as why:
+            self.state = {"state": "failed", "why": clean(f"the list of races cannot be read: {why!r}")}
+        finally:
+            if due:
+                due.cancel()
 
     def _take(self, block: dict[str, Any], confirmed: dict[tuple[int, int], Told]) -> None:
         first, second = sorted(access["event"] for access in block["accesses"])
         ended = confirmed.get((first, second))
-        if ended and all(ended["places"].get(one["event"], one["location"]) == one["location"]
-                         for one in block["accesses"]):  # else that file is of another trace
+        if ended and all(
+            ended["places"].get(one["event"], one["location"]) == one["location"] for one in block["accesses"]
+        ):  # else that file is of another trace
             block["ended"] = {"word": ended["word"], "text": ended["text"]}
         for access in block["accesses"]:
             access.update({key: clean(access[key]) for key in ("thread", "variable", "location")})

@@ -6,6 +6,7 @@ import asyncio
 import marshal
 import os
 import signal
+import threading
 from typing import Any, BinaryIO
 
 from .reader import PORTION, Reader
@@ -49,8 +50,14 @@ class Helper:
 
     def __init__(self, path: str, start: int, end: int) -> None:
         self.is_done = False
+        self.ending = threading.Lock()
         self.output, into = os.pipe()
-        self.number = os.fork()
+        try:
+            self.number = os.fork()
+        except OSError:
+            os.close(self.output)
+            os.close(into)
+            raise
         if self.number == 0:
             try:
                 os.close(self.output)
@@ -66,12 +73,26 @@ class Helper:
             with open(self.output, "rb") as file:
                 return marshal.load(file)
         finally:
+            self._take()
+
+    def _take(self) -> None:
+        """Waits for its end. Its number stays its own until it is taken under the lock."""
+        os.waitid(os.P_PID, self.number, os.WEXITED | os.WNOWAIT)
+        with self.ending:
             os.waitpid(self.number, 0)
             self.is_done = True
 
     def kill(self) -> None:
-        if not self.is_done:
-            os.kill(self.number, signal.SIGKILL)
+        """Ends this process, or none: after its end another one may have its number."""
+        with self.ending:
+            if not self.is_done:
+                os.kill(self.number, signal.SIGKILL)
+
+    def drop(self) -> None:
+        """Ends it if nobody takes its answer."""
+        self.kill()
+        os.close(self.output)
+        self._take()
 
 
 class Readers:
@@ -82,9 +103,15 @@ class Readers:
         number = min(MOST, (os.cpu_count() or 1) - 1)
         try:
             if number > 1 and os.path.isfile(path) and os.path.getsize(path) >= LONG:
-                self.helpers = [Helper(path, *section) for section in sections(path, number)]
+                self._begin(path, number)
         except OSError:
-            self.stop()
+            for helper in self.helpers:
+                helper.drop()
+            self.helpers = []
+
+    def _begin(self, path: str, number: int) -> None:
+        for section in sections(path, number):
+            self.helpers.append(Helper(path, *section))
 
     async def parts(self) -> list[Part]:
         """The sections in their order; none where one process has to read all."""

@@ -15,8 +15,6 @@ from .text import Told
 
 # The most rows of a window, entries of the feed, races, entries taken back, and lines of news.
 ROWS, ENTRIES, BLOCKS, UNDONE, NEWS = 400, 300, 200, 4096, 40
-# So many of the latest proposals are told at first.
-PROPOSALS = 6
 # The farthest that an event is moved at once, as many commands as a batch has.
 FARTHEST = 64
 # A schedule of more rows has a map at its side.
@@ -33,12 +31,13 @@ class Requests:
         self.news = News(bench.client)
         self.is_ready, self.is_greeted = asyncio.Event(), asyncio.Event()
 
-    async def answer(self, request: Told) -> Told:
+    async def answer(self, request: Told, asker: object) -> Told:
         do: Callable[[Told], Awaitable[Told]] | None = getattr(self, f"do_{request.get('do')}", None)
         if do is None:
             raise Mistake("no such request")
         if request.get("do") != "races":
             await self.is_ready.wait()
+        request["asker"] = asker
         return await do(request)
 
     # What stands where.
@@ -48,12 +47,20 @@ class Requests:
         trace, mirror = self.bench.trace, self.bench.mirror
         first = max(0, len(mirror.entries) - 200)
         return {
-            "title": self.title, "client": self.bench.client, "events": len(trace),
+            "title": self.title,
+            "client": self.bench.client,
+            "events": len(trace),
             "threads": [[trace.threads.text(number), len(own)] for number, own in enumerate(trace.events_of)],
-            "variables": len(trace.variables.raw), "locks": len(trace.locks.raw), "n": len(mirror.entries),
-            "seen": self.seen.read(mirror.digest), "rows": mirror.told_rows(), "feed": mirror.told(first, 200),
-            "proposals": [told for number in mirror.proposed[-PROPOSALS:] for told in mirror.told(number, 1)],
-            "fault": self.fault, "source": bool(self.source.folder), "names": self.names.names,
+            "variables": len(trace.variables.raw),
+            "locks": len(trace.locks.raw),
+            "n": len(mirror.entries),
+            "seen": self.seen.read(mirror.digest),
+            "rows": mirror.told_rows(),
+            "feed": mirror.told(first, 200),
+            "proposals": mirror.told_proposals(),
+            "fault": self.fault,
+            "source": bool(self.source.folder),
+            "names": self.names.names,
         }
 
     async def do_seen(self, request: Told) -> Told:
@@ -192,7 +199,7 @@ class Requests:
         return self.races.window(str(request.get("text") or ""), kinds, first, count)
 
     async def do_witness(self, request: Told) -> Told:
-        told = await self.pairs.witness(paired(request["pair"]))
+        told = await self.pairs.witness(paired(request["pair"]), request["asker"])
         return self._with_source(told, told["told"])
 
     async def do_pair(self, request: Told) -> Told:

@@ -4,6 +4,7 @@ import asyncio
 import json
 import os
 import sys
+import traceback
 from collections.abc import Coroutine, Iterator
 from typing import Any
 
@@ -37,8 +38,11 @@ MESSAGE, SOCKETS, WAITING, PATIENCE = 1 << 16, 16, 16, 5
 WRONG, LATE = 4403, 4408
 # How long a browser has to answer that the socket ends.
 GRACE = 0.5
-# The most requests of one socket that are at work.
-AT_WORK = 64
+# How often a browser is asked whether it is there; it has half of that to answer. One that ends closes its socket, so
+# this is for one that was stopped, and a machine that is busy has time.
+PULSE = 600
+# The most requests of one socket that are at work, and the most that wait for that or are at work.
+AT_WORK, ASKED = 64, 512
 # The most entries that one push has.
 PUSHED = 300
 # What comes of a request that is no dictionary, or lacks something, or has another type.
@@ -98,7 +102,7 @@ class Server:
     async def socket(self, request: web.Request) -> web.StreamResponse:
         if len(self.outlets) >= SOCKETS or self.waiting >= WAITING:
             raise web.HTTPServiceUnavailable
-        socket = web.WebSocketResponse(max_msg_size=MESSAGE, heartbeat=30, compress=False)
+        socket = web.WebSocketResponse(max_msg_size=MESSAGE, heartbeat=PULSE, compress=False)
         self.waiting += 1
         try:
             await socket.prepare(request)
@@ -121,13 +125,16 @@ class Server:
         return None if first.type == WSMsgType.TEXT and self.guard.is_key(first.data) else WRONG
 
     async def _serve(self, socket: web.WebSocketResponse, outlet: Outlet) -> None:
+        """Reads all that comes, so that the socket's own messages are never behind requests that wait."""
         self.outlets.add(outlet)
         room = asyncio.Semaphore(AT_WORK)
         work: set[asyncio.Task[None]] = set()
         try:
             async for message in socket:
                 if message.type == WSMsgType.TEXT:
-                    await room.acquire()
+                    if len(work) >= ASKED:
+                        outlet.let_go()
+                        break
                     task = asyncio.ensure_future(self._answer(outlet, message.data, room))
                     work.add(task)
                     task.add_done_callback(work.discard)
@@ -136,22 +143,32 @@ class Server:
             outlet.stop()
 
     async def _answer(self, outlet: Outlet, text: str, room: asyncio.Semaphore) -> None:
-        number, answer = None, None
+        """Answers a request, whatever comes of it: the page waits for that."""
+        async with room:
+            number, answer = await self._outcome(text, outlet)
+        try:
+            self._tell_changes()
+        finally:
+            outlet.send({**answer, "id": number})
+
+    async def _outcome(self, text: str, outlet: Outlet) -> tuple[Any, Told]:
+        """The number of a request, and its answer."""
+        number = None
         self.used_until = asyncio.get_running_loop().time() + USED
         try:
             request = json.loads(text)
             number = request.get("id")
-            answer = await self.requests.answer(request)
+            return number, await self.requests.answer(request, outlet)
         except Gone as why:
-            answer = {"gone": clean(str(why))}
+            return number, {"gone": clean(str(why))}
         except Mistake as why:
-            answer = {"mistake": clean(str(why))}
+            return number, {"mistake": clean(str(why))}
         except BAD as why:
             print(f"screen: bad request {clean(text[:200])}: {why!r}", file=sys.stderr, flush=True)
-            answer = {"mistake": "bad request"}
-        room.release()
-        self._tell_changes()
-        outlet.send({**answer, "id": number})
+            return number, {"mistake": "bad request"}
+        except Exception as why:  # no request leads to this
+            traceback.print_exc()
+            return number, {"mistake": clean(f"the screen failed: {why!r}")}
 
     def push(self, what: str, told: Told) -> None:
         for outlet in self.outlets:
@@ -165,8 +182,10 @@ class Server:
         if total != known:
             self.told_to = total
             first = max(known, total - PUSHED)
-            entries = mirror.told(first, total - first)
-            self.push("log", {"n": total, "entries": entries, "rows": mirror.take_changes()})
+            told: Told = {"n": total, "entries": mirror.told(first, total - first), "rows": mirror.take_changes()}
+            if first > known:  # the page knows that it was not told all, and asks for what it shows of that
+                told["proposals"] = mirror.told_proposals()
+            self.push("log", told)
 
     async def watch(self) -> None:
         """Looks at the size of the log: that also sees what another machine wrote, which inotify does not."""
@@ -178,8 +197,11 @@ class Server:
             if mirror.grew():
                 mirror.sync()
                 self._tell_changes()
-        self.requests.fault = mirror.fault
-        self.push("fault", {"why": mirror.fault})
+        self._say_fault(mirror.fault)
+
+    def _say_fault(self, why: str) -> None:
+        self.requests.fault = why
+        self.push("fault", {"why": why})
 
     async def compare_traces(self) -> None:
         """Whether the screen reads the trace as the program does: the log's first line has the program's digest.
@@ -196,8 +218,7 @@ class Server:
         for digest in self.bench.trace.digests():
             await self._give_way()
         if digest != self.bench.mirror.digest:
-            self.requests.fault = "this screen reads the trace otherwise than the program"
-            self.push("fault", {"why": self.requests.fault})
+            self._say_fault("this screen reads the trace otherwise than the program")
 
     async def _give_way(self) -> None:
         """Ends a portion of work that nobody waits for: while the page asks for something, portions are seldom."""
@@ -209,7 +230,15 @@ class Server:
         self.push("races", {})
 
     def beside(self, work: Coroutine[Any, Any, None]) -> None:
-        self.tasks.append(asyncio.ensure_future(work))
+        self.tasks.append(asyncio.ensure_future(self._to_its_end(work)))
+
+    async def _to_its_end(self, work: Coroutine[Any, Any, None]) -> None:
+        """Does work that nobody waits for. If it fails, the page is told no more of it, and says so."""
+        try:
+            await work
+        except Exception as why:
+            traceback.print_exc()
+            self._say_fault(clean(f"the screen failed: {why!r}"))
 
     # Life.
 

@@ -1,8 +1,8 @@
 """The proved program, spoken to through pipes."""
 
 import asyncio
+import contextlib
 import json
-import os
 import re
 from collections import deque
 from collections.abc import AsyncIterator, Callable
@@ -15,9 +15,15 @@ MOST_BLOCKS = 200_000
 # How far the program is, as it says it; and so many of its last lines are told if it fails.
 PROGRESS = re.compile(r"events \d+|pairs of places \d+ of \d+")
 LAST_LINES = 20
+# So many bytes of what a session said last are told. How long it has to end after its input did, or after a kill, and
+# how long its pipes may be open after its output ended, in seconds.
+LAST_WORDS, ENDS, LAST = 4096, 3, 60
+# Steps come before what is looked for beside them. It is a command: no code is safe between a fork and the start.
+BEHIND = ("nice", "-n", "5")
 Hear = Callable[[str], None]
 Take = Callable[[dict[str, Any]], None]
 PIPE = asyncio.subprocess.PIPE
+Process = asyncio.subprocess.Process
 
 
 class Gone(Exception):
@@ -30,7 +36,8 @@ class Session:
     def __init__(self, program: str, trace: str, log: str, client: int) -> None:
         self.given = (program, trace, log, client)
         self.words = [program, "session", trace, log, "--client", str(client)]
-        self.process: asyncio.subprocess.Process | None = None
+        self.process: Process | None = None
+        self.dropped: list[Process] = []
         self.turn = asyncio.Lock()
 
     async def ask(self, *lines: str) -> list[str]:
@@ -38,71 +45,91 @@ class Session:
         async with self.turn:
             try:
                 return await self._exchange(lines)
-            except asyncio.CancelledError:
-                self.kill()  # its further answers would be taken for those of other lines
+            except BaseException:
+                self.drop()
                 raise
 
     async def _exchange(self, lines: tuple[str, ...]) -> list[str]:
-        process = self.process
-        if process is None or process.returncode is not None:
-            process = self.process = await asyncio.create_subprocess_exec(
-                *self.words, stdin=PIPE, stdout=PIPE, stderr=PIPE, limit=LINE_LIMIT)
+        process = await self._running()
         text = "".join(line + "\n" for line in lines).encode("ascii")
         writing = asyncio.ensure_future(write(process, text))
-        answers = []
-        for _ in lines:
-            answer = await stdout(process).readline()
-            if not answer.endswith(b"\n"):
-                writing.cancel()
-                raise Gone(await last_words(process) or "the session ended")
-            answers.append(answer[:-1].decode("utf-8", "replace"))
-        await writing
-        return answers
+        try:
+            answers = [await self._answer(process) for _ in lines]
+            await writing
+            return answers
+        finally:
+            writing.cancel()
 
-    def kill(self) -> None:
-        if self.process and self.process.returncode is None:
-            self.process.kill()
+    async def _running(self) -> Process:
+        if self.process is None or self.process.returncode is not None:
+            self.process = None
+            self.process = await started(*self.words, stdin=PIPE)
+        return self.process
+
+    async def _answer(self, process: Process) -> str:
+        answer = await stdout(process).readline()
+        if answer.endswith(b"\n"):
+            return answer[:-1].decode("utf-8", "replace")
+        raise Gone(await last_words(process) or "the session ended")
+
+    def drop(self) -> None:
+        """Ends the process: its further answers would be taken for those of other lines."""
+        process, self.process = self.process, None
+        if process and process.stdin:
+            process.stdin.close()
+        if process and process.returncode is None:
+            process.kill()
+            self.dropped.append(process)
 
     async def stop(self) -> None:
         process = self.process
         if process and process.returncode is None and process.stdin:
             process.stdin.close()
-            try:
-                await asyncio.wait_for(process.wait(), 3)
-            except asyncio.TimeoutError:
-                process.kill()
-                await process.wait()
+            with contextlib.suppress(asyncio.TimeoutError):
+                await asyncio.wait_for(process.wait(), ENDS)
+        self.drop()
+        for process in self.dropped:
+            with contextlib.suppress(asyncio.TimeoutError):
+                await asyncio.wait_for(process.wait(), ENDS)
 
 
-def stdout(process: asyncio.subprocess.Process) -> asyncio.StreamReader:
+async def started(*words: str, stdin: int = asyncio.subprocess.DEVNULL) -> Process:
+    """A process of the program. A program that cannot be started is told as one that ended."""
+    try:
+        return await asyncio.create_subprocess_exec(*words, stdin=stdin, stdout=PIPE, stderr=PIPE, limit=LINE_LIMIT)
+    except OSError as why:
+        raise Gone(f"{words[0]} cannot be started: {why.strerror}") from why
+
+
+def stdout(process: Process) -> asyncio.StreamReader:
     assert process.stdout
     return process.stdout
 
 
-async def write(process: asyncio.subprocess.Process, text: bytes) -> None:
+async def write(process: Process, text: bytes) -> None:
     assert process.stdin
     try:
         process.stdin.write(text)
         await process.stdin.drain()
-    except (BrokenPipeError, ConnectionResetError):
+    except OSError:
         pass  # what it said last is read from its standard error
 
 
-async def last_words(process: asyncio.subprocess.Process) -> str:
+async def last_words(process: Process) -> str:
+    """What it said last. It may go on, or another process have its pipe, so nobody waits for ever."""
     assert process.stderr
-    said = await process.stderr.read(4096)
-    await process.wait()
+    said = b""
+    with contextlib.suppress(asyncio.TimeoutError):
+        async with asyncio.timeout(LAST):
+            while part := await process.stderr.read(LAST_WORDS):
+                said = (said + part)[-LAST_WORDS:]
+            await process.wait()
     return said.decode("utf-8", "replace").strip()
-
-
-def work_behind() -> None:
-    """Steps come before what is looked for beside them."""
-    os.nice(5)
 
 
 async def output(*words: str) -> tuple[int, bytes, str]:
     """The status, output and error of the program at other words. A caller that is cancelled leaves no process."""
-    process = await asyncio.create_subprocess_exec(*words, stdin=asyncio.subprocess.DEVNULL, stdout=PIPE, stderr=PIPE)
+    process = await started(*words)
     try:
         out, error = await process.communicate()
     finally:
@@ -112,16 +139,18 @@ async def output(*words: str) -> tuple[int, bytes, str]:
     return process.returncode or 0, out, error.decode("utf-8", "replace").strip()
 
 
-async def triage(program: str, trace: str, hear: Hear, take: Take) -> tuple[dict[str, Any], int]:
+async def triage(program: str, trace: str, hear: Hear, take: Take, *words: str) -> tuple[dict[str, Any], int]:
     """What `triage --json --apart` says: the counts; races, undecided and apart pairs of places are given to `take`.
 
-    Also how many more of these there are than are taken.
+    Also how many more of these there are than are taken. The words may leave out races, which are counted as `known`.
     """
     counts: dict[str, Any] = {}
     number = 0
-    async for told in told_by(hear, program, "triage", trace, "--json", "--apart", "--progress"):
+    async for told in told_by(hear, program, "triage", trace, "--json", "--apart", "--progress", *words):
         if told["kind"] == "counts":
             counts = told
+        elif told["kind"] == "known":
+            counts["known"] = told["count"]
         elif told["kind"] in ("race", "undecided", "apart"):
             if number < MOST_BLOCKS:
                 take(told)
@@ -129,7 +158,7 @@ async def triage(program: str, trace: str, hear: Hear, take: Take) -> tuple[dict
     return counts, max(0, number - MOST_BLOCKS)
 
 
-async def heard(process: asyncio.subprocess.Process, hear: Hear) -> str:
+async def heard(process: Process, hear: Hear) -> str:
     """Hears how far the process is, and gives its last lines that say something else."""
     assert process.stderr
     said: deque[str] = deque(maxlen=LAST_LINES)
@@ -144,8 +173,7 @@ async def heard(process: asyncio.subprocess.Process, hear: Hear) -> str:
 
 async def told_by(hear: Hear, *words: str) -> AsyncIterator[dict[str, Any]]:
     """The JSON lines of a process, as they come."""
-    process = await asyncio.create_subprocess_exec(
-        *words, stdin=asyncio.subprocess.DEVNULL, stdout=PIPE, stderr=PIPE, limit=LINE_LIMIT, preexec_fn=work_behind)
+    process = await started(*BEHIND, *words)
     saying = asyncio.ensure_future(heard(process, hear))
     try:
         number = 0

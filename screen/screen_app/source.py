@@ -57,7 +57,7 @@ class Source:
             if len(self.lines) >= KEPT:
                 self.lines.pop(next(iter(self.lines)))
             try:
-                self.lines[path] = bytes_of(path, BYTES, os.O_NOFOLLOW).split(b"\n")
+                self.lines[path] = bytes_of(path, BYTES, os.O_NOFOLLOW).removesuffix(b"\n").split(b"\n")
             except OSError:
                 self.lines[path] = []
         return self.lines[path]
@@ -74,7 +74,8 @@ class Source:
         count = min(count, AROUND)
         first, last = max(1, number - count), min(len(lines), number + count)
         return {
-            "file": clean(os.path.relpath(path, self.folder)), "line": number,
+            "file": clean(os.path.relpath(path, self.folder)),
+            "line": number,
             "lines": [[at, line_text(lines[at - 1])] for at in range(first, last + 1)],
         }
 

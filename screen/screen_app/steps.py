@@ -91,7 +91,7 @@ class Run:
             self._count(part[:good], more)
         event = part[good]
         why = Causes(self.bench.sheet(self.name)).told(event, found[2])
-        return {**self._told(answer), "stop": {"e": event, **why}}
+        return {**self._told(answer), "stop": {**self.bench.trace.told(event), **why}}
 
 
 def cut(events: array[int]) -> list[array[int]]:
@@ -153,11 +153,13 @@ async def enter(bench: Bench, name: str, events: array[int], pair: tuple[int, in
         return await one(bench, f"batch new {name} ; adopt {name} {found[1]}") if found else {"answer": clean(answer)}
     answer = await bench.say_one(f"new {name}")
     parts = cut(events) if is_done(answer) else []
+    entries = [entry_of(answer)] if parts else []
     for start in range(0, len(parts), CHUNK):
         for answer in await bench.say(*[adds(name, part) for part in parts[start : start + CHUNK]]):
             if not is_done(answer):
-                return {"answer": clean(answer)}
-    return {"answer": clean(answer)}
+                return {"answer": clean(answer), "entries": entries}
+            entries.append(entry_of(answer))
+    return {"answer": clean(answer), "entries": entries}
 
 
 async def propose(bench: Bench, pair: tuple[int, int], events: array[int]) -> Told:

@@ -66,9 +66,17 @@ class Trace:
 
     def as_part(self) -> Part:
         return Part(
-            self.before, self.threads.raw, self.variables.raw, self.locks.raw, self.places.raw,
-            self.thread.tobytes(), self.word.tobytes(), self.name.tobytes(), self.place.tobytes(),
-            [own.tobytes() for own in self.events_of])
+            self.before,
+            self.threads.raw,
+            self.variables.raw,
+            self.locks.raw,
+            self.places.raw,
+            self.thread.tobytes(),
+            self.word.tobytes(),
+            self.name.tobytes(),
+            self.place.tobytes(),
+            [own.tobytes() for own in self.events_of],
+        )
 
     def join(self, parts: list[Part]) -> Iterator[None]:
         """Takes the sections of the file one after another, in portions."""
@@ -79,9 +87,14 @@ class Trace:
     def _take(self, part: Part) -> Iterator[None]:
         is_first = not self.threads.raw and not self.places.raw  # then its numbers are those of the trace
         threads, variables, locks, places = (
-            [numbers[name] for name in names] for numbers, names in (
-                (self.threads, part.threads), (self.variables, part.variables), (self.locks, part.locks),
-                (self.places, part.places)))
+            [numbers[name] for name in names]
+            for numbers, names in (
+                (self.threads, part.threads),
+                (self.variables, part.variables),
+                (self.locks, part.locks),
+                (self.places, part.places),
+            )
+        )
         start = len(self.thread)
         self._take_events(part, threads, start - part.before)
         self.thread.frombytes(part.thread.translate(bytes(threads + [0] * (256 - len(threads)))))
@@ -175,8 +188,11 @@ class Trace:
     def conflict(self, first: int, second: int) -> bool:
         one, other = self.word[first], self.word[second]
         return (
-            one <= WRITE and other <= WRITE and WRITE in (one, other)
-            and self.thread[first] != self.thread[second] and self.name[first] == self.name[second]
+            one <= WRITE
+            and other <= WRITE
+            and WRITE in (one, other)
+            and self.thread[first] != self.thread[second]
+            and self.name[first] == self.name[second]
         )
 
     def digests(self, most: int = 2_000) -> Iterator[str]:
@@ -193,7 +209,9 @@ class Trace:
     def _line(self, event: int) -> bytes:
         kind = self.word[event]
         return b"%b|%b(%b)|%b\n" % (
-            self.threads.raw[self.thread[event]], WORDS[kind], self.names_of(kind).raw[self.name[event]],
+            self.threads.raw[self.thread[event]],
+            WORDS[kind],
+            self.names_of(kind).raw[self.name[event]],
             self.places.raw[self.place[event]],
         )
 

@@ -1,12 +1,23 @@
 // Steps: one request each, one after another, and a line that says what came of it.
 import { $, count, el, fill, many } from "./make.js";
 import { ask } from "./net.js";
-import { who, said, isRefused } from "./words.js";
+import { who, said, reason, isRefused } from "./words.js";
 import * as feed from "./feed.js";
 import * as frontier from "./frontier.js";
 import * as queue from "./queue.js";
 
+// How long the program may take before the page says that it waits, in milliseconds.
+const LONG = 400;
+
+// The most entries that one request takes back.
+const UNDONE = 4096;
+
 let sayings = 0;
+let made = []; // the entries of this page's latest step, the newest first, where they are several
+let acting = 0;
+
+// Whether a step of this page is under way: what the log has more may be of another tab of the same analyst.
+export const isActing = () => acting > 0;
 
 export function say(...parts) {
   fill($("said"), ...parts).dataset.n = ++sayings;
@@ -14,36 +25,66 @@ export function say(...parts) {
 
 export const bad = (text) => el("span", "bad", text);
 
+// Waits for an answer, and says so if it takes long.
+export async function awaited(answer) {
+  const waits = setTimeout(() => $("said").classList.add("waits"), LONG);
+  const told = await answer;
+  clearTimeout(waits);
+  $("said").classList.remove("waits");
+  return told;
+}
+
 // Makes a step and says what the program answered.
 export async function act(what, given) {
   const began = performance.now();
-  const told = await ask(what, given);
+  acting++;
+  const told = await awaited(ask(what, given));
+  acting--;
+  made = leftOf(what, told, given);
   if (told.gone) say(bad(`the program ended: ${told.gone}`));
   else if (told.mistake) say(bad(told.mistake));
   else {
     const took = performance.now() - began;
     const time = el("span", "dim num", ` ${took < 10 ? took.toFixed(1) : Math.round(took)} ms`);
-    say(outcome(what, told), el("span", "gap"), el("code", "dim raw", told.answer), time);
+    say(outcome(what, told, given), el("span", "gap"), el("code", "dim raw", told.answer), time);
   }
   return told;
 }
 
-function outcome(what, told) {
-  if (told.rests) return rests(told.rests.entry);
+// The entries of this page's latest step after another one, or what an undo left of them.
+function leftOf(what, told, given) {
+  if (what !== "undo") return [...(told.entries ?? [])].reverse();
+  return given.entries?.[0] === made[0] ? made.slice(told.undone || made.length) : [];
+}
+
+// A long run is many entries of the log, and one step of the analyst.
+export const undoLatest = () => act("undo", made.length > 1 ? { entries: made.slice(0, UNDONE) } : {});
+
+function outcome(what, told, given) {
+  if (told.rests) return rests(told.rests.entry, told.undone);
+  if (told.undone > 1 && !isRefused(told)) return `took back ${many(told.undone, "entry", "entries")}`;
+  if (told.why) return refused(told, given.event);
   if (what === "run") return ran(told);
   if (what === "swap") return moved(told);
   return isRefused(told) ? bad(said(told.answer)) : said(told.answer);
 }
 
-function rests(entry) {
+// Of a group some may be taken back.
+function rests(entry, undone) {
   feed.jump(entry.i);
-  return [bad("not taken back: "), "entry ", feed.link(entry.i), " of ", who(entry.c), " rests on it ",
-    el("span", "dim", `(${entry.w.slice(0, 80)})`)];
+  return [undone ? `took back ${many(undone, "entry", "entries")}; ` : null, bad("not taken back: "), "entry ",
+    feed.link(entry.i), " of ", who(entry.c), " rests on it ", el("span", "dim", `(${entry.w.slice(0, 80)})`)];
+}
+
+// An event that may not come next.
+function refused(told, event) {
+  const one = frontier.current()?.next?.find((other) => other.e === event);
+  return one ? [bad("refused: "), reason(told.why, one)] : bad(said(told.answer));
 }
 
 function ran(told) {
   const parts = [`added ${many(told.added, "event")}`];
-  if (told.stop) parts.push(el("span", "dim", ` · stopped before ${told.stop.e}`));
+  if (told.stop) parts.push(el("span", "dim", ` · stopped before ${told.stop.e}: `), reason(told.stop, told.stop));
   else if (isRefused(told)) parts.push(bad(` · ${said(told.answer)}`));
   if (told.more) parts.push(el("span", "dim", ` · ${count(told.more)} more to come: run again`));
   const [first, last] = [told.entries?.[0], told.entries?.at(-1)];

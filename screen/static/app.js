@@ -2,7 +2,7 @@
 import { $, el, fill, many } from "./make.js";
 import { connect, on, ask } from "./net.js";
 import { state } from "./words.js";
-import { act, bad, say } from "./act.js";
+import { act, bad, isActing, say, undoLatest } from "./act.js";
 import { showKeys, showLink } from "./dialogs.js";
 import { reveal } from "./frame.js";
 import { later, now } from "./queue.js";
@@ -16,15 +16,19 @@ import * as views from "./views.js";
 import * as pair from "./pair.js";
 
 for (const part of [sheet, frontier, feed, pair]) part.events.act = act;
-frontier.events.say = say;
+for (const part of [sheet, frontier, feed, schedules]) part.events.say = say;
 feed.events.open = schedules.events.open = (view) => now(() => views.open(view));
 schedules.events.go = views.open;
-schedules.events.adopt = views.adopt;
+feed.events.adopt = schedules.events.adopt = views.adopt;
+sheet.events.lost = () => state.view?.witness && now(() => views.openPair([...state.view.witness]));
 races.events.open = (block) => now(() => views.openPair(block.accesses.map((access) => access.event)));
 $("keys").addEventListener("click", showKeys);
-$("link").addEventListener("click", showLink);
+$("link").addEventListener("click", async () => {
+  const told = await showLink();
+  if (told.mistake) say(bad(told.mistake));
+});
 $("new").addEventListener("click", views.fresh);
-$("undo").addEventListener("click", () => later(() => act("undo", {})));
+$("undo").addEventListener("click", () => later(undoLatest));
 
 function learn(told) {
   for (const key of ["threads", "client", "title", "n", "source"]) state[key] = told[key];
@@ -63,6 +67,7 @@ function latest() {
 
 on("open", async () => {
   races.load();
+  if (!state.title) fill($("live"), "reading the trace …");
   const looked = views.looked();
   const told = await ask("hello");
   if (told.mistake) {
@@ -74,8 +79,9 @@ on("open", async () => {
   feed.render();
   views.bar();
   if (views.looked() !== looked) return; // something was opened meanwhile
-  const row = latest();
+  const [row, kept] = [latest(), history.state];
   if (state.view) views.open(state.view, { end: false });
+  else if (kept?.pair || state.rows.has(kept?.schedule)) views.restore(kept);
   else if (row) views.open({ schedule: row.name });
   else {
     views.close();
@@ -91,13 +97,15 @@ on("names", (told) => {
   showClient();
   feed.render();
   views.bar();
+  if (state.view) sheet.refresh(false);
 });
 
-// Whether this analyst made a step at the end of the schedule, which is to be seen. A move stays where it is.
+// Whether this page made a step at the end of the schedule, which is to be seen. A move stays where it is.
 function isStep(entry, name) {
   const about = entry.k === "undo" ? state.entries.get(entry.of) : entry;
   const isElsewhere = about?.name !== undefined && about.name !== name;
-  return entry.c === state.client && !isElsewhere && !about?.swaps && !["swap", "propose"].includes(about?.k);
+  const isMine = entry.c === state.client && isActing();
+  return isMine && !isElsewhere && !about?.swaps && !["swap", "propose"].includes(about?.k);
 }
 
 // What is drawn is asked for first, and the feed is drawn while the answer is under way.

@@ -37,7 +37,7 @@ const KEYS = [
     ["u", "undo my latest"], ["s", "mark the log as seen"],
   ]],
   ["Screen", [
-    ["/", "filter races"], ["F6", "next pane"], ["?", "keys"], ["Esc", "close"],
+    ["/", "filter races"], ["v", "the source round an event"], ["F6", "next pane"], ["?", "keys"], ["Esc", "close"],
   ]],
 ];
 
@@ -59,7 +59,7 @@ export const showKeys = () => show("Keys", el("div", "keys", KEYS.map(group)));
 // Each link opens once, so another browser gets one of its own.
 export async function showLink() {
   const told = await ask("link");
-  if (!told.link) return;
+  if (!told.link) return told;
   const field = el("input", "link");
   field.readOnly = true;
   field.value = told.link;
@@ -68,4 +68,5 @@ export async function showLink() {
     el("p", "dim", "It opens once. Whoever has it works as you do. Another analyst runs screen with another number."),
     field);
   field.select();
+  return told;
 }

@@ -21,16 +21,19 @@ const LOOK = 700;
 const GATHER = 150;
 // The most lines of news.
 const NEWS = 6;
-export const events = { open: null, act: null };
+export const events = { open: null, act: null, adopt: null, say: null };
 
+let hasBegun = false;
 let flashed = null;
 let shown = SHOWN;
 let end = null; // behind the last entry that is shown, where that is not the latest
 let keeping = null;
 let looking = null;
 
+// What was news stays so if the connection comes back.
 export function begin(seen) {
-  state.marked = Math.min(seen ?? state.n, state.n);
+  state.marked = Math.min((hasBegun ? state.marked : seen) ?? state.n, state.n);
+  hasBegun = true;
   keep();
 }
 
@@ -73,7 +76,16 @@ function groups(list) {
 }
 
 function nameLink(text) {
-  return does(el("a", "sched-name", text), () => state.rows.has(text) && events.open({ schedule: text }));
+  return does(el("a", "sched-name", text), () => {
+    if (state.rows.has(text)) events.open({ schedule: text });
+    else events.say(`there is no schedule ${text} any more`);
+  });
+}
+
+function proposalLink(entry) {
+  const made = does(el("a", "num", `p${entry.p}`), () => events.adopt(entry));
+  made.title = "Adopt it";
+  return made;
 }
 
 function added(group) {
@@ -95,7 +107,7 @@ const SENTENCES = {
   drop: (entry) => ["dropped ", nameLink(entry.name)],
   adopt: (entry) => [nameLink(entry.name), ` took proposal p${entry.at}`],
   undo: (entry) => ["took back ", link(entry.of)],
-  propose: (entry) => [`proposed p${entry.p} for `, el("span", "num", entry.pair.join("–")),
+  propose: (entry) => ["proposed ", proposalLink(entry), " for ", el("span", "num", entry.pair.join("–")),
     el("span", "dim", ` ${many(entry.n, "event")}`)],
   batch: (entry) => {
     if (entry.took !== undefined) return ["made ", nameLink(entry.name), ` from proposal p${entry.took}`];
@@ -229,9 +241,20 @@ function newest() {
   render();
 }
 
-// Takes in what the log has more; it is drawn by render.
+// Entries that nobody looks at are left, but no proposals: they are listed.
+function leave() {
+  for (const [number, entry] of state.entries) {
+    if (state.entries.size <= KEPT) return;
+    if (entry.k !== "propose") state.entries.delete(number);
+  }
+}
+
+// Takes in what the log has more; it is drawn by render. What came may be too much to be told: then what is known may
+// be taken back by now, and what is shown of it is asked for.
 export function take(told) {
+  const isWhole = told.n - told.entries.length <= state.n;
   state.n = told.n;
+  if (!isWhole) state.entries = new Map((told.proposals ?? []).map((entry) => [entry.i, entry]));
   for (const entry of told.entries) {
     state.entries.set(entry.i, entry);
     const undone = entry.k === "undo" ? state.entries.get(entry.of) : null;
@@ -241,10 +264,8 @@ export function take(told) {
     if (row) state.rows.set(name, row);
     else state.rows.delete(name);
   }
-  for (const number of state.entries.keys()) {
-    if (state.entries.size <= KEPT) break;
-    state.entries.delete(number);
-  }
+  leave();
+  if (!isWhole) know(Math.max(0, until() - shown), until()).then(render);
   const isMine = told.entries.every((entry) => entry.c === state.client);
   if (isMine && state.marked >= told.n - told.entries.length) state.marked = told.n;
   if (!document.hidden) keep();

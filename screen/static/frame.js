@@ -1,5 +1,6 @@
 // The frame: panes, light and dark, and the splitter between the lanes and what may come next.
 import { $ } from "./make.js";
+import { keep, kept } from "./store.js";
 
 export const PANES = ["race-list", "stage", "next-list", "row-list", "feed"];
 export const paneOf = (element) => PANES.find((id) => $(id).contains(element));
@@ -14,8 +15,17 @@ export function reveal(name) {
   if (!$(name).offsetHeight) pane(name);
 }
 
+// Where the focus is among the panes. If it is in none of them, it is before the first one behind it.
+function placeOf(element, by) {
+  const at = PANES.indexOf(paneOf(element));
+  if (at >= 0) return at;
+  const isBehind = (id) => element.compareDocumentPosition($(id)) & Node.DOCUMENT_POSITION_FOLLOWING;
+  const next = Math.max(0, PANES.findIndex(isBehind));
+  return by > 0 ? next - 1 : next;
+}
+
 export function nextPane(by) {
-  const at = PANES.indexOf(paneOf(document.activeElement));
+  const at = placeOf(document.activeElement, by);
   for (let tries = 1; tries <= PANES.length; tries++) {
     const box = $(PANES[(at + by * tries + PANES.length * 2) % PANES.length]);
     reveal(box.closest("section").id);
@@ -30,12 +40,12 @@ for (const tab of $("tabs").children) tab.addEventListener("click", () => pane(t
 
 // Light and dark.
 const root = document.documentElement;
-const kept = localStorage.getItem("theme");
-if (kept) root.dataset.theme = kept;
+const theme = kept("localStorage", "theme");
+if (theme) root.dataset.theme = theme;
 $("theme").addEventListener("click", () => {
   const isDark = matchMedia("(prefers-color-scheme: dark)").matches;
   root.dataset.theme = (root.dataset.theme ?? (isDark ? "dark" : "light")) === "dark" ? "light" : "dark";
-  localStorage.setItem("theme", root.dataset.theme);
+  keep("localStorage", "theme", root.dataset.theme);
 });
 
 // The splitter. The lanes keep LANES pixels, what may come next keeps NEXT.
@@ -50,12 +60,16 @@ function most() {
 }
 
 function setHeight(height) {
-  const kept = Math.round(Math.max(NEXT, Math.min(most(), height)));
-  root.style.setProperty("--next-height", `${kept}px`);
+  const made = Math.round(Math.max(NEXT, Math.min(most(), height)));
+  root.style.setProperty("--next-height", `${made}px`);
   next.classList.add("sized");
-  splitter.setAttribute("aria-valuemax", String(most()));
-  splitter.setAttribute("aria-valuenow", String(kept));
 }
+
+new ResizeObserver(() => {
+  if (!next.offsetHeight) return;
+  splitter.setAttribute("aria-valuemax", String(most()));
+  splitter.setAttribute("aria-valuenow", String(next.offsetHeight));
+}).observe(next);
 
 splitter.addEventListener("pointerdown", (event) => {
   const [from, height] = [event.clientY, next.offsetHeight];

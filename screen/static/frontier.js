@@ -2,9 +2,10 @@
 import { $, el, fill, button, count, many, option, nameChosen } from "./make.js";
 import { part } from "./morph.js";
 import { does } from "./press.js";
+import { again } from "./again.js";
 import { later, isBusy } from "./queue.js";
 import { ask } from "./net.js";
-import { state, tag, operation, place, reason, help, threadName, spoken } from "./words.js";
+import { state, tag, operation, place, reason, help, threadName, threadShort, spoken } from "./words.js";
 import { showPair } from "./pair.js";
 
 // With more threads than this there is a filter, and those that the aim needs come first.
@@ -17,26 +18,22 @@ export const events = { act: null, say: null };
 
 let told = null;
 let chosen = null;
-let shown = null; // which was scrolled to
+let shown = null; // which was scrolled to, and whether it might come next
 let open = null;
 let asked = 0;
 let pending = Promise.resolve();
 
 export const current = () => told;
-export const load = () => (pending = fetchNext());
 const name = () => state.view?.schedule;
+const fetchAgain = again(fetchNext, name);
+export const load = () => (pending = fetchAgain());
 const chosenOne = () => told?.next.find((one) => one.t === chosen) ?? null;
 // The list, unless it is that of the schedule that was open before.
 const here = () => (told && told.name === name() ? told : null);
 const step = (what, given) => (here() ? events.act(what, { name: name(), ...given }) : null);
 
-// Waits for the latest list: an older one that is overtaken is thrown away.
-export async function settled() {
-  for (let seen = null; seen !== pending; ) {
-    seen = pending;
-    await seen;
-  }
-}
+// Waits for the list that was asked for last, and not for those of what others do from now on.
+export const settled = () => pending;
 
 async function fetchNext() {
   const mine = ++asked;
@@ -48,7 +45,11 @@ async function fetchNext() {
   }
   const got = await ask("frontier", { name: schedule, aim: state.aim });
   if (mine !== asked || schedule !== name()) return;
-  told = got.mistake || got.gone ? null : got;
+  if (got.gone) {
+    events.say(`the program ended: ${got.gone}`); // the list stays, so a key starts it again
+    return;
+  }
+  told = got.mistake ? null : got;
   if (told && !chosenOne()) chosen = (told.next.find((one) => !one.why) ?? told.next[0])?.t ?? null;
   if (open !== null) await more();
   render();
@@ -87,8 +88,9 @@ function render() {
   const lines = sorted().map((one) => line(one, lit));
   fill(list, lines.length ? lines : el("p", "empty", empty));
   nameChosen(list);
-  if (shown !== chosen) list.querySelector(".on")?.scrollIntoView({ block: "nearest" });
-  shown = chosen;
+  const sign = `${chosen} ${Boolean(chosenOne()?.why)}`; // a thread that has to wait stands elsewhere in a long list
+  if (shown !== sign) list.querySelector(".on")?.scrollIntoView({ block: "nearest" });
+  shown = sign;
 }
 
 // How far a thread is from what the aim needs of it.
@@ -131,10 +133,11 @@ function drawn(one, lit) {
   }, "more plain");
   more.dataset.does = "more";
   more.title = `${many(one.left, "event")} of ${threadName(one.t)} to come (→)`;
+  const what = el("span", "what", el("span", "num", String(one.e)), " ", operation(one));
+  what.title = `${one.o} ${one.n}`;
   const made = el("div", `next${why ? " no" : " yes"}${one.t === chosen ? " on" : ""}${lit.has(one.e) ? " lit" : ""}`,
     el("kbd", "digit", one.t < 9 ? String(one.t + 1) : ""), tag(one.t), el("span", "dot", why ? "○" : "●"),
-    el("span", "what", el("span", "num", String(one.e)), " ", operation(one)),
-    why ?? el("span", "code", place(one.l), source ? el("code", "", source) : null),
+    what, why ?? el("span", "code", place(one.l), source ? el("code", "", source) : null),
     el("span", "do", distance(one), buttons(one), more));
   made.dataset.t = one.t;
   made.dataset.place = one.l;
@@ -162,13 +165,14 @@ function ahead(one) {
 
 function untilField(one, left) {
   const field = el("input", "until-event");
-  field.placeholder = `event of ${threadName(one.t)}, up to ${count(left)} more`;
+  field.placeholder = `event of ${threadShort(one.t)}, up to ${count(left)} more`;
   field.setAttribute("aria-label", "Run to event");
   field.addEventListener("keydown", (key) => {
-    if (key.key !== "Enter" || !/^\d+$/.test(field.value)) return;
+    if (key.key !== "Enter") return;
     key.stopPropagation();
-    const until = Number(field.value);
-    later(() => step("run", { until }));
+    const until = Number(field.value.replaceAll(",", ""));
+    if (field.value.trim() && Number.isInteger(until)) later(() => step("run", { until }));
+    else events.say("write the number of an event, as the list has it");
   });
   return field;
 }
@@ -182,6 +186,11 @@ export async function unfold() {
   if (!here() || told.witness) return;
   open = open === chosen ? null : chosen;
   if (open !== null) await more();
+  render();
+}
+
+export function fold() {
+  open = null;
   render();
 }
 
@@ -206,26 +215,36 @@ export function toAim(one = chosenOne()) {
   if (one?.to !== undefined) return step("run", { until: one.to });
   if (one && !state.aim) events.say("open a race first: it is the aim");
   else if (one && !one.own && !told.witnessed) events.say("the witness of the aim is not known yet");
-  else if (one) events.say(`${threadName(one.t)} has come as far as the aim needs`);
+  else if (one) events.say(`${threadShort(one.t)} has come as far as the aim needs`);
   return null;
 }
 
 export function follow(one = chosenOne()) {
   const does = help(one?.why);
   if (does) return step("run", { until: does.until });
-  if (one) events.say(one.why ? "no run of one thread helps here" : `${threadName(one.t)} waits for nothing`);
+  if (one) events.say(one.why ? "no run of one thread helps here" : `${threadShort(one.t)} waits for nothing`);
   return null;
 }
 
 // A digit is the number of a thread, so it does not move when another thread ends.
 export function digit(thread) {
   const one = here()?.next.find((other) => other.t === thread);
-  if (!one || one.fixed) return null;
+  if (!here() || one?.fixed) return null;
+  if (!one) {
+    const isThread = thread < state.threads.length;
+    return events.say(isThread ? `${threadShort(thread)} is at its end` : `no thread has the digit ${thread + 1}`);
+  }
   choose(one.t);
-  return one.why ? null : add(one);
+  if (!one.why) return add(one);
+  return events.say(`${threadShort(one.t)} may not come next: ${reason(one.why, one).textContent}`);
 }
 
-filter.addEventListener("input", () => told && render());
+// What is chosen is in sight.
+filter.addEventListener("input", () => {
+  const seen = told ? sorted() : [];
+  if (seen.length && !seen.some((one) => one.t === chosen)) choose(seen[0].t);
+  else if (told) render();
+});
 filter.addEventListener("keydown", (key) => {
   if (key.key !== "Enter" && key.key !== "Escape") return;
   key.stopPropagation();

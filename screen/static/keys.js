@@ -1,11 +1,11 @@
 // The keys. What a key does depends on the pane that has the focus; without one it is what may come next.
 import { $ } from "./make.js";
 import { state } from "./words.js";
-import { act, say } from "./act.js";
+import { act, say, undoLatest } from "./act.js";
 import { later, isBusy } from "./queue.js";
 import { showKeys } from "./dialogs.js";
 import { nextPane, paneOf, reveal } from "./frame.js";
-import { hidePeek } from "./peek.js";
+import { hidePeek, viewSource } from "./peek.js";
 import { best } from "./pair.js";
 import * as sheet from "./sheet.js";
 import * as frontier from "./frontier.js";
@@ -18,14 +18,22 @@ const schedule = () => state.view?.schedule;
 const last = () => (sheet.current()?.length ?? 1) - 1;
 
 function swap(by) {
-  const row = sheet.cursorEvent();
-  return row && sheet.swap(row.p, by);
+  const row = sheet.cursorRow();
+  if (!row) return say("choose an event first: ↑ and ↓ move the cursor");
+  return row.b ? say("a block moves no further: Enter opens it") : sheet.swap(row.p, by);
 }
 
 function propose() {
   const told = frontier.current();
-  if (told?.pairs.length) return act("propose", { view: state.view, pair: best(told.pairs) });
+  if (told?.pairs.length) return act("propose", { view: state.view, pair: best(told) });
   return say("no pair stands side by side in this schedule");
+}
+
+// Works on the witness that is looked at, or looks at that of the chosen race.
+function openRace() {
+  if (state.view?.witness) return views.take();
+  const pair = races.chosenPair();
+  return pair ? views.openPair(pair) : say("choose a race first: ↑ and ↓ move the cursor");
 }
 
 // Keys that have nothing to work on say so.
@@ -51,14 +59,21 @@ const IN = {
     "Alt+ArrowUp": ofSchedule(() => swap(-1)), "Alt+ArrowDown": ofSchedule(() => swap(1)),
   }),
   "race-list": {
-    ...down(races.step), Home: () => races.jump(0), End: () => races.jump(Infinity), Enter: () => inOrder(views.take),
+    ...down(races.step), Home: () => races.jump(0), End: () => races.jump(Infinity), Enter: () => inOrder(openRace),
   },
-  "row-list": inTurn({ ...down(neighbour), Home: () => edge(0), End: () => edge(-1) }),
+  "row-list": inTurn({
+    ...down(neighbour), Home: () => edge(0), End: () => edge(-1), Enter: ofSchedule(() => $("next-list").focus()),
+  }),
   "next-list": inTurn({
     ...down(frontier.move), Home: () => frontier.move(-Infinity), End: () => frontier.move(Infinity),
-    Enter: ofSchedule(() => frontier.add()), ArrowRight: frontier.unfold, ArrowLeft: frontier.unfold,
+    Enter: ofSchedule(() => frontier.add()), ArrowRight: ofSchedule(frontier.unfold), ArrowLeft: frontier.fold,
   }),
 };
+
+function markSeen() {
+  feed.caughtUp();
+  say("the log is marked as seen");
+}
 
 function filterRaces() {
   reveal("races");
@@ -68,12 +83,12 @@ function filterRaces() {
 // Everywhere.
 const ANYWHERE = {
   "?": showKeys, "/": filterRaces, F6: () => nextPane(1), "Shift+F6": () => nextPane(-1), n: views.fresh,
-  s: feed.caughtUp,
+  s: markSeen,
   ...inTurn({
-    u: () => act("undo", {}), "Ctrl+z": () => act("undo", {}), p: ofSchedule(propose),
+    u: undoLatest, "Ctrl+z": undoLatest, p: ofSchedule(propose),
     b: ofSchedule(() => void views.branch()), Backspace: ofSchedule(() => act("back", { name: schedule() })),
     r: ofSchedule(() => frontier.run()), t: ofSchedule(() => frontier.toAim()),
-    f: ofSchedule(() => frontier.follow()), x: ofAim(views.why), e: ofAim(views.startEmpty),
+    f: ofSchedule(() => frontier.follow()), x: ofAim(views.why), e: ofAim(views.startEmpty), v: viewSource,
     w: () => (state.view?.witness ? views.take() : ofAim(views.witness)()),
     "[": () => neighbour(-1), "]": () => neighbour(1),
   }),
@@ -94,9 +109,12 @@ function meant(event) {
   const name = named(event);
   const isButton = event.target.closest("button, a") && (event.key === "Enter" || event.key === " ");
   if (isButton) return null;
-  if (/^[1-9]$/.test(name)) return () => inOrder(() => frontier.digit(Number(name) - 1));
+  if (/^[1-9]$/.test(name)) return () => inOrder(ofSchedule(() => frontier.digit(Number(name) - 1)));
   return IN[paneOf(document.activeElement) ?? "next-list"]?.[name] ?? ANYWHERE[name];
 }
+
+// Those that lead from a field to the panes.
+const isPaneKey = (event) => event.key === "F6" && !event.target.closest("dialog");
 
 addEventListener("keydown", (event) => {
   const isField = event.target.closest("input, textarea, dialog");
@@ -107,10 +125,11 @@ addEventListener("keydown", (event) => {
     if (!isField && state.view) views.hideNote();
     return;
   }
-  if (isField || event.metaKey) return;
+  if ((isField && !isPaneKey(event)) || event.metaKey) return;
   const does = meant(event);
   if (!does) return;
   event.preventDefault();
   if (event.repeat && isBusy()) return; // a key that is held goes on no longer than it is held
+  hidePeek();
   does();
 });

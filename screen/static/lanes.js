@@ -8,6 +8,8 @@ import { state, threadName } from "./words.js";
 export const HEIGHT = 22;
 const GUTTER = 92;
 const AXIS = 17;
+// With less breadth than this names, places and lanes have the least that can be read.
+const NARROW = 480;
 const space = $("space");
 
 let lanes = new Map();
@@ -24,9 +26,10 @@ export function lay(win, breadth) {
   lanes = new Map(win.lanes.map((thread, at) => [thread, at]));
   hasOthers = win.counts.some(([thread]) => !lanes.has(thread));
   const number = Math.max(1, lanes.size + (hasOthers ? 1 : 0));
-  const name = Math.round(Math.max(150, Math.min(300, breadth * 0.19)));
-  const room = breadth - GUTTER - Math.max(200, breadth * 0.44) - name;
-  width = Math.max(22, Math.min(132, Math.floor(room / Math.max(1, number - 1))));
+  const [least, code, close] = breadth < NARROW ? [110, breadth * 0.3, 14] : [150, Math.max(200, breadth * 0.44), 22];
+  const name = Math.round(Math.max(least, Math.min(300, breadth * 0.19)));
+  const room = breadth - GUTTER - code - name;
+  width = Math.max(close, Math.min(132, Math.floor(room / Math.max(1, number - 1))));
   const all = (number - 1) * width + name;
   space.style.setProperty("--lanes", `${all}px`);
   space.classList.toggle("sourced", Boolean(win.source && Object.keys(win.source).length));

@@ -1,9 +1,12 @@
 // The one connection. The ticket of the link is spent for a key, which stays in this tab.
+import { keep, kept } from "./store.js";
+
 const REFUSED = 4403;
 const AGAIN = 1000;
 
 let socket = null;
 let number = 0;
+let ticket = null; // until it is spent
 const waiting = new Map();
 const listeners = new Map();
 
@@ -14,17 +17,34 @@ export function on(what, act) {
 const tell = (what, told) => listeners.get(what)?.(told);
 
 async function key() {
-  const ticket = location.hash.slice(1);
-  if (ticket) {
+  if (location.hash.length > 1) {
+    ticket = location.hash.slice(1);
     history.replaceState(null, "", "/");
-    const answer = await fetch("/enter", { method: "POST", body: ticket });
-    if (answer.ok) sessionStorage.setItem("key", await answer.text());
   }
-  return sessionStorage.getItem("key");
+  if (ticket) {
+    const answer = await fetch("/enter", { method: "POST", body: ticket });
+    ticket = null;
+    if (answer.ok) keep("sessionStorage", "key", await answer.text());
+  }
+  return kept("sessionStorage", "key");
+}
+
+// A new link that is opened in this tab differs from this page behind the `#` alone.
+addEventListener("hashchange", () => location.hash.length > 1 && location.reload());
+
+function tryAgain() {
+  tell("closed", "screen does not answer; trying again");
+  setTimeout(connect, AGAIN);
 }
 
 export async function connect() {
-  const mine = await key();
+  let mine = null;
+  try {
+    mine = await key();
+  } catch {
+    tryAgain();
+    return;
+  }
   if (!mine) {
     tell("closed", "This link was used already. Press Enter where screen runs to get another one.");
     return;
@@ -52,12 +72,11 @@ function closed(event) {
   for (const done of waiting.values()) done({ mistake: "the connection ended" });
   waiting.clear();
   if (event.code === REFUSED) {
-    sessionStorage.removeItem("key");
+    keep("sessionStorage", "key", "");
     tell("closed", "This link is no longer good. Press Enter where screen runs to get another one.");
     return;
   }
-  tell("closed", "screen does not answer; trying again");
-  setTimeout(connect, AGAIN);
+  tryAgain();
 }
 
 export function ask(what, given = {}) {

@@ -5,16 +5,28 @@ import { state, tag, operation, place, reason } from "./words.js";
 
 export const events = { act: null };
 
-export const best = (pairs) => pairs.find((pair) => pair.join() === state.aim?.join()) ?? pairs[0];
+let shown = null; // the pair that a click brought in sight, and the schedule that shows it
+
+// Of several pairs the one that a click chose, or the aim, or the first.
+export function best({ name, pairs }) {
+  const chosen = shown && shown.name === name ? shown.pair : state.aim?.join();
+  return pairs.find((pair) => pair.join() === chosen) ?? pairs[0];
+}
+
+function another(told) {
+  const at = told.pairs.indexOf(best(told));
+  shown = { name: told.name, pair: told.pairs[(at + 1) % told.pairs.length].join() };
+  showPair(told);
+}
 
 const propose = (view, pair) => later(() => events.act("propose", { view, pair }));
 
-function side(told, shown, event) {
+function side(told, pair, event) {
   const one = told.next.find((other) => other.e === event);
   if (!one) return String(event);
   const source = told.source?.[one.l];
   // A read may be shown and yet be refused as next; nothing is said where what it would miss is the pair's other half.
-  const but = one.why && !shown.includes(one.why.about?.e) ? el("span", "but", "but ", reason(one.why, one)) : null;
+  const but = one.why && !pair.includes(one.why.about?.e) ? el("span", "but", "but ", reason(one.why, one)) : null;
   const made = el("span", "access", tag(one.t), " ", el("span", "num", String(one.e)), " ", operation(one),
     place(one.l), source ? el("code", "", source) : null, but);
   made.dataset.place = one.l;
@@ -29,11 +41,17 @@ export function showPair(told) {
     fill(box);
     return;
   }
-  const shown = best(pairs);
-  const isAim = shown.join() === state.aim?.join();
+  const pair = best(told);
+  const isAim = pair.join() === state.aim?.join();
   const title = told.witness ? "Both may come next" : isAim ? "Aim: side by side" : "Side by side";
   fill(box, el("span", "pair-title", title),
-    el("span", "accesses", side(told, shown, shown[0]), side(told, shown, shown[1])),
-    el("span", "do", pairs.length > 1 ? el("span", "dim", `and ${many(pairs.length - 1, "pair")} more`) : null,
-      told.witness ? null : button("Propose", "p", () => propose(state.view, shown))));
+    el("span", "accesses", side(told, pair, pair[0]), side(told, pair, pair[1])),
+    el("span", "do", pairs.length > 1 ? more(told) : null,
+      told.witness ? null : button("Propose", "p", () => propose(state.view, pair))));
+}
+
+function more(told) {
+  const made = button(`and ${many(told.pairs.length - 1, "pair")} more`, "", () => another(told), "plain dim");
+  made.title = "Shows the next of them";
+  return made;
 }

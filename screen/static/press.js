@@ -1,5 +1,6 @@
-// Clicks. Lists are drawn anew at any moment, as others work too, so what a click means is settled when the button goes
-// down: then the node, and what it does, are noted, and the click does that, whatever was drawn until the button went up.
+// Clicks. Lists are drawn anew at any moment, as others work too, so what a click means is settled when the button
+// goes down: then the node, and what it does, are noted, and the click does that, whatever was drawn until the button
+// went up.
 
 // A hand that presses stays within so many pixels.
 const NEAR = 6;

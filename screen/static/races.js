@@ -28,7 +28,8 @@ const space = sight.space("race-space");
 
 const keyOf = (block) => block.accesses.map((access) => access.event).join("-");
 
-export async function load(from = 0) {
+// Fetches the races round those in sight, or others.
+export async function load(from = Math.max(0, Math.floor(list.scrollTop / HEIGHT) - BEFORE)) {
   const mine = ++asked;
   const told = await ask("races", { text: filter.value, kinds: [...kinds], from, count: WINDOW });
   if (mine !== asked || told.mistake) return;
@@ -36,12 +37,19 @@ export async function load(from = 0) {
   render();
 }
 
+// Fetches what another filter or other kinds leave, and shows it from its first on.
+function find() {
+  list.scrollTop = 0;
+  load(0);
+}
+
 function chip([kind, plural]) {
-  const total = got?.counts?.[kind === "race" ? "races" : kind];
+  const { races, known = 0 } = got?.counts ?? {};
+  const total = kind === "race" ? races && races - known : got?.counts?.[kind];
   const word = total === 1 && kind === "race" ? "race" : plural;
   const made = button(total === undefined ? word : `${count(total)} ${word}`, "", () => {
     if (!kinds.delete(kind)) kinds.add(kind);
-    load();
+    find();
   }, "chip");
   made.dataset.does = kind;
   made.setAttribute("aria-pressed", kinds.has(kind));
@@ -60,13 +68,20 @@ function render() {
     fill(list, el("p", "empty bad", got.why));
     return;
   }
-  const cut = got.more ? `the first ${count(got.kept)} pairs` : "";
-  $("race-count").textContent = filter.value ? `${count(got.total)} match${cut && ` of ${cut}`}` : cut;
+  $("race-count").textContent = counted();
   space.style.height = `${got.total * HEIGHT}px`;
   const empty = el("p", "empty", filter.value ? "Nothing matches." : "No pair of this kind.");
   fill(list, space);
   fill(space, got.total ? inSight().map(([block, at]) => card(block, at)) : empty);
   nameChosen(list);
+}
+
+// How many of the list match, of how many, and how many were left out of it.
+function counted() {
+  const cut = got.more ? `the first ${count(got.kept)} pairs` : "";
+  const found = filter.value ? `${count(got.total)} match${cut && ` of ${cut}`}` : cut;
+  const known = got.counts?.known ? `${count(got.counts.known)} known left out` : "";
+  return [found, known].filter(Boolean).join(", ");
 }
 
 // Of the races that were fetched those in sight; each with its place in the list.
@@ -119,6 +134,9 @@ function ended(block) {
   return made;
 }
 
+// The events of the race on which the cursor rests.
+export const chosenPair = () => chosen?.split("-").map(Number) ?? null;
+
 function pick(block, wait = 0) {
   chosen = keyOf(block);
   render();
@@ -147,19 +165,17 @@ export async function jump(at) {
 }
 
 export function step(by) {
-  if (!got?.blocks?.length) return;
+  if (!got?.blocks?.length) return null;
   const at = got.blocks.findIndex((block) => keyOf(block) === chosen);
-  const seen = Math.ceil(list.scrollTop / HEIGHT) - got.from; // the first in sight, if the chosen one is far away
-  const next = Math.max(0, Math.min(got.blocks.length - 1, at < 0 ? seen : at + by));
-  sight.reveal(list, HEIGHT, got.from + next);
-  pick(got.blocks[next], REST);
+  const seen = Math.ceil(list.scrollTop / HEIGHT); // the first in sight, if the chosen one is far away
+  return jump(at < 0 ? seen : got.from + at + by);
 }
 
-filter.addEventListener("input", () => load());
+filter.addEventListener("input", find);
 filter.addEventListener("keydown", (key) => {
   if (key.key === "Escape") {
     filter.value = "";
-    load();
+    find();
     list.focus();
   } else if (key.key === "Enter" || key.key === "ArrowDown") {
     list.focus();

@@ -10,7 +10,7 @@ const HEIGHT = 24;
 const PROPOSALS = 6;
 const list = $("row-list");
 const space = sight.space("row-space");
-export const events = { open: null, go: null, adopt: null };
+export const events = { open: null, go: null, adopt: null, say: null };
 
 let shown = null; // which schedule was scrolled to
 
@@ -62,7 +62,8 @@ sight.watch(list, renderList);
 
 export function render() {
   renderList();
-  const proposals = [...state.entries.values()].filter((entry) => entry.k === "propose").slice(-PROPOSALS).reverse();
+  const all = [...state.entries.values()].filter((entry) => entry.k === "propose");
+  const proposals = all.sort((one, other) => other.p - one.p).slice(0, PROPOSALS);
   const made = proposals.length ? [el("div", "subhead", "Proposals"), proposals.map(proposal)] : null;
   fill($("proposals"), made);
 }
@@ -77,5 +78,5 @@ export function neighbour(by) {
   const names = inOrder().map((row) => row.name);
   const at = names.indexOf(state.view?.schedule);
   const next = (Math.max(at, by > 0 ? -1 : 0) + by + names.length) % names.length;
-  return names.length ? events.go({ schedule: names[next] }) : null;
+  return names.length ? events.go({ schedule: names[next] }) : events.say("there is no schedule: n makes one");
 }

@@ -15,13 +15,16 @@ const NOTHING = 36;
 const FARTHEST = 64;
 const stage = $("stage");
 const space = $("space");
-export const events = { act: null };
+export const events = { act: null, say: null, lost: null };
 
 // What an answer brings in sight: the end, a position, or what is in sight already (null).
 const END = "end";
+// What the server says of a witness that it kept no longer.
+const LOST = "no such witness";
 
 let win = null;
 let asked = 0;
+let taken = 0; // which of them was drawn last
 let latest = null; // the promise of what was asked last
 let goal = END;
 let seen = 0; // how far it was scrolled when the goal was set
@@ -33,7 +36,7 @@ let height = 0;
 let breadth = 0;
 
 export const current = () => win;
-export const cursorEvent = () => win?.rows.find((row) => row.p === cursor && !row.b) ?? null;
+export const cursorRow = () => win?.rows.find((row) => row.p === cursor) ?? null;
 
 const visible = () => Math.ceil((height || stage.clientHeight) / HEIGHT) + 1;
 // While another part is shown in its place, it is scrolled nowhere.
@@ -62,13 +65,14 @@ function scrollTo(to) {
 export function reset({ end = false } = {}) {
   win = cursor = stop = null;
   if (end) want(END);
-  asked++;
+  taken = ++asked; // no answer to what was asked before is drawn
   latest = null;
   fill($("lanes-head"));
   render();
 }
 
-// Asks for rows, draws them, and brings in sight what is wanted. One that is overtaken waits for the one that did so.
+// Asks for rows, draws them, and brings in sight what is wanted. One that is overtaken waits for the one that did so;
+// it is drawn meanwhile if the same is wanted, so that rows come while others work all the time.
 export function load(given = {}) {
   latest = fetchRows(given);
   return latest;
@@ -88,15 +92,18 @@ async function fetchRows({ to, toggle }) {
   if (toggle !== undefined) given.toggle = toggle;
   const told = await ask("view", given);
   if (view !== state.view) return null;
-  if (mine !== asked) return latest;
+  const isLatest = mine === asked;
+  if (mine < taken || (!isLatest && told.mistake)) return latest;
   if (told.mistake) {
     reset();
+    if (told.mistake === LOST) events.lost();
     return null;
   }
   heed();
-  if (goal !== wanted) return load(); // somebody scrolled meanwhile
+  if (goal !== wanted) return isLatest ? load() : latest; // somebody scrolled meanwhile
+  taken = mine;
   take(told);
-  return null;
+  return isLatest ? null : latest;
 }
 
 function take(told) {
@@ -203,9 +210,11 @@ export async function toggle(position) {
 
 // Opens or closes a block, or goes to the write that is read.
 export async function enter() {
-  const row = win?.rows.find((one) => one.p === cursor);
+  const row = cursorRow();
   if (row?.b || (row?.x && !(row.rf >= 0))) await toggle(row.p);
   else if (row?.rf >= 0) await jump(row.rf);
+  else if (row) events.say(row.rf === -1 ? "it reads the initial value" : "it is no block and no read of a write");
+  else events.say("choose an event first: ↑ and ↓ move the cursor");
 }
 
 // Moves an event as far as it goes; why it goes no farther stands between the two rows.
@@ -220,7 +229,7 @@ export async function swap(position, by) {
     stop = { row: win.from + edges.rowAt(win, told.stop.p) + 1, text: `stays: ${told.stop.why}` };
     render();
   }
-  select(cursor);
+  land(cursor);
 }
 
 // The mouse.
@@ -290,8 +299,11 @@ function fetchMore() {
   if (!win || pending || !wants()) return;
   pending = true;
   requestAnimationFrame(async () => {
-    do await load(); while (win && wants());
-    pending = false;
+    try {
+      do await load(); while (win && wants());
+    } finally {
+      pending = false;
+    }
   });
 }
 

@@ -2,15 +2,17 @@
 import { $, el, fill, button, many } from "./make.js";
 import { ask } from "./net.js";
 import { state, who, short, isDone, isRefused } from "./words.js";
-import { act, bad } from "./act.js";
+import { act, awaited, bad, say as tell } from "./act.js";
 import { asked } from "./dialogs.js";
 import { reveal } from "./frame.js";
-import { later } from "./queue.js";
+import { later, now } from "./queue.js";
 import * as sheet from "./sheet.js";
 import * as frontier from "./frontier.js";
 import * as schedules from "./schedules.js";
 
 const note = $("note");
+// The longest name of a schedule.
+const LONGEST = 64;
 
 function say(...parts) {
   note.hidden = false;
@@ -28,10 +30,36 @@ let none = null; // why the pair that was looked at last has no witness
 
 export const looked = () => looks;
 
+// Each look is a step of the browser's history: its back button leads to the look before, and a reload to the same one.
+function remember(look) {
+  const kept = history.state;
+  const isSame = kept && kept.schedule === look.schedule && kept.pair?.join() === look.pair?.join();
+  try {
+    if (kept === null || isSame) history.replaceState(look, "");
+    else history.pushState(look, "");
+  } catch {
+    // a browser may refuse more looks than so many in a second
+  }
+}
+
+// Looks at what the browser's history has kept.
+export async function restore(look) {
+  if (look?.pair) return openPair(look.pair);
+  if (!look?.schedule) return close();
+  const mine = ++looks;
+  await aimAt(look.aim ?? null);
+  return mine === looks ? open({ schedule: look.schedule }) : null;
+}
+
+addEventListener("popstate", (event) => {
+  if (!location.hash) now(() => restore(event.state));
+});
+
 export async function open(view, { end = true } = {}) {
   looks++;
-  none = null;
+  none = sought = null;
   state.view = view;
+  remember(view.schedule ? { schedule: view.schedule, aim: state.aim } : { pair: view.witness });
   hideNote();
   sheet.reset({ end });
   bar();
@@ -39,6 +67,7 @@ export async function open(view, { end = true } = {}) {
   if (view.schedule) await openSchedule(view.schedule);
   else {
     await sheet.load();
+    if (state.view !== view) return; // something else is open by now, and has its own list of what comes next
     frontier.show(view.pair);
     schedules.render();
   }
@@ -56,7 +85,7 @@ async function openSchedule(name) {
 // Nothing is open.
 export function close() {
   looks++;
-  none = null;
+  none = sought = null;
   state.view = null;
   sheet.reset();
   frontier.load();
@@ -66,7 +95,7 @@ export function close() {
 // The program shows the schedule once, and that has to be what is drawn.
 async function check(name) {
   const told = await ask("check", { name });
-  if (told.same !== false) return;
+  if (told.same !== false || state.view?.schedule !== name) return;
   say(bad("The program shows this schedule otherwise than it is drawn here. " +
     "Do not go by the drawing; reload the page, and report this."));
 }
@@ -85,7 +114,8 @@ export async function aimAt(pair) {
 
 export async function clearAim() {
   if (none) hideNote();
-  none = null;
+  looks++;
+  none = sought = null;
   await aimAt(null);
   frontier.load();
   sheet.load();
@@ -103,7 +133,6 @@ async function look(pair, mine) {
   reveal("centre");
   bar();
   const told = await ask("witness", { pair });
-  if (sought === pair) sought = null;
   if (mine !== looks) return;
   if (!told.none && !told.mistake && !told.gone) {
     await open({ witness: told.pair, pair: told });
@@ -112,6 +141,7 @@ async function look(pair, mine) {
   const text = await ask("explain", { pair });
   if (mine !== looks) return;
   close();
+  remember({ pair });
   none = told.none ?? told.mistake ?? told.gone;
   bar();
   say(el("pre", "explained", (text.lines ?? [none]).join("\n")));
@@ -120,13 +150,13 @@ async function look(pair, mine) {
 export const witness = () => state.aim && openPair([...state.aim]);
 
 export async function why() {
-  if (!state.aim) return;
-  if (!note.hidden) {
-    hideNote();
-    return;
-  }
-  const text = await ask("explain", { pair: state.aim });
-  say(el("pre", "explained", (text.lines ?? [text.mistake ?? text.gone]).join("\n")));
+  if (!state.aim) return null;
+  if (!note.hidden && none) return tell("its explanation is shown");
+  if (!note.hidden) return hideNote();
+  const [mine, aim] = [looks, state.aim];
+  const text = await awaited(ask("explain", { pair: aim }));
+  if (mine !== looks || aim !== state.aim) return null; // something else is looked at by now
+  return say(el("pre", "explained", (text.lines ?? [text.mistake ?? text.gone]).join("\n")));
 }
 
 // The line over the schedule, and that of the aim.
@@ -181,9 +211,10 @@ function aimLine() {
   clear.setAttribute("aria-label", "Drop the aim");
   const pair = state.aimTold.map((event, at) => [at ? " ↔ " : " ", short(event)]);
   const empty = () => inTurn("Start empty", "e", startEmpty);
-  const does = state.view?.witness ? null : none ? empty()
+  const does = state.view && sought ? el("span", "dim", "looking for its witness …")
+    : state.view?.witness ? null : none ? empty()
     : [inTurn("Witness", "w", witness), empty(), inTurn("Why", "x", why)];
-  return el("div", "line", el("span", "aim", el("span", "word", "aim"), pair), clear, el("span", "gap"), does);
+  return el("div", "line of-aim", el("span", "aim", el("span", "word", "aim"), pair), clear, el("span", "gap"), does);
 }
 
 export function bar() {
@@ -193,9 +224,12 @@ export function bar() {
 
 // Schedules are made.
 
-function freeName(base) {
-  if (!state.rows.has(base)) return base;
-  for (let at = 2; ; at++) if (!state.rows.has(`${base}.${at}`)) return `${base}.${at}`;
+function freeName(base, end = "") {
+  for (let at = 1; ; at++) {
+    const more = at === 1 ? end : `${end}.${at}`;
+    const name = base.slice(0, LONGEST - more.length) + more;
+    if (!state.rows.has(name)) return name;
+  }
 }
 
 export async function take() {
@@ -203,7 +237,7 @@ export async function take() {
   if (!view?.witness) return;
   const name = freeName(`r${view.witness.join("-")}`);
   const told = await act("enter", { view, name });
-  if (told.answer && !isRefused(told)) await open({ schedule: name });
+  if (told.answer && !isRefused(told)) await begin(name);
 }
 
 export async function startEmpty() {
@@ -211,9 +245,17 @@ export async function startEmpty() {
   await make("new", { name: freeName(`r${state.aim.join("-")}`) });
 }
 
+// Opens a schedule that was made. Who pressed a button for it goes on with what comes next: Enter is not to press that
+// button again.
+async function begin(name) {
+  await open({ schedule: name });
+  const at = document.activeElement;
+  if (!at || at === document.body || at.closest("button")) $("next-list").focus();
+}
+
 // Makes a schedule and opens it.
 async function make(what, given) {
-  if (isDone(await act(what, given))) await open({ schedule: given.to ?? given.name });
+  if (isDone(await act(what, given))) await begin(given.to ?? given.name);
 }
 
 export async function fresh() {
@@ -225,20 +267,24 @@ export async function branch() {
   const name = state.view?.schedule;
   const row = state.rows.get(name);
   if (!row) return;
-  const event = sheet.cursorEvent();
-  const length = event ? event.p + 1 : row.length;
-  const to = await asked(`Branch ${name} after its first ${many(length, "event")}`, freeName(`${name}.b`),
-    event ? `up to and with event ${event.e}, where the cursor is` : "all of it; move the cursor to branch earlier");
+  const at = sheet.cursorRow();
+  const length = at ? at.p + (at.b ?? 1) : row.length;
+  const last = at?.b ? at.last.e : at?.e;
+  const to = await asked(`Branch ${name} after its first ${many(length, "event")}`, freeName(name, ".b"),
+    at ? `up to and with event ${last}, where the cursor is` : "all of it; move the cursor to branch earlier");
   if (to) later(() => make("branch", { name, length, to }));
 }
 
 export async function drop() {
   const name = state.view?.schedule;
-  if (name && isDone(await act("drop", { name }))) close();
+  if (!name || !isDone(await act("drop", { name }))) return;
+  close();
+  remember({});
 }
 
 export async function adopt(entry) {
-  const base = state.view?.schedule ?? freeName(`r${entry.pair.join("-")}`);
+  const open = state.view?.schedule;
+  const base = state.rows.has(open) ? open : freeName(`r${entry.pair.join("-")}`);
   const name = await asked(`Adopt proposal p${entry.p} into`, base, "a new name makes a new schedule");
   if (name) later(() => adoptInto(name, entry));
 }
@@ -247,5 +293,5 @@ async function adoptInto(name, entry) {
   if (!state.rows.has(name) && !isDone(await act("new", { name }))) return;
   if (!isDone(await act("adopt", { name, proposal: entry.p }))) return;
   await aimAt(entry.pair);
-  await open({ schedule: name });
+  await begin(name);
 }

@@ -22,10 +22,18 @@ function inParts(kind, text, folder = 0, calls = null) {
 
 export const nameOf = (text, kind = "name") => inParts(kind, text);
 
+// Where a name stands among others in a line, so many of its signs are shown; a title has all of them.
+const [THREAD, NAME] = [20, 60];
+function cut(text, most) {
+  const signs = [...text];
+  return signs.length > most ? `${signs.slice(0, most - END - 1).join("")}…${signs.slice(-END).join("")}` : text;
+}
+
 export const threadName = (thread) => state.threads[thread]?.[0] ?? String(thread);
+export const threadShort = (thread) => cut(threadName(thread), THREAD);
 export const clientName = (client) => (client === state.client ? "you" : state.names[client] ?? String(client));
 export function tag(thread) {
-  const made = nameOf(threadName(thread), `thread ${hue(thread)}`);
+  const made = nameOf(threadShort(thread), `thread ${hue(thread)}`);
   made.title = threadName(thread);
   return made;
 }
@@ -37,8 +45,12 @@ export function who(client) {
 }
 
 export const operation = (event) => [el("span", `op op-${event.o}`, event.o), " ", nameOf(event.n)];
-export const short = (event) =>
-  el("span", "short", el("span", "num", String(event.e)), " ", tag(event.t), " ", operation(event));
+export function short(event) {
+  const made = el("span", "short", el("span", "num", String(event.e)), " ", tag(event.t), " ",
+    operation({ ...event, n: cut(event.n, NAME) }));
+  if (event.n.length > NAME) made.title = event.n;
+  return made;
+}
 
 const DOES = { r: "reads", w: "writes", acq: "takes lock", rel: "releases lock", fork: "forks", join: "joins" };
 
@@ -68,8 +80,8 @@ const notBegun = (why) => ["not begun: ", why.about ? short(why.about) : "its fo
 function lockHeld(why, event) {
   const holder = why.said.replace(/^25 lock held by /, "");
   const since = why.about ? [" since ", el("span", "num", String(why.about.e))] : null;
-  const thread = why.about ? tag(why.about.t) : el("bdi", "", holder);
-  return ["lock ", el("bdi", "name", event.n), " held by ", thread, since];
+  const thread = why.about ? tag(why.about.t) : el("bdi", "", cut(holder, THREAD));
+  return ["lock ", el("bdi", "name", cut(event.n, THREAD)), " held by ", thread, since];
 }
 
 function wrongWriter(why) {
@@ -83,13 +95,13 @@ function wrongWriter(why) {
 
 function joinEarly(why, event) {
   const rest = why.left ? `: ${many(why.left, "event")} of it to come` : ": it is not forked";
-  return ["waits for ", el("bdi", "name", why.joined ?? event.n), rest];
+  return ["waits for ", el("bdi", "name", cut(why.joined ?? event.n, THREAD)), rest];
 }
 
 // What would help: the run of another thread to one of its events.
 export function help(why) {
   if (why?.help === undefined || why.steps <= 0) return null;
-  return { until: why.help, text: `run ${threadName(why.helper)} to ${why.help} (${why.steps})` };
+  return { until: why.help, text: `run ${threadShort(why.helper)} to ${why.help} (${why.steps})` };
 }
 
 const REFUSALS = {

@@ -6,6 +6,7 @@ batches that are refused, of `witness`. So a screen that asks questions is teste
 The lines that came are kept in the file `asked`.
 """
 
+import itertools
 import os
 import subprocess
 import sys
@@ -29,7 +30,8 @@ class Session:
 
     def length(self):
         with open(self.log, "rb") as file:
-            return sum(line.startswith(b" ") for line in file)
+            next(file)
+            return sum(1 for _ in itertools.takewhile(lambda line: line.startswith(b" "), file))
 
     def answer(self, line):
         words = line.split()

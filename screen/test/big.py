@@ -18,10 +18,20 @@ SEEN = "[...document.querySelectorAll('.row')].some((r) => r.offsetTop <= 20000 
 async def batches(program, count):
     """Adds so many events in the order of the trace, as another client."""
     process = await asyncio.create_subprocess_exec(
-        program, "session", "trace", "log", "--client", "3", stdin=asyncio.subprocess.PIPE,
-        stdout=asyncio.subprocess.PIPE, limit=1 << 24)
-    lines = ["batch " + " ; ".join(f"add A {event}" for event in range(start, min(start + 64, count)))
-             for start in range(0, count, 64)]
+        program,
+        "session",
+        "trace",
+        "log",
+        "--client",
+        "3",
+        stdin=asyncio.subprocess.PIPE,
+        stdout=asyncio.subprocess.PIPE,
+        limit=1 << 24,
+    )
+    lines = [
+        "batch " + " ; ".join(f"add A {event}" for event in range(start, min(start + 64, count)))
+        for start in range(0, count, 64)
+    ]
     out, _ = await process.communicate(("\n".join(lines) + "\n").encode())
     assert b"refused" not in out
 

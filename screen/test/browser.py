@@ -2,6 +2,7 @@
 
 import asyncio
 import base64
+import contextlib
 import json
 import os
 import re
@@ -12,8 +13,17 @@ import time
 import aiohttp
 
 KEYS = {
-    "Enter": 13, "Backspace": 8, "Escape": 27, "ArrowUp": 38, "ArrowDown": 40, "ArrowLeft": 37, "ArrowRight": 39,
-    "F6": 117, "Home": 36, "End": 35, "Tab": 9,
+    "Enter": 13,
+    "Backspace": 8,
+    "Escape": 27,
+    "ArrowUp": 38,
+    "ArrowDown": 40,
+    "ArrowLeft": 37,
+    "ArrowRight": 39,
+    "F6": 117,
+    "Home": 36,
+    "End": 35,
+    "Tab": 9,
 }
 ALT, CONTROL, SHIFT = 1, 2, 8
 # A letter while the caps lock is on: it comes as a capital, and no key is held.
@@ -26,6 +36,9 @@ PRESSES = 100
 LOOK = 6
 # So much time lies between the presses of a double click, in seconds.
 DOUBLE = 0.05
+# How long the browser has to end, in seconds.
+GRACE = 60
+CRASHED = "the page ended: the browser ran out of memory, or failed"
 # How much slower than it could a page works, so that tests are tried as on a slow machine; and up to how many
 # milliseconds later than it could a message comes to the page.
 SLOWER, LATER = float(os.environ.get("SLOWER", 1)), int(os.environ.get("LATER", 0))
@@ -91,17 +104,38 @@ class Browser:
                 return await asyncio.wait_for(self._start_once(), PATIENCE)
             except (asyncio.TimeoutError, OSError, aiohttp.ClientError) as why:
                 failed = why
-                self.process.kill()
-                await self.process.wait()
-                shutil.rmtree(self.folder, ignore_errors=True)
+                await self._stop()
         raise failed
+
+    async def _stop(self):
+        """Ends the process and removes its folder. Its own processes may have its pipe for longer than it lives."""
+        for end in (self.process.terminate, self.process.kill):
+            if self.process.returncode is None:
+                end()
+            with contextlib.suppress(asyncio.TimeoutError):
+                await asyncio.wait_for(self.process.wait(), GRACE)
+                break
+        shutil.rmtree(self.folder, ignore_errors=True)
 
     async def _start_once(self):
         self.folder = tempfile.mkdtemp(prefix="chromium-")
         self.process = await asyncio.create_subprocess_exec(
-            chromium(), "--headless=new", "--no-sandbox", "--disable-gpu", "--no-first-run", "--disable-dev-shm-usage",
-            "--remote-debugging-port=0", f"--user-data-dir={self.folder}", "about:blank",
-            stdout=asyncio.subprocess.DEVNULL, stderr=asyncio.subprocess.PIPE)
+            chromium(),
+            "--headless=new",
+            "--no-sandbox",
+            "--disable-gpu",
+            "--no-first-run",
+            "--disable-dev-shm-usage",
+            # A mouse is there: a pointer that is fine, and that hovers.
+            "--blink-settings=primaryHoverType=2,availableHoverTypes=2,primaryPointerType=4,availablePointerTypes=4",
+            "--disable-background-timer-throttling",
+            "--disable-renderer-backgrounding",
+            "--remote-debugging-port=0",
+            f"--user-data-dir={self.folder}",
+            "about:blank",
+            stdout=asyncio.subprocess.DEVNULL,
+            stderr=asyncio.subprocess.PIPE,
+        )
         address = None
         while not address:
             line = (await self.process.stderr.readline()).decode()
@@ -119,22 +153,37 @@ class Browser:
             pass
 
     async def _read(self):
-        async for message in self.socket:
-            told = json.loads(message.data)
-            if "id" in told:
-                self.waiting.pop(told["id"]).set_result(told)
-            elif told.get("sessionId") in self.pages:
-                self.pages[told["sessionId"]].take(told["method"], told["params"])
-        self.is_dead = True
-        for future in self.waiting.values():
-            future.set_exception(ConnectionResetError("the browser ended"))
+        try:
+            async for message in self.socket:
+                told = json.loads(message.data)
+                if "id" in told:
+                    self._settle(told["id"], told)
+                elif told.get("sessionId") in self.pages:
+                    self.pages[told["sessionId"]].take(told["method"], told["params"])
+        finally:
+            self.is_dead = True
+            self.fail("the browser ended")
+
+    def _settle(self, number, told):
+        _, future = self.waiting.pop(number, (None, None))
+        if future and not future.done():  # else nobody waits for it any longer
+            future.set_result(told)
+
+    def fail(self, why, session=None):
+        """What waits for an answer, of one page or of all, gets none."""
+        for asked, future in self.waiting.values():
+            if session in (None, asked) and not future.done():
+                future.set_exception(ConnectionResetError(why))
 
     async def call(self, method, session=None, **params):
+        if self.is_dead:
+            raise ConnectionResetError("the browser ended")
         self.number += 1
         message = {"id": self.number, "method": method, "params": params}
         if session:
             message["sessionId"] = session
-        future = self.waiting[self.number] = asyncio.get_running_loop().create_future()
+        future = asyncio.get_running_loop().create_future()
+        self.waiting[self.number] = (session, future)
         await self.socket.send_str(json.dumps(message))
         told = await asyncio.wait_for(future, PATIENCE)
         if "error" in told:
@@ -147,7 +196,7 @@ class Browser:
         target = (await self.call("Target.createTarget", url="about:blank", browserContextId=context))["targetId"]
         session = (await self.call("Target.attachToTarget", targetId=target, flatten=True))["sessionId"]
         page = self.pages[session] = Page(self, session, context)
-        for domain in ("Page", "Runtime", "Log", "Network"):
+        for domain in ("Page", "Runtime", "Log", "Network", "Inspector"):
             await page.call(f"{domain}.enable")
         await page.size(width, height)
         scheme = {"name": "prefers-color-scheme", "value": "dark" if dark else "light"}
@@ -169,17 +218,14 @@ class Browser:
         self.reader.cancel()
         await self.socket.close()
         await self.client.close()
-        if self.process.returncode is None:
-            self.process.terminate()
-        await self.process.wait()
+        await self._stop()
         self.drain.cancel()
-        shutil.rmtree(self.folder, ignore_errors=True)
 
 
 class Page:
     def __init__(self, browser, session, context):
         self.browser, self.session, self.context = browser, session, context
-        self.is_closed = False
+        self.is_closed = self.is_crashed = False
         self.faults, self.requests = [], []
 
     def take(self, method, given):
@@ -195,13 +241,19 @@ class Page:
             self.requests.append(given["request"]["url"])
         elif method == "Network.webSocketCreated":
             self.requests.append(given["url"])
+        elif method == "Inspector.targetCrashed":
+            self.is_crashed = True
+            self.browser.fail(CRASHED, self.session)
 
     async def call(self, method, **params):
+        if self.is_crashed:
+            raise ConnectionResetError(CRASHED)
         return await self.browser.call(method, self.session, **params)
 
     async def size(self, width, height):
-        await self.call("Emulation.setDeviceMetricsOverride", width=width, height=height, deviceScaleFactor=1,
-                        mobile=False)
+        await self.call(
+            "Emulation.setDeviceMetricsOverride", width=width, height=height, deviceScaleFactor=1, mobile=False
+        )
 
     async def open(self, url):
         await self.call("Page.navigate", url=url)
@@ -244,7 +296,9 @@ class Page:
         found = await self.run(
             f"(() => {{ const e = document.querySelectorAll({json.dumps(selector)})[{at}]; if (!e) return null; "
             "e.scrollIntoView({block: 'nearest'}); const b = e.getBoundingClientRect(); window.aim = e; "
-            "return [b.left + Math.min(b.width / 2, 60), b.top + b.height / 2]; })()")
+            "window.struck = false; "
+            "return [b.left + Math.min(b.width / 2, 60), b.top + b.height / 2]; })()"
+        )
         assert found, f"nothing is {selector}"
         return tuple(found)
 

@@ -2,19 +2,21 @@
 
 import asyncio
 import os
-import signal
 import time
 
 import traces
-from browser import PATIENCE, Browser
+from browser import ALT, PATIENCE, Browser
 from judged import same
-from live import children, session
+from live import children, kill_sessions, session
+from sight import HOLD
 from stage import LENGTH, NEXT, ROWS, SAID, Screen, comes, focus, is_clean, logged, new, press
 
 OPEN = "document.querySelector('#bar h2').textContent"
 EMPTY = "document.querySelector('#{} .empty')?.textContent"
-TOP = "(() => { const s = document.getElementById('stage').getBoundingClientRect(); " \
+TOP = (
+    "(() => { const s = document.getElementById('stage').getBoundingClientRect(); "
     "return document.elementFromPoint(s.left + 60, s.top + 30)?.closest('.row')?.dataset.p; })()"
+)
 
 
 async def test_a_trace_of_no_events(program):
@@ -147,8 +149,10 @@ async def test_files_that_are_none(program):
             await page.until("document.getElementById('keys').getBoundingClientRect().right <= innerWidth")
             os.truncate("log", 85)  # in its one entry, which a session that begins anew does not bring back
             await page.until("document.getElementById('live').textContent.includes('shorter than it was')")
-            said = "(() => { const b = document.querySelector('#live .bad').getBoundingClientRect(); " \
+            said = (
+                "(() => { const b = document.querySelector('#live .bad').getBoundingClientRect(); "
                 "return b.right <= document.getElementById('link').getBoundingClientRect().left && b.height > 20; })()"
+            )
             same(await page.run(said), True)  # all of it is in sight
             is_clean(page, screen)
         for path in ("log.names", "log"):
@@ -177,7 +181,7 @@ async def test_the_ends_of_a_long_list_of_races(program):
 
 
 async def shows_the_log(page):
-    """Waits until the page says how many events the log leaves; a session that begins may end what one left."""
+    """Waits until the page says how many events the log leaves."""
     end = time.monotonic() + PATIENCE
     while time.monotonic() < end:
         lines = logged()
@@ -197,8 +201,7 @@ async def test_a_session_killed_in_a_run(program):
         before = await page.run(SAID)
         await page.key("r")
         await comes(lambda: len(logged()) > 3)
-        for child in children(screen.process):
-            os.kill(child, signal.SIGKILL)
+        await kill_sessions(screen)
         await page.until(f"{SAID} !== {before!r}")
         await shows_the_log(page)
         await press(page, "Backspace")
@@ -207,6 +210,27 @@ async def test_a_session_killed_in_a_run(program):
         same(logged()[-1], "1 back A")
         await shows_the_log(page)
         await page.until(f"{NEXT} === 1")
+        is_clean(page, screen)
+
+
+async def test_what_a_killed_session_left(program):
+    """Lines behind a closed gate do not count: not for the page, and the next session writes over them."""
+    traces.write("trace", traces.COUNT)
+    async with Screen(program, "trace", "log") as screen, Browser() as browser:
+        page = await browser.page(screen.link)
+        await new(page, 3)
+        await press(page, "1", "1")
+        killed = await kill_sessions(screen)
+        await comes(lambda: not set(killed).intersection(children(screen.process)))
+        with open("log", "r+b") as file:
+            file.seek(-1, os.SEEK_END)
+            file.write(b"!1 add A 2\n 1 add A 3\n")
+        await shows_the_log(page)
+        await press(page, "2")
+        if "the program ended" in await page.run(SAID):  # the screen did not know of it yet
+            await press(page, "2")
+        await page.until(f"{ROWS} === 3")
+        same(logged(), ["1 new A", "1 add A 0", "1 add A 1", "1 add A 2"])
         is_clean(page, screen)
 
 
@@ -297,8 +321,10 @@ async def test_another_size_in_the_midst(program):
         await page.size(1440, 900)
         await page.until(f"{LENGTH} === '16 events' && {ROWS} === 16")
         same(sorted(logged()[1:]), sorted(f"1 add A {event}" for event in range(16)))
-        foot = "Math.abs(document.querySelector('.row[data-p=\"15\"]').getBoundingClientRect().bottom - " \
+        foot = (
+            "Math.abs(document.querySelector('.row[data-p=\"15\"]').getBoundingClientRect().bottom - "
             "document.getElementById('stage').getBoundingClientRect().bottom) < 12"
+        )
         await page.until(foot)
         is_clean(page, screen)
 
@@ -318,4 +344,194 @@ async def test_reading_above_while_another_adds(program):
         await page.until(f"{LENGTH} === '240 events'")
         await page.until("document.getElementById('next-list').dataset.length === '240'")
         same(await page.run(TOP), before)
+        is_clean(page, screen)
+
+
+async def test_a_list_of_races_that_was_scrolled(program):
+    """It shows other kinds, and the answer to another filter, from their first on, and is never empty."""
+    lines = [f"T{thread}|w(v{at})|{thread}.c:{at}\n" for thread in (1, 2) for at in range(400)]
+    traces.write("trace", "".join(lines))
+    async with Screen(program, "trace", "log") as screen, Browser() as browser:
+        page = await browser.page("about:blank")
+        await page.call("Page.addScriptToEvaluateOnNewDocument", source=HOLD)
+        await page.open(screen.link)
+        await page.until("document.querySelector('.chip')?.textContent === '400 races'")
+        first = "[...document.querySelectorAll('.race')].map((r) => r.getAttribute('aria-posinset'))[0]"
+        there = "!!document.querySelector('.race[aria-posinset=\"203\"]')"
+        scroll = "document.getElementById('race-list').scrollTop = 200 * 58"
+        await page.run(scroll)
+        await page.until(there)
+        await page.click(".chip", 1)
+        await page.until(f"{first} === '1'")
+        await page.run(scroll)
+        await page.until(there)
+        await page.run("document.getElementById('race-filter').focus()")
+        await page.type("v")
+        await page.until(f"{first} === '1' && document.getElementById('race-count').textContent === '400 match'")
+        await page.run(scroll)
+        await page.until(there)
+        await page.run("window.was = document.getElementById('live').textContent; window.socket.close()")
+        await page.until("document.getElementById('live').textContent !== window.was")
+        await page.until("document.getElementById('live').textContent === window.was")
+        await page.until(there)
+        same(await page.run("document.getElementById('race-list').scrollTop"), 200 * 58)
+        is_clean(page, screen)
+
+
+async def test_keys_beyond_what_was_fetched(program):
+    """Races are fetched eighty at a time; who walks down goes on."""
+    lines = [f"T{thread}|w(v{at})|{thread}.c:{at}\n" for thread in (1, 2) for at in range(200)]
+    traces.write("trace", "".join(lines))
+    async with Screen(program, "trace", "log") as screen, Browser() as browser:
+        page = await browser.page(screen.link)
+        await page.until("document.querySelector('.chip')?.textContent === '200 races'")
+        await focus(page, "race-list")
+        chosen = "document.querySelector('.race.on')?.getAttribute('aria-posinset')"
+        for at in range(1, 101):
+            await page.key("ArrowDown")
+            await page.until(f"{chosen} === '{at}'")
+        is_clean(page, screen)
+
+
+async def test_an_undo_of_very_many_entries(program):
+    """More come back at once than the page is told: what it has of them is not shown as if it stood."""
+    traces.write("trace", "".join(f"T1|w(a{at % 9})|a:{at}\n" for at in range(60_000)))
+    async with Screen(program, "trace", "log") as screen, Browser() as browser:
+        page = await browser.page(screen.link)
+        await new(page, 1)
+        await page.key("r")
+        await page.until(f"{LENGTH} === '60,000 events'")
+        await page.until("document.querySelector('#said').textContent.includes('entries 1–938')")
+        await press(page, "u")  # a run is one step
+        same((await page.run(SAID))[:21], "took back 938 entries")
+        await page.until(f"{LENGTH} === '0 events'")
+        same(logged()[-1], "1 undo 1")
+        await press(page, "u")
+        same(logged()[-1], "1 undo 0")
+        older = "[...document.querySelectorAll('#feed button')].find((b) => b.textContent === 'older')"
+        link = "[...document.querySelectorAll('.entry a')].find((a) => a.textContent === '450')"
+        for _ in range(2):
+            before = await page.run("document.querySelectorAll('.entry').length")
+            await page.run(f"{older}.click()")
+            await page.until(f"document.querySelectorAll('.entry').length > {before}")
+        await page.run(f"{link}.click()")
+        await page.until("!!document.querySelector('.entry.flash')")
+        same(await page.run("document.querySelector('.entry.flash').classList.contains('dead')"), True)
+        is_clean(page, screen)
+
+
+PROPOSALS = "[...document.querySelectorAll('.proposal')].map((p) => p.textContent.match(/p\\d+/)[0]).join()"
+
+
+async def test_proposals_of_a_long_log(program):
+    """The latest are listed, whatever the feed was scrolled to, and each can be adopted from the feed."""
+    traces.write("trace", traces.COUNT)
+    proposal = "propose 7 12 0 2 3 4 5 6 1 8 9 10 11\n"
+    await session(program, 2, proposal * 9 + "new A\n" + "add A 0\nback A\n" * 200 + proposal * 2)
+    async with Screen(program, "trace", "log") as screen, Browser() as browser:
+        page = await browser.page(screen.link)
+        latest = "p10,p9,p8,p7,p6,p5"
+        await page.until(f"{PROPOSALS} === '{latest}'")
+        older = "[...document.querySelectorAll('#feed button')].find((b) => b.textContent === 'older')"
+        for _ in range(2):
+            before = await page.run("document.getElementById('feed').textContent.length")
+            await page.run(f"{older}.click()")
+            await page.until(f"document.getElementById('feed').textContent.length > {before}")
+        same(await page.run(PROPOSALS), latest)
+        link = "[...document.querySelectorAll('.entry a')].find((a) => a.textContent === 'p3')"
+        await page.run(f"{link}.scrollIntoView({{block: 'center'}}); {link}.id = 'third'")
+        await page.click("#third")
+        await page.until("document.getElementById('ask').open")
+        await page.run("document.getElementById('ask-input').select()")
+        await page.type("third")
+        await page.key("Enter")
+        await page.until(f"{OPEN} === 'third' && {LENGTH} === '11 events'")
+        same(logged()[-2:], ["1 new third", "1 adopt third 3"])
+        is_clean(page, screen)
+
+
+async def test_an_event_that_is_moved_into_a_block(program):
+    """The cursor goes with it, and the next key says what it is on."""
+    lines = [f"T0|w(a)|a:{at}\n" for at in range(10)] + ["T1|w(b)|b:1\n", "T0|w(a)|a:10\n"]
+    lines += [f"T1|w(b)|b:{at}\n" for at in range(9)] + ["T0|w(a)|a:11\n"]
+    traces.write("trace", "".join(lines))
+    await session(program, 1, "new A\n" + "".join(f"add A {event}\n" for event in range(22)))
+    async with Screen(program, "trace", "log") as screen, Browser() as browser:
+        page = await browser.page(screen.link)
+        await page.until(f"{LENGTH} === '22 events' && !!document.querySelector('.row[data-p=\"11\"]')")
+        await page.click(".row[data-p='11'] .info")
+        await focus(page, "stage")
+        await page.key("ArrowUp", ALT)
+        await page.until("document.querySelector('.row.on')?.dataset.block === '11'")
+        await page.key("ArrowUp", ALT)
+        await page.until(f"{SAID} === 'a block moves no further: Enter opens it'")
+        await page.key("b")
+        await page.until("document.getElementById('ask-label').textContent === 'Branch A after its first 11 events'")
+        await page.key("Escape")
+        same(logged()[-1], "1 swap A 10")
+        is_clean(page, screen)
+
+
+async def test_several_pairs_side_by_side(program):
+    """A click leads from one to the next, and p proposes the one that is shown."""
+    traces.write("trace", "T1|w(x)|a:1\nT2|w(x)|b:1\nT3|w(x)|c:1\n")
+    async with Screen(program, "trace", "log") as screen, Browser() as browser:
+        page = await browser.page(screen.link)
+        await new(page, 3)
+        pair = "[...document.querySelectorAll('#pair .access .num')].map((e) => e.textContent).join()"
+        for shown in ("0,1", "0,2", "1,2", "0,1"):
+            await page.until(f"{pair} === '{shown}'")
+            same(await page.run("document.querySelector('#pair .do button').textContent"), "and 2 pairs more")
+            await press(page, "p")
+            await page.click("#pair .do button")
+        same(logged(), ["1 new A", "1 propose 0 1", "1 propose 0 2", "1 propose 1 2", "1 propose 0 1"])
+        is_clean(page, screen)
+
+
+async def test_a_witness_that_is_kept_no_longer(program):
+    """Sixteen are kept for all tabs. One that is looked at longer is looked for again."""
+    lines = [f"T{thread}|w(v{at})|{thread}.c:{at}\n" for thread in (1, 2) for at in range(60)]
+    traces.write("trace", "".join(lines))
+    async with Screen(program, "trace", "log") as screen, Browser() as browser:
+        page = await browser.page("about:blank", 1440, 600)
+        await page.call("Page.addScriptToEvaluateOnNewDocument", source=HOLD)
+        await page.open(screen.link)
+        await page.until("document.querySelector('.chip')?.textContent === '60 races'")
+        await focus(page, "race-list")
+        await page.key("End")
+        await page.until(f"{OPEN} === 'Witness' && {LENGTH}.startsWith('118 events') && {ROWS} > 0")
+        await page.click("#link")
+        other = await browser.page(await page.until("document.querySelector('#help input.link')?.value"))
+        await page.click("#help button")
+        await other.until("document.querySelectorAll('.race').length > 5")
+        await focus(other, "race-list")
+        chosen = "document.querySelector('.race.on')?.getAttribute('aria-posinset')"
+        opened = "[...document.querySelectorAll('#bar .aim .short .num')].map((e) => e.textContent).join()"
+        for at in range(1, 19):
+            await other.key("ArrowDown")
+            await other.until(f"{chosen} === '{at}' && {opened} === '{at - 1},{at + 59}'")
+            await other.until(f"{OPEN} === 'Witness' && {LENGTH}.startsWith('{2 * at - 2} events')")
+        before = await page.run("window.views")
+        await page.click("#space .block")  # this asks for rows in vain, and then for those of the new witness
+        await page.until(f"window.views >= {before + 2} && owed === 0 && {OPEN} === 'Witness' && {ROWS} > 0")
+        await focus(page, "stage")
+        await page.key("Home")
+        await page.key("Enter")
+        await page.until(f"{ROWS} > 20")
+        is_clean(page, screen)
+        is_clean(other, screen)
+
+
+async def test_races_that_are_known(program):
+    """They are left out of the list, and counted."""
+    traces.write("trace", "T1|w(x)|one.c:1\nT1|w(y)|one.c:2\nT2|w(x)|two.c:5\nT2|w(y)|two.c:6\n")
+    traces.write("old", "race 0 2 candidate\n  T7|w(x)|two.c:5\n  T8|w(x)|one.c:1\n")
+    count = "document.getElementById('race-count').textContent"
+    async with Screen(program, "trace", "log", "--known", "old") as screen, Browser() as browser:
+        page = await browser.page(screen.link)
+        await page.until(f"document.querySelectorAll('.race').length === 1 && {count} === '1 known left out'")
+        same(await page.run("document.querySelector('.chip').textContent"), "1 race")
+        await page.key("/")
+        await page.type("one.c:1")
+        await page.until(f"{count} === '0 match, 1 known left out'")
         is_clean(page, screen)

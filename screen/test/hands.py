@@ -125,10 +125,18 @@ async def test_keys_typed_ahead(program):
         for key in ("F6", "ArrowDown", "e", "t", "2", "t", "3", "t", "p"):
             await page.key(key)
         await comes(lambda: logged()[-1:] and logged()[-1].startswith("1 propose"))
-        same(logged(), [
-            "1 new r7-12", "1 batch add r7-12 0 ; add r7-12 1", "1 add r7-12 2",
-            "1 batch add r7-12 3 ; add r7-12 4 ; add r7-12 5 ; add r7-12 6", "1 add r7-12 8",
-            "1 batch add r7-12 9 ; add r7-12 10 ; add r7-12 11", "1 propose 7 12 0 1 2 3 4 5 6 8 9 10 11"])
+        same(
+            logged(),
+            [
+                "1 new r7-12",
+                "1 batch add r7-12 0 ; add r7-12 1",
+                "1 add r7-12 2",
+                "1 batch add r7-12 3 ; add r7-12 4 ; add r7-12 5 ; add r7-12 6",
+                "1 add r7-12 8",
+                "1 batch add r7-12 9 ; add r7-12 10 ; add r7-12 11",
+                "1 propose 7 12 0 1 2 3 4 5 6 8 9 10 11",
+            ],
+        )
         is_clean(page, screen)
 
 
@@ -163,4 +171,37 @@ async def test_double_clicks(program):
         await page.click("#ask-yes", times=2)
         await page.until(f"{OPEN} === 'A'")
         same(logged()[3:], ["1 new A"])
+        is_clean(page, screen)
+
+
+async def test_enter_after_a_click(program):
+    """Who makes a schedule by a button goes on with what comes next. In the list of races Enter opens one again."""
+    traces.write("trace", traces.COUNT)
+    async with Screen(program, "trace", "log") as screen, Browser() as browser:
+        page = await browser.page(screen.link)
+        await page.until("document.querySelectorAll('.race').length === 1")
+        await page.click("#new")
+        await page.until("document.getElementById('ask').open")
+        await page.key("Enter")
+        await page.until(f"{OPEN} === 'A' && document.activeElement.id === 'next-list'")
+        await press(page, "Enter")
+        await page.click("#bar button")  # branch
+        await page.until("document.getElementById('ask').open")
+        await page.key("Enter")
+        await page.until(f"{OPEN} === 'A.b' && document.activeElement.id === 'next-list'")
+        await press(page, "Enter")
+        await page.click(".race")
+        await page.until(f"{OPEN} === 'Witness'")
+        await page.click("#bar button", 1)  # start empty
+        await page.until(f"{OPEN} === 'r7-12' && {NEXT_LENGTH} === '0' && document.activeElement.id === 'next-list'")
+        await press(page, "Enter")
+        same(logged(), ["1 new A", "1 add A 0", "1 branch A 1 A.b", "1 add A.b 1", "1 new r7-12", "1 add r7-12 0"])
+        await focus(page, "race-list")
+        await page.key("Enter")
+        await page.until(f"{OPEN} === 'Witness'")
+        await page.key("Enter")
+        await page.until(f"{OPEN} === 'r7-12.2' && document.activeElement.id === 'race-list'")
+        await focus(page, "row-list")
+        await page.key("Enter")
+        await page.until("document.activeElement.id === 'next-list'")
         is_clean(page, screen)

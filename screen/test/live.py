@@ -16,16 +16,24 @@ AWAY = "[...document.querySelectorAll('.away-line')].map((l) => l.textContent.tr
 
 async def session(program, client, text):
     process = await asyncio.create_subprocess_exec(
-        program, "session", "trace", "log", "--client", str(client), stdin=asyncio.subprocess.PIPE,
-        stdout=asyncio.subprocess.PIPE)
+        program,
+        "session",
+        "trace",
+        "log",
+        "--client",
+        str(client),
+        stdin=asyncio.subprocess.PIPE,
+        stdout=asyncio.subprocess.PIPE,
+    )
     return (await process.communicate(text.encode()))[0].decode()
 
 
 async def test_two_analysts(program):
     """Each sees the other's steps; an undo that another's entry rests on names that entry."""
     traces.write("trace", traces.COUNT)
-    async with Screen(program, "trace", "log") as one, Screen(program, "trace", "log", "--client", "2") as two, \
-            Browser() as browser:
+    async with Screen(program, "trace", "log") as one, Screen(
+        program, "trace", "log", "--client", "2"
+    ) as two, Browser() as browser:
         page, other = await browser.page(one.link), await browser.page(two.link)
         await other.until(TITLE)
         await new(page, 3)
@@ -61,8 +69,9 @@ async def test_two_analysts(program):
 async def test_both_type_at_once(program):
     """Two analysts add to one schedule at once: both pages show what the program shows."""
     traces.write("trace", "".join(f"T{thread}|w(a{thread})|a:{at}\n" for at in range(40) for thread in (1, 2)))
-    async with Screen(program, "trace", "log") as one, Screen(program, "trace", "log", "--client", "2") as two, \
-            Browser() as browser:
+    async with Screen(program, "trace", "log") as one, Screen(
+        program, "trace", "log", "--client", "2"
+    ) as two, Browser() as browser:
         page, other = await browser.page(one.link), await browser.page(two.link)
         await other.until(TITLE)
         await new(page, 2)
@@ -99,8 +108,11 @@ async def test_what_others_did_meanwhile(program):
             page = await browser.page(screen.link)
             await new(page, 3)
             await comes(lambda: looked_at() == 1)
-        await session(program, 7, "add A 0\nadd A 1\nbatch branch A 2 B ; add B 2\nback A\n"
-                                  "propose 7 12 0 2 3 4 5 6 1 8 9 10 11\n")
+        await session(
+            program,
+            7,
+            "add A 0\nadd A 1\nbatch branch A 2 B ; add B 2\nback A\n" "propose 7 12 0 2 3 4 5 6 1 8 9 10 11\n",
+        )
         async with Screen(program, "trace", "log") as screen:
             page = await browser.page(screen.link)
             await page.until(f"{AWAY} === '7 1 proposal; 7 A +2, −1; 7 B made, +1'")
@@ -119,22 +131,28 @@ def children(process):
                     yield child
 
 
+async def kill_sessions(screen):
+    """Kills them, and gives their numbers. The list of children may miss one while another of them ends."""
+    killed = await comes(lambda: list(children(screen.process)))
+    for child in killed:
+        with contextlib.suppress(ProcessLookupError):
+            os.kill(child, signal.SIGKILL)
+    return killed
+
+
 async def test_a_session_that_dies_comes_back(program):
     traces.write("trace", traces.COUNT)
     async with Screen(program, "trace", "log") as screen, Browser() as browser:
         page = await browser.page(screen.link)
         await new(page, 3)
         await press(page, "1")
-        killed = list(children(screen.process))
-        assert killed, "there is no session"
-        for child in killed:
-            os.kill(child, signal.SIGKILL)
-        await comes(lambda: not any(os.path.exists(f"/proc/{child}") for child in killed))
+        killed = await kill_sessions(screen)
+        await comes(lambda: not set(killed).intersection(children(screen.process)))
         await press(page, "1")
         if "the program ended" in await page.run(SAID):  # the screen did not know of it yet
             await press(page, "1")
         await page.until(f"{ROWS} === 2")
-        assert list(children(screen.process)) != killed
+        assert await comes(lambda: list(children(screen.process))) != killed
         same(logged(), ["1 new A", "1 add A 0", "1 add A 1"])
         is_clean(page, screen)
 
@@ -175,10 +193,12 @@ async def test_a_trace_that_is_refused(program):
 
 
 # On a machine that is very busy a page may name its key too late. What the page said meanwhile is kept in `lives`.
-LATE = "const send = WebSocket.prototype.send; let first = null; window.lives = ''; " \
-    "WebSocket.prototype.send = function (text) { first ??= this; if (this !== first) send.call(this, text); }; " \
-    "new MutationObserver(() => { window.lives += document.getElementById('live')?.textContent; })" \
+LATE = (
+    "const send = WebSocket.prototype.send; let first = null; window.lives = ''; "
+    "WebSocket.prototype.send = function (text) { first ??= this; if (this !== first) send.call(this, text); }; "
+    "new MutationObserver(() => { window.lives += document.getElementById('live')?.textContent; })"
     ".observe(document, { childList: true, subtree: true });"
+)
 
 
 async def test_a_key_that_comes_too_late(program):
@@ -210,3 +230,27 @@ async def test_a_link_for_another_browser(program):
         await again.until("document.getElementById('live').textContent.includes('used already')")
         is_clean(other, screen)
         is_clean(page, screen)
+
+
+async def test_a_log_that_another_file_replaces(program):
+    """The program goes on with the file that it opened, so what is drawn would stay as it is."""
+    traces.write("trace", traces.COUNT)
+    for replaced, why in (
+        (lambda text: text, "not the file that the program writes"),
+        (lambda text: text.replace(b"add A 0", b"add A 2") + b"1 add A 3\n!", "not the one that was read before"),
+        (lambda text: text[:-1] + b" 1 add A 99999999999\n!", "no call that the program accepts"),
+        (lambda text: text[:-1] + b" 1 add A 17\n!", "no call that the program accepts"),
+    ):
+        async with Screen(program, "trace", "log") as screen, Browser() as browser:
+            page = await browser.page(screen.link)
+            await new(page, 3)
+            await press(page, "1")
+            with open("log", "rb") as file:
+                text = file.read()
+            with open("copy", "wb") as file:
+                file.write(replaced(text))
+            os.rename("copy", "log")
+            await page.key("1")
+            await page.until(f"document.getElementById('live').textContent.includes('{why}')")
+            is_clean(page, screen)
+        os.remove("log")

@@ -5,6 +5,7 @@ import json
 import traces
 from browser import Browser
 from judged import same
+from live import session
 from stage import NEXT, ROWS, Screen, focus, is_clean, logged, new, press
 
 
@@ -35,6 +36,66 @@ async def test_light_dark_and_each_width(program):
         before = await page.run("getComputedStyle(document.body).backgroundColor")
         await page.click("#theme")
         await page.until(f"getComputedStyle(document.body).backgroundColor !== '{before}'")
+        is_clean(page, screen)
+
+
+# Texts that are told badly from their ground: less than 4.5 to 1, as the web's rules for reading ask for.
+PALE = """(() => {
+  const parts = (text) => {
+    const [red, green, blue, alpha = 1] = text.match(/[\\d.]+(e-\\d+)?/g).map(Number);
+    return text.startsWith("color(") ? [red * 255, green * 255, blue * 255, alpha] : [red, green, blue, alpha];
+  };
+  const over = ([r, g, b, a], under) => [r, g, b].map((one, at) => one * a + under[at] * (1 - a));
+  const light = (one) => (one / 255 <= 0.03928 ? one / 255 / 12.92 : ((one / 255 + 0.055) / 1.055) ** 2.4);
+  const bright = ([r, g, b]) => 0.2126 * light(r) + 0.7152 * light(g) + 0.0722 * light(b);
+  const all = [];
+  const walker = document.createTreeWalker(document.body, NodeFilter.SHOW_TEXT);
+  for (let text = walker.nextNode(); text; text = walker.nextNode()) {
+    const node = text.parentElement;
+    if (!text.data.trim() || !node.checkVisibility({ opacityProperty: true, visibilityProperty: true })) continue;
+    const chain = [];
+    for (let one = node; one; one = one.parentElement) chain.unshift(getComputedStyle(one));
+    let [ground, opacity] = [[255, 255, 255], 1];
+    for (const style of chain) {
+      ground = over(parts(style.backgroundColor), ground);
+      opacity *= Number(style.opacity);
+    }
+    const [red, green, blue, alpha] = parts(getComputedStyle(node).color);
+    if (!(alpha * opacity)) continue;
+    const ink = over([red, green, blue, alpha * opacity], ground);
+    const [more, less] = [bright(ink), bright(ground)].sort((one, other) => other - one);
+    const ratio = (more + 0.05) / (less + 0.05);
+    if (ratio < 4.5) all.push(`${node.className || node.localName}: ${text.data.slice(0, 30)} ${ratio.toFixed(2)}`);
+  }
+  return all.join("; ");
+})()"""
+
+
+async def test_texts_are_told_from_their_ground(program):
+    """Whatever is chosen, refused, taken back or of another analyst, in light and dark."""
+    traces.write("trace", traces.COUNT + "".join(f"T0|w(a{at})|main.c:{at}\n" for at in range(20)))
+    await session(program, 2, "new B\nadd B 0\nundo\npropose 7 12 0 2 3 4 5 6 1 8 9 10 11\n")
+    async with Screen(program, "trace", "log") as screen, Browser() as browser:
+        page = await browser.page(screen.link)
+        await page.until("document.querySelectorAll('.race').length === 1")
+        await page.click(".race")
+        await page.until("!document.getElementById('pair').hidden")
+        for scheme in ("light", "dark"):
+            await page.call("Emulation.setEmulatedMedia", features=[{"name": "prefers-color-scheme", "value": scheme}])
+            await page.until(f"{PALE} === ''", 10)
+        await page.key("e")
+        await page.until(f"{NEXT} === 3")
+        await focus(page, "next-list")
+        await press(page, "1", "t")
+        await page.key("ArrowRight")
+        await session(program, 2, "new C\nadd r7-12 1\n")
+        await page.until("!document.getElementById('away').hidden")
+        await focus(page, "stage")
+        await page.key("Home")
+        await page.mouse("mouseMoved", 700, 500)
+        for scheme in ("light", "dark"):
+            await page.call("Emulation.setEmulatedMedia", features=[{"name": "prefers-color-scheme", "value": scheme}])
+            await page.until(f"{PALE} === ''", 10)
         is_clean(page, screen)
 
 
@@ -70,8 +131,11 @@ async def spoken(page):
     """What a screen reader finds: pairs of a role and a name, from the browser's accessibility tree."""
     await page.call("Accessibility.enable")
     tree = (await page.call("Accessibility.getFullAXTree"))["nodes"]
-    return [(node["role"]["value"], node.get("name", {}).get("value", "").strip()) for node in tree
-            if not node.get("ignored") and "role" in node]
+    return [
+        (node["role"]["value"], node.get("name", {}).get("value", "").strip())
+        for node in tree
+        if not node.get("ignored") and "role" in node
+    ]
 
 
 async def test_what_a_screen_reader_finds(program):
@@ -85,12 +149,22 @@ async def test_what_a_screen_reader_finds(program):
         await page.until(f"{ROWS} === 1 && document.getElementById('next-list').dataset.length === '1'")
         found = await spoken(page)
         for role, name in (
-                ("listbox", "Races"), ("listbox", "Events of the schedule"), ("listbox", "Each thread's next event"),
-                ("listbox", "Schedules"), ("list", "Log"), ("searchbox", "Filter races"),
-                ("separator", "Height of the next events"), ("region", "Races"), ("button", "Undo mine"),
-                ("option", "position 0, event 0, T0 forks T1, count.c:17"),
-                ("option", "event 8, T2 takes lock m, count.c:11, may not come next: "
-                           "not begun: 1 T0 fork T2 has to come first")):
+            ("listbox", "Races"),
+            ("listbox", "Events of the schedule"),
+            ("listbox", "Each thread's next event"),
+            ("listbox", "Schedules"),
+            ("list", "Log"),
+            ("searchbox", "Filter races"),
+            ("separator", "Height of the next events"),
+            ("region", "Races"),
+            ("button", "Undo mine"),
+            ("option", "position 0, event 0, T0 forks T1, count.c:17"),
+            (
+                "option",
+                "event 8, T2 takes lock m, count.c:11, may not come next: "
+                "not begun: 1 T0 fork T2 has to come first",
+            ),
+        ):
             assert (role, name) in found, (role, name, [one for one in found if one[0] == role])
         options = [name for role, name in found if role == "option"]
         race = "candidate, hits, w at count.c:7 by T1 and r at count.c:13 by T2"
@@ -135,8 +209,9 @@ async def test_the_splitter(program):
 async def test_names_of_clients(program):
     traces.write("trace", traces.COUNT)
     traces.write("log.names", "1 Ada\n2 \u202eGrace <b>\n99 Nobody\nx y\n3\n")
-    async with Screen(program, "trace", "log") as one, Screen(program, "trace", "log", "--client", "2") as two, \
-            Browser() as browser:
+    async with Screen(program, "trace", "log") as one, Screen(
+        program, "trace", "log", "--client", "2"
+    ) as two, Browser() as browser:
         page, other = await browser.page(one.link), await browser.page(two.link)
         await new(page, 3)
         same(await page.run("document.getElementById('live').textContent"), "● client 1, Ada")
@@ -151,9 +226,19 @@ async def test_names_of_clients(program):
 async def test_how_a_race_ended(program):
     """A race that was followed in the real program shows how that ended."""
     traces.write("trace", traces.COUNT)
-    ended = {"events": [7, 12], "ended": "stands", "text": "the race stands <b>", "first": "status 0",
-             "second": "signal 11 (SIGSEGV)", "matters": True, "why": "the endings differ", "same_memory": True,
-             "liberties": ["wait"], "locations": ["count.c:7", "count.c:13"], "places": ["count.c:7", "count.c:13"]}
+    ended = {
+        "events": [7, 12],
+        "ended": "stands",
+        "text": "the race stands <b>",
+        "first": "status 0",
+        "second": "signal 11 (SIGSEGV)",
+        "matters": True,
+        "why": "the endings differ",
+        "same_memory": True,
+        "liberties": ["wait"],
+        "locations": ["count.c:7", "count.c:13"],
+        "places": ["count.c:7", "count.c:13"],
+    }
     other = {**ended, "locations": ["count.c:7", "count.c:14"]}  # of another trace
     for lines, shown in ((["no json", "[]", json.dumps(ended)], 1), ([json.dumps(other)], 0)):
         traces.write("trace.confirmed", "\n".join(lines) + "\n")
@@ -163,7 +248,9 @@ async def test_how_a_race_ended(program):
             same(await page.run("document.querySelectorAll('.race .ended').length"), shown)
             if shown:
                 same(await page.run("document.querySelector('.race .ended').textContent"), "stands")
-                same(await page.run("document.querySelector('.race .ended').title"),
-                     "the race stands <b>\n7 first: status 0\n12 first: signal 11 (SIGSEGV)\n"
-                     "the order matters: the endings differ\na run by itself may not: wait")
+                same(
+                    await page.run("document.querySelector('.race .ended').title"),
+                    "the race stands <b>\n7 first: status 0\n12 first: signal 11 (SIGSEGV)\n"
+                    "the order matters: the endings differ\na run by itself may not: wait",
+                )
             is_clean(page, screen)

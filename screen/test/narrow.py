@@ -1,17 +1,23 @@
 """Windows with little room: what is asked for comes in sight, and places keep their file and line."""
 
+import os
+
 import traces
-from browser import CAPS, Browser
+from browser import ALT, CAPS, SHIFT, Browser
 from judged import same
 from live import session
 from stage import NEXT, ROWS, SAID, Screen, focus, is_clean, logged, new, press
 
 FOLDER = "/build/product-1.22.4/src/modules/scheduler/internal"
 CALLS = " < third_party/library/src/crypto/montgomery_inverse.cc:34 < main.cpp:7"
-PLACES = "".join(f"worker-{name}|w(shared_counter_of_all_the_workers)|{FOLDER}/work_queue.cpp:120{line}{CALLS}\n"
-                 for line, name in enumerate(("alpha", "beta"))) + \
-    "worker-beta|acq(l)|b:1\nworker-beta|w(x)|b:2\nworker-beta|rel(l)|b:3\n" \
+PLACES = (
+    "".join(
+        f"worker-{name}|w(shared_counter_of_all_the_workers)|{FOLDER}/work_queue.cpp:120{line}{CALLS}\n"
+        for line, name in enumerate(("alpha", "beta"))
+    )
+    + "worker-beta|acq(l)|b:1\nworker-beta|w(x)|b:2\nworker-beta|rel(l)|b:3\n"
     "worker-alpha|acq(l)|a:1\nworker-alpha|w(x)|a:2\nworker-alpha|rel(l)|a:3\n"
+)
 # Of each place whose file and line are not in sight in full the text.
 HIDDEN = """(() => { const cut = [];
   for (const place of document.querySelectorAll('.place')) {
@@ -45,6 +51,23 @@ async def test_places_keep_their_file_and_line(program):
         same(await page.run("document.querySelector('#stage .place').title"), f"{FOLDER}/work_queue.cpp:1200{CALLS}")
         is_clean(page, screen)
 
+
+async def test_places_beside_their_source(program):
+    """The line of the source is cut first."""
+    traces.write("trace", traces.COUNT)
+    os.mkdir("source")
+    traces.write("source/count.c", "\n".join(f"line {number}; /* {'long ' * 60}*/" for number in range(1, 60)))
+    async with Screen(program, "trace", "log", "--source", "source") as screen, Browser() as browser:
+        page = await browser.page(screen.link)
+        await new(page, 3)
+        await press(page, "1")
+        await page.until(f"{ROWS} === 1 && document.querySelectorAll('#next-list .code code').length === 2")
+        for width in (1180, 1440, 2200):
+            await page.size(width, 900)
+            await page.until(f"innerWidth === {width} && {HIDDEN} === ''")
+        is_clean(page, screen)
+
+
 SHOWN = "[...document.querySelectorAll('#main > section')].filter((s) => s.offsetHeight).map((s) => s.id).join()"
 
 
@@ -65,6 +88,8 @@ async def test_what_is_asked_for_comes_in_sight(program):
         await page.until("document.querySelectorAll('.race').length === 2")
         await page.click(".race", 1)  # apart: the explanation
         await page.until(f"{SHOWN} === 'centre' && !document.getElementById('note').hidden")
+        await press(page, "x")
+        same(await page.run(f"{SAID} + document.getElementById('note').hidden"), "its explanation is shownfalse")
         found = set()
         for _ in range(5):
             await page.key("F6")
@@ -106,4 +131,172 @@ async def test_keys_with_nothing_to_do_say_so(program):
             await page.key(key)
         await press(page, "r")
         same(await page.run(SAID), "no schedule is open: n makes one")
+        is_clean(page, screen)
+
+
+async def test_keys_say_why_they_do_nothing(program):
+    traces.write("trace", traces.COUNT)
+    async with Screen(program, "trace", "log") as screen, Browser() as browser:
+        page = await browser.page(screen.link)
+        await page.until("document.querySelectorAll('.race').length === 1")
+        for key in ("1", "ArrowRight"):
+            await press(page, key)
+            same(await page.run(SAID), "no schedule is open: n makes one")
+        await press(page, "]")
+        same(await page.run(SAID), "there is no schedule: n makes one")
+        await new(page, 3)
+        for key, said in (
+            ("9", "no thread has the digit 9"),
+            ("2", "T1 may not come next: not begun: 0 T0 fork T1 has to come first"),
+            ("Enter", "refused: not begun: 0 T0 fork T1 has to come firstrefused 46 23 not forked"),
+            ("v", "no source: start screen with --source DIR"),
+        ):
+            await press(page, key)
+            same((await page.run(SAID))[: len(said)], said)
+        await press(page, "1", "r")
+        await press(page, "2", "r")
+        await press(page, "2")
+        same(await page.run(SAID), "T1 is at its end")
+        await focus(page, "stage")
+        await page.key("Enter")
+        await page.until(f"{SAID}.startsWith('choose an event first')")
+        await press(page, "u")
+        for up in ("ArrowUp", "ArrowDown"):
+            await page.key(up, ALT)
+            await page.until(f"{SAID}.startsWith('choose an event first')")
+            await press(page, "s")
+        await page.key("Home")
+        await page.until("document.querySelector('.row.on')?.dataset.p === '0'")
+        await press(page, "Enter")
+        same(await page.run(SAID), "it is no block and no read of a write")
+        is_clean(page, screen)
+
+
+async def test_fields_let_go_by_keys(program):
+    """F6 leads from a field to the next pane, and a name that is none is asked for again."""
+    traces.write("trace", traces.COUNT)
+    async with Screen(program, "trace", "log") as screen, Browser() as browser:
+        page = await browser.page(screen.link)
+        await page.until("document.querySelectorAll('.race').length === 1")
+        for modifiers, there in ((0, "race-list"), (SHIFT, "feed")):
+            await page.key("/")
+            await page.key("F6", modifiers)
+            same(await page.run("document.activeElement.id"), there)
+        await page.run("document.activeElement.blur()")
+        await page.key("F6", SHIFT)
+        same(await page.run("document.activeElement.id"), "feed")
+        await page.key("n")
+        await page.until("document.getElementById('ask').open")
+        for name in ("a b", "ä", "x" * 65, " "):
+            await page.run("document.getElementById('ask-input').select()")
+            await page.type(name)
+            await page.key("Enter")
+            same(await page.run("document.getElementById('ask').open"), True)
+        await page.run("document.getElementById('ask-input').select()")
+        await page.type("x" * 64)
+        await page.key("Enter")
+        await page.until(f"{NEXT} === 3")
+        await page.key("b")
+        await page.until("document.getElementById('ask').open")
+        await page.key("Enter")
+        await page.until("document.querySelectorAll('.sched').length === 2")
+        same(logged(), [f"1 new {'x' * 64}", f"1 branch {'x' * 64} 0 {'x' * 62}.b"])
+        is_clean(page, screen)
+
+
+async def test_the_source_by_a_key(program):
+    traces.write("trace", traces.COUNT + "T0|w(z)|other.c:3\n")
+    os.mkdir("source")
+    traces.write("source/count.c", "\n".join(f"line {number};" for number in range(1, 60)))
+    async with Screen(program, "trace", "log", "--source", "source") as screen, Browser() as browser:
+        page = await browser.page(screen.link)
+        await new(page, 3)
+        here = "!document.getElementById('peek').hidden && document.querySelector('.peek-line.here').textContent"
+        await page.key("v")
+        await page.until(f"{here} === '17line 17;'")
+        await page.key("ArrowDown")
+        await page.until("document.getElementById('peek').hidden")
+        await page.key("v")  # of an event that may not come next
+        await page.until(f"{here} === '5line 5;'")
+        await press(page, "1")
+        await page.until(f"document.getElementById('peek').hidden && {ROWS} === 1")
+        await focus(page, "stage")
+        await page.key("Home")
+        await page.key("v")
+        await page.until(f"{here} === '17line 17;'")
+        await page.click("#space .row .pos")
+        await page.until("document.getElementById('peek').hidden")
+        is_clean(page, screen)
+
+
+async def test_a_place_without_a_source(program):
+    """A click on it says so."""
+    traces.write("trace", "T1|w(x)|main.c:3\nT2|w(x)|<b>.c:3\n")
+    os.mkdir("source")
+    traces.write("source/main.c", "one\ntwo\n")
+    async with Screen(program, "trace", "log", "--source", "source") as screen, Browser() as browser:
+        page = await browser.page(screen.link)
+        await new(page, 2)
+        for at, place in enumerate(("main.c:3", "<b>.c:3")):
+            await page.click("#next-list .code .place", at)
+            await page.until(f"{SAID} === 'below the folder of the source is no line for {place}'")
+        same(logged(), ["1 new A"])
+        is_clean(page, screen)
+
+
+# What is in sight of these, and stands out of the window or is cut.
+OUTSIDE = """(() => [...document.querySelectorAll(
+  "button, .what, .reason, .access, .access > .place, .pair-title, .title, dialog[open], .key")].filter((one) => {
+    const box = one.getBoundingClientRect();
+    if (!box.width || one.closest("[hidden]")) return false;
+    return box.left < 0 || box.right > innerWidth || box.width < 6;
+  }).map((one) => one.className + one.textContent).join("; "))()"""
+
+
+async def test_a_window_as_narrow_as_a_page_that_is_enlarged(program):
+    """In 320 pixels a race is found, its schedule rebuilt and proposed; nothing stands outside."""
+    traces.write("trace", traces.COUNT)
+    async with Screen(program, "trace", "log") as screen, Browser() as browser:
+        page = await browser.page(screen.link, 320, 640)
+        await page.until(f"{SHOWN} === 'races' && document.querySelectorAll('.race').length === 1")
+        await page.until(f"{OUTSIDE} === ''")
+        await page.click(".race")
+        await page.until(f"{SHOWN} === 'centre' && !document.getElementById('pair').hidden")
+        for width in (320, 400, 500):
+            await page.size(width, 640)
+            await page.until(f"innerWidth === {width} && {OUTSIDE} === ''")
+        await page.size(320, 640)
+        await page.click("#bar button", 1)  # start empty
+        await page.until(f"{NEXT} === 3 && {OUTSIDE} === ''")
+        for keys in ("1t", "2t", "3t"):
+            await press(page, *keys)
+            await page.until(f"{OUTSIDE} === ''")
+        await page.until("document.querySelector('.pair-title')?.textContent === 'Aim: side by side'")
+        await page.click("#pair .do button")
+        await page.until(f"{SAID}.includes('proposal 0')")
+        same(logged()[-1], "1 propose 7 12 0 1 2 3 4 5 6 8 9 10 11")
+        await page.key("?")
+        await page.until(f"document.getElementById('help').open && {OUTSIDE} === ''")
+        await page.key("Escape")
+        await page.key("n")
+        await page.until(f"document.getElementById('ask').open && {OUTSIDE} === ''")
+        is_clean(page, screen)
+
+
+async def test_colours_of_the_system(program):
+    """What is chosen, and what is news, is told without colours of the page."""
+    traces.write("trace", traces.COUNT)
+    await session(program, 1, "new A\nnew B\n")
+    async with Screen(program, "trace", "log") as screen, Browser() as browser:
+        page = await browser.page(screen.link)
+        await page.call("Emulation.setEmulatedMedia", features=[{"name": "forced-colors", "value": "active"}])
+        await page.until("document.querySelectorAll('.sched').length === 2 && matchMedia('(forced-colors)').matches")
+        shown = "[...document.querySelectorAll('.sched > .fresh')].map((e) => getComputedStyle(e).visibility).join()"
+        outlined = "[...document.querySelectorAll('.sched')].map((e) => getComputedStyle(e).outlineStyle).join()"
+        same(await page.run(f"[{shown}, {outlined}]"), ["hidden,hidden", "none,solid"])
+        await session(program, 2, "add A 0\n")
+        await page.until(f"{shown} === 'visible,hidden'")
+        await page.until("document.querySelector('.entry.fresh')?.checkVisibility({ visibilityProperty: true })")
+        pressed = "[...document.querySelectorAll('.chip')].map((c) => getComputedStyle(c).backgroundColor)"
+        same(await page.run(f"new Set({pressed}).size"), 2)
         is_clean(page, screen)

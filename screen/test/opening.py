@@ -16,8 +16,16 @@ from screen_app.trace import Part, Trace  # noqa: E402
 SCREEN = os.path.join(os.path.dirname(os.path.dirname(os.path.abspath(__file__))), "screen")
 STATIC = os.path.join(os.path.dirname(os.path.dirname(os.path.abspath(__file__))), "static")
 LINES = [
-    "T{0}|w(x{1})|a.c:{1}", "T{0}|r(x{1})|a.c:{0} < b.c:{1}", " T{0} | acq( m{1} ) | ", "T{0}|rel(m{1})|c:1\r",
-    "T{0}|fork(U{1})|d:{0}", "T{0}|join(T{1})|d:1", "U{1}|w(x{0})", "", "no event", "T{0}|begin(x)|a",
+    "T{0}|w(x{1})|a.c:{1}",
+    "T{0}|r(x{1})|a.c:{0} < b.c:{1}",
+    " T{0} | acq( m{1} ) | ",
+    "T{0}|rel(m{1})|c:1\r",
+    "T{0}|fork(U{1})|d:{0}",
+    "T{0}|join(T{1})|d:1",
+    "U{1}|w(x{0})",
+    "",
+    "no event",
+    "T{0}|begin(x)|a",
     "T{0}|w(\u202e{1}|)|é|{0}",
 ]
 
@@ -94,13 +102,26 @@ def test_the_page_asks_for_its_modules_at_once(program):
 
 def test_wrong_words_are_told_in_a_line(program):
     traces.write("trace", traces.COUNT)
+    os.mkfifo("pipe")
     for words, why in (
-            (["--client", "33"], "'33' is no number from 1 to 32"), (["--client", "0"], "'0' is no number"),
-            (["--client", "x"], "'x' is no number"), (["--port", "65536"], "'65536' is no number from 0 to 65535"),
-            (["--port", "-1"], "'-1' is no number"), (["--source", "none"], "none is no folder"),
-            (["--program", "none"], "none is no program; name one with --program")):
-        done = subprocess.run(["/usr/bin/python3", SCREEN, "trace", "log", "--program", program, *words],
-                              capture_output=True, text=True)
+        (["--client", "33"], "'33' is no number from 1 to 32"),
+        (["--client", "0"], "'0' is no number"),
+        (["--client", "x"], "'x' is no number"),
+        (["--port", "65536"], "'65536' is no number from 0 to 65535"),
+        (["--port", "-1"], "'-1' is no number"),
+        (["--source", "none"], "none is no folder"),
+        (["--known", "none"], "none is no file that can be read"),
+        (["--triage", "."], ". is no file that can be read"),
+        (["none", "log"], "none is no file that can be read"),
+        (["pipe", "log"], "pipe is no file that can be read"),
+        (["trace", "."], ". is a folder, and no log"),
+        (["trace", "none/log"], "none is no folder for a log"),
+        (["--program", "none"], "none is no program; name one with --program"),
+    ):
+        files = ["trace", "log"] if words[0].startswith("--") else []
+        done = subprocess.run(
+            ["/usr/bin/python3", SCREEN, *files, "--program", program, *words], capture_output=True, text=True
+        )
         same(done.returncode, 2)
         assert why in done.stderr and len(done.stderr) < 400, done.stderr
 

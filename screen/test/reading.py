@@ -67,11 +67,21 @@ def test_a_trace_with_odd_lines(program):
 
 def command(draw, events):
     name, event = draw.choice(NAMES), draw.randrange(events)
-    return draw.choice([
-        f"new {name}", f"add {name} {event}", f"add  {name}\t00{event}", f"add {name} {draw.randrange(8)}",
-        f"back {name}", f"swap {name} {draw.randrange(6)}", f"branch {name} {draw.randrange(6)} {draw.choice(NAMES)}",
-        f"drop {name}", f"adopt {name} {draw.randrange(3)}", f"add {name} {event % 12}", f"add {name} {event % 5}",
-    ])
+    return draw.choice(
+        [
+            f"new {name}",
+            f"add {name} {event}",
+            f"add  {name}\t00{event}",
+            f"add {name} {draw.randrange(8)}",
+            f"back {name}",
+            f"swap {name} {draw.randrange(6)}",
+            f"branch {name} {draw.randrange(6)} {draw.choice(NAMES)}",
+            f"drop {name}",
+            f"adopt {name} {draw.randrange(3)}",
+            f"add {name} {event % 12}",
+            f"add {name} {event % 5}",
+        ]
+    )
 
 
 def calls(draw, events):
@@ -80,10 +90,19 @@ def calls(draw, events):
         name = draw.choice(NAMES)
         one, two, three = (command(draw, events) for _ in range(3))
         adds = " ; ".join(f"add {name} {number}" for number in range(draw.randrange(1, 12)))
-        yield f"{draw.randrange(1, 4)}  " + draw.choice([
-            one, one, one, "undo", f"undo {draw.randrange(60)}", f"batch {one} ; {two}  ;  {three}",
-            f"propose {WITNESS}", "propose 7 12", f"batch new {name} ; {adds}",
-        ])
+        yield f"{draw.randrange(1, 4)}  " + draw.choice(
+            [
+                one,
+                one,
+                one,
+                "undo",
+                f"undo {draw.randrange(60)}",
+                f"batch {one} ; {two}  ;  {three}",
+                f"propose {WITNESS}",
+                "propose 7 12",
+                f"batch new {name} ; {adds}",
+            ]
+        )
 
 
 def session(program, text):
@@ -211,8 +230,11 @@ def test_windows_are_parts_of_the_whole(program):
     for number in range(0, layout.total, 11):  # locks of a window are those that a look over all events finds
         window = layout.window(number, 11)
         low, high = window["rows"][0]["p"], window["rows"][-1]["p"] + window["rows"][-1].get("b", 1) - 1
-        held = {(section.lock, section.begin) for section in sheet.sections.all
-                if section.begin <= high and (section.end is None or section.end >= low)}
+        held = {
+            (section.lock, section.begin)
+            for section in sheet.sections.all
+            if section.begin <= high and (section.end is None or section.end >= low)
+        }
         same({(lock["lock"], sheet.position[lock["e"]]) for lock in window["locks"]}, held)
 
 
@@ -232,8 +254,17 @@ def test_source_lines_of_one_folder_alone(program):
     source = Source("project")
     same(source.around("a.c:2", 1)["lines"], [[1, "one"], [2, "two"], [3, "    three"]])
     same(source.around("other/src/a.c:1")["file"], "src/a.c")
-    for place in ("secret.c:1", "linked/secret.c:1", "../outside/secret.c:1", "/etc/passwd:1", "a.c:0", "a.c:9", "a.c",
-                  "src/../src/:1", "\0:1"):
+    for place in (
+        "secret.c:1",
+        "linked/secret.c:1",
+        "../outside/secret.c:1",
+        "/etc/passwd:1",
+        "a.c:0",
+        "a.c:9",
+        "a.c",
+        "src/../src/:1",
+        "\0:1",
+    ):
         same(source.around(place), None)
     os.remove("project/src/a.c")
     os.symlink(os.path.abspath("outside/secret.c"), "project/src/a.c")

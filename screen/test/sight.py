@@ -41,14 +41,18 @@ HOLD = """(() => {
 STAGE = "document.getElementById('stage')"
 SCROLLED = f"{STAGE}.scrollTop"
 ROW = 22
-TOP = f"(() => {{ const s = {STAGE}.getBoundingClientRect(); " \
+TOP = (
+    f"(() => {{ const s = {STAGE}.getBoundingClientRect(); "
     "return document.elementFromPoint(s.left + 60, s.top + 4)?.closest('.row')?.dataset.p; })()"
+)
 AT_END = f"Math.abs({STAGE}.scrollHeight - {STAGE}.clientHeight - {SCROLLED}) < 2"
 FRAMES = "new Promise((done) => requestAnimationFrame(() => requestAnimationFrame(() => setTimeout(done))))"
 OPEN = "document.querySelector('#bar h2').textContent"
 LAST = "document.querySelector('.row[data-p=\"{}\"]')"
-NARROWER = "document.getElementById('next').classList.add('sized'); " \
+NARROWER = (
+    "document.getElementById('next').classList.add('sized'); "
     "document.documentElement.style.setProperty('--next-height', '{}px')"
+)
 
 
 class Reading:
@@ -62,7 +66,8 @@ class Reading:
         await self.page.until(
             f"document.getElementById('space').style.height === '{self.length * ROW + 6}px' && owed === 0 && "
             f"{LENGTH} === '{self.length} events' && "
-            f"document.getElementById('next-list').dataset.length === '{self.length}'")
+            f"document.getElementById('next-list').dataset.length === '{self.length}'"
+        )
         await self.page.run(FRAMES)
 
     async def told(self):

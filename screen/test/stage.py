@@ -1,6 +1,7 @@
 """What the tests stand on: a screen that is started, its socket, and what its page and its log say."""
 
 import asyncio
+import itertools
 import json
 import os
 import re
@@ -22,8 +23,10 @@ SAID = "document.getElementById('said').textContent"
 SAYINGS = "(document.getElementById('said').dataset.n ?? '')"
 LENGTH = "document.querySelector('#bar .line > .dim')?.textContent"
 TITLE = "!!document.getElementById('title').textContent"
-ORDER = ("[...document.querySelectorAll('#space .row')].sort((a, b) => a.dataset.p - b.dataset.p)"
-         ".map((r) => r.querySelector('.event').textContent).join(' ')")
+ORDER = (
+    "[...document.querySelectorAll('#space .row')].sort((a, b) => a.dataset.p - b.dataset.p)"
+    ".map((r) => r.querySelector('.event').textContent).join(' ')"
+)
 
 
 class Screen:
@@ -36,14 +39,16 @@ class Screen:
     async def __aenter__(self):
         pipe = asyncio.subprocess.PIPE
         self.process = await asyncio.create_subprocess_exec(
-            *self.words, stdin=asyncio.subprocess.DEVNULL, stdout=pipe, stderr=pipe)
+            *self.words, stdin=asyncio.subprocess.DEVNULL, stdout=pipe, stderr=pipe
+        )
+        self.saying = asyncio.ensure_future(self.process.stderr.read())  # so that it never waits for a reader
         try:
             self.link = (await asyncio.wait_for(self.process.stdout.readline(), PATIENCE)).decode().strip()
         except asyncio.TimeoutError:
             self.process.kill()
             raise
         if not self.link:
-            raise AssertionError((await self.process.stderr.read()).decode())
+            raise AssertionError((await self.saying).decode())
         self.base, self.ticket = self.link.split("/#")
         self.port = int(re.search(r":(\d+)/", self.link)[1])
         return self
@@ -56,7 +61,7 @@ class Screen:
         except asyncio.TimeoutError:
             self.process.kill()
             raise
-        said = (await self.process.stderr.read()).decode()
+        said = (await self.saying).decode()
         if self.has_page:  # what a page asks for is never a bad request
             assert "bad request" not in said and "Traceback" not in said, said
 
@@ -64,8 +69,7 @@ class Screen:
 async def keyed(client, screen, key):
     """A socket that named the key. A slow machine may do so too late, and then tries again, as the page does."""
     while True:
-        socket = await client.ws_connect(
-            screen.base.replace("http", "ws") + "/ws", origin=screen.base, max_msg_size=0)
+        socket = await client.ws_connect(screen.base.replace("http", "ws") + "/ws", origin=screen.base, max_msg_size=0)
         await socket.send_str(key)
         await socket.send_str('{"id": 0, "do": "nothing"}')
         while (told := await socket.receive()).type == aiohttp.WSMsgType.TEXT:
@@ -112,10 +116,11 @@ async def comes(condition, seconds=PATIENCE):
 
 
 def logged():
-    """The calls in the log."""
+    """The calls in the log: its lines up to the first whose gate is closed. What a session that was killed left behind
+    that does not count, though each of its other lines has an open gate."""
     with open("log", "rb") as file:
         lines = file.read()[HEAD:].split(b"\n")
-    return [line[1:].decode() for line in lines if line.startswith(b" ")]
+    return [line[1:].decode() for line in itertools.takewhile(lambda line: line.startswith(b" "), lines)]
 
 
 async def focus(page, name):
@@ -130,8 +135,10 @@ async def press(page, *keys):
         try:
             await page.until(f"{SAYINGS} !== {json.dumps(before)}", what=f"an answer to {key}")
         except AssertionError as why:
-            told = await page.run(f"document.activeElement?.id + ' | ' + {SAID} + ' | ' + "
-                                  "(document.querySelector('#next-list .on')?.textContent ?? 'none chosen')")
+            told = await page.run(
+                f"document.activeElement?.id + ' | ' + {SAID} + ' | ' + "
+                "(document.querySelector('#next-list .on')?.textContent ?? 'none chosen')"
+            )
             raise AssertionError(f"{why}; {told}") from why
 
 

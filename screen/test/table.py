@@ -31,8 +31,10 @@ async def test_races_filter_kinds_and_a_witness(program):
         cards = await page.run(CARDS)
         for part in ("two.c:5", "one.c:1", "w one.c:5", "r two.c:1", "another_variable_of_a_long_name", "×1"):
             assert part in cards, (part, cards)
-        same(await page.run("[...document.querySelectorAll('.chip')].map((c) => c.textContent).join()"),
-             "2 races,0 undecided,1 apart")
+        same(
+            await page.run("[...document.querySelectorAll('.chip')].map((c) => c.textContent).join()"),
+            "2 races,0 undecided,1 apart",
+        )
         await page.key("/")
         await page.type("long two.c")
         await page.until("document.querySelectorAll('.race').length === 1")
@@ -81,11 +83,16 @@ async def test_a_race_from_the_list_to_the_pair(program):
         await page.key("ArrowDown")
         await press(page, "f", "t")  # what T2 waits for, its fork; and then T2 as far as the aim needs
         await page.until("document.querySelector('.pair-title')?.textContent === 'Aim: side by side'")
-        same(logged(), [
-            "1 new r7-12", "1 add r7-12 0",
-            "1 batch add r7-12 2 ; add r7-12 3 ; add r7-12 4 ; add r7-12 5 ; add r7-12 6",
-            "1 batch add r7-12 1",
-            "1 batch add r7-12 8 ; add r7-12 9 ; add r7-12 10 ; add r7-12 11"])
+        same(
+            logged(),
+            [
+                "1 new r7-12",
+                "1 add r7-12 0",
+                "1 batch add r7-12 2 ; add r7-12 3 ; add r7-12 4 ; add r7-12 5 ; add r7-12 6",
+                "1 batch add r7-12 1",
+                "1 batch add r7-12 8 ; add r7-12 9 ; add r7-12 10 ; add r7-12 11",
+            ],
+        )
         await press(page, "p")
         same(logged()[-1], "1 propose 7 12 0 2 3 4 5 6 1 8 9 10 11")
         is_clean(page, screen)
@@ -143,13 +150,17 @@ async def test_refusals_in_words(program):
         await new(page, 4)
         await press(page, "2")  # T2 takes l
         await page.until("document.querySelectorAll('.next .reason').length === 2")
-        same(await page.run(REASON), ["", "would miss the write by 0 T1 w x", "",
-                                      "not begun: 8 T1 fork T4 has to come first"])
+        same(
+            await page.run(REASON),
+            ["", "would miss the write by 0 T1 w x", "", "not begun: 8 T1 fork T4 has to come first"],
+        )
         await press(page, "1")
         held = "'lock l held by T2 since 3'"
         await page.until(f"document.querySelector('#next-list .reason').textContent === {held}")
-        same(await page.run("document.querySelector('#next-list .reason').title"),
-             "lock l held by T2 since 3\nthe program: refused 46 25 lock held by T2")
+        same(
+            await page.run("document.querySelector('#next-list .reason').title"),
+            "lock l held by T2 since 3\nthe program: refused 46 25 lock held by T2",
+        )
         await focus(page, "next-list")
         await page.key("ArrowUp")
         await page.key("ArrowUp")
@@ -181,8 +192,17 @@ async def test_adding_in_each_way(program):
         await page.until("document.querySelectorAll('.coming').length === 8")
         await page.click(".coming", 3)
         await page.until("document.querySelector('#bar .line > .dim').textContent === '6 events'")
-        same(logged(), ["1 new A", "1 add A 0", "1 add A 1", "1 add A 2", "1 back A",
-                        "1 batch add A 2 ; add A 4 ; add A 6 ; add A 8"])
+        same(
+            logged(),
+            [
+                "1 new A",
+                "1 add A 0",
+                "1 add A 1",
+                "1 add A 2",
+                "1 back A",
+                "1 batch add A 2 ; add A 4 ; add A 6 ; add A 8",
+            ],
+        )
         await press(page, "r")
         await page.until("document.querySelector('#bar .line > .dim').textContent === '10 events'")
         is_clean(page, screen)
@@ -215,7 +235,8 @@ LONG = "".join(
     ["T0|fork(T1)|main.c:1\nT0|acq(m)|main.c:2\n"]
     + [f"T0|w(a{at % 5})|main.c:{at}\n" for at in range(100)]
     + ["T1|acq(n)|work.c:1\nT1|r(a1)|work.c:2\nT1|rel(n)|work.c:3\n"]
-    + [f"T{at % 2}|w(b{at % 2})|main.c:{at}\n" for at in range(600)])
+    + [f"T{at % 2}|w(b{at % 2})|main.c:{at}\n" for at in range(600)]
+)
 
 
 async def test_lanes_blocks_locks_reads_and_the_map(program):
@@ -298,6 +319,14 @@ async def test_a_branch_at_the_cursor_and_who_did_what(program):
         is_clean(page, screen)
 
 
+# Whether the chosen thread is in sight.
+IN_SIGHT = (
+    "(() => { const [one, list] = ['#next-list .next.on', '#next-list'].map((name) => "
+    "document.querySelector(name).getBoundingClientRect()); "
+    "return one.top >= list.top - 1 && one.bottom <= list.bottom + 1; })()"
+)
+
+
 async def test_many_threads(program):
     traces.many_threads("trace")
     async with Screen(program, "trace", "log") as screen, Browser() as browser:
@@ -305,6 +334,7 @@ async def test_many_threads(program):
         await new(page, 201)
         await press(page, "r")
         await page.until("document.querySelectorAll('.next.yes').length === 200")
+        await page.until(IN_SIGHT)  # the thread that has to wait stands behind the others now
         for _ in range(10):  # a worker to its end, and the main thread to the next join
             await press(page, "f", "r")
         await page.until(f"{LENGTH} === '250 events'")

@@ -93,8 +93,9 @@ async def pressed(page, count, others=()):
 async def of_few_events(program):
     lines = [f"T3|w(a{number % 7})|x.c:{number}\nT4|w(b{number % 5})|y.c:{number}\n" for number in range(2000)]
     traces.write("trace", traces.COUNT + "".join(lines))
-    async with Screen(program, "trace", "log") as one, Screen(program, "trace", "log", "--client", "2") as two, \
-            Browser() as browser:
+    async with Screen(program, "trace", "log") as one, Screen(
+        program, "trace", "log", "--client", "2"
+    ) as two, Browser() as browser:
         page, other = await browser.page(one.link), await browser.page(two.link)
         await other.until(TITLE, 60)
         await new(page, 5)
@@ -145,8 +146,10 @@ async def of_a_million(program, trace):
 async def scrolled(page):
     times = []
     for share in (0.1, 0.9, 0.5, 0.0, 0.73):
-        await page.run("window.drawn.length = 0; window.t0 = performance.now(); "
-                       f"{{ const s = document.getElementById('stage'); s.scrollTop = s.scrollHeight * {share}; }} 1")
+        await page.run(
+            "window.drawn.length = 0; window.t0 = performance.now(); "
+            f"{{ const s = document.getElementById('stage'); s.scrollTop = s.scrollHeight * {share}; }} 1"
+        )
         await page.until("window.drawn.length > 0")
         times.append((await page.run("window.drawn"))[0][0] - await page.run("window.t0"))
     say("100,000 events: far scroll to drawn", of(times), "none")

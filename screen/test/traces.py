@@ -22,8 +22,17 @@ T0|r(hits)|count.c:18
 """
 
 HOSTILE = [
-    "<script>window.hacked=1</script>", "<img src=x onerror=window.hacked=1>", "\u202egnp.exe", "a\x00b\x1b[31mc",
-    "\"'`><b>", "&lt;i&gt;", "x" * 255, "javascript:window.hacked=1", "{{constructor}}", "🙂é\u0301", "-->",
+    "<script>window.hacked=1</script>",
+    "<img src=x onerror=window.hacked=1>",
+    "\u202egnp.exe",
+    "a\x00b\x1b[31mc",
+    "\"'`><b>",
+    "&lt;i&gt;",
+    "x" * 255,
+    "javascript:window.hacked=1",
+    "{{constructor}}",
+    "🙂é\u0301",
+    "-->",
     "__proto__",
 ]
 
@@ -98,8 +107,10 @@ def big(path, events=1_048_576, threads=16, seed=1):
 
 def long_witness(path, events=1_048_576):
     """One race, at the end of the trace, whose schedule needs nearly all of it."""
-    lines = [f"T{0 if at % 7 else 2}|{'w' if at % 3 else 'r'}(own{0 if at % 7 else 2}_{at % 50})|own.c:{at % 900}"
-             for at in range(events - 4)]
+    lines = [
+        f"T{0 if at % 7 else 2}|{'w' if at % 3 else 'r'}(own{0 if at % 7 else 2}_{at % 50})|own.c:{at % 900}"
+        for at in range(events - 4)
+    ]
     write(path, "\n".join([*lines, "T2|w(flag)|c.c:1", "T0|r(flag)|a.c:1", "T0|w(x)|a.c:2", "T1|w(x)|b.c:1"]) + "\n")
 
 

@@ -1,0 +1,144 @@
+"""The browser's own means: back, forward, a reload, a second tab, a new link in the same tab, no storage."""
+
+import traces
+from browser import Browser
+from judged import same
+from live import session
+from sight import HOLD, ROW, TOP
+from stage import LENGTH, NEXT, ROWS, SAID, TITLE, Screen, focus, is_clean, logged, new, press
+from table import SEVERAL
+
+OPEN = "document.querySelector('#bar h2').textContent"
+AIM = "[...document.querySelectorAll('#bar .aim .short .num')].map((e) => e.textContent).join()"
+RACES = "document.querySelectorAll('.race').length"
+EXPLAINED = "document.querySelector('#centre.none #note .explained')?.textContent.includes('apart')"
+# Neither the tab nor the browser keeps anything.
+NOTHING_KEPT = (
+    "for (const name of ['localStorage', 'sessionStorage']) Object.defineProperty(window, name, "
+    "{ get() { throw new DOMException('Access is denied for this document.', 'SecurityError'); } });"
+)
+
+
+async def test_back_and_forward(program):
+    """They lead through what was looked at, and leave no entry."""
+    traces.write("trace", SEVERAL)
+    async with Screen(program, "trace", "log") as screen, Browser() as browser:
+        page = await browser.page(screen.link)
+        await page.until(f"{RACES} === 2")
+        await page.click(".race", 0)
+        await page.until(f"{OPEN} === 'Witness'")
+        first = await page.run(AIM)
+        await page.click(".race", 1)
+        await page.until(f"{OPEN} === 'Witness' && {AIM} !== '{first}'")
+        second = await page.run(AIM)
+        await press(page, "e")
+        name = await page.until(f"{ROWS} === 0 && {NEXT} === 2 && {OPEN}")
+        await page.run("history.back()")
+        await page.until(f"{OPEN} === 'Witness' && {AIM} === '{second}'")
+        await page.run("history.back()")
+        await page.until(f"{OPEN} === 'Witness' && {AIM} === '{first}'")
+        await page.run("history.go(2)")
+        await page.until(f"{OPEN} === '{name}' && {AIM} === '{second}' && {NEXT} === 2")
+        same(logged(), [f"1 new {name}"])
+        is_clean(page, screen)
+
+
+async def test_a_reload_shows_what_was_shown(program):
+    traces.write("trace", SEVERAL)
+    await session(program, 1, "new A\nnew B\nadd B 0\nnew C\n")
+    async with Screen(program, "trace", "log") as screen, Browser() as browser:
+        page = await browser.page(screen.link)
+        await page.until(f"{OPEN} === 'C' && {RACES} === 2")
+        await page.click(".sched", 1)
+        await page.until(f"{OPEN} === 'B' && {ROWS} === 1")
+        await page.call("Page.reload")
+        await page.until(f"{OPEN} === 'B' && {ROWS} === 1 && {NEXT} === 2 && {RACES} === 2")
+        await page.click(".race", 1)
+        await page.until(f"{OPEN} === 'Witness'")
+        aim = await page.run(AIM)
+        await page.call("Page.reload")
+        await page.until(f"{OPEN} === 'Witness' && {AIM} === '{aim}' && {RACES} === 2")
+        await page.click(".chip", 2)
+        await page.until(f"{RACES} === 3")
+        await page.click(".race", 2)  # apart
+        await page.until(EXPLAINED)
+        await page.call("Page.reload")
+        await page.until(EXPLAINED)
+        await page.run("history.back()")
+        await page.until(f"{OPEN} === 'Witness' && {AIM} === '{aim}'")
+        is_clean(page, screen)
+
+
+async def test_two_tabs_of_one_analyst(program):
+    """What is done in one is not scrolled to in the other, and each looks at its own race."""
+    traces.write("trace", "".join(f"T{at % 2}|w(a{at % 2})|a:{at}\n" for at in range(400)))
+    await session(program, 1, "new A\n" + "".join(f"add A {event}\n" for event in range(200)))
+    async with Screen(program, "trace", "log") as screen, Browser() as browser:
+        page = await browser.page(screen.link)
+        await page.until(f"{LENGTH} === '200 events' && {NEXT} === 2")
+        await page.click("#link")
+        link = await page.until("document.querySelector('#help input.link')?.value")
+        other = await browser.page(link)
+        await other.until(f"{LENGTH} === '200 events' && {NEXT} === 2 && !!document.querySelector('[data-p=\"199\"]')")
+        await other.run(f"document.getElementById('stage').scrollTop = {40 * ROW}")
+        await other.until(f"{TOP} === '40'")
+        await page.click("#help button")
+        await focus(page, "next-list")
+        await press(page, "1", "2", "1")
+        await page.until(f"{LENGTH} === '203 events' && !!document.querySelector('[data-p=\"202\"]')")
+        await other.until(
+            f"{LENGTH} === '203 events' && document.getElementById('next-list').dataset.length === '203' && "
+            f"document.getElementById('space').style.height === '{203 * ROW + 6}px'"
+        )
+        same(await other.run(TOP), "40")
+        is_clean(page, screen)
+        is_clean(other, screen)
+
+
+async def test_a_new_link_in_the_same_tab(program):
+    """It differs from the page behind the `#` alone, so the browser itself would do nothing."""
+    traces.write("trace", traces.COUNT)
+    async with Screen(program, "trace", "log") as screen, Browser() as browser:
+        page = await browser.page(screen.link)
+        await page.until(TITLE)
+        await page.click("#link")
+        link = await page.until("document.querySelector('#help input.link')?.value")
+        await page.run("sessionStorage.clear(); window.isOld = true")
+        await page.open(link)
+        await page.until(f"!window.isOld && {TITLE}")
+        await new(page, 3)
+        same(await page.run("location.hash"), "")
+        is_clean(page, screen)
+
+
+async def test_a_browser_that_keeps_nothing(program):
+    """The page works as long as it is there."""
+    traces.write("trace", traces.COUNT)
+    async with Screen(program, "trace", "log") as screen, Browser() as browser:
+        page = await browser.page("about:blank")
+        await page.call("Page.addScriptToEvaluateOnNewDocument", source=NOTHING_KEPT)
+        await page.open(screen.link)
+        await new(page, 3)
+        await press(page, "1")
+        await page.click("#theme")
+        same(logged(), ["1 new A", "1 add A 0"])
+        is_clean(page, screen)
+
+
+async def test_news_stay_news_if_the_connection_comes_back(program):
+    traces.write("trace", traces.COUNT)
+    async with Screen(program, "trace", "log") as screen, Browser() as browser:
+        page = await browser.page("about:blank")
+        await page.call("Page.addScriptToEvaluateOnNewDocument", source=HOLD)
+        await page.open(screen.link)
+        await new(page, 3)
+        await session(program, 2, "add A 0\n")
+        fresh = "document.querySelectorAll('.entry.fresh').length === 1 && !document.getElementById('away').hidden"
+        await page.until(f"{ROWS} === 1 && {fresh}")
+        before = await page.run("window.socket.close(); window.views")
+        await page.until(f"window.views > {before} && {ROWS} === 1 && {NEXT} === 3 && owed === 0")
+        same(await page.run(fresh), True)
+        await press(page, "s")
+        same(await page.run(SAID), "the log is marked as seen")
+        await page.until("document.getElementById('away').hidden")
+        is_clean(page, screen)

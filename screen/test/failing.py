@@ -1,0 +1,358 @@
+"""What fails: programs that end or cannot be started, requests and tasks, files of strangers, a process too many."""
+
+import asyncio
+import contextlib
+import io
+import json
+import os
+import sys
+import threading
+
+import aiohttp
+
+sys.path.insert(0, os.path.dirname(os.path.dirname(os.path.abspath(__file__))))
+import traces  # noqa: E402
+from judged import same  # noqa: E402
+from screen_app import command, outlet, pairs, readers, server, session  # noqa: E402
+from screen_app.bench import Bench  # noqa: E402
+from screen_app.kept import Confirmed, Names  # noqa: E402
+from screen_app.session import Gone, Session  # noqa: E402
+from screen_app.source import Source  # noqa: E402
+from screen_app.trace import Trace  # noqa: E402
+
+# How long what has to come may take on a busy machine, in seconds.
+PATIENCE = 600
+# A program whose output ends while it goes on, and a process of its own that has its error.
+DEAF = """#!/bin/sh
+echo $$ > deaf.pid
+cat hold > /dev/null &
+exec >&-
+cat > /dev/null
+"""
+
+
+def script(path, text):
+    traces.write(path, text)
+    os.chmod(path, 0o755)
+    return os.path.abspath(path)
+
+
+async def gone(asking):
+    """What is said of a program that is gone."""
+    try:
+        await asyncio.wait_for(asking, PATIENCE)
+    except Gone as why:
+        return str(why)
+    raise AssertionError("it is not gone")
+
+
+async def test_a_program_that_cannot_be_started(program):
+    traces.write("trace", traces.COUNT)
+    traces.write("no-program", "x")
+    path = os.path.abspath("no-program")
+    bench = Bench(path, Trace("trace").read_at_once(), "log", 1)
+    said = f"{path} cannot be started: Permission denied"
+    same(await gone(bench.session.ask("list")), said)
+    same(await gone(pairs.Pairs(bench).explain((7, 12))), said)
+    races = pairs.Races()
+    await races.look(bench, lambda: None)
+    same(races.state["state"], "failed")
+    assert "Permission denied" in races.state["why"], races.state
+
+
+async def test_an_output_that_ends_is_an_end(program):
+    """Though the process goes on, and another one has its pipe."""
+    os.mkfifo("hold")
+    last, session.LAST = session.LAST, 0.1
+    asked = Session(script("deaf", DEAF), "trace", "log", 1)
+    try:
+        same(await gone(asked.ask("list")), "the session ended")
+        same(asked.process, None)
+        with open("deaf.pid", encoding="ascii") as file:
+            number = int(file.read())
+        end = asyncio.get_running_loop().time() + PATIENCE
+        while os.path.exists(f"/proc/{number}"):
+            assert asyncio.get_running_loop().time() < end, "it goes on"
+            await asyncio.sleep(0.02)
+    finally:
+        session.LAST = last
+        os.close(os.open("hold", os.O_WRONLY))
+        await asked.stop()
+    same(await gone(Session(script("dead", "#!/bin/sh\necho why >&2\n"), "trace", "log", 1).ask("list")), "why")
+
+
+async def test_each_browser_looks_at_its_own_pair(program):
+    """Who walks down the races looks at the last one alone. He takes none from another."""
+    traces.write("trace", traces.COUNT)
+    for can_ask in (True, False):
+        bench = Bench(program, Trace("trace").read_at_once(), "log", 1)
+        await bench.open()
+        bench.questions = bench.questions and can_ask
+        looked, one, other = pairs.Pairs(bench), Heard(), Heard()
+        walk = ((one, (2, 11)), (other, (7, 12)), (one, (7, 13)), (one, (6, 13)))
+        told = await asyncio.gather(*[looked.witness(pair, asker) for asker, pair in walk])
+        left = [each.get("none") == "left for another" for each in told]
+        same(left, [not bench.questions, False, True, False])  # a question that is under way is answered
+        same(told[1]["length"], 11)
+        await looked.stop()
+        await bench.session.stop()
+
+
+async def test_after_a_fault_answers_are_not_mixed_up(program):
+    """The answers to lines whose first answer could not be read are no answers to the next ones."""
+    traces.write("trace", traces.COUNT)
+    asked = Session(program, "trace", "log", 1)
+    await asked.ask("new A", "add A 0")
+    read = asked._answer
+
+    async def fails(process):
+        raise ValueError("a line without an end")
+
+    asked._answer = fails
+    try:
+        await asked.ask("list", "show A")
+        raise AssertionError("it was read")
+    except ValueError:
+        asked._answer = read
+    same(await asked.ask("show A", "list"), ["shown 0", "names A"])
+    await asked.stop()
+
+
+def served(program):
+    """A server of the small trace."""
+    traces.write("trace", traces.COUNT)
+    bench = Bench(program, Trace("trace").read_at_once(), "log", 1)
+    return server.Server(bench, Source(None), "trace")
+
+
+class Heard:
+    """An outlet that keeps what is sent."""
+
+    def __init__(self):
+        self.told = []
+
+    def send(self, told):
+        self.told.append(told)
+
+
+async def test_a_request_that_fails_is_answered(program):
+    """Whatever goes wrong, and the next one has room. Else the page would wait for ever."""
+    screen, outlet, room = served(program), Heard(), asyncio.Semaphore(1)
+    screen.requests.is_ready.set()
+
+    async def fails(request):
+        raise request["why"]
+
+    screen.requests.do_fail = fails
+    read = json.loads
+    for why, key in ((OSError("no process"), "mistake"), (RuntimeError("x"), "mistake"), (Gone("y"), "gone")):
+        json.loads = lambda text, why=why: {"id": 7, "do": "fail", "why": why}
+        try:
+            with contextlib.redirect_stderr(io.StringIO()):
+                await asyncio.wait_for(screen._answer(outlet, "{}", room), PATIENCE)
+        finally:
+            json.loads = read
+        told = outlet.told.pop()
+        same(told["id"], 7)
+        assert str(why) in told[key], told
+
+
+async def test_a_task_that_fails_is_said(program):
+    """The page is not left with what it shows."""
+    screen, outlet = served(program), Heard()
+    screen.outlets.add(outlet)
+
+    async def fails():
+        raise ValueError("no more news")
+
+    with contextlib.redirect_stderr(io.StringIO()) as said:
+        screen.beside(fails())
+        await asyncio.wait_for(screen.tasks[0], PATIENCE)
+    assert "Traceback" in said.getvalue(), said.getvalue()
+    same(outlet.told, [{"push": "fault", "why": "the screen failed: ValueError('no more news')"}])
+    same(screen.requests.fault, outlet.told[0]["why"])
+
+
+async def test_an_outlet_that_is_stopped_ends(program):
+    """Also if a message was taken by the browser just then."""
+    taken = asyncio.Event()
+
+    class Browser:
+        async def send_str(self, text):
+            await taken.wait()
+
+    made = outlet.Outlet(Browser(), None)
+    made.send({})
+    await asyncio.sleep(0)
+    await asyncio.sleep(0)
+    taken.set()
+    made.stop()
+    done, _ = await asyncio.wait([made.writing], timeout=PATIENCE)
+    same((len(done), made.writing.cancelled()), (1, True))
+
+
+async def test_a_socket_is_read_while_requests_wait(program):
+    """So the browser's sign of life is seen, and the socket is not ended as one of a browser that is gone."""
+    screen = served(program)
+    await screen.start(0)
+    try:
+        async with aiohttp.ClientSession() as client:
+            base = f"127.0.0.1:{screen.guard.port}"
+            socket = await client.ws_connect(f"ws://{base}/ws", origin=f"http://{base}", autoping=False)
+            await socket.send_str(screen.guard.key)
+            for number in range(server.AT_WORK + 8):  # none is answered until the trace is read
+                await socket.send_str(json.dumps({"id": number, "do": "hello"}))
+            await socket.ping(b"here")
+            while (told := await socket.receive(timeout=PATIENCE)).type == aiohttp.WSMsgType.TEXT:
+                assert "push" in told.data, told
+            same((told.type, bytes(told.data)), (aiohttp.WSMsgType.PONG, b"here"))
+            screen.requests.is_ready.set()
+            left = set(range(server.AT_WORK + 8))
+            while left:
+                left.discard(json.loads((await socket.receive(timeout=PATIENCE)).data).get("id"))
+            await socket.close()
+    finally:
+        await screen.stop()
+
+
+async def test_it_ends_while_the_trace_is_read(program):
+    """Who ends it need not wait for the end of a long trace."""
+    screen = served(program)
+    await screen.start(0)
+    reading = asyncio.ensure_future(asyncio.Event().wait())
+    screen.stopping.set()
+    await asyncio.wait_for(command.serve(screen, reading, readers.Readers("none")), PATIENCE)
+    same((reading.cancelled(), screen.requests.is_ready.is_set()), (True, False))
+
+
+async def test_how_far_it_is_is_told_though_nothing_follows(program):
+    """The last of two lines that come at once is told, although the program says nothing more for long."""
+    told, ended = asyncio.Event(), asyncio.Event()
+    races, triage = pairs.Races(), pairs.triage
+
+    async def slow(program, trace, hear, take):
+        hear("events 17")
+        hear("pairs of places 3 of 8")
+        await ended.wait()
+        return {}, 0
+
+    pairs.triage = slow
+    try:
+        looking = asyncio.ensure_future(races.look(Bench(program, Trace("none"), "log", 1), told.set))
+        await asyncio.wait_for(told.wait(), PATIENCE)
+        same(races.state, {"state": "searching", "progress": "pairs of places 3 of 8"})
+        ended.set()
+        await looking
+        same(races.state["state"], "found")
+    finally:
+        pairs.triage = triage
+
+
+async def test_lines_that_are_no_races(program):
+    """The list is said to be unreadable, and the page is not left looking for it."""
+    for line in ("no json", "[]", '{"kind": "race"}', '{"kind": "race", "accesses": [1, 2]}'):
+        path = script("odd", f"#!/bin/sh\necho '{line}'\n")
+        races = pairs.Races()
+        await asyncio.wait_for(races.look(Bench(path, Trace("none"), "log", 1), lambda: None), PATIENCE)
+        same(races.state["state"], "failed")
+        assert "cannot be read" in races.state["why"], races.state
+
+
+def test_files_beside_the_log_that_are_odd(program):
+    """Numbers too long to be read, numbers that are none, and brackets without end are passed over."""
+    traces.write("log.names", "9" * 5000 + " Nobody\n1 Ada\n" + "0" * 9000 + "2 Nobody\n")
+    names = Names("log")
+    same((names.changed(), names.names), (True, {1: "Ada"}))
+    lines = ['{"events": [Infinity, 1], "ended": "x"}', "[" * 100_000, '{"events": [2, 1], "ended": "stands"}']
+    traces.write("trace.confirmed", "\n".join(lines) + "\n")
+    same(list(Confirmed("trace").read()), [(1, 2)])
+
+
+def test_names_that_are_read_while_they_are_written(program):
+    """A file may be written on within the same tick of its clock: it is looked into once more."""
+    traces.write("log.names", "1 Ada\n")
+    stamp = os.stat("log.names").st_mtime_ns
+    names = Names("log")
+    same((names.changed(), names.names), (True, {1: "Ada"}))
+    with open("log.names", "r+", encoding="ascii") as file:
+        file.write("1 Bob\n")
+    os.utime("log.names", ns=(stamp, stamp))
+    same((names.changed(), names.names), (True, {1: "Bob"}))
+    same(names.changed(), False)
+    os.remove("log.names")
+    same((names.changed(), names.names), (True, {}))
+
+
+def test_a_process_is_stopped_once(program):
+    """No signal goes to a number that was taken: by then another process may have it."""
+    traces.write("trace", traces.COUNT)
+    helper, sent, stops = readers.Helper("trace", 0, 100), [], []
+    take, kill = os.waitpid, os.kill
+
+    def taken(*words):
+        done = take(*words)
+        stops.append(threading.Thread(target=helper.kill))
+        stops[0].start()
+        stops[0].join(0.5)  # it waits for the lock, and comes to it when this is done
+        return done
+
+    os.waitpid, os.kill = taken, lambda *words: sent.append(words)
+    try:
+        helper.answer()
+        stops[0].join()
+        helper.kill()
+    finally:
+        os.waitpid, os.kill = take, kill
+    same(sent, [])
+
+
+def test_a_process_that_cannot_be_made(program):
+    """Those before it are ended and taken, and their pipes are closed: the screen reads all by itself."""
+    traces.big("bigger", 9000, 6, 3)
+    made, fork, long, count = [], os.fork, readers.LONG, os.cpu_count
+    files = set(os.listdir("/proc/self/fd"))
+
+    def forks():
+        if len(made) == 2:
+            raise BlockingIOError("no more")
+        number = fork()
+        made.append(number)
+        return number
+
+    readers.LONG, os.fork, os.cpu_count = 1, forks, lambda: 8
+    try:
+        read = readers.Readers("bigger")
+    finally:
+        readers.LONG, os.fork, os.cpu_count = long, fork, count
+    same((read.helpers, len(made)), ([], 2))
+    same(set(os.listdir("/proc/self/fd")), files)
+    for number in made:
+        try:
+            os.waitpid(number, os.WNOHANG)
+            raise AssertionError(f"{number} was not taken")
+        except ChildProcessError:
+            pass
+
+
+HUNG = """import asyncio, sys
+sys.path.insert(0, {!r})
+from screen_app import command, server
+async def never(self):
+    await asyncio.Event().wait()
+server.Server.stop, command.ENDING = never, 0.2
+command.main()
+"""
+
+
+async def test_it_ends_though_something_does_not(program):
+    """The terminal comes back, and what waited is told."""
+    traces.write("trace", traces.COUNT)
+    traces.write("hung.py", HUNG.format(os.path.dirname(os.path.dirname(os.path.abspath(__file__)))))
+    pipe = asyncio.subprocess.PIPE
+    process = await asyncio.create_subprocess_exec(
+        "/usr/bin/python3", "hung.py", "trace", "log", "--program", program, stdout=pipe, stderr=pipe
+    )
+    await asyncio.wait_for(process.stdout.readline(), PATIENCE)
+    process.terminate()
+    said = (await asyncio.wait_for(process.communicate(), PATIENCE))[1].decode()
+    assert "Stack for" in said and "Timeout" in said, said
