@@ -1,5 +1,5 @@
 -- The list of all accesses of a variable.
-use Rattle.std.proofs.Common.{◌≡◌, ℕ, ◌+◌, ◌<◌, ◌≤◌, true, List, Contains, filter, length, slice_index, get_or, sym, ◌∙◌, subst, arith, inl, inr}
+use Rattle.std.proofs.Common.{◌≡◌, ℕ, ◌+◌, ◌<◌, ◌≤◌, true, List, Contains, filter, length, slice_index, get_or, sym, ap, ◌∙◌, subst, arith, inl, inr}
 use Rattle.std.specs.List.{AllPairs}
 use Rattle.std.proofs.lemmas.Bool.{cases_lt}
 use Rattle.std.proofs.lemmas.List.{get_or_default, get_or_past}
@@ -39,6 +39,9 @@ module _ (T : List Event) (x : ℕ) (xs : List ℕ) (are : xs ≡ filter (is_acc
   rising : AllPairs (λ a b. a < b) xs
   rising = subst (AllPairs (λ a b. a < b)) (sym are) (AllPairs-filter (λ a b. a < b) (is_access_at T x) (before (length T)) (before_rises (length T)))
 
+  pub accesses_before : (i k : ℕ) → i < k → k < length xs → slice_index xs i < slice_index xs k
+  accesses_before i k lt within = rising i k 0 lt within
+
   -- behind an access comes the next one, or no event any more
   pub accesses_rise : (i : ℕ) → i < length xs → slice_index xs i + 1 ≤ get_or xs (i + 1) (length T)
   accesses_rise i lt = elim (cases_lt (i + 1) (length xs)) [
@@ -60,3 +63,22 @@ module _ (T : List Event) (x : ℕ) (xs : List ℕ) (are : xs ≡ filter (is_acc
       let low : e < length (before n) = omega (arith, length-range_with_len 0 n) in
       let kept : Contains xs e = subst (λ (ys : List ℕ). Contains ys e) (sym are) (Contains-filter (is_access_at T x) (before n) e (e, low, here) access) in
       (kept.0, kept.1, sym (get_or_default xs kept.0 e 0 kept.1) ∙ kept.2)
+
+  -- an access before the next one is one of the first
+  pub access_before : (n e : ℕ) → is_access_at T x e ≡ true → e < get_or xs n (length T) → (i : ℕ) × (i < n) × (slice_index xs i ≡ e)
+  access_before n e access lt =
+      let there = access_there e access in
+      let is : slice_index xs there.0 ≡ e = there.2 in
+      elim (cases_lt there.0 n) [
+        | inl low ↦ (there.0, low, is)
+        | inr high ↦
+            let inside : n < length xs = omega (arith, high, there.1) in
+            let same = get_or_default xs n (length T) 0 inside in
+            elim (cases_lt n there.0) [
+              | inl apart ↦ let up = rising n there.0 0 apart there.1 in absurd (omega (arith, up, is, same, lt))
+              | inr le ↦
+                  let one : there.0 ≡ n = omega (arith, le, high) in
+                  let at = ap (slice_index xs) one in
+                  absurd (omega (arith, at, is, same, lt))
+            ]
+      ]

@@ -1,26 +1,27 @@
 -- The lanes of a variable in the making, and its accesses.
-use Rattle.std.proofs.Common.{◌≡◌, ◌≢◌, ℕ, ◌+◌, ◌<◌, ◌≤◌, ◌⊎◌, Bool, true, false, cond, List, [], ◌∷◌, ◌++◌, Vec, All, Contains, filter, length, slice_index, set, Some, sym, ap, ◌∙◌, subst, arith, inl, inr, append-nil, get_or-set_same, get_or-set_other, length-set, length-append}
+use Rattle.std.proofs.Common.{◌≡◌, ◌≢◌, ℕ, ◌+◌, ◌<◌, ◌≤◌, ◌⊎◌, Bool, true, false, cond, List, [], ◌∷◌, ◌++◌, Vec, All, Contains, filter, length, slice_index, set, Some, sym, ap, ◌∙◌, subst, arith, inl, inr, append-nil, length-append}
 use Rattle.std.specs.List.{slice_get}
 use Rattle.std.specs.declared.alloc.Global.{Global}
 use Rattle.std.proofs.lemmas.Bool.{cases_Bool, cases_eq}
-use Rattle.std.proofs.lemmas.List.{get_or_append_left}
-use Rattle.std.proofs.lemmas.List.Elements.{All-nil, All-push, All-same, All-weaker, Contains-append_left, Contains-push}
-use Rattle.std.proofs.lemmas.Option.{get_or_from_slice_get, same_Some, slice_get-get_or, slice_get_within}
-use Rattle.std.proofs.Math.Seq.{get_or-append_seam}
+use Rattle.std.proofs.lemmas.List.Elements.{All-contains, All-nil, All-push, All-same, All-weaker, Contains-append_left, Contains-push}
+use Rattle.std.proofs.lemmas.Option.{same_Some, slice_get_within}
 use Rattle.rapid_text.specs.Recording.{Recording, IsNamedOp}
 use Rattle.rapid_text.specs.declared.event.Event.{Event}
 use Rattle.rapid_text.specs.declared.event.Op.{Op}
 use Rattle.event_index.specs.Events.{passes_by}
-use Rattle.event_index.specs.Lookups.{before}
+use Rattle.event_index.specs.Lookups.{before, place_of}
 use Rattle.event_index.specs.Relations.{is_access}
 use Rattle.event_index.proofs.CallerLemmas.{filter_more_before}
 use Rattle.trace_rules.proofs.Counts.{slice_get-set}
 use Rattle.race_groups.proofs.BuildLemmas.{get_either}
-use Rattle.least_pairs.specs.Lanes.{AreAccesses, IsInLane, IsInLanes, access_op, kind_at}
-use Rattle.least_pairs.specs.Making.{AreBegun, AreLanesGrown, IsBegun, IsEventAdded}
+use Rattle.least_pairs.specs.Lanes.{AreAccesses, IsBunch, IsInBunches, IsInLane, IsInLanes, IsLater, IsPrevious, IsRising, access_op}
+use Rattle.least_pairs.specs.Making.{AreBegun, AreLanesGrown, IsBegun, IsEventAdded, IsOfBunch}
 use Rattle.least_pairs.specs.Pairs.{is_access_at}
+use Rattle.least_pairs.specs.declared.lanes.Access.{Access}
 use Rattle.least_pairs.specs.declared.lanes.Lane.{Lane}
+use Rattle.least_pairs.specs.declared.lanes.Later.{Later}
 use Rattle.least_pairs.proofs.BasicLemmas.{access_is, access_one}
+use Rattle.least_pairs.proofs.BunchLemmas.{Contains-from, bunches_are, bunches_cover, none_in, push_cases, push_here, push_there, rises_push, set_here, set_there, slice_get-from}
 
 -- the variable of an access has a name
 pub access_named : (r : Recording) (w : Bool) (x : ℕ) → IsNamedOp r (access_op w x) → x < length r.variables
@@ -67,41 +68,12 @@ AreAccesses-begin T accesses w empty are x v at =
       | inr is ↦ ap (λ (t : Vec ℕ Global). t.items) (sym is) ∙ empty
     ]
 
--- what stands at a place is among the elements, and the other way round
-pub Contains-from : {X : Type 0} (xs : List X) (k : ℕ) (x : X) → slice_get xs k ≡ Some x → Contains xs x
-Contains-from xs k x at = (k, slice_get_within xs k x at, get_or_from_slice_get xs k x x at)
-
-pub slice_get-from : {X : Type 0} (xs : List X) (x : X) → (there : Contains xs x) → slice_get xs there.0 ≡ Some x
-slice_get-from xs x there = slice_get-get_or xs there.0 x there.1 ∙ ap Some there.2
-
--- what stands at a place after a write
-set_here : {X : Type 0} (xs : List X) (k : ℕ) (x y : X) → slice_get xs k ≡ Some x → slice_get (set xs k y) k ≡ Some y
-set_here xs k x y at =
-    let low = slice_get_within xs k x at in
-    slice_get-get_or (set xs k y) k x (omega (arith, low, length-set xs k y)) ∙ ap Some (get_or-set_same xs k y x low)
-
-set_there : {X : Type 0} (xs : List X) (k j : ℕ) (x y : X) → j ≢ k → slice_get xs j ≡ Some x → slice_get (set xs k y) j ≡ Some x
-set_there xs k j x y apart at =
-    let low = slice_get_within xs j x at in
-    slice_get-get_or (set xs k y) j x (omega (arith, low, length-set xs k y)) ∙ ap Some (get_or-set_other xs k j y x apart ∙ get_or_from_slice_get xs j x x at)
-
--- a place that stands in a list with one element more is one of the list, or the last
-push_here : (xs : List ℕ) (y k : ℕ) → k ≡ length xs → slice_index (xs ++ y ∷ []) k ≡ y
-push_here xs y k is = ap (slice_index (xs ++ y ∷ [])) is ∙ get_or-append_seam xs y [] 0
-
-push_there : (xs : List ℕ) (y k : ℕ) → k < length xs → slice_index (xs ++ y ∷ []) k ≡ slice_index xs k
-push_there xs y k low = get_or_append_left xs (y ∷ []) 0 k low
-
-push_cases : (xs : List ℕ) (y k : ℕ) → k < length (xs ++ y ∷ []) → (k ≡ length xs) ⊎ (k < length xs)
-push_cases xs y k lt =
-    let more : length (xs ++ y ∷ []) ≡ length xs + 1 = length-append xs (y ∷ []) in
-    elim (cases_eq k (length xs)) [ inl is ↦ inl is | inr ne ↦ inr (omega arith) ]
-
 abbrev pub event_of : ℕ → Op → Event
 event_of t op = record { thread = t; op = op }
 
 -- a lane with one event more
-module _ (T : List Event) (numbers : List ℕ) (x event : ℕ) (old new : Lane) (is : IsBegun T numbers x event old) (added : IsEventAdded event (slice_index numbers event) old new) (mine : IsInLane T x old event) where
+module _ (T : List Event) (numbers : List ℕ) (x : ℕ) (a : Access) (old new : Lane) (is : IsBegun T numbers x a.event old) (added : IsEventAdded a old new) (mine : IsInLane T x old a.event)
+    (placed : a.place ≡ place_of T a.event) (class : a.class ≡ slice_index numbers a.event) where
   IsInLane-same : (e : ℕ) → IsInLane T x old e → IsInLane T x new e
   IsInLane-same e at =
       at
@@ -110,89 +82,96 @@ module _ (T : List Event) (numbers : List ℕ) (x event : ℕ) (old new : Lane) 
 
   all_in : All (IsInLane T x new) new.events.items
   all_in =
-      All-same (IsInLane T x new) new.events.items (old.events.items ++ event ∷ []) added.events
-      (All-push (IsInLane T x new) old.events.items event
-      (All-weaker (IsInLane T x old) (IsInLane T x new) IsInLane-same old.events.items is.plain.events) (IsInLane-same event mine))
+      All-same (IsInLane T x new) new.events.items (old.events.items ++ a.event ∷ []) added.events
+      (All-push (IsInLane T x new) old.events.items a.event
+      (All-weaker (IsInLane T x old) (IsInLane T x new) IsInLane-same old.events.items is.plain.events) (IsInLane-same a.event mine))
 
-  old_len : length old.kinds.items ≡ length old.events.items
-  old_len = is.plain.kinds_len
-
-  events_at : (k : ℕ) → slice_index new.events.items k ≡ slice_index (old.events.items ++ event ∷ []) k
-  events_at k = ap (λ xs. slice_index xs k) added.events
+  old_len : length old.places.items ≡ length old.events.items
+  old_len = is.plain.places_len
 
   cases : (k : ℕ) → k < length new.events.items → (k ≡ length old.events.items) ⊎ (k < length old.events.items)
-  cases k lt = push_cases old.events.items event k (subst (λ (xs : List ℕ). k < length xs) added.events lt)
+  cases k lt = push_cases old.events.items a.event k (subst (λ (xs : List ℕ). k < length xs) added.events lt)
 
-  earlier : (k : ℕ) → k < length old.events.items → slice_index new.events.items k ≡ slice_index old.events.items k
-  earlier k low = events_at k ∙ push_there old.events.items event k low
-
-  below : (k : ℕ) → k < length old.events.items → slice_index old.events.items k < event
-  below k low = is.below k 0 low
-
-  rises : (i k : ℕ) → i < k → k < length new.events.items → slice_index new.events.items i < slice_index new.events.items k
-  rises i k lt within = elim (cases k within) [
+  placed_at : (k : ℕ) → k < length new.events.items → slice_index new.places.items k ≡ place_of T (slice_index new.events.items k)
+  placed_at k within = elim (cases k within) [
     | inl last ↦
-        let low : i < length old.events.items = omega arith in
-        let at : slice_index new.events.items k ≡ event = events_at k ∙ push_here old.events.items event k last in
-        omega (arith, at, earlier i low, below i low)
-    | inr low ↦ omega (arith, earlier i (omega arith), earlier k low, is.plain.rising i k lt low)
-  ]
-
-  kinds_are : (k : ℕ) → k < length new.events.items → slice_get new.classes.items (kind_at new k) ≡ Some (slice_index numbers (slice_index new.events.items k))
-  kinds_are k within = elim (cases k within) [
-    | inl last ↦
-        let kind : kind_at new k ≡ added.kind =
-        ap (λ xs. slice_index xs k) added.kinds ∙ push_here old.kinds.items added.kind k (omega (arith, last, old_len))
-        in
-        let at : slice_index new.events.items k ≡ event = events_at k ∙ push_here old.events.items event k last in
-        ap (slice_get new.classes.items) kind ∙ added.at ∙ ap (λ e. Some (slice_index numbers e)) (sym at)
+        ap (λ xs. slice_index xs k) added.places
+        ∙ push_here old.places.items a.place k (omega (arith, last, old_len))
+        ∙ placed
+        ∙ ap (place_of T) (sym (ap (λ xs. slice_index xs k) added.events ∙ push_here old.events.items a.event k last))
     | inr low ↦
-        let kind : kind_at new k ≡ kind_at old k =
-        ap (λ xs. slice_index xs k) added.kinds ∙ push_there old.kinds.items added.kind k (omega (arith, low, old_len))
-        in
-        ap (slice_get new.classes.items) kind
-        ∙ added.kept (kind_at old k) (slice_index numbers (slice_index old.events.items k)) (is.plain.kinds k low)
-        ∙ ap (λ e. Some (slice_index numbers e)) (sym (earlier k low))
+        ap (λ xs. slice_index xs k) added.places
+        ∙ push_there old.places.items a.place k (omega (arith, low, old_len))
+        ∙ is.plain.places k low
+        ∙ ap (place_of T) (sym (ap (λ xs. slice_index xs k) added.events ∙ push_there old.events.items a.event k low))
   ]
 
-  pub IsBegun-added : IsBegun T numbers x (event + 1) new
+  pub IsBegun-added : IsBegun T numbers x (a.event + 1) new
   IsBegun-added = record {
     plain = record {
       events = all_in;
-      rising = rises;
-      kinds_len =
-          ap length added.kinds ∙ length-append old.kinds.items (added.kind ∷ [])
+      rising = subst IsRising (sym added.events) (rises_push old.events.items a.event is.plain.rising is.below);
+      places_len =
+          ap length added.places ∙ length-append old.places.items (a.place ∷ [])
           ∙ ap (λ n. n + 1) old_len
-          ∙ sym (length-append old.events.items (event ∷ []))
+          ∙ sym (length-append old.events.items (a.event ∷ []))
           ∙ sym (ap length added.events);
-      kinds = kinds_are;
+      places = placed_at;
+      last =
+          All-same (λ p. p ≤ new.last) new.places.items (old.places.items ++ a.place ∷ []) added.places
+          (All-push (λ p. p ≤ new.last) old.places.items a.place
+          (All-weaker (λ p. p ≤ old.last) (λ p. p ≤ new.last) (λ p le. omega (arith, le, added.last.0)) old.places.items is.plain.last) added.last.1);
+      bunches =
+          subst (λ (es : List ℕ). All (IsBunch numbers es) new.bunches.items) (sym added.events)
+          (bunches_are numbers old.events.items a.class a.event old.bunches.items new.bunches.items added.bunches is.plain.bunches is.plain.covered is.below class);
+      covered =
+          All-same (IsInBunches new.bunches.items) new.events.items (old.events.items ++ a.event ∷ []) added.events
+          (bunches_cover numbers old.events.items a.class a.event old.bunches.items new.bunches.items added.bunches is.plain.bunches is.plain.covered is.below class);
     };
     below =
-        All-same (λ e. e < event + 1) new.events.items (old.events.items ++ event ∷ []) added.events
-        (All-push (λ e. e < event + 1) old.events.items event
-        (All-weaker (λ e. e < event) (λ e. e < event + 1) (λ e lt. omega arith) old.events.items is.below) (omega arith));
+        All-same (λ e. e < a.event + 1) new.events.items (old.events.items ++ a.event ∷ []) added.events
+        (All-push (λ e. e < a.event + 1) old.events.items a.event
+        (All-weaker (λ e. e < a.event) (λ e. e < a.event + 1) (λ e lt. omega arith) old.events.items is.below) (omega arith));
   }
 
 -- the event belongs in the lane of its thread and of what it does
-pub IsInLane-from : (T : List Event) (x y event : ℕ) (w : Bool) (v : Event) (l : Lane)
-    → slice_get T event ≡ Some v → is_access_at T x event ≡ true → v.op ≡ access_op w y → l.thread ≡ v.thread → l.is_writing ≡ w
-    → IsInLane T x l event
-IsInLane-from T x y event w v l found access op thread writing =
-    let one : y ≡ x = access_one w y x (ap (is_access x) (sym op) ∙ sym (here_is T event v found x) ∙ access) in
+pub IsInLane-of : (T : List Event) (x event : ℕ) (w : Bool) (v : Event) (l : Lane)
+    → slice_get T event ≡ Some v → v.op ≡ access_op w x → l.thread ≡ v.thread → l.is_writing ≡ w → IsInLane T x l event
+IsInLane-of T x event w v l found op thread writing =
     found
-    ∙ ap (λ o. Some (event_of v.thread o)) (op ∙ ap (access_op w) one ∙ ap (λ u. access_op u x) (sym writing))
+    ∙ ap (λ o. Some (event_of v.thread o)) (op ∙ ap (λ u. access_op u x) (sym writing))
     ∙ ap (λ t. Some (event_of t (access_op l.is_writing x))) (sym thread)
 
+-- an event of a bunch of the class is one before this one
+pub IsPrevious-of : (T : List Event) (numbers : List ℕ) (x class : ℕ) (l : Lane) (later : Later) (e : ℕ)
+    → IsBegun T numbers x later.event l → l.thread ≡ later.thread → l.is_writing ≡ later.is_writing → x ≡ later.variable → class ≡ slice_index numbers later.event
+    → IsOfBunch l.bunches.items class e → IsPrevious T numbers later e
+IsPrevious-of T numbers x class l later e is thread writing variable mine h =
+    let g = All-contains (IsBunch numbers l.events.items) l.bunches.items h.bunch is.plain.bunches h.among in
+    let there = All-contains (Contains l.events.items) h.bunch.events.items e g.among h.at in
+    record {
+      before = All-contains (λ d. d < later.event) l.events.items e is.below there;
+      same =
+          All-contains (IsInLane T x l) l.events.items e is.plain.events there
+          ∙ ap (λ t. Some (event_of t (access_op l.is_writing x))) thread
+          ∙ ap (λ w. Some (event_of later.thread (access_op w x))) writing
+          ∙ ap (λ y. Some (event_of later.thread (access_op later.is_writing y))) variable;
+      of_class = All-contains (λ d. slice_index numbers d ≡ h.bunch.class) h.bunch.events.items e g.of_class h.at ∙ h.class_is ∙ mine;
+    }
+
 -- a lane with no events
-IsBegun-empty : (T : List Event) (numbers : List ℕ) (x n : ℕ) (l : Lane) → l.events.items ≡ [] → l.kinds.items ≡ [] → IsBegun T numbers x n l
-IsBegun-empty T numbers x n l none kinds =
+IsBegun-empty : (T : List Event) (numbers : List ℕ) (x n : ℕ) (l : Lane) → l.events.items ≡ [] → l.places.items ≡ [] → l.bunches.items ≡ [] → IsBegun T numbers x n l
+IsBegun-empty T numbers x n l none places bunches =
     let len = ap length none in
     record {
       plain = record {
         events = All-same (IsInLane T x l) l.events.items [] none (All-nil (IsInLane T x l));
         rising = λ i k lt within. absurd (omega arith);
-        kinds_len = ap length kinds ∙ sym len;
-        kinds = λ k within. absurd (omega arith);
+        places_len = ap length places ∙ sym len;
+        places = λ k within. absurd (omega arith);
+        last = All-same (λ p. p ≤ l.last) l.places.items [] places (All-nil (λ p. p ≤ l.last));
+        bunches = All-same (IsBunch numbers l.events.items) l.bunches.items [] bunches (All-nil (IsBunch numbers l.events.items));
+        covered = All-same (IsInBunches l.bunches.items) l.events.items [] none (All-nil (IsInBunches l.bunches.items));
       };
       below = All-same (λ e. e < n) l.events.items [] none (All-nil (λ e. e < n));
     }
@@ -211,7 +190,7 @@ AreBegun-grown T numbers x n lanes grown (inl same) are k l at = are k l (ap (λ
 AreBegun-grown T numbers x n lanes grown (inr more) are k l at =
     elim (get_either lanes more.lane k l (ap (λ xs. slice_get xs k) (sym more.added) ∙ at)) [
       | inl old ↦ are k l old
-      | inr new ↦ subst (IsBegun T numbers x n) new (IsBegun-empty T numbers x n more.lane more.events more.kinds)
+      | inr new ↦ subst (IsBegun T numbers x n) new (IsBegun-empty T numbers x n more.lane more.events more.places more.bunches)
     ]
 
 pub IsInLanes-grown : (lanes grown : List Lane) (e : ℕ) → AreLanesGrown lanes grown → IsInLanes lanes e → IsInLanes grown e
@@ -259,9 +238,9 @@ module _ (lanes : List Lane) (number : ℕ) (old new : Lane) (here : slice_get l
   }
 
 -- what was in the lane stays in it, and the event comes to it
-pub added_kept : (event class : ℕ) (old new : Lane) → IsEventAdded event class old new → (e : ℕ) → Contains old.events.items e → Contains new.events.items e
-added_kept event class old new added e there =
-    subst (λ (xs : List ℕ). Contains xs e) (sym added.events) (Contains-append_left old.events.items (event ∷ []) e there)
+pub added_kept : (a : Access) (old new : Lane) → IsEventAdded a old new → (e : ℕ) → Contains old.events.items e → Contains new.events.items e
+added_kept a old new added e there =
+    subst (λ (xs : List ℕ). Contains xs e) (sym added.events) (Contains-append_left old.events.items (a.event ∷ []) e there)
 
-pub added_here : (event class : ℕ) (old new : Lane) → IsEventAdded event class old new → Contains new.events.items event
-added_here event class old new added = subst (λ (xs : List ℕ). Contains xs event) (sym added.events) (Contains-push old.events.items event)
+pub added_here : (a : Access) (old new : Lane) → IsEventAdded a old new → Contains new.events.items a.event
+added_here a old new added = subst (λ (xs : List ℕ). Contains xs a.event) (sym added.events) (Contains-push old.events.items a.event)

@@ -12,8 +12,7 @@ pub mod RowLemmas
 pub mod EndLemmas
 pub mod AccessLemmas
 pub mod LaneLemmas
-pub mod LinkLemmas
-pub mod StretchLemmas
+pub mod BunchLemmas
 pub mod NotingLemmas
 pub mod UseLemmas
 pub mod BetweenLemmas

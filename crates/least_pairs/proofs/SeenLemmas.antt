@@ -1,58 +1,81 @@
--- What was compared with a later event is held with all later ones of its kind.
-use Rattle.std.proofs.Common.{◌≡◌, ◌≢◌, ℕ, ◌+◌, ◌<◌, ◌≤◌, ◌⊎◌, List, length, slice_index, set, sym, ap, ◌∙◌, subst, arith, inl, inr}
-use Rattle.std.proofs.lemmas.Bool.{cases_order}
-use Rattle.std.proofs.lemmas.Grind.{get_or_default_zero}
-use Rattle.std.proofs.lemmas.List.{get_or-set_same, get_or-set_other}
-use Rattle.least_pairs.specs.Going.{AreSeen}
-use Rattle.least_pairs.specs.Lanes.{IsAsked, kind_at}
+-- What was taken in with the last event of a class is held with the next one.
+use Rattle.std.proofs.Common.{◌≡◌, ℕ, ◌<◌, ◌≤◌, List, length, slice_index, Some, refl, sym, ap, ◌∙◌, le_refl, arith, inl, inr}
+use Rattle.std.proofs.lemmas.Option.{slice_get_within}
+use Rattle.event_index.specs.Events.{thread_at}
+use Rattle.event_index.specs.Lookups.{place_of}
+use Rattle.event_index.proofs.CallerLemmas.{thread_here}
+use Rattle.must_order.specs.Kinds.{IsKind}
+use Rattle.must_order.specs.MustBefore.{IsForced}
+use Rattle.must_order.specs.declared.kind.Kind.TheVariants.{Candidate, Open}
+use Rattle.race_groups.specs.Ends.{IsKnownBefore, counted_before, known_before}
+use Rattle.race_groups.proofs.CutLemmas.{IsCut-from}
+use Rattle.least_pairs.specs.Going.{AreClashing, AreTakenBefore, HasCandidate, HasOpen, IsSound, IsTaken}
+use Rattle.least_pairs.specs.Lanes.{IsPrevious, access_op}
+use Rattle.least_pairs.specs.Pairs.{IsPair}
+use Rattle.least_pairs.specs.Windows.{of_lane}
 use Rattle.least_pairs.specs.declared.lanes.Lane.{Lane}
-use Rattle.least_pairs.specs.declared.stretches.Stretch.{Stretch}
-use Rattle.least_pairs.proofs.BasicLemmas.{cases_le}
+use Rattle.least_pairs.specs.declared.lanes.Later.{Later}
+use Rattle.least_pairs.specs.declared.leasts.Search.{Search}
+use Rattle.least_notes.specs.declared.least.Least.{Least}
+use Rattle.least_pairs.proofs.AlikeLemmas.{candidate_onward, open_onward, shares_alike}
+use Rattle.least_pairs.proofs.LaneFacts.{at_place}
+use Rattle.least_pairs.proofs.NotingLemmas.{known_is_open}
+use Rattle.least_pairs.proofs.WindowLemmas.{above_candidate, access_here, candidate_above, later_within, loose_above, of_these, pair_here, pair_with, thread_of_lane, thread_of_later}
 
-cases_same : (i k : ℕ) → (i ≡ k) ⊎ (i ≢ k)
-cases_same i k = elim (cases_order i k) [
-  | inl same ↦ inl same
-  | inr (inl lt) ↦ inr (λ same. omega (arith, lt, same))
-  | inr (inr gt) ↦ inr (λ same. omega (arith, gt, same))
-]
+module _ (s : Search) (sound : IsSound s) (leasts : List Least) (l : Lane) (later : Later) (are : AreClashing s l later) (before : AreTakenBefore s later.variable leasts later.event)
+    (p : ℕ) (is : IsPrevious s.indexed.now.events s.classes.now.numbers.items later p) (k : ℕ) (low : k < length l.events.items) where
+  within : p < length s.indexed.now.events
+  within = slice_get_within s.indexed.now.events p (record { thread = later.thread; op = access_op later.is_writing later.variable }) is.same
 
--- the event of a lane at a place
-abbrev pub at_place : Lane → ℕ → ℕ
-at_place l k = slice_index l.events.items k
+  thread : thread_at s.indexed.now.events p ≡ Some later.thread
+  thread = thread_here s.indexed.now.events p (record { thread = later.thread; op = access_op later.is_writing later.variable }) is.same
 
-module _ (Holds : ℕ → ℕ → Type 0) (earlier later : Lane) (n : ℕ) where
-  -- what was seen before, and what is asked for, is held with event n of the later lane
-  pub asked_held :
-      (s : Stretch) (places : List ℕ) (end : ℕ) → n < length later.events.items → AreSeen Holds earlier later s n
-      → ((k : ℕ) → s.start ≤ k → slice_index s.seen.items (kind_at later n) ≤ k → k < end → IsAsked earlier places k)
-      → ((i : ℕ) → i < length places → Holds (at_place earlier (slice_index places i)) (at_place later n))
-      → ((m k : ℕ) → m ≤ k → k < end → kind_at earlier m ≡ kind_at earlier k → Holds (at_place earlier m) (at_place later n) → Holds (at_place earlier k) (at_place later n))
-      → (k : ℕ) → s.start ≤ k → k < end → Holds (at_place earlier k) (at_place later n)
-  asked_held s places end lt seen asked noted alike k from to = elim (cases_le (slice_index s.seen.items (kind_at later n)) k) [
-    | inl fresh ↦
-        let a = asked k from fresh to in
-        let i : ℕ = a.among.0 in
-        let is : slice_index places i ≡ a.place = sym (get_or_default_zero places i a.place a.among.1) ∙ a.among.2 in
-        alike a.place k a.no_later to a.kind (subst (λ (m : ℕ). Holds (at_place earlier m) (at_place later n)) is (noted i a.among.1))
-    | inr old ↦ seen k n from old (omega arith) lt
-  ]
+  pair_before : at_place l k < p → IsPair s.indexed.now.events (at_place l k) p
+  pair_before = pair_with s l later are k p low is.same
 
-  -- what is held with event n is held with all later ones of its kind
-  pub seen_more :
-      (s t : Stretch) (end : ℕ) → n < length later.events.items → t.start ≡ s.start → t.seen.items ≡ set s.seen.items (kind_at later n) end
-      → kind_at later n < length s.seen.items → AreSeen Holds earlier later s n
-      → ((k : ℕ) → s.start ≤ k → k < end → Holds (at_place earlier k) (at_place later n))
-      → ((k i : ℕ) → n ≤ i → i < length later.events.items → kind_at later i ≡ kind_at later n
-      → Holds (at_place earlier k) (at_place later n) → Holds (at_place earlier k) (at_place later i))
-      → AreSeen Holds earlier later t (n + 1)
-  seen_more s t end lt start_is seen_is within seen held alike k i from below after inside =
-      let at = slice_index t.seen.items (kind_at later i) in
-      let moved : at ≡ slice_index (set s.seen.items (kind_at later n) end) (kind_at later i) = ap (λ (l : List ℕ). slice_index l (kind_at later i)) seen_is in
-      elim (cases_same (kind_at later i) (kind_at later n)) [
-        | inl same ↦
-            let ends : at ≡ end = moved ∙ ap (λ (j : ℕ). slice_index (set s.seen.items (kind_at later n) end) j) same ∙ get_or-set_same s.seen.items (kind_at later n) end 0 within in
-            alike k i (omega (arith, after)) inside same (held k (omega (arith, from, start_is)) (omega (arith, below, ends)))
-        | inr other ↦
-            let kept : at ≡ slice_index s.seen.items (kind_at later i) = moved ∙ get_or-set_other s.seen.items (kind_at later n) (kind_at later i) end 0 other in
-            seen k i (omega (arith, from, start_is)) (omega (arith, below, kept)) (omega (arith, after)) inside
-      ]
+  taken : at_place l k < p → IsTaken s.indexed.now (slice_index s.places.now) s.groups.now.rows.items s.most later.variable leasts (at_place l k) p
+  taken lt = before (at_place l k) p (pair_before lt) (access_here s l later are k low) is.before
+
+  known_rises : known_before s.indexed.now.events p l.thread ≤ known_before s.indexed.now.events later.event l.thread
+  known_rises =
+      (IsCut-from s.indexed.now.events (IsKnownBefore s.indexed.now.events) (known_before s.indexed.now.events) sound.known).rising p later.event l.thread later.thread
+      (omega (arith, is.before)) (later_within s l later are) thread (thread_of_later s l later are)
+
+  forced_rises : counted_before s.rows.now s.indexed.now.events p l.thread ≤ counted_before s.rows.now s.indexed.now.events later.event l.thread
+  forced_rises =
+      (IsCut-from s.indexed.now.events (IsForced s.indexed.now.events) (counted_before s.rows.now s.indexed.now.events) sound.forced).rising p later.event l.thread later.thread
+      (omega (arith, is.before)) (later_within s l later are) thread (thread_of_later s l later are)
+
+  pub candidate_seen : at_place l k < p → IsKind s.indexed.now (at_place l k) later.event Candidate → HasCandidate s later.variable leasts (at_place l k) later.event
+  candidate_seen lt kind =
+      let a = at_place l k in
+      let r = s.indexed.now in
+      let of = thread_of_lane s l later are k low in
+      let above = above_candidate r (known_before r.events) sound.known a later.event l.thread (pair_here s l later are k low) of kind in
+      let up = known_rises in
+      let kind_then = candidate_above r (known_before r.events) sound.known a p l.thread (pair_before lt) of (omega (arith, above, up)) in
+      let held = taken lt in
+      candidate_onward s sound leasts a p a later.event (le_refl a) (omega (arith, is.before)) (omega (arith, lt, within)) (later_within s l later are) refl is.of_class later.variable
+      (held.held.candidate kind_then, held.counted (inl kind_then))
+
+  pub open_seen :
+      place_of s.indexed.now.events (at_place l k) < known_before s.indexed.now.events p l.thread
+      → counted_before s.rows.now s.indexed.now.events later.event l.thread ≤ place_of s.indexed.now.events (at_place l k)
+      → HasOpen s leasts (of_lane l later) (at_place l k) later.event
+  open_seen under loose apart =
+      let a = at_place l k in
+      let r = s.indexed.now in
+      let of = thread_of_lane s l later are k low in
+      let known = sound.known.reached a p l.thread within of under in
+      let lt = sound.known.earlier a p known in
+      let pair = pair_before lt in
+      let up = forced_rises in
+      let free = loose_above r (counted_before s.rows.now r.events) sound.forced a p l.thread pair of (omega (arith, loose, up)) in
+      let inside : a < length r.events = omega (arith, lt, within) in
+      let groups = sound.groups in
+      let alike = shares_alike s sound leasts a p a later.event (le_refl a) (omega (arith, is.before)) inside (later_within s l later are) refl is.of_class in
+      let kind_then = known_is_open r (slice_index s.places.now) s.classes.now.numbers.items s.classes.now.infos.items s.classes.now.lists.keys a p sound.formed sound.rules
+      groups.classes groups.locks pair known free (alike ∙ apart) in
+      let held = taken lt in
+      open_onward s sound leasts a p a later.event (le_refl a) (omega (arith, is.before)) inside (later_within s l later are) refl is.of_class (of_lane l later)
+      (λ _. (held.held.opens (of_lane l later) (of_these s l later are k p low is.same) kind_then, held.counted (inr kind_then))) apart

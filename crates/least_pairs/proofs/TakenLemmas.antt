@@ -1,18 +1,27 @@
 -- What was taken in stays so, and the lanes have all pairs of their variable.
-use Rattle.std.proofs.Common.{◌≡◌, ℕ, ◌<◌, ◌==◌, true, List, length, Contains, Some, slice_get, sym, ap, ◌∙◌}
-use Rattle.std.proofs.lemmas.Bool.{eqb-true, true≢false}
+use Rattle.std.proofs.Common.{◌≡◌, ℕ, ◌+◌, ◌<◌, ◌==◌, true, List, length, filter, Contains, Some, slice_get, slice_index, get_or, sym, ap, ◌∙◌, subst, arith, inl, inr}
+use Rattle.std.proofs.lemmas.Bool.{cases_eq, eqb-true, true≢false}
+use Rattle.std.proofs.lemmas.Grind.{get_or_default_zero}
+use Rattle.std.proofs.lemmas.List.{get_or_default}
 use Rattle.std.proofs.lemmas.Option.{slice_get-get_or}
 use Rattle.rapid_text.specs.declared.event.Event.{Event}
 use Rattle.rapid_text.specs.declared.event.Op.{Op}
 use Rattle.rapid_text.specs.declared.event.Op.TheVariants.{Read, Write, Acquire, Release, Fork, Join}
+use Rattle.event_index.specs.Lookups.{before}
 use Rattle.event_index.specs.Relations.{is_access}
 use Rattle.event_index.proofs.CallerLemmas.{passes_here}
 use Rattle.least_pairs.specs.Pairs.{IsPair, is_access_at}
 use Rattle.rapid_text.specs.Recording.{Recording}
 use Rattle.race_groups.specs.declared.kinds.Row.{Row}
-use Rattle.least_pairs.specs.Going.{AreMore, IsHeld, IsTaken}
+use Rattle.least_pairs.specs.Going.{AreMore, AreTakenBefore, AreTakenWith, IsHeld, IsTaken}
+use Rattle.least_pairs.specs.Lanes.{IsInLanes}
+use Rattle.least_pairs.specs.declared.lanes.Lane.{Lane}
+use Rattle.least_pairs.specs.declared.lanes.Later.{Later}
+use Rattle.least_pairs.specs.declared.leasts.Search.{Search}
+use Rattle.least_pairs.proofs.AccessLemmas.{access_before, accesses_before}
 use Rattle.least_notes.specs.declared.least.Least.{Least}
 use Rattle.least_pairs.proofs.HeldLemmas.{candidate_stays, open_stays, variable_stays}
+use Rattle.least_pairs.proofs.LaneFacts.{at_place}
 use Rattle.least_pairs.proofs.WindowLemmas.{only_left}
 
 module _ (r : Recording) (place : ℕ → ℕ) (rows : List Row) (most x : ℕ) (old new : List Least) (more : AreMore most x old new) (a b : ℕ) where
@@ -48,3 +57,48 @@ access_both T x a b pair is =
 -- what a list has stands at a place of it
 pub at_some : {X : Type 0} (xs : List X) (x : X) → Contains xs x → (i : ℕ) × (i < length xs) × (slice_get xs i ≡ Some x)
 at_some xs x (i, lt, is) = (i, lt, slice_get-get_or xs i x lt ∙ ap Some is)
+
+-- more was found
+pub AreTakenBefore-more : (s : Search) (x n : ℕ) (old new : List Least) → AreMore s.most x old new → AreTakenBefore s x old n → AreTakenBefore s x new n
+AreTakenBefore-more s x n old new more before a b pair access lt =
+    IsTaken-more s.indexed.now (slice_index s.places.now) s.groups.now.rows.items s.most x old new more a b (before a b pair access lt)
+
+pub AreTakenWith-more : (s : Search) (old new : List Least) (l : Lane) (later : Later) → AreMore s.most later.variable old new → AreTakenWith s old l later → AreTakenWith s new l later
+AreTakenWith-more s old new l later more taken k lt pair =
+    IsTaken-more s.indexed.now (slice_index s.places.now) s.groups.now.rows.items s.most later.variable old new more (at_place l k) later.event (taken k lt pair)
+
+-- One access more was taken in with all before it, which are in the lanes.
+module _ (s : Search) (x : ℕ) (xs : List ℕ) (are : xs ≡ filter (is_access_at s.indexed.now.events x) (before (length s.indexed.now.events))) (n : ℕ) (lt : n < length xs)
+    (old new : List Least) (more : AreMore s.most x old new) (lanes : List Lane) (later : Later) (event_is : later.event ≡ slice_index xs n) (variable_is : later.variable ≡ x)
+    (whole : (i : ℕ) → i < n → IsInLanes lanes (slice_index xs i)) (taken : (i : ℕ) (l : Lane) → slice_get lanes i ≡ Some l → AreTakenWith s new l later) where
+  abbrev Taken : ℕ → ℕ → Type 0
+  Taken a b = IsTaken s.indexed.now (slice_index s.places.now) s.groups.now.rows.items s.most x new a b
+
+  with_all : (a : ℕ) → IsPair s.indexed.now.events a later.event → is_access_at s.indexed.now.events x a ≡ true → Taken a later.event
+  with_all a pair access =
+      let early = pair.earlier in
+      let here = get_or_default xs n (length s.indexed.now.events) 0 lt in
+      let at = access_before s.indexed.now.events x xs are n a access (omega (arith, early, event_is, here)) in
+      let there : IsInLanes lanes a = subst (IsInLanes lanes) at.2 (whole at.0 at.1) in
+      let i = at_some lanes there.lane there.among in
+      let k : ℕ = there.at.0 in
+      let is : at_place there.lane k ≡ a = sym (get_or_default_zero there.lane.events.items k a there.at.1) ∙ there.at.2 in
+      let pair_then : IsPair s.indexed.now.events (at_place there.lane k) later.event = subst (λ (d : ℕ). IsPair s.indexed.now.events d later.event) (sym is) pair in
+      subst (λ (d : ℕ). Taken d later.event) is
+      (subst (λ (y : ℕ). IsTaken s.indexed.now (slice_index s.places.now) s.groups.now.rows.items s.most y new (at_place there.lane k) later.event) variable_is
+      (taken i.0 there.lane i.2 k there.at.1 pair_then))
+
+  pub taken_on : AreTakenBefore s x old (get_or xs n (length s.indexed.now.events)) → AreTakenBefore s x new (get_or xs (n + 1) (length s.indexed.now.events))
+  taken_on known a b pair access under =
+      let at = access_before s.indexed.now.events x xs are (n + 1) b (access_both s.indexed.now.events x a b pair access) under in
+      elim (cases_eq at.0 n) [
+        | inl same ↦
+            let is : later.event ≡ b = event_is ∙ ap (slice_index xs) (sym same) ∙ at.2 in
+            subst (Taken a) is (with_all a (subst (IsPair s.indexed.now.events a) (sym is) pair) access)
+        | inr apart ↦
+            let low : at.0 < n = omega (arith, at.1) in
+            let here = get_or_default xs n (length s.indexed.now.events) 0 lt in
+            let up = accesses_before s.indexed.now.events x xs are at.0 n low lt in
+            IsTaken-more s.indexed.now (slice_index s.places.now) s.groups.now.rows.items s.most x old new more a b
+            (known a b pair access (omega (arith, up, here, at.2)))
+      ]

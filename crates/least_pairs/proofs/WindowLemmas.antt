@@ -1,10 +1,12 @@
 -- What a place in a lane tells of the kind of its event's pair with a later one.
-use Rattle.std.proofs.Common.{◌≡◌, ℕ, ◌<◌, ◌≤◌, Bool, true, false, ◌||◌, length, slice_index, Some, refl, sym, ap, ◌∙◌, arith, eq-eqb, inl, inr}
+use Rattle.std.proofs.Common.{◌≡◌, ℕ, ◌+◌, ◌<◌, ◌≤◌, ◌⊎◌, Bool, true, false, true≢false, ◌||◌, List, length, slice_get, Some, refl, sym, ap, ◌∙◌, arith, eq-eqb, inl, inr}
+use Rattle.std.proofs.lemmas.Bool.{cases_eq}
+use Rattle.std.proofs.lemmas.List.Elements.{All-get_or}
 use Rattle.std.proofs.lemmas.Option.{slice_get_within, same_Some}
 use Rattle.rapid_text.specs.Recording.{Recording}
 use Rattle.rapid_text.specs.Operations.{is_write}
 use Rattle.rapid_text.specs.declared.event.Event.{Event}
-use Rattle.event_index.proofs.CallerLemmas.{passes_here}
+use Rattle.event_index.proofs.CallerLemmas.{passes_here, thread_here}
 use Rattle.event_index.specs.Events.{thread_at}
 use Rattle.event_index.specs.Lookups.{place_of}
 use Rattle.event_index.specs.Relations.{IsConflicting, is_access}
@@ -15,12 +17,15 @@ use Rattle.shb_clocks.specs.Candidates.{IsCandidatePair}
 use Rattle.race_groups.specs.Cuts.{IsCutOf}
 use Rattle.race_groups.specs.Ends.{IsKnownBefore}
 use Rattle.least_pairs.specs.Going.{AreClashing}
-use Rattle.least_pairs.specs.Lanes.{access_op}
+use Rattle.least_pairs.specs.Lanes.{DoesSame, IsInLane, IsLater, access_op}
+use Rattle.least_pairs.specs.Making.{IsBegun}
 use Rattle.least_pairs.specs.Pairs.{IsOf, IsPair, is_access_at}
+use Rattle.least_pairs.specs.Windows.{of_lane}
 use Rattle.least_pairs.specs.declared.lanes.Lane.{Lane}
+use Rattle.least_pairs.specs.declared.lanes.Later.{Later}
 use Rattle.least_pairs.specs.declared.leasts.Search.{Search}
 use Rattle.least_notes.specs.declared.tries.Between.{Between}
-use Rattle.least_pairs.proofs.LaneFacts.{lane_event, lane_thread}
+use Rattle.least_pairs.proofs.LaneFacts.{at_place, lane_event, lane_thread}
 use Rattle.least_pairs.proofs.BasicLemmas.{access_is, access_one, cases_le}
 
 module _ (r : Recording) (ends : ℕ → ℕ → ℕ) (known : IsCutOf r.events (IsKnownBefore r.events) ends) (a b t : ℕ) (pair : IsPair r.events a b) (of : thread_at r.events a ≡ Some t) where
@@ -60,36 +65,70 @@ write_is : (w : Bool) (x : ℕ) → is_write x (access_op w x) ≡ w
 write_is true x = eq-eqb x x refl
 write_is false x = refl
 
-module _ (s : Search) (x : ℕ) (earlier later : Lane) (are : AreClashing s x earlier later) where
-  pub access_here : (k : ℕ) → k < length earlier.events.items → is_access_at s.indexed.now.events x (slice_index earlier.events.items k) ≡ true
-  access_here k lt =
-      let v : Event = record { thread = earlier.thread; op = access_op earlier.is_writing x } in
-      passes_here (λ w. is_access x w.op) s.indexed.now.events (slice_index earlier.events.items k) v
-      (lane_event s.indexed.now.events s.classes.now.numbers.items x earlier are.first.plain k lt) ∙ access_is earlier.is_writing x
+-- The events of a lane that conflict with a later one.
+module _ (s : Search) (l : Lane) (later : Later) (are : AreClashing s l later) where
+  abbrev does : Event
+  does = record { thread = later.thread; op = access_op later.is_writing later.variable }
 
-  pub conflict_here :
-      (k i : ℕ) → k < length earlier.events.items → i < length later.events.items
-      → IsConflicting s.indexed.now.events (slice_index earlier.events.items k) (slice_index later.events.items i)
-  conflict_here k i lt lt' = record {
-    v = record { thread = earlier.thread; op = access_op earlier.is_writing x };
-    w = record { thread = later.thread; op = access_op later.is_writing x };
-    first = lane_event s.indexed.now.events s.classes.now.numbers.items x earlier are.first.plain k lt;
-    second = lane_event s.indexed.now.events s.classes.now.numbers.items x later are.second.plain i lt';
+  pub event_here : (k : ℕ) → k < length l.events.items → IsInLane s.indexed.now.events later.variable l (at_place l k)
+  event_here = lane_event s.indexed.now.events s.classes.now.numbers.items later.variable l are.begun.plain
+
+  pub thread_of_lane : (k : ℕ) → k < length l.events.items → thread_at s.indexed.now.events (at_place l k) ≡ Some l.thread
+  thread_of_lane = lane_thread s.indexed.now.events s.classes.now.numbers.items later.variable l are.begun.plain
+
+  pub thread_of_later : thread_at s.indexed.now.events later.event ≡ Some later.thread
+  thread_of_later = thread_here s.indexed.now.events later.event does are.one.here
+
+  pub later_within : later.event < length s.indexed.now.events
+  later_within = slice_get_within s.indexed.now.events later.event does are.one.here
+
+  -- the later event is none of them
+  pub before_it : (k : ℕ) → k < length l.events.items → at_place l k < later.event
+  before_it k lt =
+      let under : at_place l k < later.event + 1 = All-get_or (λ e. e < later.event + 1) l.events.items k 0 lt are.begun.below in
+      elim (cases_eq (at_place l k) later.event) [
+        | inl same ↦ absurd (are.threads (same_Some l.thread later.thread (sym (thread_of_lane k lt) ∙ ap (thread_at s.indexed.now.events) same ∙ thread_of_later)))
+        | inr apart ↦ omega (arith, under)
+      ]
+
+  pub access_here : (k : ℕ) → k < length l.events.items → is_access_at s.indexed.now.events later.variable (at_place l k) ≡ true
+  access_here k lt =
+      let v : Event = record { thread = l.thread; op = access_op l.is_writing later.variable } in
+      passes_here (λ w. is_access later.variable w.op) s.indexed.now.events (at_place l k) v (event_here k lt) ∙ access_is l.is_writing later.variable
+
+  -- each of them is in conflict with each event that does the same as the later one
+  pub conflict_here : (k b : ℕ) → k < length l.events.items → DoesSame s.indexed.now.events later b → IsConflicting s.indexed.now.events (at_place l k) b
+  conflict_here k b lt same = record {
+    v = record { thread = l.thread; op = access_op l.is_writing later.variable };
+    w = does;
+    first = event_here k lt;
+    second = same;
     clash = record {
       threads = are.threads;
-      variable = x;
-      first = access_is earlier.is_writing x;
-      second = access_is later.is_writing x;
-      writes = ap (λ w. w || is_write x (access_op later.is_writing x)) (write_is earlier.is_writing x) ∙ ap (λ w. earlier.is_writing || w) (write_is later.is_writing x) ∙ are.writes;
+      variable = later.variable;
+      first = access_is l.is_writing later.variable;
+      second = access_is later.is_writing later.variable;
+      writes = ap (λ w. w || is_write later.variable (access_op later.is_writing later.variable)) (write_is l.is_writing later.variable)
+          ∙ ap (λ w. l.is_writing || w) (write_is later.is_writing later.variable) ∙ are.writes;
     };
   }
 
-  pub pair_here :
-      (k i : ℕ) → k < length earlier.events.items → i < length later.events.items → slice_index earlier.events.items k < slice_index later.events.items i
-      → IsPair s.indexed.now.events (slice_index earlier.events.items k) (slice_index later.events.items i)
-  pair_here k i lt lt' before =
-      let c = conflict_here k i lt lt' in
-      record { conflict = c; earlier = before; within = slice_get_within s.indexed.now.events (slice_index later.events.items i) c.w c.second }
+  pub pair_with : (k b : ℕ) → k < length l.events.items → DoesSame s.indexed.now.events later b → at_place l k < b → IsPair s.indexed.now.events (at_place l k) b
+  pair_with k b lt same before = record {
+    conflict = conflict_here k b lt same;
+    earlier = before;
+    within = slice_get_within s.indexed.now.events b does same;
+  }
+
+  pub pair_here : (k : ℕ) → k < length l.events.items → IsPair s.indexed.now.events (at_place l k) later.event
+  pair_here k lt = pair_with k later.event lt are.one.here (before_it k lt)
+
+  pub of_these : (k b : ℕ) → k < length l.events.items → DoesSame s.indexed.now.events later b → IsOf s.indexed.now.events (of_lane l later) (at_place l k) b
+  of_these k b lt same = record {
+    variable = access_here k lt;
+    earlier = thread_of_lane k lt;
+    later = thread_here s.indexed.now.events b does same;
+  }
 
 pub only_left : (p : Bool) → (p || false) ≡ true → p ≡ true
 only_left true is = is
@@ -99,23 +138,42 @@ only_left false is = is
 abbrev pub between : ℕ → ℕ → ℕ → Between
 between x t u = record { variable = x; earlier = t; later = u }
 
-module _ (s : Search) (x : ℕ) (earlier later : Lane) (are : AreClashing s x earlier later) (k i : ℕ) (lt : k < length earlier.events.items) (lt' : i < length later.events.items) where
-  same_between : (of : Between) → of.variable ≡ x → of.earlier ≡ earlier.thread → of.later ≡ later.thread
-      → ◌≡◌ {A = Between} (record { variable = x; earlier = earlier.thread; later = later.thread }) of
-  same_between of v e l =
-      ap (λ (n : ℕ). between n earlier.thread later.thread) (sym v) ∙ ap (λ (n : ℕ). between of.variable n later.thread) (sym e)
-      ∙ ap (λ (n : ℕ). between of.variable of.earlier n) (sym l)
+same_between : (of one : Between) → one.variable ≡ of.variable → one.earlier ≡ of.earlier → one.later ≡ of.later → one ≡ of
+same_between of one v e l =
+    ap (λ (n : ℕ). between n one.earlier one.later) v ∙ ap (λ (n : ℕ). between of.variable n one.later) e ∙ ap (λ (n : ℕ). between of.variable of.earlier n) l
 
-  -- the pairs of the two lanes are of one variable and two threads
-  pub one_between : (of : Between) → IsOf s.indexed.now.events of (slice_index earlier.events.items k) (slice_index later.events.items i)
-      → ◌≡◌ {A = Between} (record { variable = x; earlier = earlier.thread; later = later.thread }) of
-  one_between of is =
-      let T = s.indexed.now.events in
-      let a = slice_index earlier.events.items k in
-      let b = slice_index later.events.items i in
-      let v : Event = record { thread = earlier.thread; op = access_op earlier.is_writing x } in
-      let there = lane_event T s.classes.now.numbers.items x earlier are.first.plain k lt in
-      let reads : is_access of.variable v.op ≡ true = sym (passes_here (λ w. is_access of.variable w.op) T a v there) ∙ is.variable in
-      same_between of (sym (access_one earlier.is_writing x of.variable reads))
-      (same_Some of.earlier earlier.thread (sym is.earlier ∙ lane_thread T s.classes.now.numbers.items x earlier are.first.plain k lt))
-      (same_Some of.later later.thread (sym is.later ∙ lane_thread T s.classes.now.numbers.items x later are.second.plain i lt'))
+-- a pair is of one variable and two threads
+pub one_between : (T : List Event) (x : ℕ) (w : Bool) (v : Event) (a b : ℕ) (of one : Between) → slice_get T a ≡ Some v → v.op ≡ access_op w x → one.variable ≡ x
+    → IsOf T one a b → IsOf T of a b → one ≡ of
+one_between T x w v a b of one there op variable is also =
+    let reads : is_access of.variable (access_op w x) ≡ true = ap (is_access of.variable) (sym op) ∙ sym (passes_here (λ u. is_access of.variable u.op) T a v there) ∙ also.variable in
+    same_between of one (variable ∙ access_one w x of.variable reads)
+    (same_Some one.earlier of.earlier (sym is.earlier ∙ also.earlier))
+    (same_Some one.later of.later (sym is.later ∙ also.later))
+
+-- a read writes no variable
+read_only : (w : Bool) (x y : ℕ) → w ≡ false → is_write y (access_op w x) ≡ false
+read_only true x y is = absurd (true≢false is)
+read_only false x y is = refl
+
+-- the events of a lane with none, of the same thread, or that read as the later one does, are in no conflict with it
+pub no_clash :
+    (s : Search) (l : Lane) (later : Later) → IsBegun s.indexed.now.events s.classes.now.numbers.items later.variable (later.event + 1) l
+    → IsLater s.indexed.now.events s.classes.now.numbers.items later
+    → (length l.events.items ≡ 0) ⊎ ((l.thread ≡ later.thread) ⊎ ((l.is_writing ≡ false) × (later.is_writing ≡ false)))
+    → (k : ℕ) → k < length l.events.items → ¬ IsPair s.indexed.now.events (at_place l k) later.event
+no_clash s l later begun one either k low pair =
+    let c = pair.conflict in
+    let there = lane_event s.indexed.now.events s.classes.now.numbers.items later.variable l begun.plain k low in
+    let first : c.v ≡ record { thread = l.thread; op = access_op l.is_writing later.variable } = same_Some c.v (record { thread = l.thread; op = access_op l.is_writing later.variable }) (sym c.first ∙ there) in
+    let second : c.w ≡ record { thread = later.thread; op = access_op later.is_writing later.variable } =
+    same_Some c.w (record { thread = later.thread; op = access_op later.is_writing later.variable }) (sym c.second ∙ one.here) in
+    elim either [
+      | inl none ↦ omega (arith, low, none)
+      | inr (inl same) ↦ c.clash.threads (ap (λ (e : Event). e.thread) first ∙ same ∙ sym (ap (λ (e : Event). e.thread) second))
+      | inr (inr reads) ↦
+          let y = c.clash.variable in
+          let reads_first : is_write y c.v.op ≡ false = ap (λ (e : Event). is_write y e.op) first ∙ read_only l.is_writing later.variable y reads.0 in
+          let reads_second : is_write y c.w.op ≡ false = ap (λ (e : Event). is_write y e.op) second ∙ read_only later.is_writing later.variable y reads.1 in
+          true≢false (sym c.clash.writes ∙ ap (λ b. b || is_write y c.w.op) reads_first ∙ ap (λ b. false || b) reads_second)
+    ]

@@ -1,6 +1,6 @@
 -- What is known while the variables are gone through. No public clause cites this module. `r` is a recording, `place` tells the place of each
 -- event, `rows` are the rows of all pairs of places, `most` is how many open pairs are kept.
-use Rattle.std.specs.Prelude.{◌≡◌, ◌≢◌, ◌⊎◌, ℕ, ◌<◌, ◌≤◌, ◌||◌, true, false, Bool, List, length, All, Some, slice_get, slice_index, Vec}
+use Rattle.std.specs.Prelude.{◌≡◌, ◌≢◌, ◌⊎◌, ℕ, ◌+◌, ◌<◌, ◌≤◌, ◌||◌, true, false, Bool, List, length, All, Some, slice_get, slice_index, Vec}
 use Rattle.std.specs.declared.alloc.Global.{Global}
 use Rattle.rapid_text.specs.Recording.{Recording, IsWellFormed}
 use Rattle.trace_rules.specs.Rules.{IsDisciplined}
@@ -17,16 +17,18 @@ use Rattle.race_groups.specs.Shared.{keeps_shared}
 use Rattle.race_groups.specs.declared.class.Class.{Class}
 use Rattle.race_groups.specs.declared.kinds.Row.{Row}
 use Rattle.shb_clocks.specs.SharedRows.{len_of}
-use Rattle.least_pairs.specs.Lanes.{IsLane, IsStretch, kind_at}
+use Rattle.least_pairs.specs.Lanes.{IsLater}
+use Rattle.least_pairs.specs.Making.{IsBegun}
 use Rattle.least_notes.specs.Noting.{HoldsTry, HoldsUp}
 use Rattle.least_pairs.specs.Noting.{IsMore, IsSoFar}
 use Rattle.least_pairs.specs.Pairs.{AreAt, AreGroups, IsOf, IsPair, is_access_at}
 use Rattle.least_pairs.specs.declared.lanes.Lane.{Lane}
+use Rattle.least_pairs.specs.declared.lanes.Later.{Later}
 use Rattle.least_notes.specs.declared.least.Least.{Least}
 use Rattle.least_pairs.specs.declared.leasts.Search.{Search}
 use Rattle.least_pairs.specs.declared.leasts.Sought.{Sought}
 use Rattle.least_pairs.specs.declared.leasts.Sought.TheVariants.{Candidates, Opens}
-use Rattle.least_pairs.specs.declared.stretches.Stretch.{Stretch}
+use Rattle.least_pairs.specs.declared.windows.Window.{Window}
 use Rattle.least_notes.specs.declared.tries.Between.{Between}
 
 -- For each row, what was found so far.
@@ -79,12 +81,6 @@ pub record IsTaken (r : Recording) (place : ℕ → ℕ) (rows : List Row) (most
   pub held : IsHeld r place rows most leasts a b
   pub counted : IsKind r a b CandidateKind ⊎ IsKind r a b OpenKind → IsVariableHeld place rows x leasts a b
 
--- all pairs of events of the two lanes whose later one stands before place n
-abbrev pub AreTakenBelow : Recording → (ℕ → ℕ) → List Row → ℕ → ℕ → List Least → Lane → Lane → ℕ → Type 0
-AreTakenBelow r place rows most x leasts earlier later n =
-    (k i : ℕ) → k < length earlier.events.items → i < n → IsPair r.events (slice_index earlier.events.items k) (slice_index later.events.items i)
-    → IsTaken r place rows most x leasts (slice_index earlier.events.items k) (slice_index later.events.items i)
-
 -- all pairs of the variable
 abbrev pub AreAllTaken : Recording → (ℕ → ℕ) → List Row → ℕ → ℕ → List Least → Type 0
 AreAllTaken r place rows most x leasts =
@@ -103,25 +99,6 @@ HoldsCandidate place rows x leasts a b = IsCandidateHeld place rows leasts a b �
 abbrev pub HoldsOpen : (ℕ → ℕ) → List Row → ℕ → List Least → Between → List Class → List ℕ → List (Vec ℕ Global) → ℕ → ℕ → Type 0
 HoldsOpen place rows most leasts of infos numbers lists a b =
     is_kept_pair (keeps_shared lists) numbers infos a b ≡ false → IsOpenHeld place rows most leasts of a b × IsVariableHeld place rows of.variable leasts a b
-
--- Which events of a lane were compared with events of a later one: those of the stretch, for each kind of the later lane up to where it was
--- last asked for, are held with all later events of the kind from place n on.
-abbrev pub AreSeen : (ℕ → ℕ → Type 0) → Lane → Lane → Stretch → ℕ → Type 0
-AreSeen Holds earlier later s n =
-    (k i : ℕ) → s.start ≤ k → k < slice_index s.seen.items (kind_at later i) → n ≤ i → i < length later.events.items
-    → Holds (slice_index earlier.events.items k) (slice_index later.events.items i)
-
--- The first n events of the lane are those whose places in their thread are below `end`.
-pub record IsReached (T : List Event) (l : Lane) (end n : ℕ) : Type 0 where
-  pub low : (k : ℕ) → k < n → place_of T (slice_index l.events.items k) < end
-  pub high : (k : ℕ) → n ≤ k → k < length l.events.items → end ≤ place_of T (slice_index l.events.items k)
-  pub within : n ≤ length l.events.items
-
--- The first n events of the lane are those before event b.
-pub record IsPassed (l : Lane) (b n : ℕ) : Type 0 where
-  pub low : (k : ℕ) → k < n → slice_index l.events.items k < b
-  pub high : (k : ℕ) → n ≤ k → k < length l.events.items → b ≤ slice_index l.events.items k
-  pub within : n ≤ length l.events.items
 
 -- What was counted of the trace, and where its cuts end, as it is asked for.
 pub record IsSound (s : Search) : Type 0 where
@@ -149,17 +126,26 @@ abbrev pub HasOpen : Search → List Least → Between → ℕ → ℕ → Type 
 HasOpen s leasts of =
     HoldsOpen (slice_index s.places.now) s.groups.now.rows.items s.most leasts of s.classes.now.infos.items s.classes.now.numbers.items s.classes.now.lists.keys
 
--- Two lanes of the variable whose events conflict.
-pub record AreClashing (s : Search) (x : ℕ) (earlier later : Lane) : Type 0 where
-  pub first : IsLane s.indexed.now.events s.classes.now.numbers.items x earlier
-  pub second : IsLane s.indexed.now.events s.classes.now.numbers.items x later
-  pub threads : earlier.thread ≢ later.thread
-  pub writes : (earlier.is_writing || later.is_writing) ≡ true
-  pub variable : x < length s.indexed.now.variables
+-- all pairs of the variable with a later event below n
+abbrev pub AreTakenBefore : Search → ℕ → List Least → ℕ → Type 0
+AreTakenBefore s x leasts n =
+    (a b : ℕ) → IsPair s.indexed.now.events a b → is_access_at s.indexed.now.events x a ≡ true → b < n
+    → IsTaken s.indexed.now (slice_index s.places.now) s.groups.now.rows.items s.most x leasts a b
 
--- what the pairs of two lanes are of
-abbrev pub of_lanes : ℕ → Lane → Lane → Between
-of_lanes x earlier later = record { variable = x; earlier = earlier.thread; later = later.thread }
+-- all pairs of the later event with those of a lane
+abbrev pub AreTakenWith : Search → List Least → Lane → Later → Type 0
+AreTakenWith s leasts l later =
+    (k : ℕ) → k < length l.events.items → IsPair s.indexed.now.events (slice_index l.events.items k) later.event
+    → IsTaken s.indexed.now (slice_index s.places.now) s.groups.now.rows.items s.most later.variable leasts (slice_index l.events.items k) later.event
+
+-- A lane of events up to the later one, which conflict with it.
+pub record AreClashing (s : Search) (l : Lane) (later : Later) : Type 0 where
+  pub begun : IsBegun s.indexed.now.events s.classes.now.numbers.items later.variable (later.event + 1) l
+  pub one : IsLater s.indexed.now.events s.classes.now.numbers.items later
+  pub variable : later.variable < length s.indexed.now.variables
+  pub some : 0 < length l.events.items
+  pub threads : l.thread ≢ later.thread
+  pub writes : (l.is_writing || later.is_writing) ≡ true
 
 -- what is held of a pair that is sought
 abbrev pub Has : Sought → Search → List Least → Between → ℕ → ℕ → Type 0
@@ -180,25 +166,15 @@ abbrev pub IsSought : Sought → Recording → ℕ → ℕ → Type 0
 IsSought Candidates r a b = IsKind r a b CandidateKind
 IsSought Opens r a b = IsKnownBefore r.events a b × (¬ IsForced r.events a b)
 
--- The stretch has the events of the earlier lane whose pairs with event n of the later lane may be taken in, and all that are of the kind.
-pub record IsWindow (sought : Sought) (s : Search) (earlier later : Lane) (n : ℕ) (w : Stretch) : Type 0 where
-  pub begins : w.start ≤ length earlier.events.items
-  pub within : w.end ≤ length earlier.events.items
-  pub inside : (k : ℕ) → w.start ≤ k → k < w.end
-      → IsPair s.indexed.now.events (slice_index earlier.events.items k) (slice_index later.events.items n)
-      × IsSought sought s.indexed.now (slice_index earlier.events.items k) (slice_index later.events.items n)
-  pub whole : (k : ℕ) → k < length earlier.events.items
-      → IsPair s.indexed.now.events (slice_index earlier.events.items k) (slice_index later.events.items n)
-      → IsKind s.indexed.now (slice_index earlier.events.items k) (slice_index later.events.items n) (kind_of sought) → (w.start ≤ k) × (k < w.end)
+-- The pairs of the window's events with its later one may be taken in.
+pub record IsWindow (sought : Sought) (s : Search) (w : Window) : Type 0 where
+  pub lanes : AreClashing s w.lane.now w.later
+  pub within : w.end ≤ length w.lane.now.events.items
+  pub inside : (k : ℕ) → w.from ≤ k → k < w.end
+      → IsPair s.indexed.now.events (slice_index w.lane.now.events.items k) w.later.event
+      × IsSought sought s.indexed.now (slice_index w.lane.now.events.items k) w.later.event
 
--- Before event n of the later lane: no stretch is beyond the ends that are to come.
-pub record AreBehind (s : Search) (earlier later : Lane) (n : ℕ) (candidates opens : Stretch) : Type 0 where
-  pub candidates_are : IsStretch earlier (length later.classes.items) candidates
-  pub opens_are : IsStretch earlier (length later.classes.items) opens
-  pub known : (k i : ℕ) → k < candidates.start → n ≤ i → i < length later.events.items
-      → place_of s.indexed.now.events (slice_index earlier.events.items k) < known_before s.indexed.now.events (slice_index later.events.items i) earlier.thread
-  pub forced : (k i : ℕ) → k < opens.start → n ≤ i → i < length later.events.items
-      → place_of s.indexed.now.events (slice_index earlier.events.items k)
-      < counted_before s.rows.now s.indexed.now.events (slice_index later.events.items i) earlier.thread
-  pub passed : (k i : ℕ) → k < candidates.end → n ≤ i → i < length later.events.items → slice_index earlier.events.items k < slice_index later.events.items i
-  pub within : (candidates.start ≤ length earlier.events.items) × (opens.start ≤ length earlier.events.items) × (candidates.end ≤ length earlier.events.items)
+-- the event at a place of the lane was gone through with event p
+abbrev pub WasSeen : Sought → Search → Window → ℕ → ℕ → Type 0
+WasSeen Candidates s w p k = slice_index w.lane.now.events.items k < p
+WasSeen Opens s w p k = place_of s.indexed.now.events (slice_index w.lane.now.events.items k) < known_before s.indexed.now.events p w.lane.now.thread

@@ -1,7 +1,9 @@
 pub mod Pairs
 pub mod Lanes
 pub mod Making
+pub mod Reach
 pub mod Noting
 pub mod Going
+pub mod Windows
 pub mod Uses
 pub mod Noted

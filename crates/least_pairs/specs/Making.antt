@@ -1,8 +1,10 @@
 -- The lanes of a variable in the making. No public clause cites this module. `T` is the events of a trace, `numbers` has for each event the number
 -- of its class.
-use Rattle.std.specs.Prelude.{◌≡◌, ◌⊎◌, ℕ, ◌<◌, ◌≤◌, Bool, List, [], ◌∷◌, ◌++◌, length, All, slice_get, slice_index, Some}
+use Rattle.std.specs.Prelude.{◌≡◌, ◌⊎◌, ℕ, ◌<◌, ◌≤◌, Bool, List, [], ◌∷◌, ◌++◌, All, Contains, slice_get, Some}
 use Rattle.rapid_text.specs.declared.event.Event.{Event}
-use Rattle.least_pairs.specs.Lanes.{IsLinked, IsPlain}
+use Rattle.least_pairs.specs.Lanes.{IsPlain}
+use Rattle.least_pairs.specs.declared.lanes.Access.{Access}
+use Rattle.least_pairs.specs.declared.lanes.Bunch.{Bunch}
 use Rattle.least_pairs.specs.declared.lanes.Lane.{Lane}
 
 -- a plain lane of events below n
@@ -12,9 +14,6 @@ pub record IsBegun (T : List Event) (numbers : List ℕ) (x n : ℕ) (l : Lane) 
 
 abbrev pub AreBegun : List Event → List ℕ → ℕ → ℕ → List Lane → Type 0
 AreBegun T numbers x n lanes = (k : ℕ) (l : Lane) → slice_get lanes k ≡ Some l → IsBegun T numbers x n l
-
-abbrev pub ArePlain : List Event → List ℕ → ℕ → List Lane → Type 0
-ArePlain T numbers x lanes = (k : ℕ) (l : Lane) → slice_get lanes k ≡ Some l → IsPlain T numbers x l
 
 -- The lane at a place is one of this thread, for writes or for reads.
 pub record IsLaneOf (lanes : List Lane) (number thread : ℕ) (is_writing : Bool) : Type 0 where
@@ -27,43 +26,57 @@ pub record IsLaneOf (lanes : List Lane) (number thread : ℕ) (is_writing : Bool
 pub record IsLaneAdded (old new : List Lane) : Type 0 where
   pub lane : Lane
   pub events : lane.events.items ≡ []
-  pub kinds : lane.kinds.items ≡ []
+  pub places : lane.places.items ≡ []
+  pub bunches : lane.bunches.items ≡ []
   pub added : new ≡ old ++ lane ∷ []
 
 -- the lanes are those that were there, or one more
 abbrev pub AreLanesGrown : List Lane → List Lane → Type 0
 AreLanesGrown old new = (new ≡ old) ⊎ IsLaneAdded old new
 
--- The lane has one event more, of this class.
-pub record IsEventAdded (event class : ℕ) (old new : Lane) : Type 0 where
+-- The bunch at a place is one of this class.
+pub record IsBunchOf (bunches : List Bunch) (number class : ℕ) : Type 0 where
+  pub bunch : Bunch
+  pub at : slice_get bunches number ≡ Some bunch
+  pub class_is : bunch.class ≡ class
+
+-- An empty bunch of this class came behind the others.
+pub record IsBunchAdded (class : ℕ) (old new : List Bunch) : Type 0 where
+  pub bunch : Bunch
+  pub class_is : bunch.class ≡ class
+  pub events : bunch.events.items ≡ []
+  pub added : new ≡ old ++ bunch ∷ []
+
+-- the bunches are those that were there, or one more
+abbrev pub AreBunchesGrown : ℕ → List Bunch → List Bunch → Type 0
+AreBunchesGrown class old new = (new ≡ old) ⊎ IsBunchAdded class old new
+
+-- event e stands in a bunch of this class
+pub record IsOfBunch (bunches : List Bunch) (class e : ℕ) : Type 0 where
+  pub bunch : Bunch
+  pub among : Contains bunches bunch
+  pub class_is : bunch.class ≡ class
+  pub at : Contains bunch.events.items e
+
+-- One bunch, which may be new, has one event more, and is of this class.
+pub record AreBunchesMore (class event : ℕ) (old new : List Bunch) : Type 0 where
+  pub number : ℕ
+  pub was : Bunch
+  pub more : Bunch
+  pub class_is : was.class ≡ class
+  pub same_class : more.class ≡ was.class
+  pub added : more.events.items ≡ was.events.items ++ event ∷ []
+  pub there : slice_get new number ≡ Some more
+  -- it was there, or was empty
+  pub known : Contains old was ⊎ (was.events.items ≡ [])
+  pub each : (k : ℕ) (g : Bunch) → slice_get new k ≡ Some g → (g ≡ more) ⊎ (Contains old g ⊎ (g.events.items ≡ []))
+  pub kept : (g : Bunch) → Contains old g → Contains new g ⊎ (g ≡ was)
+
+-- The lane has one event more.
+pub record IsEventAdded (a : Access) (old new : Lane) : Type 0 where
   pub thread : new.thread ≡ old.thread
   pub is_writing : new.is_writing ≡ old.is_writing
-  pub events : new.events.items ≡ old.events.items ++ event ∷ []
-  pub kind : ℕ
-  pub kinds : new.kinds.items ≡ old.kinds.items ++ kind ∷ []
-  pub at : slice_get new.classes.items kind ≡ Some class
-  pub kept : (k c : ℕ) → slice_get old.classes.items k ≡ Some c → slice_get new.classes.items k ≡ Some c
-
--- The same lane, but for how its places are linked.
-pub record IsLikeLane (old new : Lane) : Type 0 where
-  pub thread : new.thread ≡ old.thread
-  pub is_writing : new.is_writing ≡ old.is_writing
-  pub events : new.events ≡ old.events
-  pub kinds : new.kinds ≡ old.kinds
-  pub classes : new.classes ≡ old.classes
-
--- From place `at` on the places of these kinds are linked: as `IsLinked`, and nothing below `at` is named.
-pub record AreLinkedFrom (kinds : List ℕ) (many at : ℕ) (links firsts : List ℕ) : Type 0 where
-  pub next_len : length links ≡ length kinds
-  pub heads_len : length firsts ≡ many
-  pub within : at ≤ length kinds
-  pub high : (c : ℕ) → c < many → at ≤ slice_index firsts c
-  pub after : (p : ℕ) → at ≤ p → p < length kinds → p < slice_index links p
-  pub next : (p q : ℕ) → at ≤ p → p < q → q < length kinds → slice_index kinds p ≡ slice_index kinds q
-      → (slice_index links p ≤ q) × (slice_index kinds (slice_index links p) ≡ slice_index kinds p)
-  pub heads : (k : ℕ) → at ≤ k → k < length kinds
-      → (slice_index firsts (slice_index kinds k) ≤ k) × (slice_index kinds (slice_index firsts (slice_index kinds k)) ≡ slice_index kinds k)
-
--- the first lanes are linked
-abbrev pub AreLinkedBelow : ℕ → List Lane → Type 0
-AreLinkedBelow n lanes = (k : ℕ) (l : Lane) → k < n → slice_get lanes k ≡ Some l → IsLinked l
+  pub events : new.events.items ≡ old.events.items ++ a.event ∷ []
+  pub places : new.places.items ≡ old.places.items ++ a.place ∷ []
+  pub last : (old.last ≤ new.last) × (a.place ≤ new.last)
+  pub bunches : AreBunchesMore a.class a.event old.bunches.items new.bunches.items

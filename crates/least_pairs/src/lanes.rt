@@ -1,32 +1,70 @@
 //! The accesses of one variable, by thread and by what they do.
-ghost use Rattle.std.specs.Prelude.{◌≡◌, ◌≢◌, ℕ, ◌+◌, [], ◌<◌, true, filter, length, IfOk, IfSome, OnOk, None, Some, slice_get, slice_index};
-ghost use Rattle.event_index.specs.Lookups.{before};
+ghost use Rattle.std.specs.Prelude.{◌≡◌, ◌≢◌, ℕ, ◌+◌, [], ◌∷◌, ◌++◌, ◌<◌, ◌≤◌, true, length, Contains, IfOk, IfSome, OnOk, None, Some, slice_get, slice_index};
 ghost use Rattle.event_index.specs.Relations.{is_access};
-ghost use Rattle.least_pairs.specs.Lanes.{AreAccesses, AreLanes, IsInLanes, IsLinked, access_op};
-ghost use Rattle.least_pairs.specs.Making.{AreBegun, AreLanesGrown, AreLinkedFrom, IsEventAdded, IsLaneOf, IsLikeLane};
+ghost use Rattle.least_pairs.specs.Lanes.{AreAccesses, IsInLanes, IsLater, IsRising, access_op};
+ghost use Rattle.least_pairs.specs.Making.{AreBegun, AreBunchesGrown, AreLanesGrown, IsBunchOf, IsEventAdded, IsLaneOf, IsOfBunch};
 ghost use Rattle.least_pairs.specs.Pairs.{is_access_at};
 
+use crate::reach::reach;
+use crate::uses::is_writing;
 use event_index::Indexed;
 use indexmap::IndexMap;
+use race_groups::Classes;
 use rapid_text::{Op, OutOfMemory};
 use std::alloc::Global;
+
+/// Events of one lane that are of one class, in the order of the trace.
+#[derive(Drop)]
+pub(crate) struct Bunch {
+    /// The number of the class.
+    pub(crate) class: u32,
+    pub(crate) events: Vec<u32>,
+}
 
 /// The reads of one variable by one thread, or its writes, in the order of the trace.
 #[derive(Drop)]
 pub(crate) struct Lane {
     pub(crate) thread: u32,
     pub(crate) is_writing: bool,
+    /// No event has a greater place among those of the thread.
+    pub(crate) last: u32,
     /// The events.
     pub(crate) events: Vec<u32>,
-    /// For each event its kind: events of one kind are of one class.
-    pub(crate) kinds: Vec<usize>,
-    /// For each kind the number of the class.
-    pub(crate) classes: Vec<u32>,
-    /// For each event where the next of its kind stands; the number of events where there is none.
-    pub(crate) next: Vec<usize>,
-    /// For each kind where the first stands.
-    pub(crate) heads: Vec<usize>,
+    /// For each event its place among those of the thread.
+    pub(crate) places: Vec<u32>,
+    /// The events by their class.
+    pub(crate) bunches: Vec<Bunch>,
 }
+
+/// An access, by its place among those of its thread and by its class.
+#[derive(Clone, Copy)]
+pub(crate) struct Access {
+    pub(crate) event: u32,
+    pub(crate) place: u32,
+    pub(crate) class: u32,
+}
+
+/// An access, and the last one before it that is of its lane and of its class.
+#[derive(Clone, Copy)]
+pub(crate) struct Later {
+    pub(crate) variable: u32,
+    pub(crate) event: u32,
+    pub(crate) thread: u32,
+    pub(crate) is_writing: bool,
+    pub(crate) previous: Option<u32>,
+}
+
+/// The accesses of one variable up to one of them.
+#[derive(Drop)]
+pub(crate) struct Lanes {
+    pub(crate) list: Vec<Lane>,
+    // Where the lane of a thread stands, for its reads and for its writes. What is found is compared before it is believed.
+    index: IndexMap<(u32, u32), usize>,
+    // The same for a lane and a class.
+    bunches: Index,
+}
+
+type Index = IndexMap<(usize, u32), usize>;
 
 /// For each variable its accesses, in the order of the trace.
 pub(crate) fn accesses_of(alloc: Global, indexed: &Indexed) -> Result<Vec<Vec<u32>>, OutOfMemory>
@@ -75,58 +113,61 @@ pub(crate) fn access_of(op: Op) -> Option<(u32, bool)>
     }
 }
 
-/// The lanes of the accesses of one variable. `numbers` has for each event the number of its class.
-pub(crate) fn lanes_of(
-    alloc: Global,
-    indexed: &Indexed,
-    numbers: &[u32],
-    _variable: u32,
-    accesses: &[u32],
-) -> Result<Vec<Lane>, OutOfMemory>
-    requires numbers { length numbers.now ≡ length indexed.now.events }
-    requires accesses { accesses.now ≡ filter (is_access_at indexed.now.events _variable) (before (length indexed.now.events)) }
-    ensures { IfOk result (λ lanes. AreLanes indexed.now.events numbers.now _variable lanes.items) }
-{
-    let mut lanes = Vec::new(alloc);
-    let mut index = IndexMap::new(alloc);
-    let mut kinds = IndexMap::new(alloc);
-    for event in accesses {
-        note(
-            alloc, &mut lanes, &mut index, &mut kinds, indexed, numbers, _variable, *event,
-        )?;
+impl Lanes {
+    /// No accesses.
+    pub(crate) fn new(alloc: Global) -> Lanes
+        ensures { result.list.items ≡ [] }
+    {
+        Lanes {
+            list: Vec::new(alloc),
+            index: IndexMap::new(alloc),
+            bunches: IndexMap::new(alloc),
+        }
     }
-    for at in 0..lanes.len() {
-        lanes[at].link(alloc)?;
-    }
-    Ok(lanes)
-}
 
-// Takes in one access.
-fn note(
-    alloc: Global,
-    lanes: &mut Vec<Lane>,
-    index: &mut IndexMap<(u32, u32), usize>,
-    kinds: &mut IndexMap<(usize, u32), usize>,
-    indexed: &Indexed,
-    numbers: &[u32],
-    _variable: u32,
-    event: u32,
-) -> Result<(), OutOfMemory>
-    requires numbers { length numbers.now ≡ length indexed.now.events }
-    requires event { event < length indexed.now.events }
-    requires access { is_access_at indexed.now.events _variable event ≡ true }
-    requires lanes { AreBegun indexed.now.events numbers.now _variable event lanes.old.items }
-    ensures lanes { OnOk result (AreBegun indexed.now.events numbers.now _variable (event + 1) lanes.new.items) }
-    ensures noted { OnOk result (IsInLanes lanes.new.items event) }
-    ensures kept { OnOk result ((e : ℕ) → IsInLanes lanes.old.items e → IsInLanes lanes.new.items e) }
-{
-    let found = indexed.event(event);
-    let Some((_, is_writing)) = access_of(found.op) else {
-        return Ok(());
-    };
-    let number = lane_number(alloc, lanes, index, found.thread, is_writing)?;
-    lanes[number].add(kinds, number, event, numbers[event as usize])?;
-    Ok(())
+    /// Takes in the next access of the variable.
+    pub(crate) fn note(
+        &mut self,
+        alloc: Global,
+        indexed: &Indexed,
+        classes: &Classes,
+        variable: u32,
+        event: u32,
+    ) -> Result<Later, OutOfMemory>
+        requires numbers { length classes.now.numbers.items ≡ length indexed.now.events }
+        requires event { event < length indexed.now.events }
+        requires access { is_access_at indexed.now.events variable event ≡ true }
+        requires lanes { AreBegun indexed.now.events classes.now.numbers.items variable event self.old.list.items }
+        ensures lanes { OnOk result (AreBegun indexed.now.events classes.now.numbers.items variable (event + 1) self.new.list.items) }
+        ensures noted { OnOk result (IsInLanes self.new.list.items event) }
+        ensures kept { OnOk result ((e : ℕ) → IsInLanes self.old.list.items e → IsInLanes self.new.list.items e) }
+        ensures later { IfOk result (λ later. IsLater indexed.now.events classes.now.numbers.items later) }
+        ensures event { IfOk result (λ later. later.event ≡ event) }
+        ensures variable { IfOk result (λ later. later.variable ≡ variable) }
+    {
+        let found = indexed.event(event);
+        let writing = is_writing(found.op, variable);
+        let number = lane_number(
+            alloc,
+            &mut self.list,
+            &mut self.index,
+            found.thread,
+            writing,
+        )?;
+        let access = Access {
+            event,
+            place: indexed.place(event),
+            class: classes.numbers[event as usize],
+        };
+        let previous = self.list[number].add(alloc, &mut self.bunches, number, access)?;
+        Ok(Later {
+            variable,
+            event,
+            thread: found.thread,
+            is_writing: writing,
+            previous,
+        })
+    }
 }
 
 // The number of the lane of a thread, which is added as the last one if it is new.
@@ -152,33 +193,37 @@ fn lane_number(
     Ok(number)
 }
 
-// The number of the kind of a class, which is added as the last one if it is new.
-fn kind_number(
-    kinds: &mut IndexMap<(usize, u32), usize>,
-    classes: &mut Vec<u32>,
+// The number of the bunch of a class, which is added as the last one if it is new.
+fn bunch_number(
+    alloc: Global,
+    index: &mut Index,
+    bunches: &mut Vec<Bunch>,
     lane: usize,
     class: u32,
 ) -> Result<usize, OutOfMemory>
-    ensures found { IfOk result (λ kind. slice_get classes.new.items kind ≡ Some class) }
-    ensures kept { OnOk result ((k c : ℕ) → slice_get classes.old.items k ≡ Some c → slice_get classes.new.items k ≡ Some c) }
+    ensures found { IfOk result (λ number. IsBunchOf bunches.new.items number class) }
+    ensures grown { OnOk result (AreBunchesGrown class bunches.old.items bunches.new.items) }
 {
-    if let Some(kind) = kinds.get(&(lane, class)) {
-        if is_class(classes.as_slice(), *kind, class) {
-            return Ok(*kind);
+    if let Some(number) = index.get(&(lane, class)) {
+        if is_class(bunches.as_slice(), *number, class) {
+            return Ok(*number);
         }
     }
-    let kind = classes.len();
-    classes.push(class)?;
-    kinds.insert((lane, class), kind)?;
-    Ok(kind)
+    let number = bunches.len();
+    bunches.push(Bunch {
+        class,
+        events: Vec::new(alloc),
+    })?;
+    index.insert((lane, class), number)?;
+    Ok(number)
 }
 
-// Whether the class stands at this place.
-fn is_class(classes: &[u32], at: usize, class: u32) -> bool
-    ensures { result ≡ true → slice_get classes.now at ≡ Some class }
+// Whether the bunch is there, and of this class.
+fn is_class(bunches: &[Bunch], number: usize, class: u32) -> bool
+    ensures { result ≡ true → IsBunchOf bunches.now number class }
 {
-    match classes.get(at) {
-        Some(found) => *found == class,
+    match bunches.get(number) {
+        Some(found) => found.class == class,
         None => false,
     }
 }
@@ -199,67 +244,58 @@ impl Lane {
         ensures thread { result.thread ≡ thread }
         ensures is_writing { result.is_writing ≡ is_writing }
         ensures events { result.events.items ≡ [] }
-        ensures kinds { result.kinds.items ≡ [] }
+        ensures places { result.places.items ≡ [] }
+        ensures bunches { result.bunches.items ≡ [] }
     {
         Lane {
             thread,
             is_writing,
+            last: 0,
             events: Vec::new(alloc),
-            kinds: Vec::new(alloc),
-            classes: Vec::new(alloc),
-            next: Vec::new(alloc),
-            heads: Vec::new(alloc),
+            places: Vec::new(alloc),
+            bunches: Vec::new(alloc),
         }
     }
 
-    // Adds an event of this class. `number` is that of the lane.
+    // Adds an access, and tells the last one of its class. `number` is that of the lane.
     fn add(
         &mut self,
-        kinds: &mut IndexMap<(usize, u32), usize>,
+        alloc: Global,
+        index: &mut Index,
         number: usize,
-        event: u32,
-        class: u32,
-    ) -> Result<(), OutOfMemory>
-        ensures { OnOk result (IsEventAdded event class self.old self.new) }
+        access: Access,
+    ) -> Result<Option<u32>, OutOfMemory>
+        ensures added { OnOk result (IsEventAdded access self.old self.new) }
+        ensures previous { IfOk result (λ previous. IfSome previous (IsOfBunch self.old.bunches.items access.class)) }
     {
-        let kind = kind_number(kinds, &mut self.classes, number, class)?;
-        self.events.push(event)?;
-        self.kinds.push(kind)?;
-        Ok(())
-    }
-
-    // For each event where the next of its kind stands, and for each kind where the first does.
-    fn link(&mut self, alloc: Global) -> Result<(), OutOfMemory>
-        requires { (k : ℕ) → k < length self.old.kinds.items → slice_index self.old.kinds.items k < length self.old.classes.items }
-        ensures like { OnOk result (IsLikeLane self.old self.new) }
-        ensures linked { OnOk result (IsLinked self.new) }
-    {
-        let len = self.kinds.len();
-        let mut heads = vec![in alloc; len; self.classes.len()]?;
-        let mut next = vec![in alloc; len; len]?;
-        link_all(
-            self.kinds.as_slice(),
-            next.as_mut_slice(),
-            heads.as_mut_slice(),
-        );
-        self.next = next;
-        self.heads = heads;
-        Ok(())
+        let at = bunch_number(alloc, index, &mut self.bunches, number, access.class)?;
+        let previous = self.bunches[at].put(access.event)?;
+        self.events.push(access.event)?;
+        self.places.push(access.place)?;
+        self.last = self.last.max(access.place);
+        Ok(previous)
     }
 }
 
-// Links the places of these kinds, from the last to the first.
-fn link_all(kinds: &[usize], next: &mut [usize], heads: &mut [usize])
-    requires kinds { (k : ℕ) → k < length kinds.now → slice_index kinds.now k < length heads.old }
-    requires next { length next.old ≡ length kinds.now }
-    requires heads { (c : ℕ) → c < length heads.old → slice_index heads.old c ≡ length kinds.now }
-    ensures { AreLinkedFrom kinds.now (length heads.old) 0 next.new heads.new }
-{
-    let mut at = kinds.len();
-    while at > 0 {
-        at -= 1;
-        let kind = kinds[at];
-        next[at] = heads[kind];
-        heads[kind] = at;
+impl Bunch {
+    // Adds an event, and tells the last one before it.
+    fn put(&mut self, event: u32) -> Result<Option<u32>, OutOfMemory>
+        ensures class { OnOk result (self.new.class ≡ self.old.class) }
+        ensures events { OnOk result (self.new.events.items ≡ self.old.events.items ++ event ∷ []) }
+        ensures last { IfOk result (λ last. IfSome last (Contains self.old.events.items)) }
+    {
+        let last = self.events.as_slice().last().copied();
+        self.events.push(event)?;
+        Ok(last)
+    }
+
+    /// The first event that is no earlier than this one.
+    pub(crate) fn first(&self, from: u32) -> Option<u32>
+        requires rising { IsRising self.now.events.items }
+        ensures some { IfSome result (λ e. Contains self.now.events.items e × (from ≤ e)) }
+        ensures least { (e : ℕ) → Contains self.now.events.items e → from ≤ e → (f : ℕ) × (result ≡ Some f) × (f ≤ e) }
+    {
+        let at = reach(self.events.as_slice(), self.events.len(), from);
+        self.events.as_slice().get(at).copied()
     }
 }

@@ -5,9 +5,12 @@ mod firsts;
 mod lanes;
 mod leasts;
 mod noted;
-mod stretches;
+mod noting;
+mod reach;
+mod sweep;
 mod uses;
 mod wanted;
+mod windows;
 
 pub use firsts::firsts_of;
 pub use leasts::leasts_of;

@@ -16,14 +16,14 @@ use Rattle.race_groups.specs.Counting.{AreCounts, below_sum, class_sum, ends_lis
 use Rattle.race_groups.specs.Ends.{nothing}
 use Rattle.race_groups.specs.Owners.{AreOwners}
 use Rattle.race_groups.specs.declared.class.Class.{Class}
-use Rattle.race_groups.proofs.ConflictLemmas.{conflicting_all, conflicting_few}
+use Rattle.race_groups.proofs.ConflictLemmas.{conflicting_few}
 use Rattle.race_groups.proofs.LaterLemmas.{later_none, later_nothing}
 use Rattle.race_groups.proofs.MonotoneLemmas.{below_sum-mono}
 use Rattle.race_groups.proofs.OwnerLemmas.{front_none}
 use Rattle.race_groups.proofs.SumLemmas.{sum_by_below, sum_by_each, sum_by_if, sum_by_same, sum_by_turned, sum_by_zero}
 use Rattle.race_groups.proofs.WalkLemmas.{share_of}
 use Rattle.race_groups.proofs.WeightLemmas.{below_sum-le, get_before, ends_are, ends_within}
-use Rattle.race_groups.proofs.WholeLemmas.{members_all, members_within, share_whole}
+use Rattle.race_groups.proofs.WholeLemmas.{members_within, share_whole}
 
 -- sums that are not large are not large together
 pub members_fit : (infos : List Class) (x : ℕ) (op : Op) (sums : ℕ → ℕ) (cs : List ℕ) → length infos ≤ 1048576 → ((k : ℕ) → k < length infos → sums k ≤ 1099511627776) → AreConflicting infos x op cs

@@ -36,4 +36,6 @@ pub mod TellLemmas
 pub mod TotalGroupLemmas
 pub mod ApartLemmas
 pub mod CompleteLemmas
+pub mod TurnLemmas
+pub mod EntryLemmas
 pub mod Examples

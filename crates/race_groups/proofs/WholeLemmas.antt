@@ -1,13 +1,11 @@
 -- What the classes of a variable add up to for a later event: all its pairs with events before the fronts.
-use Rattle.std.proofs.Common.{◌≡◌, ℕ, ◌<◌, ◌≤◌, ◌==◌, nat_lt, Bool, true, false, not, ◌&&◌, cond, List, length, sum_by, slice_index, All, Option, Some, None, refl, sym, ap, ◌∙◌, inl, inr, arith, ◌^◌}
+use Rattle.std.proofs.Common.{◌≡◌, ℕ, ◌<◌, ◌==◌, nat_lt, Bool, true, false, not, ◌&&◌, cond, List, length, sum_by, slice_index, All, Option, Some, None, refl, sym, ap, ◌∙◌, inl, inr, arith}
 use Rattle.std.specs.Bool.{if◌then◌else◌}
 use Rattle.std.specs.List.{slice_get}
 use Rattle.std.specs.Option.{unwrap_or, option_map}
 use Rattle.std.proofs.lemmas.Bool.{cases_eq, eq-eqb, ne_eqb, eqb-true, le-ltb, or_cases, and_parts, or_left, or_right, true≢false}
 use Rattle.std.proofs.lemmas.Option.{slice_get-get_or}
-use Rattle.std.proofs.lemmas.List.Elements.{All-get_or, All-weaker, All-filter}
-use Rattle.std.proofs.lemmas.List.FromFn.{length-range_with_len}
-use Rattle.std.proofs.lemmas.List.Sums.{sum_by-le, length-filter, count_by-le-length}
+use Rattle.std.proofs.lemmas.List.Elements.{All-get_or, All-filter}
 use Rattle.std.proofs.Common.{get_or}
 use Rattle.rapid_text.specs.Operations.{is_read, is_write}
 use Rattle.rapid_text.specs.declared.event.Event.{Event}

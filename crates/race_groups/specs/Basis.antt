@@ -1,8 +1,8 @@
 -- What the counts of a trace go by, and what is known of it. No public clause cites this module.
-use Rattle.std.specs.Prelude.{◌≡◌, ℕ, ◌+◌, ◌-◌, ◌^◌, ◌<◌, ◌≤◌, All, Bool, List, length, slice_index}
-use Rattle.indexmap.specs.IndexMap.{IndexMap}
+use Rattle.std.specs.Prelude.{◌≡◌, ℕ, ◌+◌, ◌-◌, ◌^◌, ◌<◌, ◌≤◌, All, Bool, List, length, slice_index, slice_index_or, sum_by, Result, Err, IfOk}
+use Rattle.indexmap.specs.IndexMap.{IndexMap, index_map_len}
 use Rattle.rapid_text.specs.Recording.{IsWellFormed}
-use Rattle.event_index.specs.Lookups.{count_before, events_of}
+use Rattle.event_index.specs.Lookups.{before, count_before, events_of}
 use Rattle.must_order.specs.MustBefore.{IsForced}
 use Rattle.shb_clocks.specs.SharedRows.{len_of}
 use Rattle.race_groups.specs.Classes.{AreMembers}
@@ -11,11 +11,16 @@ use Rattle.race_groups.specs.Counts.{keeps}
 use Rattle.race_groups.specs.Cuts.{IsCutOf}
 use Rattle.race_groups.specs.Ends.{IsKnownBefore, counted_before, known_before, lower_of, upper_of}
 use Rattle.race_groups.specs.Owners.{AreConflicts}
-use Rattle.race_groups.specs.Rows.{Part, by_part, count_at}
+use Rattle.race_groups.specs.Found.{AreTooMany}
+use Rattle.race_groups.specs.Rows.{Part, by_part, count_at, AreRows}
+use Rattle.race_groups.specs.Totals.{total_sum}
+use Rattle.race_groups.specs.Turns.{in_turn, turns_of}
 use Rattle.race_groups.specs.declared.basis.Basis.{Basis}
 use Rattle.race_groups.specs.declared.class.Class.{Class}
 use Rattle.race_groups.specs.declared.counting.Front.{Front}
 use Rattle.race_groups.specs.declared.fronts.Fronts.{Fronts}
+use Rattle.race_groups.specs.declared.rows.RowsRefusal.{RowsRefusal}
+use Rattle.race_groups.specs.declared.rows.RowsRefusal.TheVariants.{TooMany}
 use Rattle.race_groups.specs.declared.rows.Sums.{Sums}
 
 -- All of it is of one trace.
@@ -27,6 +32,7 @@ pub record IsBasis (b : Basis) : Type 0 where
   pub cuts : AreCuts b.indexed.now.events b.forced.now
   pub known : IsCutOf b.indexed.now.events (IsKnownBefore b.indexed.now.events) (known_before b.indexed.now.events)
   pub must : IsCutOf b.indexed.now.events (IsForced b.indexed.now.events) (counted_before b.forced.now b.indexed.now.events)
+  pub turns : 0 < b.every
   pub numbers : length b.classes.now.numbers.items ≡ length b.indexed.now.events
   pub classes : All (λ c. c < length b.classes.now.infos.items) b.classes.now.numbers.items
   pub few : length b.classes.now.infos.items ≤ 1048576
@@ -94,6 +100,40 @@ AreSummed b n rows =
     → count_at k rows p q + threads_of b n (keeps b.classes.now.lists.keys k) (lower_of b.indexed.now.events b.forced.now k) p q
     ≡ totals_of b k p q + threads_of b n (keeps b.classes.now.lists.keys k) (upper_of b.indexed.now.events k) p q
 
+-- what class c has, of all pairs
+abbrev pub total_of : Basis → Part → ℕ → ℕ → ℕ → ℕ
+total_of b k p q c =
+    total_sum b.indexed.now.events (keeps b.classes.now.lists.keys k) b.classes.now.numbers.items b.classes.now.infos.items (length b.indexed.now.threads)
+    (total_ends b.indexed.now.events k) p q c
+
+-- what the classes have whose turn it is for this worker
+abbrev pub totals_in : Basis → ℕ → Part → ℕ → ℕ → ℕ
+totals_in b from k p q = turns_of b.every from (total_of b k p q) (length b.classes.now.infos.items)
+
+-- what thread u has, where it is its turn
+abbrev pub thread_in : Basis → ℕ → ℕ → (Class → Class → Bool) → (ℕ → ℕ → ℕ) → ℕ → ℕ → ℕ
+thread_in b from u keep end p q = in_turn b.every from (λ t. thread_of b t keep end p q) u
+
+-- what those of the first n threads have
+abbrev pub threads_in : Basis → ℕ → ℕ → (Class → Class → Bool) → (ℕ → ℕ → ℕ) → ℕ → ℕ → ℕ
+threads_in b from n keep end p q = turns_of b.every from (λ t. thread_of b t keep end p q) n
+
+-- A worker has counted its classes, and of its threads those below n.
+abbrev pub AreInTurn : {S : Type 0} → Basis → ℕ → ℕ → IndexMap (ℕ × ℕ) Sums S → Type 0
+AreInTurn b from n rows =
+    (k : Part) (p q : ℕ) → p ≤ q
+    → count_at k rows p q + threads_in b from n (keeps b.classes.now.lists.keys k) (lower_of b.indexed.now.events b.forced.now k) p q
+    ≡ totals_in b from k p q + threads_in b from n (keeps b.classes.now.lists.keys k) (upper_of b.indexed.now.events k) p q
+
+-- The first n workers have counted theirs.
+abbrev pub AreJoined : {S : Type 0} → Basis → ℕ → IndexMap (ℕ × ℕ) Sums S → Type 0
+AreJoined b n rows =
+    (k : Part) (p q : ℕ) → p ≤ q
+    → count_at k rows p q
+    + sum_by (λ w. threads_in b w (length b.indexed.now.threads) (keeps b.classes.now.lists.keys k) (lower_of b.indexed.now.events b.forced.now k) p q) (before n)
+    ≡ sum_by (λ w. totals_in b w k p q) (before n)
+    + sum_by (λ w. threads_in b w (length b.indexed.now.threads) (keeps b.classes.now.lists.keys k) (upper_of b.indexed.now.events k) p q) (before n)
+
 -- None counts more than that of all threads.
 abbrev pub AreFewAll : {S : Type 0} → Basis → IndexMap (ℕ × ℕ) Sums S → Type 0
 AreFewAll b rows =
@@ -135,3 +175,15 @@ pub record AreLoose (b : Basis) (u : ℕ) (fronts : Fronts) : Type 0 where
 -- what each class adds to a part, from what comes below the three cuts
 abbrev pub loose_of : List ℕ → List ℕ → List ℕ → Part → ℕ → ℕ
 loose_of earlier known forced k c = by_part 0 (slice_index earlier c - slice_index known c) (slice_index known c - slice_index forced c) k
+
+-- What one worker counted; refused only where there are more than `limit` rows.
+pub record IsPart {S : Type 0} (b : Basis) (place : ℕ → ℕ) (limit from : ℕ) (part : Result (IndexMap (ℕ × ℕ) Sums S) RowsRefusal) : Type 0 where
+  pub counted : IfOk part (AreInTurn b from (length b.indexed.now.threads))
+  pub rows : IfOk part (λ m. AreRows m)
+  pub kept : IfOk part (λ m. index_map_len m ≤ limit)
+  pub too_many : part ≡ Err TooMany → AreTooMany b.indexed.now.events place limit
+
+-- what each worker counted
+abbrev pub AreParts : {S : Type 0} → Basis → (ℕ → ℕ) → ℕ → List (Result (IndexMap (ℕ × ℕ) Sums S) RowsRefusal) → Type 0
+AreParts {S} b place limit parts =
+    (w : ℕ) (d : Result (IndexMap (ℕ × ℕ) Sums S) RowsRefusal) → w < length parts → IsPart b place limit w (slice_index_or parts w d)

@@ -14,3 +14,7 @@ pub mod Takers
 pub mod Building
 pub mod Counts
 pub mod Found
+pub mod Turns
+pub mod Adding
+pub mod ClassTables
+pub mod GroupRows

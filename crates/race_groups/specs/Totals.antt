@@ -1,5 +1,5 @@
 -- The count of all pairs, class by class. No public clause cites this module. `T` is the events of a trace.
-use Rattle.std.specs.Prelude.{◌≡◌, ℕ, ◌*◌, ◌<◌, ◌==◌, nat_lt, Bool, false, cond, List, [], All, length, sum_by, slice_get, slice_index, Option, Some, None, Vec}
+use Rattle.std.specs.Prelude.{◌≡◌, ℕ, ◌+◌, ◌*◌, ◌<◌, ◌==◌, nat_lt, Bool, false, cond, List, [], All, length, sum_by, slice_get, slice_index, Option, Some, None, Vec}
 use Rattle.std.specs.declared.alloc.Global.{Global}
 use Rattle.rapid_text.specs.declared.event.Event.{Event}
 use Rattle.event_index.specs.Lookups.{before, events_of}
@@ -18,6 +18,11 @@ entries_at spread c = items_of (slice_get spread c)
 -- their numbers, each weighed by its thread
 abbrev pub weighed_sum : (ℕ → ℕ) → List (ℕ × ℕ) → ℕ
 weighed_sum w entries = sum_by (λ e. e.1 * w e.0) entries
+
+-- each class has more entries, by these events of thread t
+abbrev pub AreNoted : List ℕ → List ℕ → ℕ → List (Vec (ℕ × ℕ) Global) → List (Vec (ℕ × ℕ) Global) → Type 0
+AreNoted classes events t old new =
+    (c : ℕ) (w : ℕ → ℕ) → weighed_sum w (entries_at new c) ≡ weighed_sum w (entries_at old c) + class_count classes c events * w t
 
 -- how many events all threads have of class c
 abbrev pub total_count : List Event → ℕ → List ℕ → ℕ → ℕ

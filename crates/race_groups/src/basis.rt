@@ -1,9 +1,14 @@
 //! What the counts of a trace go by.
+ghost use Rattle.std.specs.Prelude.{◌≡◌, ◌<◌, ◌≤◌, length, slice_index};
+ghost use Rattle.race_groups.specs.Basis.{IsBasis};
+ghost use Rattle.race_groups.specs.Classes.{AreClasses, AreMembers};
+ghost use Rattle.race_groups.specs.Owners.{AreConflicts};
 
 use crate::classes::Classes;
 use crate::writers::Conflicts;
 use event_index::Indexed;
-use shb_clocks::{Clocks, SharedRows};
+use must_order::Must;
+use shb_clocks::{Clocks, SharedRows, known_tells_shb};
 
 /// A trace, what is known of its orders, and its classes.
 #[derive(Clone, Copy)]
@@ -14,4 +19,48 @@ pub(crate) struct Basis<'a> {
     pub(crate) forced: &'a SharedRows,
     pub(crate) classes: &'a Classes,
     pub(crate) conflicts: &'a Conflicts,
+    /// How many workers share the counting.
+    pub(crate) every: usize,
+    /// Which of them counts: the threads and classes whose numbers leave this rest.
+    pub(crate) from: usize,
+}
+
+impl<'a> Basis<'a> {
+    /// What the first of so many workers goes by. `_places` has for each event the number of its place.
+    pub(crate) fn of(
+        indexed: &'a Indexed,
+        _places: &[u32],
+        clocks: &'a Clocks,
+        must: &'a Must,
+        classes: &'a Classes,
+        conflicts: &'a Conflicts,
+        every: usize,
+    ) -> Basis<'a>
+        requires clocks { clocks.now ≡ indexed.now }
+        requires must { must.now ≡ indexed.now }
+        requires classes { AreClasses indexed.now.events (slice_index _places.now) classes.now.numbers.items classes.now.infos.items }
+        requires few { length classes.now.infos.items ≤ 1048576 }
+        requires members { AreMembers classes.now.infos.items classes.now.members.items }
+        requires conflicts { AreConflicts indexed.now.events (length indexed.now.threads) classes.now.numbers.items classes.now.infos.items
+            classes.now.members.items conflicts.now }
+        requires every { 0 < every }
+        ensures basis { IsBasis result }
+        ensures indexed { result.indexed.now ≡ indexed.now }
+        ensures classes { result.classes.now ≡ classes.now }
+        ensures every { result.every ≡ every }
+        ensures from { result.from ≡ 0 }
+    {
+        known_tells_shb();
+        let _len = indexed.len();
+        let forced = must.rows();
+        Basis {
+            indexed,
+            clocks,
+            forced,
+            classes,
+            conflicts,
+            every,
+            from: 0,
+        }
+    }
 }

@@ -131,7 +131,7 @@ fn numbering_of(
     };
     let mut held = begin(alloc, indexed)?;
     for event in 0..indexed.len() {
-        numbering.add(alloc, indexed, places, takers, held.as_slice(), event)?;
+        numbering.add(indexed, places, takers, held.as_slice(), event)?;
         note(&mut held, indexed, event)?;
     }
     Ok(numbering)
@@ -141,7 +141,6 @@ impl Numbering {
     // Takes in the next event. `held` has for each thread the locks that it holds before that.
     fn add(
         &mut self,
-        alloc: Global,
         indexed: &Indexed,
         places: &[u32],
         takers: &[u32],
@@ -160,6 +159,7 @@ impl Numbering {
         let found = indexed.event(event);
         let locks = held[found.thread as usize].as_slice();
         keep_lent(&mut self.lent, locks, takers, indexed.threads())?;
+        let alloc = *self.lent.allocator();
         let class = Class {
             place: places[event as usize],
             op: found.op,

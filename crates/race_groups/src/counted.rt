@@ -1,9 +1,10 @@
 //! The counts of a trace's conflicting pairs between three cuts: what is earlier in the trace, what SHB keeps before, what is forced.
-//! For each later thread the events of the others are counted by class as they come below the cuts.
+//! For each later thread the events of the others are counted by class as they come below the cuts. Several workers may share the threads and
+//! the classes.
 ghost use Rattle.std.specs.Prelude.{◌≡◌, ℕ, ◌+◌, ◌<◌, ◌≤◌, length, All, IfOk, OnOk, Err, Some, slice_get, slice_index, sum_by};
 ghost use Rattle.indexmap.specs.IndexMap.{index_map_len};
 ghost use Rattle.event_index.specs.Lookups.{events_of};
-ghost use Rattle.race_groups.specs.Basis.{AreAdded, AreFew, AreFewAll, AreFrontsBefore, AreSummed, HasRoom, IsBasis, later_of, thread_of, unflagged_of};
+ghost use Rattle.race_groups.specs.Basis.{AreAdded, AreFew, AreFewAll, AreFrontsBefore, AreInTurn, AreJoined, HasRoom, IsBasis, IsPart, later_of, thread_in, thread_of, unflagged_of};
 ghost use Rattle.race_groups.specs.Classes.{AreClasses, AreMembers};
 ghost use Rattle.race_groups.specs.Counts.{AreCounted};
 ghost use Rattle.race_groups.specs.Found.{AreTooMany};
@@ -13,17 +14,15 @@ use crate::basis::Basis;
 use crate::class::Class;
 use crate::classes::{Classes, variable_of};
 use crate::fronts::Fronts;
-use crate::guesses::Guesses;
 use crate::heavy::{add_classes, heavies};
 use crate::loose::add_loose;
-use crate::rows::{Rows, RowsRefusal};
+use crate::rows::{GrowingRows, Rows, RowsRefusal};
 use crate::totals::add_totals;
 use crate::writers::Conflicts;
 use event_index::Indexed;
-use indexmap::IndexMap;
 use must_order::Must;
 use rapid_text::OutOfMemory;
-use shb_clocks::{Clocks, known_tells_shb};
+use shb_clocks::Clocks;
 use std::alloc::Global;
 
 // The class of an event.
@@ -37,8 +36,7 @@ fn class_of(classes: &Classes, event: u32) -> Class
 
 // Adds the pairs whose later event is that at this place of the thread.
 fn add_later(
-    rows: &mut Rows,
-    guesses: &mut Guesses,
+    rows: &mut GrowingRows,
     fronts: &mut Fronts,
     basis: Basis<'_>,
     thread: u32,
@@ -60,14 +58,13 @@ fn add_later(
         return Ok(());
     };
     fronts.advance(basis, thread, at);
-    add_loose(rows, guesses, fronts, basis, variable, class, thread)?;
+    add_loose(rows, fronts, basis, variable, class, thread)?;
     Ok(())
 }
 
 // The same, but for an event of a class that is flagged.
 fn add_light(
-    rows: &mut Rows,
-    guesses: &mut Guesses,
+    rows: &mut GrowingRows,
     fronts: &mut Fronts,
     basis: Basis<'_>,
     thread: u32,
@@ -91,15 +88,14 @@ fn add_light(
     if flags[classes.numbers[event as usize] as usize] == 1 {
         return Ok(());
     }
-    add_later(rows, guesses, fronts, basis, thread, at)?;
+    add_later(rows, fronts, basis, thread, at)?;
     Ok(())
 }
 
 // Adds the pairs whose later event is of the thread.
 fn add_thread(
     alloc: Global,
-    rows: &mut Rows,
-    guesses: &mut Guesses,
+    rows: &mut GrowingRows,
     basis: Basis<'_>,
     limit: u32,
     thread: u32,
@@ -116,7 +112,34 @@ fn add_thread(
     ensures too_many { result ≡ Err RowsRefusal.TooMany → AreMore limit rows.new × AreFew basis.entry (thread_of basis.entry thread) rows.old rows.new }
 {
     let flags = heavies(alloc, basis, thread)?;
-    match add_flags(alloc, rows, guesses, basis, limit, thread, flags.as_slice()) {
+    match add_flags(alloc, rows, basis, limit, thread, flags.as_slice()) {
+        Ok(()) => Ok(()),
+        Err(refusal) => Err(refusal),
+    }
+}
+
+// The same, where it is the turn of the thread.
+fn add_own(
+    alloc: Global,
+    rows: &mut GrowingRows,
+    basis: Basis<'_>,
+    limit: u32,
+    thread: u32,
+) -> Result<(), RowsRefusal>
+    requires basis { IsBasis basis }
+    requires thread { thread < length basis.indexed.now.threads }
+    requires rows { AreRows rows.old }
+    requires kept { index_map_len rows.old ≤ limit }
+    requires room { HasRoom (sum_by (λ e. length basis.indexed.now.events) (events_of basis.indexed.now.events thread)) rows.old }
+    ensures ok { OnOk result (AreAdded basis.entry (thread_in basis.entry basis.entry.from thread) rows.old rows.new) }
+    ensures rows { OnOk result (AreRows rows.new) }
+    ensures kept { OnOk result (index_map_len rows.new ≤ limit) }
+    ensures too_many { result ≡ Err RowsRefusal.TooMany → AreMore limit rows.new × AreFew basis.entry (thread_of basis.entry thread) rows.old rows.new }
+{
+    if thread as usize % basis.every != basis.from {
+        return Ok(());
+    }
+    match add_thread(alloc, rows, basis, limit, thread) {
         Ok(()) => Ok(()),
         Err(refusal) => Err(refusal),
     }
@@ -125,8 +148,7 @@ fn add_thread(
 // The same, those of each class that is flagged together.
 fn add_flags(
     alloc: Global,
-    rows: &mut Rows,
-    guesses: &mut Guesses,
+    rows: &mut GrowingRows,
     basis: Basis<'_>,
     limit: u32,
     thread: u32,
@@ -143,10 +165,10 @@ fn add_flags(
     ensures kept { OnOk result (index_map_len rows.new ≤ limit) }
     ensures too_many { result ≡ Err RowsRefusal.TooMany → AreMore limit rows.new × AreFew basis.entry (thread_of basis.entry thread) rows.old rows.new }
 {
-    add_classes(alloc, rows, guesses, basis, limit, thread, flags)?;
+    add_classes(alloc, rows, basis, limit, thread, flags)?;
     let mut fronts = Fronts::new(alloc, basis)?;
     for at in 0..basis.indexed.thread_events(thread).len() {
-        add_light(rows, guesses, &mut fronts, basis, thread, at, flags)?;
+        add_light(rows, &mut fronts, basis, thread, at, flags)?;
         if rows.len() > limit as usize {
             return Err(RowsRefusal::TooMany);
         }
@@ -175,25 +197,19 @@ pub(crate) fn count_cuts(
     ensures kept { IfOk result (λ rows. index_map_len rows ≤ limit) }
     ensures too_many { result ≡ Err RowsRefusal.TooMany → AreTooMany indexed.now.events (slice_index places.now) limit }
 {
-    known_tells_shb();
-    let _len = indexed.len();
-    let forced = must.rows();
     let conflicts = Conflicts::of(alloc, indexed, classes)?;
-    let basis = Basis {
-        indexed,
-        clocks,
-        forced,
-        classes,
-        conflicts: &conflicts,
-    };
-    match between_cuts(alloc, places, basis, limit) {
-        Ok(rows) => Ok(rows),
+    let basis = Basis::of(indexed, places, clocks, must, classes, &conflicts, 1);
+    match count_in_turn(alloc, places, basis, limit) {
+        Ok(rows) => {
+            are_all(&rows, places, basis);
+            Ok(rows)
+        }
         Err(refusal) => Err(refusal),
     }
 }
 
-// The same, from what is known of the trace.
-fn between_cuts(
+/// What one worker counts; refused where there are more than `limit` pairs of places.
+pub(crate) fn count_in_turn(
     alloc: Global,
     _places: &[u32],
     basis: Basis<'_>,
@@ -201,22 +217,29 @@ fn between_cuts(
 ) -> Result<Rows, RowsRefusal>
     requires basis { IsBasis basis }
     requires classes { AreClasses basis.indexed.now.events (slice_index _places.now) basis.classes.now.numbers.items basis.classes.now.infos.items }
-    ensures counted { IfOk result (AreCounted basis.entry.indexed.now.events (slice_index _places.now)
-        basis.entry.classes.now.numbers.items basis.entry.classes.now.infos.items basis.entry.classes.now.lists.keys) }
-    ensures kept { IfOk result (λ rows. index_map_len rows ≤ limit) }
-    ensures too_many { result ≡ Err RowsRefusal.TooMany → AreTooMany basis.entry.indexed.now.events (slice_index _places.now) limit }
+    ensures { IsPart basis.entry (slice_index _places.now) limit basis.entry.from result }
 {
-    let mut rows = IndexMap::new(alloc);
+    let mut rows = GrowingRows::new(alloc, basis.classes.infos.as_slice())?;
     match add_pairs(alloc, &mut rows, basis, limit) {
-        Ok(()) => Ok(rows),
+        Ok(()) => Ok(rows.into_rows()),
         Err(refusal) => Err(refusal),
     }
 }
 
-// Adds all pairs, and what comes below one cut and not below the next.
+/// What all workers counted are the counts of the trace.
+pub(crate) fn are_all(_rows: &Rows, _places: &[u32], _basis: Basis<'_>)
+    requires basis { IsBasis _basis }
+    requires classes { AreClasses _basis.indexed.now.events (slice_index _places.now) _basis.classes.now.numbers.items _basis.classes.now.infos.items }
+    requires rows { AreRows _rows.now }
+    requires joined { AreJoined _basis _basis.every _rows.now }
+    ensures { AreCounted _basis.entry.indexed.now.events (slice_index _places.now)
+        _basis.entry.classes.now.numbers.items _basis.entry.classes.now.infos.items _basis.entry.classes.now.lists.keys _rows.now }
+{}
+
+// Adds all pairs of what is in turn, and what comes below one cut and not below the next.
 fn add_pairs(
     alloc: Global,
-    rows: &mut Rows,
+    rows: &mut GrowingRows,
     basis: Basis<'_>,
     limit: u32,
 ) -> Result<(), RowsRefusal>
@@ -224,39 +247,15 @@ fn add_pairs(
     requires rows { AreRows rows.old }
     requires kept { index_map_len rows.old ≤ limit }
     requires empty { (k : Part) (p q : ℕ) → p ≤ q → count_at k rows.old p q ≡ 0 }
-    ensures ok { OnOk result (AreSummed basis.entry (length basis.entry.indexed.now.threads) rows.new) }
-    ensures rows { OnOk result (AreRows rows.new) }
-    ensures kept { OnOk result (index_map_len rows.new ≤ limit) }
-    ensures too_many { result ≡ Err RowsRefusal.TooMany → AreMore limit rows.new × AreFewAll basis.entry rows.new }
-{
-    let mut guesses = Guesses::new(alloc, basis.classes.infos.as_slice())?;
-    match add_each(alloc, rows, &mut guesses, basis, limit) {
-        Ok(()) => Ok(()),
-        Err(refusal) => Err(refusal),
-    }
-}
-
-// The same, with guesses where the rows stand.
-fn add_each(
-    alloc: Global,
-    rows: &mut Rows,
-    guesses: &mut Guesses,
-    basis: Basis<'_>,
-    limit: u32,
-) -> Result<(), RowsRefusal>
-    requires basis { IsBasis basis }
-    requires rows { AreRows rows.old }
-    requires kept { index_map_len rows.old ≤ limit }
-    requires empty { (k : Part) (p q : ℕ) → p ≤ q → count_at k rows.old p q ≡ 0 }
-    ensures ok { OnOk result (AreSummed basis.entry (length basis.entry.indexed.now.threads) rows.new) }
+    ensures ok { OnOk result (AreInTurn basis.entry basis.entry.from (length basis.entry.indexed.now.threads) rows.new) }
     ensures rows { OnOk result (AreRows rows.new) }
     ensures kept { OnOk result (index_map_len rows.new ≤ limit) }
     ensures too_many { result ≡ Err RowsRefusal.TooMany → AreMore limit rows.new × AreFewAll basis.entry rows.new }
 {
     let indexed = basis.indexed;
-    add_totals(alloc, rows, guesses, basis, limit)?;
+    add_totals(alloc, rows, basis, limit)?;
     for thread in 0..indexed.threads() {
-        match add_thread(alloc, rows, guesses, basis, limit, thread) {
+        match add_own(alloc, rows, basis, limit, thread) {
             Ok(()) => {}
             Err(refusal) => return Err(refusal),
         }

@@ -25,6 +25,20 @@ pub(crate) trait Cut {
         ensures end { result ≡ end_of self.now later thread };
 }
 
+/// A trace, with the number of each event's class.
+#[derive(Clone, Copy)]
+pub(crate) struct Classed<'a> {
+    pub(crate) indexed: &'a Indexed,
+    pub(crate) numbers: &'a [u32],
+}
+
+/// A later event, and its thread.
+#[derive(Clone, Copy)]
+pub(crate) struct Later {
+    pub(crate) event: u32,
+    pub(crate) thread: u32,
+}
+
 /// How many of each thread's events come before a cut, and how many of these are of each class.
 #[derive(Drop)]
 pub(crate) struct Front {
@@ -45,33 +59,24 @@ impl Front {
     }
 
     /// Moves on to the ends of a later event.
-    pub(crate) fn advance<C: Cut>(
-        &mut self,
-        classes: &[u32],
-        indexed: &Indexed,
-        cut: &C,
-        later: u32,
-        own: u32,
-    )
-        requires len { length classes.now ≡ length indexed.now.events }
-        requires classes { All (λ c. c < length self.old.counts.items) classes.now }
-        requires counts { AreCounts indexed.now.events (length indexed.now.threads) classes.now self.old.fronts.items self.old.counts.items }
-        requires can { (t : ℕ) → t < length indexed.now.threads → C.can_end cut.now later t }
-        requires own { slice_index self.old.fronts.items own ≡ 0 }
-        requires behind { (t : ℕ) → t < length indexed.now.threads → t ≢ own → slice_index self.old.fronts.items t ≤ C.end_of cut.now later t }
-        requires within { (t : ℕ) → t < length indexed.now.threads → C.end_of cut.now later t ≤ length (events_of indexed.now.events t) }
-        ensures counts { AreCounts indexed.now.events (length indexed.now.threads) classes.now self.new.fronts.items self.new.counts.items }
-        ensures fronts { AreFronts (length indexed.now.threads) own (C.end_of cut.now later) self.new.fronts.items }
+    pub(crate) fn advance<C: Cut>(&mut self, classed: Classed<'_>, cut: &C, later: Later)
+        requires len { length classed.numbers.now ≡ length classed.indexed.now.events }
+        requires classes { All (λ c. c < length self.old.counts.items) classed.numbers.now }
+        requires counts { AreCounts classed.indexed.now.events (length classed.indexed.now.threads) classed.numbers.now self.old.fronts.items self.old.counts.items }
+        requires can { (t : ℕ) → t < length classed.indexed.now.threads → C.can_end cut.now later.event t }
+        requires own { slice_index self.old.fronts.items later.thread ≡ 0 }
+        requires behind { (t : ℕ) → t < length classed.indexed.now.threads → t ≢ later.thread → slice_index self.old.fronts.items t ≤ C.end_of cut.now later.event t }
+        requires within { (t : ℕ) → t < length classed.indexed.now.threads → C.end_of cut.now later.event t ≤ length (events_of classed.indexed.now.events t) }
+        ensures counts { AreCounts classed.entry.indexed.now.events (length classed.entry.indexed.now.threads) classed.entry.numbers.now self.new.fronts.items self.new.counts.items }
+        ensures fronts { AreFronts (length classed.entry.indexed.now.threads) later.thread (C.end_of cut.now later.event) self.new.fronts.items }
         ensures len { length self.new.counts.items ≡ length self.old.counts.items }
     {
         advance(
             self.counts.as_mut_slice(),
             self.fronts.as_mut_slice(),
-            classes,
-            indexed,
+            classed,
             cut,
             later,
-            own,
         );
     }
 }
@@ -90,29 +95,22 @@ pub(crate) fn count(counts: &mut [u64], classes: &[u32], events: &[u32])
 }
 
 // Moves the front of one thread on.
-fn move_on(
-    counts: &mut [u64],
-    fronts: &mut [u32],
-    classes: &[u32],
-    indexed: &Indexed,
-    thread: u32,
-    to: u32,
-)
-    requires formed { IsWellFormed indexed.now }
-    requires thread { thread < length indexed.now.threads }
-    requires len { length classes.now ≡ length indexed.now.events }
-    requires classes { All (λ c. c < length counts.old) classes.now }
-    requires counts { AreCounts indexed.now.events (length indexed.now.threads) classes.now fronts.old counts.old }
+fn move_on(counts: &mut [u64], fronts: &mut [u32], classed: Classed<'_>, thread: u32, to: u32)
+    requires formed { IsWellFormed classed.indexed.now }
+    requires thread { thread < length classed.indexed.now.threads }
+    requires len { length classed.numbers.now ≡ length classed.indexed.now.events }
+    requires classes { All (λ c. c < length counts.old) classed.numbers.now }
+    requires counts { AreCounts classed.indexed.now.events (length classed.indexed.now.threads) classed.numbers.now fronts.old counts.old }
     requires from { slice_index fronts.old thread ≤ to }
-    requires to { to ≤ length (events_of indexed.now.events thread) }
-    ensures counts { AreCounts indexed.now.events (length indexed.now.threads) classes.now fronts.new counts.new }
+    requires to { to ≤ length (events_of classed.indexed.now.events thread) }
+    ensures counts { AreCounts classed.entry.indexed.now.events (length classed.entry.indexed.now.threads) classed.entry.numbers.now fronts.new counts.new }
     ensures fronts { fronts.new ≡ slice_set fronts.old thread to }
 {
     let from = fronts[thread as usize] as usize;
     count(
         counts,
-        classes,
-        &indexed.thread_events(thread)[from..to as usize],
+        classed.numbers,
+        &classed.indexed.thread_events(thread)[from..to as usize],
     );
     fronts[thread as usize] = to;
 }
@@ -121,27 +119,25 @@ fn move_on(
 fn advance<C: Cut>(
     counts: &mut [u64],
     fronts: &mut [u32],
-    classes: &[u32],
-    indexed: &Indexed,
+    classed: Classed<'_>,
     cut: &C,
-    later: u32,
-    own: u32,
+    later: Later,
 )
-    requires len { length classes.now ≡ length indexed.now.events }
-    requires classes { All (λ c. c < length counts.old) classes.now }
-    requires counts { AreCounts indexed.now.events (length indexed.now.threads) classes.now fronts.old counts.old }
-    requires can { (t : ℕ) → t < length indexed.now.threads → C.can_end cut.now later t }
-    requires own { slice_index fronts.old own ≡ 0 }
-    requires behind { (t : ℕ) → t < length indexed.now.threads → t ≢ own → slice_index fronts.old t ≤ C.end_of cut.now later t }
-    requires within { (t : ℕ) → t < length indexed.now.threads → C.end_of cut.now later t ≤ length (events_of indexed.now.events t) }
-    ensures counts { AreCounts indexed.now.events (length indexed.now.threads) classes.now fronts.new counts.new }
-    ensures fronts { AreFronts (length indexed.now.threads) own (C.end_of cut.now later) fronts.new }
+    requires len { length classed.numbers.now ≡ length classed.indexed.now.events }
+    requires classes { All (λ c. c < length counts.old) classed.numbers.now }
+    requires counts { AreCounts classed.indexed.now.events (length classed.indexed.now.threads) classed.numbers.now fronts.old counts.old }
+    requires can { (t : ℕ) → t < length classed.indexed.now.threads → C.can_end cut.now later.event t }
+    requires own { slice_index fronts.old later.thread ≡ 0 }
+    requires behind { (t : ℕ) → t < length classed.indexed.now.threads → t ≢ later.thread → slice_index fronts.old t ≤ C.end_of cut.now later.event t }
+    requires within { (t : ℕ) → t < length classed.indexed.now.threads → C.end_of cut.now later.event t ≤ length (events_of classed.indexed.now.events t) }
+    ensures counts { AreCounts classed.entry.indexed.now.events (length classed.entry.indexed.now.threads) classed.entry.numbers.now fronts.new counts.new }
+    ensures fronts { AreFronts (length classed.entry.indexed.now.threads) later.thread (C.end_of cut.now later.event) fronts.new }
 {
-    for thread in 0..indexed.threads() {
-        if thread != own {
+    for thread in 0..classed.indexed.threads() {
+        if thread != later.thread {
             let from = fronts[thread as usize];
-            let to = cut.end(later, thread, from);
-            move_on(counts, fronts, classes, indexed, thread, to);
+            let to = cut.end(later.event, thread, from);
+            move_on(counts, fronts, classed, thread, to);
         }
     }
 }

@@ -5,7 +5,7 @@ ghost use Rattle.race_groups.specs.Basis.{AreBelow, AreBlank, AreFrontsBefore, I
 ghost use Rattle.race_groups.specs.Counting.{AreMoved};
 
 use crate::basis::Basis;
-use crate::counting::Front;
+use crate::counting::{Classed, Front, Later};
 use crate::cuts::{Earlier, Forced, Known};
 use crate::sums::sum_below;
 use rapid_text::OutOfMemory;
@@ -45,7 +45,9 @@ impl Fronts {
     {
         let indexed = basis.indexed;
         let numbers = basis.classes.numbers.as_slice();
-        let later = indexed.thread_events(thread)[at];
+        let classed = Classed { indexed, numbers };
+        let event = indexed.thread_events(thread)[at];
+        let later = Later { event, thread };
         let earlier = Earlier { indexed };
         let known = Known {
             indexed,
@@ -55,11 +57,9 @@ impl Fronts {
             indexed,
             rows: basis.forced,
         };
-        self.earlier
-            .advance(numbers, indexed, &earlier, later, thread);
-        self.known.advance(numbers, indexed, &known, later, thread);
-        self.forced
-            .advance(numbers, indexed, &forced, later, thread);
+        self.earlier.advance(classed, &earlier, later);
+        self.known.advance(classed, &known, later);
+        self.forced.advance(classed, &forced, later);
     }
 
     /// For all events of the thread that are of the class: how many events of each class come below their cuts, together.
@@ -80,8 +80,9 @@ impl Fronts {
             indexed,
             rows: basis.forced,
         };
-        sum_below(&mut self.earlier, numbers, indexed, &earlier, thread, class);
-        sum_below(&mut self.known, numbers, indexed, &known, thread, class);
-        sum_below(&mut self.forced, numbers, indexed, &forced, thread, class);
+        let classed = Classed { indexed, numbers };
+        sum_below(&mut self.earlier, classed, &earlier, thread, class);
+        sum_below(&mut self.known, classed, &known, thread, class);
+        sum_below(&mut self.forced, classed, &forced, thread, class);
     }
 }

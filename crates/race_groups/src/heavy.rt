@@ -11,10 +11,9 @@ ghost use Rattle.race_groups.specs.Rows.{AreMore, AreRows};
 use crate::basis::Basis;
 use crate::classes::variable_of;
 use crate::fronts::Fronts;
-use crate::guesses::Guesses;
 use crate::loose::add_loose;
 use crate::owners::owner_of;
-use crate::rows::{Rows, RowsRefusal};
+use crate::rows::{GrowingRows, RowsRefusal};
 use crate::writers::{Walk, conflicting};
 use rapid_text::{Op, OutOfMemory};
 use std::alloc::Global;
@@ -22,8 +21,7 @@ use std::alloc::Global;
 // Adds the pairs whose later event is of the thread and of the class of this number.
 fn add_class(
     alloc: Global,
-    rows: &mut Rows,
-    guesses: &mut Guesses,
+    rows: &mut GrowingRows,
     basis: Basis<'_>,
     thread: u32,
     class: u32,
@@ -37,7 +35,7 @@ fn add_class(
     ensures rows { OnOk result (AreRows rows.new) }
 {
     let mut fronts = Fronts::new(alloc, basis)?;
-    match add_sums(rows, guesses, &mut fronts, basis, thread, class) {
+    match add_sums(rows, &mut fronts, basis, thread, class) {
         Ok(()) => Ok(()),
         Err(refused) => Err(refused),
     }
@@ -45,8 +43,7 @@ fn add_class(
 
 // The same, with fronts before which nothing comes.
 fn add_sums(
-    rows: &mut Rows,
-    guesses: &mut Guesses,
+    rows: &mut GrowingRows,
     fronts: &mut Fronts,
     basis: Basis<'_>,
     thread: u32,
@@ -66,15 +63,14 @@ fn add_sums(
         return Ok(());
     };
     fronts.sum_up(basis, thread, class);
-    add_loose(rows, guesses, fronts, basis, variable, info, thread)?;
+    add_loose(rows, fronts, basis, variable, info, thread)?;
     Ok(())
 }
 
 // The same where the class is flagged by 1.
 fn add_flagged(
     alloc: Global,
-    rows: &mut Rows,
-    guesses: &mut Guesses,
+    rows: &mut GrowingRows,
     basis: Basis<'_>,
     thread: u32,
     flags: &[u32],
@@ -92,15 +88,14 @@ fn add_flagged(
     if flags[class as usize] != 1 {
         return Ok(());
     }
-    add_class(alloc, rows, guesses, basis, thread, class)?;
+    add_class(alloc, rows, basis, thread, class)?;
     Ok(())
 }
 
 /// Adds the pairs whose later event is of the thread and of a class that is flagged by 1.
 pub(crate) fn add_classes(
     alloc: Global,
-    rows: &mut Rows,
-    guesses: &mut Guesses,
+    rows: &mut GrowingRows,
     basis: Basis<'_>,
     limit: u32,
     thread: u32,
@@ -118,7 +113,7 @@ pub(crate) fn add_classes(
     ensures too_many { result ≡ Err RowsRefusal.TooMany → AreMore limit rows.new × AreFew basis.entry (thread_of basis.entry thread) rows.old rows.new }
 {
     for class in 0..flags.len() {
-        add_flagged(alloc, rows, guesses, basis, thread, flags, class as u32)?;
+        add_flagged(alloc, rows, basis, thread, flags, class as u32)?;
         if rows.len() > limit as usize {
             return Err(RowsRefusal::TooMany);
         }

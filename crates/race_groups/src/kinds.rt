@@ -1,22 +1,24 @@
 //! The conflicting pairs of a trace by pair of places and by kind.
-ghost use Rattle.std.specs.Prelude.{◌≡◌, ◌≤◌, ℕ, All, IfOk, IfSome, Err, Some, None, true, false, length, map, slice_get, slice_index};
-ghost use Rattle.indexmap.specs.IndexMap.{IsUnique, keys};
+ghost use Rattle.std.specs.Prelude.{◌≡◌, ◌<◌, ◌≤◌, ℕ, All, IfOk, IfSome, Err, Some, None, true, false, length, map, slice_get, slice_index};
+ghost use Rattle.indexmap.specs.IndexMap.{IsUnique, index_map_len, keys};
 ghost use Rattle.race_groups.specs.Found.{AreComplete, AreOnce, AreTooMany, HaveConflict, are_places};
-ghost use Rattle.race_groups.specs.Groups.{is_between};
 ghost use Rattle.race_groups.specs.Rows.{same_places};
-ghost use Rattle.race_groups.specs.Classes.{AreClasses, AreLocks, AreMembers};
+ghost use Rattle.race_groups.specs.ClassTables.{AreFewClasses, HaveClasses, HaveLocks, HaveMembers};
+ghost use Rattle.race_groups.specs.Classes.{AreClasses, AreLocks};
 ghost use Rattle.race_groups.specs.Counts.{AreCounted};
 ghost use Rattle.race_groups.specs.Kinds.{IsDifference, IsRow};
 
 use crate::classes::Classes;
 use crate::counted::count_cuts;
 use crate::guesses::Guesses;
-use crate::rows::{Rows, RowsRefusal, Sums, ordered, row_at};
+use crate::rows::{Rows, RowsRefusal, Sums};
+use crate::workers::count_by_workers;
 use event_index::Indexed;
 use must_order::Must;
 use rapid_text::OutOfMemory;
 use shb_clocks::Clocks;
 use std::alloc::Global;
+use std::thread::Threads;
 
 /// How many conflicting pairs of a pair of places are of each kind.
 #[derive(Clone, Copy, PartialEq, Eq, Debug)]
@@ -46,39 +48,10 @@ pub struct Groups {
     /// A row for each.
     pub rows: Vec<Row>,
     // The rows' places, in the same order.
-    index: Rows,
+    pub(crate) index: Rows,
     // Where the row of two places may stand, which spares most look-ups.
-    guesses: Guesses,
+    pub(crate) guesses: Guesses,
     ghost places: { are_places rows.items (keys index) ≡ true },
-}
-
-impl Groups {
-    /// Where the row of two places stands, given in either order.
-    pub fn row_of(&self, first: u32, second: u32) -> Option<usize>
-        // It answers a row of these places, and None where there is none.
-        ensures found { IfSome result (λ at. (row : Row) × (slice_get self.now.rows.items at ≡ Some row)
-            × (is_between row.places.0 row.places.1 first second ≡ true)) }
-        ensures none { result ≡ None → (at : ℕ) (row : Row) → slice_get self.now.rows.items at ≡ Some row
-            → is_between row.places.0 row.places.1 first second ≡ false }
-    {
-        let places = ordered(first, second);
-        if let Some(at) = self.guesses.guess(first, second) {
-            if is_row(self.rows.as_slice(), at, places) {
-                return Some(at);
-            }
-        }
-        row_at(&self.index, places)
-    }
-}
-
-// Whether the row of these places stands there.
-fn is_row(rows: &[Row], at: usize, places: (u32, u32)) -> bool
-    ensures { result ≡ true → (row : Row) × (slice_get rows.now at ≡ Some row) × (row.places ≡ places) }
-{
-    match rows.get(at) {
-        Some(row) => row.places.0 == places.0 && row.places.1 == places.1,
-        None => false,
-    }
 }
 
 // Where the rows stand.
@@ -105,10 +78,10 @@ pub fn groups_of(
 ) -> Result<Groups, RowsRefusal>
     requires clocks { clocks.now ≡ indexed.now }
     requires must { must.now ≡ indexed.now }
-    requires classes { AreClasses indexed.now.events (slice_index places.now) classes.now.numbers.items classes.now.infos.items }
-    requires few { length classes.now.infos.items ≤ 1048576 }
-    requires members { AreMembers classes.now.infos.items classes.now.members.items }
-    requires locks { AreLocks indexed.now.events classes.now.lists.keys classes.now.numbers.items classes.now.infos.items }
+    requires classes { HaveClasses indexed.now.events (slice_index places.now) classes.now }
+    requires few { AreFewClasses classes.now }
+    requires members { HaveMembers classes.now }
+    requires locks { HaveLocks indexed.now.events classes.now }
     // The four counts of each row are those of the conflicting pairs of its places that are of each kind.
     ensures rows { IfOk result (λ found. All (IsRow indexed.now (slice_index places.now)) found.rows.items) }
     // Each two events that conflict have a row, each row's places have two, no two rows have the same places, and there are no more
@@ -120,11 +93,68 @@ pub fn groups_of(
     // It is refused only where more pairs of places have a conflicting pair, or for want of memory.
     ensures too_many { result ≡ Err RowsRefusal.TooMany → AreTooMany indexed.now.events (slice_index places.now) limit }
 {
-    let _len = indexed.len();
-    let index = match count_cuts(alloc, indexed, places, clocks, must, classes, limit) {
-        Ok(index) => index,
-        Err(refusal) => return Err(refusal),
-    };
+    match count_cuts(alloc, indexed, places, clocks, must, classes, limit) {
+        Ok(index) => Ok(groups_in(alloc, indexed, places, classes, index)?),
+        Err(refusal) => Err(refusal),
+    }
+}
+
+/// The same by so many workers, which share the counting. They are threads, where these can be started.
+pub fn groups_by_workers<R: Threads + Sync>(
+    rt: &R,
+    alloc: Global,
+    indexed: &Indexed,
+    places: &[u32],
+    clocks: &Clocks,
+    must: &Must,
+    classes: &Classes,
+    limit: u32,
+    workers: usize,
+) -> Result<Groups, RowsRefusal>
+    requires clocks { clocks.now ≡ indexed.now }
+    requires must { must.now ≡ indexed.now }
+    requires classes { HaveClasses indexed.now.events (slice_index places.now) classes.now }
+    requires few { AreFewClasses classes.now }
+    requires members { HaveMembers classes.now }
+    requires locks { HaveLocks indexed.now.events classes.now }
+    requires workers { 0 < workers }
+    // The four counts of each row are those of the conflicting pairs of its places that are of each kind.
+    ensures rows { IfOk result (λ found. All (IsRow indexed.now (slice_index places.now)) found.rows.items) }
+    // Each two events that conflict have a row, each row's places have two, no two rows have the same places, and there are no more
+    // than `limit`.
+    ensures complete { IfOk result (λ found. AreComplete indexed.now.events (slice_index places.now) found.rows.items) }
+    ensures there { IfOk result (λ found. All (λ row. HaveConflict indexed.now.events (slice_index places.now) row.places) found.rows.items) }
+    ensures once { IfOk result (λ found. AreOnce found.rows.items) }
+    ensures few_rows { IfOk result (λ found. length found.rows.items ≤ limit) }
+    // It is refused only where more pairs of places have a conflicting pair, or for want of memory.
+    ensures too_many { result ≡ Err RowsRefusal.TooMany → AreTooMany indexed.now.events (slice_index places.now) limit }
+{
+    match count_by_workers(
+        rt, alloc, indexed, places, clocks, must, classes, limit, workers,
+    ) {
+        Ok(index) => Ok(groups_in(alloc, indexed, places, classes, index)?),
+        Err(refusal) => Err(refusal),
+    }
+}
+
+// The same, once all is counted.
+fn groups_in(
+    alloc: Global,
+    indexed: &Indexed,
+    places: &[u32],
+    classes: &Classes,
+    index: Rows,
+) -> Result<Groups, OutOfMemory>
+    requires classes { AreClasses indexed.now.events (slice_index places.now) classes.now.numbers.items classes.now.infos.items }
+    requires locks { AreLocks indexed.now.events classes.now.lists.keys classes.now.numbers.items classes.now.infos.items }
+    requires counted { AreCounted indexed.now.events (slice_index places.now)
+        classes.now.numbers.items classes.now.infos.items classes.now.lists.keys index }
+    ensures rows { IfOk result (λ found. All (IsRow indexed.now (slice_index places.now)) found.rows.items) }
+    ensures complete { IfOk result (λ found. AreComplete indexed.now.events (slice_index places.now) found.rows.items) }
+    ensures there { IfOk result (λ found. All (λ row. HaveConflict indexed.now.events (slice_index places.now) row.places) found.rows.items) }
+    ensures once { IfOk result (λ found. AreOnce found.rows.items) }
+    ensures few_rows { IfOk result (λ found. length found.rows.items ≡ index_map_len index) }
+{
     let rows = rows_of(alloc, indexed, places, classes, &index)?;
     let guesses = guesses_of(alloc, classes, rows.as_slice())?;
     Ok(Groups {

@@ -1,17 +1,15 @@
 //! Adds what is loose: the pairs below one cut that are not below the next.
-ghost use Rattle.std.specs.Prelude.{◌≡◌, ℕ, ◌+◌, ◌<◌, ◌≤◌, OnOk, true, if◌then◌else◌, length, slice_get, sum_by};
+ghost use Rattle.std.specs.Prelude.{◌≡◌, ◌<◌, OnOk, true, length};
 ghost use Rattle.event_index.specs.Lookups.{before};
 ghost use Rattle.event_index.specs.Relations.{is_access};
-ghost use Rattle.race_groups.specs.Basis.{AreLoose, HasRoom, IsBasis, loose_of};
-ghost use Rattle.race_groups.specs.Classes.{adds_to};
-ghost use Rattle.race_groups.specs.Counts.{keeps};
-ghost use Rattle.race_groups.specs.Rows.{Part, count_at, AreRows};
+ghost use Rattle.race_groups.specs.Adding.{AreGrown, loose_in};
+ghost use Rattle.race_groups.specs.Basis.{AreLoose, HasRoom, IsBasis};
+ghost use Rattle.race_groups.specs.Rows.{AreRows};
 
 use crate::basis::Basis;
 use crate::class::Class;
 use crate::fronts::Fronts;
-use crate::guesses::Guesses;
-use crate::rows::Rows;
+use crate::rows::GrowingRows;
 use crate::shares::Loose;
 use crate::walk::add_members;
 use crate::writers::conflicting;
@@ -19,8 +17,7 @@ use rapid_text::OutOfMemory;
 
 /// Adds the pairs of an event of the class `later`, or of several of them, with those of other threads.
 pub(crate) fn add_loose(
-    rows: &mut Rows,
-    guesses: &mut Guesses,
+    rows: &mut GrowingRows,
     fronts: &Fronts,
     basis: Basis<'_>,
     variable: u32,
@@ -33,10 +30,8 @@ pub(crate) fn add_loose(
     requires access { is_access variable later.op ≡ true }
     requires rows { AreRows rows.old }
     requires room { HasRoom 0 rows.old }
-    ensures ok { OnOk result ((k : Part) (p q : ℕ) → p ≤ q → count_at k rows.new p q ≡ count_at k rows.old p q
-        + sum_by (λ c. if adds_to (keeps basis.entry.classes.now.lists.keys k) p q later (slice_get basis.entry.classes.now.infos.items c)
-        then loose_of fronts.now.earlier.counts.items fronts.now.known.counts.items fronts.now.forced.counts.items k c else 0)
-        (before (length basis.entry.classes.now.infos.items))) }
+    ensures ok { OnOk result (AreGrown basis.entry.classes.now later (loose_in fronts.now)
+        (before (length basis.entry.classes.now.infos.items)) rows.old rows.new) }
     ensures rows { OnOk result (AreRows rows.new) }
 {
     let loose = Loose {
@@ -45,16 +40,6 @@ pub(crate) fn add_loose(
         forced: fronts.forced.counts.as_slice(),
     };
     let walk = conflicting(basis.classes, basis.conflicts, variable, later.op);
-    let infos = basis.classes.infos.as_slice();
-    add_members(
-        rows,
-        guesses,
-        &loose,
-        infos,
-        &basis.classes.lists,
-        walk,
-        later,
-        thread,
-    )?;
+    add_members(rows, &loose, basis.classes, walk, later, thread)?;
     Ok(())
 }

@@ -1,5 +1,5 @@
 //! Which thread has all events of a class. No event is in a pair with one of its own thread.
-ghost use Rattle.std.specs.Prelude.{◌≡◌, ◌+◌, ◌<◌, length, All, IfOk, slice_index};
+ghost use Rattle.std.specs.Prelude.{◌≡◌, ◌+◌, ◌<◌, length, All, IfOk, IfSome, slice_index};
 ghost use Rattle.race_groups.specs.Owners.{AreOwners, AreOwnersBelow};
 
 use crate::classes::Classes;
@@ -53,4 +53,12 @@ pub(crate) fn owner_of(owners: &[u32], class: u32) -> u32
         Some(owner) => *owner,
         None => 0,
     }
+}
+
+/// The thread that has all events of the class. None if more than one has some.
+pub(crate) fn only_owner(owners: &[u32], class: u32, threads: u32) -> Option<u32>
+    ensures some { IfSome result (λ owner. (owner ≡ slice_index owners.now class) × (owner < threads)) }
+{
+    let owner = owner_of(owners, class);
+    if owner < threads { Some(owner) } else { None }
 }

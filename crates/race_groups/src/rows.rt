@@ -1,13 +1,15 @@
 //! Rows by pair of places, each with what was counted of it.
-ghost use Rattle.std.specs.Prelude.{◌≡◌, ℕ, ◌+◌, ◌^◌, ◌<◌, ◌≤◌, OnOk, IfSome, true, Some, None, slice_get, if◌then◌else◌};
-ghost use Rattle.indexmap.specs.IndexMap.{get, keys, index_map_len, Updates};
+ghost use Rattle.std.specs.Prelude.{◌≡◌, ℕ, ◌+◌, ◌^◌, ◌<◌, ◌≤◌, OnOk, IfOk, IfSome, true, Some, None, slice_get, if◌then◌else◌};
+ghost use Rattle.indexmap.specs.IndexMap.{get, keys, index_map_len, IsEmpty, IsUnique, Updates};
 ghost use Rattle.race_groups.specs.Groups.{is_between};
 ghost use Rattle.race_groups.specs.Rows.{Part, part, same_places, count_at, AreRows};
 
+use crate::class::Class;
 use crate::guesses::Guesses;
 use indexmap::IndexMap;
 use rapid_text::OutOfMemory;
-use std::alloc::{AllocError, AllocFailed};
+use std::alloc::{AllocError, AllocFailed, Global};
+use std::marker::Model;
 
 /// How many conflicting pairs of a pair of places there are.
 #[derive(Clone, Copy)]
@@ -24,6 +26,75 @@ pub(crate) struct Sums {
 
 /// For each pair of places, the lesser first, what was counted of it.
 pub(crate) type Rows = IndexMap<(u32, u32), Sums>;
+
+/// Rows to which counts are added, with guesses where they stand. Contracts see the rows alone.
+#[derive(Drop)]
+pub(crate) struct GrowingRows {
+    rows: Rows,
+    guesses: Guesses,
+}
+
+impl Model for GrowingRows {
+    ghost use Rattle.std.specs.Prelude.{ℕ};
+    ghost use Rattle.std.specs.declared.hash.BuildHasherDefault.{BuildHasherDefault};
+    ghost use Rattle.std.specs.declared.hash.FoldHasher.{FoldHasher};
+    ghost use Rattle.std.specs.Coded.{coded×, coded_ℕ};
+    ghost use Rattle.std.specs.contracts.hash.BuildHasherDefault as made;
+    ghost use Rattle.std.specs.contracts.hash.FoldHasher as fold;
+    ghost use Rattle.indexmap.specs.IndexMap.{IndexMap as Entries};
+    ghost use Rattle.indexmap.specs.Layout.{hash_map_code};
+    ghost use Rattle.race_groups.specs.contracts.rows.Sums as sums;
+    ghost use Rattle.race_groups.specs.declared.rows.Sums.{Sums};
+
+    ghost Value = { Entries (ℕ × ℕ) Sums (BuildHasherDefault FoldHasher) };
+
+    ghost coded = { hash_map_code (coded× coded_ℕ coded_ℕ) sums.the_row.coded (made.the_row fold.the_row).coded };
+
+    ghost view = { λ r. r.rows };
+}
+
+impl GrowingRows {
+    /// No rows, with guesses for the places of these classes.
+    pub(crate) fn new(alloc: Global, infos: &[Class]) -> Result<GrowingRows, OutOfMemory>
+        ensures empty { IfOk result IsEmpty }
+        ensures len { IfOk result (λ rows. index_map_len rows ≡ 0) }
+        ensures unique { IfOk result (IsUnique same_places) }
+    {
+        let guesses = Guesses::new(alloc, infos)?;
+        Ok(GrowingRows {
+            rows: IndexMap::new(alloc),
+            guesses,
+        })
+    }
+
+    /// How many rows there are.
+    pub(crate) fn len(&self) -> usize
+        ensures len { result ≡ index_map_len self.now }
+        ensures unique { IsUnique same_places self.now }
+    {
+        self.rows.len()
+    }
+
+    /// Adds to what was counted of a pair of places.
+    pub(crate) fn add(&mut self, first: u32, second: u32, more: Sums) -> Result<(), OutOfMemory>
+        requires more { (k : Part) × (0 < part k more) }
+        requires rows { AreRows self.old }
+        requires room { (k : Part) (p q : ℕ) → p ≤ q → count_at k self.old p q + part k more < 2 ^ 64 }
+        ensures ok { OnOk result ((k : Part) (p q : ℕ) → p ≤ q
+            → count_at k self.new p q ≡ count_at k self.old p q + (if is_between p q first second then part k more else 0)) }
+        ensures rows { OnOk result (AreRows self.new) }
+    {
+        add(&mut self.rows, &mut self.guesses, first, second, more)
+    }
+
+    /// The rows, once all is added.
+    pub(crate) fn into_rows(self) -> Rows
+        ensures { result ≡ self }
+    {
+        let GrowingRows { rows, .. } = self;
+        rows
+    }
+}
 
 /// Why pairs are not counted.
 #[derive(Clone, Copy, PartialEq, Eq, Debug)]
@@ -82,8 +153,8 @@ impl Sums {
     }
 }
 
-/// Adds to what was counted of a pair of places.
-pub(crate) fn add(
+// Adds to what was counted of a pair of places.
+fn add(
     rows: &mut Rows,
     guesses: &mut Guesses,
     first: u32,

@@ -1,9 +1,8 @@
 //! In which threads the events of each class are, and how many in each.
-ghost use Rattle.std.specs.Prelude.{◌≡◌, ℕ, ◌+◌, ◌-◌, ◌*◌, ◌==◌, ◌<◌, ◌^◌, [], cond, length, All, IfOk, IfSome, OnOk, Some, slice_get};
+ghost use Rattle.std.specs.Prelude.{◌≡◌, ℕ, ◌+◌, ◌-◌, ◌==◌, ◌<◌, ◌^◌, [], cond, length, All, IfOk, IfSome, OnOk, Some, slice_get};
 ghost use Rattle.rapid_text.specs.Recording.{IsWellFormed};
 ghost use Rattle.event_index.specs.Lookups.{events_of};
-ghost use Rattle.race_groups.specs.Counting.{class_count};
-ghost use Rattle.race_groups.specs.Totals.{AreSpread, entries_at, weighed_sum};
+ghost use Rattle.race_groups.specs.Totals.{AreNoted, AreSpread, entries_at, weighed_sum};
 
 use crate::classes::Classes;
 use event_index::Indexed;
@@ -74,8 +73,7 @@ fn note_thread(
     requires within { (c : ℕ) → All (λ e. e.0 < length indexed.now.threads) (entries_at spread.old.items c) }
     ensures len { OnOk result (length spread.new.items ≡ length spread.old.items) }
     ensures within { OnOk result ((c : ℕ) → All (λ e. e.0 < length indexed.now.threads) (entries_at spread.new.items c)) }
-    ensures noted { OnOk result ((c : ℕ) (w : ℕ → ℕ) → weighed_sum w (entries_at spread.new.items c)
-        ≡ weighed_sum w (entries_at spread.old.items c) + class_count numbers.now c (events_of indexed.now.events thread) * w thread) }
+    ensures noted { OnOk result (AreNoted numbers.now (events_of indexed.now.events thread) thread spread.old.items spread.new.items) }
 {
     for at in 0..indexed.thread_events(thread).len() {
         let event = indexed.thread_events(thread)[at];

@@ -1,38 +1,34 @@
 //! For the events of one class of a thread: how many events of each class come below their cuts, for all of them together.
-ghost use Rattle.std.specs.Prelude.{◌≡◌, ℕ, ◌<◌, ◌≤◌, length, All, slice_index};
+ghost use Rattle.std.specs.Prelude.{◌≡◌, ℕ, ◌<◌, ◌≤◌, length, replicate, All};
 ghost use Rattle.rapid_text.specs.Recording.{IsWellFormed};
 ghost use Rattle.event_index.specs.Lookups.{events_of};
-ghost use Rattle.race_groups.specs.Counting.{AreSums, IsBlank, below_sum, class_count};
+ghost use Rattle.race_groups.specs.Counting.{AreBelowSums, IsBlank, class_count};
 ghost use Rattle.race_groups.specs.Cuts.{IsCut};
 
-use crate::counting::{Cut, Front};
+use crate::counting::{Classed, Cut, Front, Later};
 use crate::weighing::weigh_all;
-use event_index::Indexed;
 
 /// Sums up for the class of this number, in a front before which nothing comes.
 pub(crate) fn sum_below<C: Cut>(
     front: &mut Front,
-    classes: &[u32],
-    indexed: &Indexed,
+    classed: Classed<'_>,
     cut: &C,
     own: u32,
     class: u32,
 )
-    requires len { length classes.now ≡ length indexed.now.events }
-    requires blank { IsBlank (length indexed.now.threads) (length front.old.counts.items) front.old }
-    requires classes { All (λ c. c < length front.old.counts.items) classes.now }
-    requires own { own < length indexed.now.threads }
-    requires can { (b t : ℕ) → b < length indexed.now.events → t < length indexed.now.threads → C.can_end cut.now b t }
-    requires cut { IsCut indexed.now.events (C.end_of cut.now) }
+    requires len { length classed.numbers.now ≡ length classed.indexed.now.events }
+    requires blank { IsBlank (length classed.indexed.now.threads) (length front.old.counts.items) front.old }
+    requires classes { All (λ c. c < length front.old.counts.items) classed.numbers.now }
+    requires own { own < length classed.indexed.now.threads }
+    requires can { (b t : ℕ) → b < length classed.indexed.now.events → t < length classed.indexed.now.threads → C.can_end cut.now b t }
+    requires cut { IsCut classed.indexed.now.events (C.end_of cut.now) }
     ensures len { length front.new.counts.items ≡ length front.old.counts.items }
-    ensures counted { (c : ℕ) → c < length front.new.counts.items → slice_index front.new.counts.items c
-        ≡ below_sum indexed.now.events (length indexed.now.threads) classes.now own (C.end_of cut.now) class c (events_of indexed.now.events own) }
+    ensures counted { AreBelowSums classed.entry.indexed.now.events (length classed.entry.indexed.now.threads) classed.entry.numbers.now own (C.end_of cut.now) class front.new.counts.items }
 {
-    let _len = indexed.len();
-    let left = count_class(classes, indexed.thread_events(own), class);
+    let _len = classed.indexed.len();
     let sums = front.counts.as_mut_slice();
     let fronts = front.fronts.as_mut_slice();
-    sum_up(sums, fronts, classes, indexed, cut, own, class, left);
+    sum_up(sums, fronts, classed, cut, own, class);
 }
 
 // How many of the events are of the class.
@@ -54,28 +50,29 @@ fn count_class(classes: &[u32], events: &[u32], class: u32) -> u64
 fn sum_up<C: Cut>(
     sums: &mut [u64],
     fronts: &mut [u32],
-    classes: &[u32],
-    indexed: &Indexed,
+    classed: Classed<'_>,
     cut: &C,
     own: u32,
     class: u32,
-    count: u64,
 )
-    requires formed { IsWellFormed indexed.now }
-    requires len { length classes.now ≡ length indexed.now.events }
-    requires classes { All (λ c. c < length sums.old) classes.now }
-    requires own { own < length indexed.now.threads }
-    requires can { (b t : ℕ) → b < length indexed.now.events → t < length indexed.now.threads → C.can_end cut.now b t }
-    requires cut { IsCut indexed.now.events (C.end_of cut.now) }
-    requires begin { AreSums indexed.now.events (length indexed.now.threads) (length sums.old) classes.now own class (C.end_of cut.now) 0 count fronts.old sums.old }
-    ensures counted { (c : ℕ) → c < length sums.new → slice_index sums.new c
-        ≡ below_sum indexed.now.events (length indexed.now.threads) classes.now own (C.end_of cut.now) class c (events_of indexed.now.events own) }
+    requires formed { IsWellFormed classed.indexed.now }
+    requires len { length classed.numbers.now ≡ length classed.indexed.now.events }
+    requires classes { All (λ c. c < length sums.old) classed.numbers.now }
+    requires own { own < length classed.indexed.now.threads }
+    requires can { (b t : ℕ) → b < length classed.indexed.now.events → t < length classed.indexed.now.threads → C.can_end cut.now b t }
+    requires cut { IsCut classed.indexed.now.events (C.end_of cut.now) }
+    requires fronts { fronts.old ≡ replicate (length classed.indexed.now.threads) 0 }
+    requires sums { sums.old ≡ replicate (length sums.old) 0 }
+    ensures counted { AreBelowSums classed.entry.indexed.now.events (length classed.entry.indexed.now.threads) classed.entry.numbers.now own (C.end_of cut.now) class sums.new }
 {
-    let mut left = count;
-    for at in 0..indexed.thread_events(own).len() {
-        let later = indexed.thread_events(own)[at];
-        if classes[later as usize] == class {
-            weigh_all(sums, fronts, classes, indexed, cut, later, own, left);
+    let indexed = classed.indexed;
+    let lane = indexed.thread_events(own);
+    let mut left = count_class(classed.numbers, lane, class);
+    for at in 0..lane.len() {
+        let event = lane[at];
+        if classed.numbers[event as usize] == class {
+            let later = Later { event, thread: own };
+            weigh_all(sums, fronts, classed, cut, later, left);
             left -= 1;
         }
     }

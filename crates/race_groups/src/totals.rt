@@ -2,18 +2,16 @@
 //! that are of one thread. No pair is looked at, and each is counted twice, once for each of its two events.
 ghost use Rattle.std.specs.Prelude.{◌≡◌, ℕ, ◌+◌, ◌==◌, ◌^◌, ◌<◌, ◌≤◌, cond, length, All, IfOk, OnOk, Err, slice_index};
 ghost use Rattle.indexmap.specs.IndexMap.{index_map_len};
-ghost use Rattle.race_groups.specs.Basis.{HasRoom, IsBasis, totals_of};
-ghost use Rattle.race_groups.specs.Counting.{total_ends};
-ghost use Rattle.race_groups.specs.Counts.{keeps};
+ghost use Rattle.race_groups.specs.Basis.{HasRoom, IsBasis, total_of, totals_in, totals_of};
+ghost use Rattle.race_groups.specs.Turns.{in_turn};
 ghost use Rattle.race_groups.specs.Rows.{Part, count_at, AreMore, AreRows};
-ghost use Rattle.race_groups.specs.Totals.{AreSpread, AreTotals, AreWeights, total_sum, weighed_sum};
+ghost use Rattle.race_groups.specs.Totals.{AreSpread, AreTotals, AreWeights, weighed_sum};
 
 use crate::basis::Basis;
 use crate::classes::{Classes, variable_of};
 use crate::counting::count;
-use crate::guesses::Guesses;
-use crate::owners::owner_of;
-use crate::rows::{Rows, RowsRefusal};
+use crate::owners::only_owner;
+use crate::rows::{GrowingRows, RowsRefusal};
 use crate::shares::Total;
 use crate::spread::spread_of;
 use crate::walk::add_all;
@@ -58,8 +56,7 @@ fn weights_of(alloc: Global, threads: u32, entries: &[(u32, u32)]) -> Result<Vec
 // Adds all pairs of an event of the class of this number with one of a class that is not greater.
 fn add_total(
     alloc: Global,
-    rows: &mut Rows,
-    guesses: &mut Guesses,
+    rows: &mut GrowingRows,
     basis: Basis<'_>,
     totals: &[u64],
     spread: &[Vec<(u32, u32)>],
@@ -73,23 +70,13 @@ fn add_total(
     requires class { class < length basis.classes.now.infos.items }
     requires rows { AreRows rows.old }
     requires room { HasRoom 0 rows.old }
-    ensures ok { OnOk result ((k : Part) (p q : ℕ) → p ≤ q → count_at k rows.new p q ≡ count_at k rows.old p q
-        + total_sum basis.entry.indexed.now.events (keeps basis.entry.classes.now.lists.keys k) basis.entry.classes.now.numbers.items
-        basis.entry.classes.now.infos.items
-        (length basis.entry.indexed.now.threads) (total_ends basis.entry.indexed.now.events k) p q class) }
+    ensures ok { OnOk result ((k : Part) (p q : ℕ) → p ≤ q
+        → count_at k rows.new p q ≡ count_at k rows.old p q + total_of basis.entry k p q class) }
     ensures rows { OnOk result (AreRows rows.new) }
 {
     let entries = spread[class as usize].as_slice();
     let weights = weights_of(alloc, basis.indexed.threads(), entries)?;
-    match add_weighed(
-        rows,
-        guesses,
-        basis,
-        totals,
-        spread,
-        weights.as_slice(),
-        class,
-    ) {
+    match add_weighed(rows, basis, totals, spread, weights.as_slice(), class) {
         Ok(()) => Ok(()),
         Err(refused) => Err(refused),
     }
@@ -97,8 +84,7 @@ fn add_total(
 
 // The same, with how many events of the class each thread has.
 fn add_weighed(
-    rows: &mut Rows,
-    guesses: &mut Guesses,
+    rows: &mut GrowingRows,
     basis: Basis<'_>,
     totals: &[u64],
     spread: &[Vec<(u32, u32)>],
@@ -114,17 +100,14 @@ fn add_weighed(
     requires class { class < length basis.classes.now.infos.items }
     requires rows { AreRows rows.old }
     requires room { HasRoom 0 rows.old }
-    ensures ok { OnOk result ((k : Part) (p q : ℕ) → p ≤ q → count_at k rows.new p q ≡ count_at k rows.old p q
-        + total_sum basis.entry.indexed.now.events (keeps basis.entry.classes.now.lists.keys k) basis.entry.classes.now.numbers.items
-        basis.entry.classes.now.infos.items
-        (length basis.entry.indexed.now.threads) (total_ends basis.entry.indexed.now.events k) p q class) }
+    ensures ok { OnOk result ((k : Part) (p q : ℕ) → p ≤ q
+        → count_at k rows.new p q ≡ count_at k rows.old p q + total_of basis.entry k p q class) }
     ensures rows { OnOk result (AreRows rows.new) }
 {
     let info = basis.classes.infos[class as usize];
     let Some(variable) = variable_of(info.op) else {
         return Ok(());
     };
-    let infos = basis.classes.infos.as_slice();
     let times = totals[class as usize];
     let total = Total {
         totals,
@@ -133,27 +116,48 @@ fn add_weighed(
         times,
         class,
     };
-    let owner = owner_of(basis.conflicts.owners.as_slice(), class);
-    let walk = conflicting(basis.classes, basis.conflicts, variable, info.op);
-    add_all(
-        rows,
-        guesses,
-        &total,
-        infos,
-        &basis.classes.lists,
-        walk,
-        info,
-        owner,
+    let owner = only_owner(
+        basis.conflicts.owners.as_slice(),
+        class,
         basis.indexed.threads(),
-    )?;
+    );
+    let walk = conflicting(basis.classes, basis.conflicts, variable, info.op);
+    add_all(rows, &total, basis.classes, walk, info, owner)?;
     Ok(())
 }
 
-/// Counts all conflicting pairs, each twice; refused where there are more than `limit` pairs of places.
+// The same, where it is the turn of the class.
+fn add_own(
+    alloc: Global,
+    rows: &mut GrowingRows,
+    basis: Basis<'_>,
+    totals: &[u64],
+    spread: &[Vec<(u32, u32)>],
+    class: u32,
+) -> Result<(), OutOfMemory>
+    requires basis { IsBasis basis }
+    requires totals { AreTotals basis.indexed.now.events (length basis.indexed.now.threads) basis.classes.now.numbers.items
+        (length basis.classes.now.infos.items) totals.now }
+    requires spread { AreSpread basis.indexed.now.events (length basis.indexed.now.threads) basis.classes.now.numbers.items
+        (length basis.classes.now.infos.items) spread.now }
+    requires class { class < length basis.classes.now.infos.items }
+    requires rows { AreRows rows.old }
+    requires room { HasRoom 0 rows.old }
+    ensures ok { OnOk result ((k : Part) (p q : ℕ) → p ≤ q → count_at k rows.new p q ≡ count_at k rows.old p q
+        + in_turn basis.entry.every basis.entry.from (total_of basis.entry k p q) class) }
+    ensures rows { OnOk result (AreRows rows.new) }
+{
+    if class as usize % basis.every != basis.from {
+        return Ok(());
+    }
+    add_total(alloc, rows, basis, totals, spread, class)?;
+    Ok(())
+}
+
+/// Counts all conflicting pairs of the classes whose turn it is, each twice; refused where there are more than `limit` pairs of places.
 pub(crate) fn add_totals(
     alloc: Global,
-    rows: &mut Rows,
-    guesses: &mut Guesses,
+    rows: &mut GrowingRows,
     basis: Basis<'_>,
     limit: u32,
 ) -> Result<(), RowsRefusal>
@@ -161,14 +165,14 @@ pub(crate) fn add_totals(
     requires rows { AreRows rows.old }
     requires kept { index_map_len rows.old ≤ limit }
     requires empty { (k : Part) (p q : ℕ) → p ≤ q → count_at k rows.old p q ≡ 0 }
-    ensures ok { OnOk result ((k : Part) (p q : ℕ) → p ≤ q → count_at k rows.new p q ≡ totals_of basis.entry k p q) }
+    ensures ok { OnOk result ((k : Part) (p q : ℕ) → p ≤ q → count_at k rows.new p q ≡ totals_in basis.entry basis.entry.from k p q) }
     ensures rows { OnOk result (AreRows rows.new) }
     ensures kept { OnOk result (index_map_len rows.new ≤ limit) }
     ensures too_many { result ≡ Err RowsRefusal.TooMany → AreMore limit rows.new
         × ((k : Part) (p q : ℕ) → p ≤ q → count_at k rows.new p q ≤ totals_of basis.entry k p q) }
 {
     let made = totals_of(alloc, basis.indexed, basis.classes)?;
-    match add_spread(alloc, rows, guesses, basis, limit, made.as_slice()) {
+    match add_spread(alloc, rows, basis, limit, made.as_slice()) {
         Ok(()) => Ok(()),
         Err(refusal) => Err(refusal),
     }
@@ -177,8 +181,7 @@ pub(crate) fn add_totals(
 // The same, with how many events are of each class.
 fn add_spread(
     alloc: Global,
-    rows: &mut Rows,
-    guesses: &mut Guesses,
+    rows: &mut GrowingRows,
     basis: Basis<'_>,
     limit: u32,
     totals: &[u64],
@@ -189,22 +192,14 @@ fn add_spread(
     requires rows { AreRows rows.old }
     requires kept { index_map_len rows.old ≤ limit }
     requires empty { (k : Part) (p q : ℕ) → p ≤ q → count_at k rows.old p q ≡ 0 }
-    ensures ok { OnOk result ((k : Part) (p q : ℕ) → p ≤ q → count_at k rows.new p q ≡ totals_of basis.entry k p q) }
+    ensures ok { OnOk result ((k : Part) (p q : ℕ) → p ≤ q → count_at k rows.new p q ≡ totals_in basis.entry basis.entry.from k p q) }
     ensures rows { OnOk result (AreRows rows.new) }
     ensures kept { OnOk result (index_map_len rows.new ≤ limit) }
     ensures too_many { result ≡ Err RowsRefusal.TooMany → AreMore limit rows.new
         × ((k : Part) (p q : ℕ) → p ≤ q → count_at k rows.new p q ≤ totals_of basis.entry k p q) }
 {
     let spread = spread_of(alloc, basis.indexed, basis.classes)?;
-    match add_each(
-        alloc,
-        rows,
-        guesses,
-        basis,
-        limit,
-        totals,
-        spread.as_slice(),
-    ) {
+    match add_each(alloc, rows, basis, limit, totals, spread.as_slice()) {
         Ok(()) => Ok(()),
         Err(refusal) => Err(refusal),
     }
@@ -213,8 +208,7 @@ fn add_spread(
 // The same, with the threads that they are in: class by class.
 fn add_each(
     alloc: Global,
-    rows: &mut Rows,
-    guesses: &mut Guesses,
+    rows: &mut GrowingRows,
     basis: Basis<'_>,
     limit: u32,
     totals: &[u64],
@@ -228,14 +222,14 @@ fn add_each(
     requires rows { AreRows rows.old }
     requires kept { index_map_len rows.old ≤ limit }
     requires empty { (k : Part) (p q : ℕ) → p ≤ q → count_at k rows.old p q ≡ 0 }
-    ensures ok { OnOk result ((k : Part) (p q : ℕ) → p ≤ q → count_at k rows.new p q ≡ totals_of basis.entry k p q) }
+    ensures ok { OnOk result ((k : Part) (p q : ℕ) → p ≤ q → count_at k rows.new p q ≡ totals_in basis.entry basis.entry.from k p q) }
     ensures rows { OnOk result (AreRows rows.new) }
     ensures kept { OnOk result (index_map_len rows.new ≤ limit) }
     ensures too_many { result ≡ Err RowsRefusal.TooMany → AreMore limit rows.new
         × ((k : Part) (p q : ℕ) → p ≤ q → count_at k rows.new p q ≤ totals_of basis.entry k p q) }
 {
     for class in 0..totals.len() {
-        add_total(alloc, rows, guesses, basis, totals, spread, class as u32)?;
+        add_own(alloc, rows, basis, totals, spread, class as u32)?;
         if rows.len() > limit as usize {
             return Err(RowsRefusal::TooMany);
         }

@@ -1,15 +1,16 @@
 //! What one later event, or all those of one class of a thread, add to the rows.
-ghost use Rattle.std.specs.Prelude.{◌≡◌, ℕ, ◌+◌, ◌^◌, ◌<◌, ◌≤◌, length, All, Bool, Some, true, false, OnOk, if◌then◌else◌, slice_index, slice_get, sum_by};
+ghost use Rattle.std.specs.Prelude.{◌≡◌, ℕ, ◌+◌, ◌^◌, ◌<◌, ◌≤◌, length, All, Bool, Some, true, false, IfSome, OnOk, if◌then◌else◌, slice_index};
 ghost use Rattle.event_index.specs.Relations.{is_clash_of_ops};
+ghost use Rattle.race_groups.specs.Adding.{added_of, AreGrown, HasRoomFor};
 ghost use Rattle.race_groups.specs.Classes.{adds_to};
 ghost use Rattle.race_groups.specs.Counts.{is_counted, keeps};
 ghost use Rattle.race_groups.specs.Owners.{AreRuns};
 ghost use Rattle.race_groups.specs.Rows.{Part, part, amount, count_at, AreRows};
 
 use crate::class::Class;
-use crate::guesses::Guesses;
+use crate::classes::Classes;
 use crate::owners::owner_of;
-use crate::rows::{Rows, Sums, add};
+use crate::rows::{GrowingRows, Sums};
 use crate::shares::{Share, Shares};
 use crate::sharing::are_sharing;
 use crate::writers::Walk;
@@ -29,8 +30,7 @@ fn sums_of(lists: &IndexSet<Vec<u32>>, earlier: Class, later: Class, share: Shar
 // Adds the pairs of so many events of one class with one event of another. Few classes come to this, so the walk over all of them stays short.
 #[inline(never)]
 fn add_pairs(
-    rows: &mut Rows,
-    guesses: &mut Guesses,
+    rows: &mut GrowingRows,
     lists: &IndexSet<Vec<u32>>,
     earlier: Class,
     later: Class,
@@ -47,7 +47,7 @@ fn add_pairs(
         return Ok(());
     }
     let sums = sums_of(lists, earlier, later, share);
-    add(rows, guesses, earlier.place, later.place, sums)?;
+    rows.add(earlier.place, later.place, sums)?;
     Ok(())
 }
 
@@ -55,25 +55,24 @@ fn add_pairs(
 // this step is all, and a call would cost more than it does.
 #[inline(always)]
 fn add_share(
-    rows: &mut Rows,
-    guesses: &mut Guesses,
-    infos: &[Class],
-    lists: &IndexSet<Vec<u32>>,
+    rows: &mut GrowingRows,
+    classes: &Classes,
     member: u32,
     later: Class,
     share: Share,
 ) -> Result<(), OutOfMemory>
-    requires member { member < length infos.now }
+    requires member { member < length classes.now.infos.items }
     requires rows { AreRows rows.old }
     requires room { (k : Part) (p q : ℕ) → p ≤ q → count_at k rows.old p q + amount k share < 2 ^ 64 }
-    ensures ok { OnOk result ((k : Part) (p q : ℕ) → p ≤ q → count_at k rows.new p q ≡ count_at k rows.old p q
-        + (if adds_to (keeps lists.now.keys k) p q later (slice_get infos.now member) then amount k share else 0)) }
+    ensures ok { OnOk result ((k : Part) (p q : ℕ) → p ≤ q
+        → count_at k rows.new p q ≡ count_at k rows.old p q + added_of classes.now later k p q member (amount k share)) }
     ensures rows { OnOk result (AreRows rows.new) }
 {
     if share.is_nothing() {
         return Ok(());
     }
-    add_pairs(rows, guesses, lists, infos[member as usize], later, share)?;
+    let earlier = classes.infos[member as usize];
+    add_pairs(rows, &classes.lists, earlier, later, share)?;
     Ok(())
 }
 
@@ -90,50 +89,44 @@ fn clash(first: Op, second: Op) -> bool
 
 // The same of each of these classes, which are not the thread's own.
 fn add_run<A: Shares>(
-    rows: &mut Rows,
-    guesses: &mut Guesses,
+    rows: &mut GrowingRows,
     shares: &A,
-    infos: &[Class],
-    lists: &IndexSet<Vec<u32>>,
+    classes: &Classes,
     members: &[u32],
     later: Class,
 ) -> Result<(), OutOfMemory>
-    requires members { All (λ c. c < length infos.now) members.now }
-    requires can { (c : ℕ) → c < length infos.now → A.can_tell shares.now c }
+    requires members { All (λ c. c < length classes.now.infos.items) members.now }
+    requires can { (c : ℕ) → c < length classes.now.infos.items → A.can_tell shares.now c }
     requires rows { AreRows rows.old }
-    requires room { (k : Part) (p q : ℕ) → p ≤ q → count_at k rows.old p q + sum_by (A.amount_of shares.now k) members.now < 2 ^ 64 }
-    ensures ok { OnOk result ((k : Part) (p q : ℕ) → p ≤ q → count_at k rows.new p q ≡ count_at k rows.old p q
-        + sum_by (λ c. if adds_to (keeps lists.now.keys k) p q later (slice_get infos.now c) then A.amount_of shares.now k c else 0) members.now) }
+    requires room { HasRoomFor (A.amount_of shares.now) members.now rows.old }
+    ensures ok { OnOk result (AreGrown classes.now later (A.amount_of shares.now) members.now rows.old rows.new) }
     ensures rows { OnOk result (AreRows rows.new) }
 {
     for member in members {
         let share = shares.share(*member);
-        add_share(rows, guesses, infos, lists, *member, later, share)?;
+        add_share(rows, classes, *member, later, share)?;
     }
     Ok(())
 }
 
 /// Adds what an event of a class, or several of them, have with the events of other threads, as it is told by class.
 pub(crate) fn add_members<A: Shares>(
-    rows: &mut Rows,
-    guesses: &mut Guesses,
+    rows: &mut GrowingRows,
     shares: &A,
-    infos: &[Class],
-    lists: &IndexSet<Vec<u32>>,
+    classes: &Classes,
     walk: Walk<'_>,
     later: Class,
     thread: u32,
 ) -> Result<(), OutOfMemory>
-    requires members { All (λ c. c < length infos.now) walk.members.now }
+    requires members { All (λ c. c < length classes.now.infos.items) walk.members.now }
     requires runs { AreRuns walk.owners.now walk.members.now walk.runs.now }
-    requires can { (c : ℕ) → c < length infos.now → A.can_tell shares.now c }
+    requires can { (c : ℕ) → c < length classes.now.infos.items → A.can_tell shares.now c }
     // The thread's own classes add nothing.
-    requires own { (c : ℕ) → c < length infos.now → slice_index walk.owners.now c ≡ thread → (k : Part) → A.amount_of shares.now k c ≡ 0 }
+    requires own { (c : ℕ) → c < length classes.now.infos.items → slice_index walk.owners.now c ≡ thread → (k : Part)
+        → A.amount_of shares.now k c ≡ 0 }
     requires rows { AreRows rows.old }
-    requires room { (k : Part) (p q : ℕ) → p ≤ q → count_at k rows.old p q + sum_by (A.amount_of shares.now k) walk.members.now < 2 ^ 64 }
-    ensures ok { OnOk result ((k : Part) (p q : ℕ) → p ≤ q → count_at k rows.new p q ≡ count_at k rows.old p q
-        + sum_by (λ c. if adds_to (keeps lists.now.keys k) p q later (slice_get infos.now c)
-        then A.amount_of shares.now k c else 0) walk.entry.members.now) }
+    requires room { HasRoomFor (A.amount_of shares.now) walk.members.now rows.old }
+    ensures ok { OnOk result (AreGrown classes.now later (A.amount_of shares.now) walk.entry.members.now rows.old rows.new) }
     ensures rows { OnOk result (AreRows rows.new) }
 {
     let members = walk.members;
@@ -143,40 +136,35 @@ pub(crate) fn add_members<A: Shares>(
         if owner_of(walk.owners, members[at]) == thread {
             at = to;
         } else {
-            add_run(rows, guesses, shares, infos, lists, &members[at..to], later)?;
+            add_run(rows, shares, classes, &members[at..to], later)?;
             at = to;
         }
     }
     Ok(())
 }
 
-/// The same for a class, of which `owner` has all events where it is one of the threads.
+/// The same for a class, of which `owner` has all events, if there is one.
 pub(crate) fn add_all<A: Shares>(
-    rows: &mut Rows,
-    guesses: &mut Guesses,
+    rows: &mut GrowingRows,
     shares: &A,
-    infos: &[Class],
-    lists: &IndexSet<Vec<u32>>,
+    classes: &Classes,
     walk: Walk<'_>,
     later: Class,
-    owner: u32,
-    threads: u32,
+    owner: Option<u32>,
 ) -> Result<(), OutOfMemory>
-    requires members { All (λ c. c < length infos.now) walk.members.now }
+    requires members { All (λ c. c < length classes.now.infos.items) walk.members.now }
     requires runs { AreRuns walk.owners.now walk.members.now walk.runs.now }
-    requires can { (c : ℕ) → c < length infos.now → A.can_tell shares.now c }
-    requires own { owner < threads → (c : ℕ) → c < length infos.now → slice_index walk.owners.now c ≡ owner → (k : Part) → A.amount_of shares.now k c ≡ 0 }
+    requires can { (c : ℕ) → c < length classes.now.infos.items → A.can_tell shares.now c }
+    requires own { IfSome owner (λ o. (c : ℕ) → c < length classes.now.infos.items → slice_index walk.owners.now c ≡ o → (k : Part)
+        → A.amount_of shares.now k c ≡ 0) }
     requires rows { AreRows rows.old }
-    requires room { (k : Part) (p q : ℕ) → p ≤ q → count_at k rows.old p q + sum_by (A.amount_of shares.now k) walk.members.now < 2 ^ 64 }
-    ensures ok { OnOk result ((k : Part) (p q : ℕ) → p ≤ q → count_at k rows.new p q ≡ count_at k rows.old p q
-        + sum_by (λ c. if adds_to (keeps lists.now.keys k) p q later (slice_get infos.now c)
-        then A.amount_of shares.now k c else 0) walk.entry.members.now) }
+    requires room { HasRoomFor (A.amount_of shares.now) walk.members.now rows.old }
+    ensures ok { OnOk result (AreGrown classes.now later (A.amount_of shares.now) walk.entry.members.now rows.old rows.new) }
     ensures rows { OnOk result (AreRows rows.new) }
 {
-    if owner < threads {
-        add_members(rows, guesses, shares, infos, lists, walk, later, owner)?;
-    } else {
-        add_run(rows, guesses, shares, infos, lists, walk.members, later)?;
+    match owner {
+        Some(thread) => add_members(rows, shares, classes, walk, later, thread)?,
+        None => add_run(rows, shares, classes, walk.members, later)?,
     }
     Ok(())
 }

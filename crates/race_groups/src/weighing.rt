@@ -3,10 +3,9 @@
 ghost use Rattle.std.specs.Prelude.{◌≡◌, ◌≢◌, ℕ, ◌+◌, ◌^◌, ◌<◌, ◌≤◌, length, All, sum_by, slice_index, slice_set};
 ghost use Rattle.rapid_text.specs.Recording.{IsWellFormed};
 ghost use Rattle.event_index.specs.Lookups.{events_of};
-ghost use Rattle.race_groups.specs.Counting.{AreFronts, weigh as weighed, weight};
+ghost use Rattle.race_groups.specs.Counting.{AreFronts, AreWeighed, weigh as weighed};
 
-use crate::counting::Cut;
-use event_index::Indexed;
+use crate::counting::{Classed, Cut, Later};
 
 // Adds to the sum of each event's class.
 fn weigh(sums: &mut [u64], classes: &[u32], events: &[u32], left: u64)
@@ -25,31 +24,28 @@ fn weigh(sums: &mut [u64], classes: &[u32], events: &[u32], left: u64)
 fn weigh_on(
     sums: &mut [u64],
     fronts: &mut [u32],
-    classes: &[u32],
-    indexed: &Indexed,
+    classed: Classed<'_>,
     thread: u32,
     to: u32,
     left: u64,
 )
-    requires formed { IsWellFormed indexed.now }
-    requires thread { thread < length indexed.now.threads }
-    requires len { length classes.now ≡ length indexed.now.events }
-    requires classes { All (λ c. c < length sums.old) classes.now }
-    requires fronts_len { length fronts.old ≡ length indexed.now.threads }
+    requires formed { IsWellFormed classed.indexed.now }
+    requires thread { thread < length classed.indexed.now.threads }
+    requires len { length classed.numbers.now ≡ length classed.indexed.now.events }
+    requires classes { All (λ c. c < length sums.old) classed.numbers.now }
+    requires fronts_len { length fronts.old ≡ length classed.indexed.now.threads }
     requires from { slice_index fronts.old thread ≤ to }
-    requires to { to ≤ length (events_of indexed.now.events thread) }
+    requires to { to ≤ length (events_of classed.indexed.now.events thread) }
     requires left { left ≤ 1048576 }
     requires room { (c : ℕ) → c < length sums.old → slice_index sums.old c ≤ 2 ^ 42 }
     ensures fronts { fronts.new ≡ slice_set fronts.old thread to }
-    ensures moved { (c : ℕ) → c < length sums.new
-        → slice_index sums.new c + weight indexed.now.events (length indexed.now.threads) fronts.old (weighed classes.now left c)
-        ≡ slice_index sums.old c + weight indexed.now.events (length indexed.now.threads) fronts.new (weighed classes.now left c) }
+    ensures moved { AreWeighed classed.entry.indexed.now.events (length classed.entry.indexed.now.threads) classed.entry.numbers.now left fronts.old sums.old fronts.new sums.new }
 {
     let from = fronts[thread as usize] as usize;
     weigh(
         sums,
-        classes,
-        &indexed.thread_events(thread)[from..to as usize],
+        classed.numbers,
+        &classed.indexed.thread_events(thread)[from..to as usize],
         left,
     );
     fronts[thread as usize] = to;
@@ -59,34 +55,30 @@ fn weigh_on(
 pub(crate) fn weigh_all<C: Cut>(
     sums: &mut [u64],
     fronts: &mut [u32],
-    classes: &[u32],
-    indexed: &Indexed,
+    classed: Classed<'_>,
     cut: &C,
-    later: u32,
-    own: u32,
+    later: Later,
     left: u64,
 )
-    requires len { length classes.now ≡ length indexed.now.events }
-    requires classes { All (λ c. c < length sums.old) classes.now }
-    requires fronts_len { length fronts.old ≡ length indexed.now.threads }
-    requires inside { (t : ℕ) → t < length indexed.now.threads → slice_index fronts.old t ≤ length (events_of indexed.now.events t) }
-    requires can { (t : ℕ) → t < length indexed.now.threads → C.can_end cut.now later t }
-    requires own { slice_index fronts.old own ≡ 0 }
-    requires behind { (t : ℕ) → t < length indexed.now.threads → t ≢ own → slice_index fronts.old t ≤ C.end_of cut.now later t }
-    requires within { (t : ℕ) → t < length indexed.now.threads → C.end_of cut.now later t ≤ length (events_of indexed.now.events t) }
+    requires len { length classed.numbers.now ≡ length classed.indexed.now.events }
+    requires classes { All (λ c. c < length sums.old) classed.numbers.now }
+    requires fronts_len { length fronts.old ≡ length classed.indexed.now.threads }
+    requires inside { (t : ℕ) → t < length classed.indexed.now.threads → slice_index fronts.old t ≤ length (events_of classed.indexed.now.events t) }
+    requires can { (t : ℕ) → t < length classed.indexed.now.threads → C.can_end cut.now later.event t }
+    requires own { slice_index fronts.old later.thread ≡ 0 }
+    requires behind { (t : ℕ) → t < length classed.indexed.now.threads → t ≢ later.thread → slice_index fronts.old t ≤ C.end_of cut.now later.event t }
+    requires within { (t : ℕ) → t < length classed.indexed.now.threads → C.end_of cut.now later.event t ≤ length (events_of classed.indexed.now.events t) }
     requires left { left ≤ 1048576 }
     requires room { (c : ℕ) → c < length sums.old → slice_index sums.old c ≤ 2 ^ 41 }
-    ensures fronts { AreFronts (length indexed.now.threads) own (C.end_of cut.now later) fronts.new }
-    ensures inside { (t : ℕ) → t < length indexed.now.threads → slice_index fronts.new t ≤ length (events_of indexed.now.events t) }
-    ensures moved { (c : ℕ) → c < length sums.new
-        → slice_index sums.new c + weight indexed.now.events (length indexed.now.threads) fronts.old (weighed classes.now left c)
-        ≡ slice_index sums.old c + weight indexed.now.events (length indexed.now.threads) fronts.new (weighed classes.now left c) }
+    ensures fronts { AreFronts (length classed.entry.indexed.now.threads) later.thread (C.end_of cut.now later.event) fronts.new }
+    ensures inside { (t : ℕ) → t < length classed.entry.indexed.now.threads → slice_index fronts.new t ≤ length (events_of classed.entry.indexed.now.events t) }
+    ensures moved { AreWeighed classed.entry.indexed.now.events (length classed.entry.indexed.now.threads) classed.entry.numbers.now left fronts.old sums.old fronts.new sums.new }
 {
-    for thread in 0..indexed.threads() {
-        if thread != own {
+    for thread in 0..classed.indexed.threads() {
+        if thread != later.thread {
             let from = fronts[thread as usize];
-            let to = cut.end(later, thread, from);
-            weigh_on(sums, fronts, classes, indexed, thread, to, left);
+            let to = cut.end(later.event, thread, from);
+            weigh_on(sums, fronts, classed, thread, to, left);
         }
     }
 }

@@ -1,3 +1,4 @@
+pub mod Desks
 pub mod Limits
 pub mod Outcomes
 pub mod Passes

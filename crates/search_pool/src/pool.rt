@@ -17,7 +17,7 @@ use crate::line::{
 use crate::outcome::Found;
 use crate::refusal::{CollectRefusal, StartRefusal, SubmitRefusal};
 use crate::request::{Posed, Request, is_same, request_copy};
-use crate::worker::{Gate, hire};
+use crate::worker::{Desk, Gate, hire};
 use event_index::Indexed;
 use shb_clocks::Clocks;
 use std::alloc::Global;
@@ -106,19 +106,16 @@ impl<G: Gate + Drop + Send + 'static> Pool<G> {
         let (given, answers, mut answer_pass) = answer_line(alloc, &indexed)?;
         let mut workers = Vec::new(alloc);
         for gate in gates {
-            let own_requests = another_requester(&requests, &mut request_pass);
-            let own_answers = another_answerer(&given, &mut answer_pass, &indexed);
-            let worker = hire(
-                rt,
+            let desk = Desk {
                 alloc,
-                &indexed,
-                &clocks,
-                &taken,
-                own_requests,
-                &given,
-                own_answers,
-                gate,
-            )?;
+                indexed: Arc::try_clone(&indexed)?,
+                clocks: Arc::try_clone(&clocks)?,
+                requests: taken.try_clone()?,
+                request_pass: another_requester(&requests, &mut request_pass),
+                answers: given.try_clone()?,
+                answer_pass: another_answerer(&given, &mut answer_pass, &indexed),
+            };
+            let worker = hire(rt, desk, gate)?;
             if workers.push(worker).is_err() {
                 return Err(StartRefusal::OutOfMemory);
             }

@@ -1,9 +1,6 @@
 //! What a worker does: request after request, until the pool or the other workers' channel is gone.
-ghost use Rattle.std.specs.Prelude.{◌≡◌, ◌≢◌, IfErr};
-ghost use Rattle.std.specs.Arc.{arc_value};
-ghost use Rattle.crossbeam_channel.specs.Claims.{IsSeatAt};
-ghost use Rattle.crossbeam_channel.specs.Ends.{sends_on, receives_on};
-ghost use Rattle.search_pool.specs.Passes.{IsOfTrace};
+ghost use Rattle.std.specs.Prelude.{◌≢◌, IfErr};
+ghost use Rattle.search_pool.specs.Desks.{IsManned};
 ghost use Rattle.search_pool.specs.declared.refusal.StartRefusal.TheVariants.{BadCount};
 
 use crate::answer::Answer;
@@ -26,107 +23,77 @@ pub trait Gate {
     fn pass<R: Wait>(&mut self, rt: &R, request: u32);
 }
 
+/// What a worker owns: the trace with its clocks, and where it takes requests and gives answers.
+#[derive(Drop)]
+pub(crate) struct Desk {
+    pub(crate) alloc: Global,
+    pub(crate) indexed: Arc<Indexed>,
+    pub(crate) clocks: Arc<Clocks>,
+    pub(crate) requests: RequestReceiver,
+    pub(crate) request_pass: RequestPass,
+    pub(crate) answers: AnswerSender,
+    pub(crate) answer_pass: AnswerPass,
+}
+
 // Works on one request after another, until none will come or nobody takes the answers.
-fn work<R: Wait, G: Gate>(
-    rt: &R,
-    alloc: Global,
-    indexed: &Indexed,
-    clocks: &Clocks,
-    requests: &RequestReceiver,
-    request_pass: &mut RequestPass,
-    answers: &AnswerSender,
-    answer_pass: &mut AnswerPass,
-    gate: &mut G,
-)
-    requires trace { clocks.now ≡ indexed.now }
-    requires requests { IsSeatAt (receives_on requests.now) request_pass.old }
-    requires answers { IsSeatAt (sends_on answers.now) answer_pass.old }
-    requires knows { IsOfTrace indexed.now answer_pass.old }
+fn work<R: Wait, G: Gate>(rt: &R, desk: &mut Desk, gate: &mut G)
+    requires { IsManned desk.old }
 {
     for _ in rt.forever() {
-        let Some(posed) = next_request(rt, requests, request_pass) else {
+        let Some(posed) = next_request(rt, &desk.requests, &mut desk.request_pass) else {
             return;
         };
         gate.pass(rt, posed.number);
-        let outcome = work_on(alloc, indexed, clocks, &posed.request);
-        let answer = Answer::new(indexed, posed, outcome);
-        if !give_answer(rt, answers, answer_pass, answer) {
+        let outcome = work_on(desk.alloc, &desk.indexed, &desk.clocks, &posed.request);
+        let answer = Answer::new(&desk.indexed, posed, outcome);
+        if !give_answer(rt, &desk.answers, &mut desk.answer_pass, answer) {
             return;
         }
     }
-}
-
-// The same of what a worker owns.
-fn serve<R: Wait + Drop, G: Gate + Drop>(
-    rt: R,
-    alloc: Global,
-    indexed: Arc<Indexed>,
-    clocks: Arc<Clocks>,
-    requests: RequestReceiver,
-    mut request_pass: RequestPass,
-    answers: AnswerSender,
-    mut answer_pass: AnswerPass,
-    mut gate: G,
-)
-    requires trace { arc_value clocks ≡ arc_value indexed }
-    requires requests { IsSeatAt (receives_on requests) request_pass }
-    requires answers { IsSeatAt (sends_on answers) answer_pass }
-    requires knows { IsOfTrace (arc_value indexed) answer_pass }
-{
-    work(
-        &rt,
-        alloc,
-        &indexed,
-        &clocks,
-        &requests,
-        &mut request_pass,
-        &answers,
-        &mut answer_pass,
-        &mut gate,
-    );
 }
 
 /// Starts a worker with this gate, or tells why none was started.
 pub(crate) fn hire<
     R: Threads + Wait + Clone + Send + Drop + 'static,
     G: Gate + Drop + Send + 'static,
->(
-    rt: &R,
-    alloc: Global,
-    indexed: &Arc<Indexed>,
-    clocks: &Arc<Clocks>,
-    requests: &RequestReceiver,
-    request_pass: RequestPass,
-    answers: &AnswerSender,
-    answer_pass: AnswerPass,
-    gate: G,
-) -> Result<JoinHandle<()>, StartRefusal>
-    requires trace { arc_value clocks.now ≡ arc_value indexed.now }
-    requires requests { IsSeatAt (receives_on requests.now) request_pass }
-    requires answers { IsSeatAt (sends_on answers.now) answer_pass }
-    requires knows { IsOfTrace (arc_value indexed.now) answer_pass }
+>(rt: &R, desk: Desk, gate: G) -> Result<JoinHandle<()>, StartRefusal>
+    requires { IsManned desk }
     ensures count { IfErr result (λ why. why ≢ BadCount) }
 {
     let own_rt = rt.clone()?;
-    let own_indexed = Arc::try_clone(indexed)?;
-    let own_clocks = Arc::try_clone(clocks)?;
-    let own_requests = requests.try_clone()?;
-    let own_answers = answers.try_clone()?;
+    let Desk {
+        alloc,
+        indexed,
+        clocks,
+        requests,
+        request_pass,
+        answers,
+        answer_pass,
+    } = desk;
+    // A thread takes a desk by its parts.
     let spawned = thread::spawn(rt, move || {
-        serve(
-            own_rt,
+        let own = Desk {
             alloc,
-            own_indexed,
-            own_clocks,
-            own_requests,
+            indexed,
+            clocks,
+            requests,
             request_pass,
-            own_answers,
+            answers,
             answer_pass,
-            gate,
-        )
+        };
+        serve(own_rt, own, gate)
     });
     match spawned {
         Ok(worker) => Ok(worker),
         Err(_) => Err(StartRefusal::NoThread),
     }
+}
+
+// Works as long as there is work, and then lets go of all.
+fn serve<R: Wait + Drop, G: Gate + Drop>(rt: R, desk: Desk, gate: G)
+    requires { IsManned desk }
+{
+    let mut own = desk;
+    let mut own_gate = gate;
+    work(&rt, &mut own, &mut own_gate);
 }

@@ -12,5 +12,6 @@ pub mod PlaceLemmas
 pub mod ReadLemmas
 pub mod ReleaseLemmas
 pub mod RowLemmas
+pub mod SharedLemmas
 pub mod SourceLemmas
 pub mod SpotLemmas

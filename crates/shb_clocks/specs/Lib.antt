@@ -1,6 +1,8 @@
 pub mod Begun
 pub mod Candidates
 pub mod HappensBefore
+pub mod Kept
+pub mod KeptLayout
 pub mod Known
 pub mod Layout
 pub mod Partners

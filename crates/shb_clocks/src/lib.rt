@@ -5,6 +5,7 @@ mod ahead;
 mod candidates;
 mod chains;
 mod clocks;
+mod kept;
 mod laws;
 mod partners;
 mod rivals;

@@ -27,6 +27,7 @@ returns-clause-grown c =
     inr (record {
       lane = c.new.result;
       events = c.new.ensures.events;
-      kinds = c.new.ensures.kinds;
+      places = c.new.ensures.places;
+      bunches = c.new.ensures.bunches;
       added = c.in_ok-push.ensures.items;
     })

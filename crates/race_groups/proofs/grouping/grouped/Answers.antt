@@ -1,4 +1,4 @@
-use Rattle.std.proofs.Common.{◌≡◌, ◌≤◌, Option, Vec, ℕ, IfSome, List, length, ap, ◌∙◌, subst, sym, arith}
+use Rattle.std.proofs.Common.{◌≡◌, ◌≤◌, Option, Vec, ℕ, IfSome, List, length, ap, subst, arith}
 use Rattle.std.specs.declared.alloc.Global.{Global}
 use Rattle.race_groups.specs.Building.{AreAlike}
 use Rattle.race_groups.specs.declared.class.Class.{Class}

@@ -1,8 +1,7 @@
-use Rattle.std.proofs.Common.{◌+◌, ℕ, ◌<◌, ◌≤◌, List, length, slice_index, sum_by, All, sym, ap, subst, ◌∙◌, arith}
+use Rattle.std.proofs.Common.{◌+◌, ℕ, ◌<◌, ◌≤◌, List, length, slice_index, sum_by, sym, ap, ◌∙◌, arith}
 use Rattle.race_groups.specs.Basis.{loose_of}
 use Rattle.race_groups.specs.Counts.{keeps}
 use Rattle.race_groups.specs.Rows.{count_at}
-use Rattle.race_groups.specs.declared.class.Class.{Class}
 use Rattle.race_groups.proofs.ClassLemmas.{members_fit}
 use Rattle.race_groups.proofs.ConflictLemmas.{conflicting_all, conflicting_within}
 use Rattle.race_groups.proofs.LooseLemmas.{loose_none, loose_room}
@@ -12,14 +11,11 @@ use Rattle.race_groups.proofs.loose.add_loose.Goals as goal
 
 pub add_members-requires-clause-members : goal.add_members-requires-clause-members
 add_members-requires-clause-members c =
-    let members = c.conflicting-walk.result.members.now in
-    subst (λ (ys : List Class). All (λ k. k < length ys) members) (sym c.as_slice-infos.ensures.value)
-    (conflicting_within c.args.basis.classes.now.infos.items c.args.variable c.args.later.op members c.conflicting-walk.ensures.members)
+    conflicting_within c.args.basis.classes.now.infos.items c.args.variable c.args.later.op c.conflicting-walk.result.members.now c.conflicting-walk.ensures.members
 
 pub add_members-requires-clause-can : goal.add_members-requires-clause-can
-add_members-requires-clause-can c = λ m lt.
+add_members-requires-clause-can c = λ m inside.
     let are = c.requires.loose in
-    let inside : m < length c.args.basis.classes.now.infos.items = omega (arith, lt, ap length c.as_slice-infos.ensures.value) in
     let one = ap (λ (xs : List ℕ). slice_index xs m) c.as_slice.ensures.value in
     let two = ap (λ (xs : List ℕ). slice_index xs m) c.as_slice-2.ensures.value in
     let three = ap (λ (xs : List ℕ). slice_index xs m) c.as_slice-3.ensures.value in
@@ -33,9 +29,8 @@ add_members-requires-clause-can c = λ m lt.
     )
 
 pub add_members-requires-clause-own : goal.add_members-requires-clause-own
-add_members-requires-clause-own c = λ m low own k.
+add_members-requires-clause-own c = λ m inside own k.
     let are = c.requires.loose in
-    let inside : m < length c.args.basis.classes.now.infos.items = omega (arith, low, ap length c.as_slice-infos.ensures.value) in
     let owned = ap (λ (xs : List ℕ). slice_index xs m) (sym c.conflicting-walk.ensures.owners) ∙ own in
     let one = ap (λ (xs : List ℕ). slice_index xs m) c.as_slice.ensures.value in
     let two = ap (λ (xs : List ℕ). slice_index xs m) c.as_slice-2.ensures.value in
@@ -81,13 +76,11 @@ returns-clause-ok c = λ k p q le.
     let F = c.args.fronts.now.forced.counts.items in
     let n = c.as_slice-2.result.now in
     let f = c.as_slice-3.result.now in
-    let shown = c.as_slice-infos.result.now in
-    let sum = λ (is : List Class) (x y z : List ℕ). sum_by (share_of keep p q later is (loose_of x y z k)) members in
+    let sum = λ (x y z : List ℕ). sum_by (share_of keep p q later infos (loose_of x y z k)) members in
     c.in_ok-add_members.ensures.ok k p q le
     ∙ ap (λ m. count_at k c.args.rows.now p q + m)
-    (ap (λ (xs : List ℕ). sum shown xs n f) c.as_slice.ensures.value
-    ∙ ap (λ (xs : List ℕ). sum shown E xs f) c.as_slice-2.ensures.value
-    ∙ ap (λ (xs : List ℕ). sum shown E N xs) c.as_slice-3.ensures.value
-    ∙ ap (λ (is : List Class). sum is E N F) c.as_slice-infos.ensures.value
+    (ap (λ (xs : List ℕ). sum xs n f) c.as_slice.ensures.value
+    ∙ ap (λ (xs : List ℕ). sum E xs f) c.as_slice-2.ensures.value
+    ∙ ap (λ (xs : List ℕ). sum E N xs) c.as_slice-3.ensures.value
     ∙ conflicting_all keep p q later infos (loose_of E N F k) c.args.variable members c.conflicting-walk.ensures.members
     ∙ members_all keep p q later infos (loose_of E N F k) c.args.variable c.requires.access)

@@ -13,5 +13,5 @@ invariant-loop-member g l =
       counts :
           (k : Part) (p q : ℕ) → p ≤ q
           → count_at k l.rows p q ≡ count_at k l.fn.rows p q
-          + sum_by (λ c. if adds_to (keeps l.lists.keys k) p q l.later (slice_get l.infos c) then g.A.Shares.amount_of l.shares k c else 0) (take l.member-index l.members);
+          + sum_by (λ c. if adds_to (keeps l.classes.lists.keys k) p q l.later (slice_get l.classes.infos.items c) then g.A.Shares.amount_of l.shares k c else 0) (take l.member-index l.members);
     }

@@ -6,12 +6,12 @@ use Rattle.race_groups.proofs.weighing.weigh_all.Given as goal
 abbrev pub invariant-loop-thread : goal.invariant-loop-thread
 invariant-loop-thread g l =
     record {
-      fronts_len : length l.fronts ≡ length l.indexed.threads;
-      own : slice_index l.fronts l.own ≡ 0;
-      done : (t : ℕ) → t < l.thread → t ≢ l.own → slice_index l.fronts t ≡ g.C.Cut.end_of l.cut l.later t;
-      behind : (t : ℕ) → t < length l.indexed.threads → t ≢ l.own → slice_index l.fronts t ≤ g.C.Cut.end_of l.cut l.later t;
-      inside : (t : ℕ) → t < length l.indexed.threads → slice_index l.fronts t ≤ length (events_of l.indexed.events t);
+      fronts_len : length l.fronts ≡ length l.classed.indexed.now.threads;
+      own : slice_index l.fronts l.later.thread ≡ 0;
+      done : (t : ℕ) → t < l.thread → t ≢ l.later.thread → slice_index l.fronts t ≡ g.C.Cut.end_of l.cut l.later.event t;
+      behind : (t : ℕ) → t < length l.classed.indexed.now.threads → t ≢ l.later.thread → slice_index l.fronts t ≤ g.C.Cut.end_of l.cut l.later.event t;
+      inside : (t : ℕ) → t < length l.classed.indexed.now.threads → slice_index l.fronts t ≤ length (events_of l.classed.indexed.now.events t);
       moved :
-          (c : ℕ) → c < length l.sums → slice_index l.sums c + weight l.indexed.events (length l.indexed.threads) l.fn.fronts (weigh l.classes l.left c)
-          ≡ slice_index l.fn.sums c + weight l.indexed.events (length l.indexed.threads) l.fronts (weigh l.classes l.left c);
+          (c : ℕ) → c < length l.sums → slice_index l.sums c + weight l.classed.indexed.now.events (length l.classed.indexed.now.threads) l.fn.fronts (weigh l.classed.numbers.now l.left c)
+          ≡ slice_index l.fn.sums c + weight l.classed.indexed.now.events (length l.classed.indexed.now.threads) l.fronts (weigh l.classed.numbers.now l.left c);
     }

@@ -22,7 +22,7 @@ loop-variable-preserved c =
             | inr (inl below) ↦ IsHeld-more s.indexed.now place rows s.most x c.loop-variable.leasts new done.more a b (c.loop-variable.invariant.1 y a b below pair access)
             | inr (inr above) ↦ absurd (omega (arith, lt, above))
           ],
-      notes_next s x new c.variable.new.stretches.noted done.noted,
+      notes_next s x new c.variable.new.noted done.noted,
     )
 
 pub returns-clause-found : goal.returns-clause-found

@@ -7,4 +7,4 @@ abbrev pub invariant-loop-variable : goal.invariant-loop-variable
 invariant-loop-variable l =
     AreFound l.self l.variable l.leasts
     × AreHeldBelow l.self.indexed.now (slice_index l.self.places.now) l.self.groups.now.rows.items l.self.most l.variable l.leasts
-    × AreTrueNotes l.self l.variable l.leasts l.stretches.noted
+    × AreTrueNotes l.self l.variable l.leasts l.noted

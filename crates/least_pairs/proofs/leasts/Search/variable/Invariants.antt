@@ -1,13 +1,17 @@
-use Rattle.std.proofs.Common.{◌≡◌, ℕ, ◌<◌, Some, length, slice_get, slice_index}
-use Rattle.least_pairs.specs.Going.{AreFound, AreMore, AreTakenBelow}
-use Rattle.least_pairs.specs.declared.lanes.Lane.{Lane}
+use Rattle.std.proofs.Common.{ℕ, ◌<◌, get_or, length, slice_index}
+use Rattle.least_pairs.specs.Going.{AreFound, AreMore, AreTakenBefore}
+use Rattle.least_pairs.specs.Lanes.{IsInLanes}
+use Rattle.least_pairs.specs.Making.{AreBegun}
 use Rattle.least_pairs.specs.Noted.{AreTrueNotes}
 use Rattle.least_pairs.proofs.leasts.Search.variable.Given as goal
 
-abbrev pub invariant-loop-at : goal.invariant-loop-at
-invariant-loop-at l =
-    AreFound l.self l.variable l.leasts
-    × AreMore l.self.most l.variable l.fn.leasts l.leasts
-    × ((i n : ℕ) (later earlier : Lane) → i < l.at → slice_get l.lanes i ≡ Some later → slice_get l.lanes n ≡ Some earlier
-    → AreTakenBelow l.self.indexed.now (slice_index l.self.places.now) l.self.groups.now.rows.items l.self.most l.variable l.leasts earlier later (length later.events.items))
-    × AreTrueNotes l.self l.variable l.leasts l.stretches.noted
+abbrev pub invariant-loop-event : goal.invariant-loop-event
+invariant-loop-event l =
+    record {
+      begun : AreBegun l.self.indexed.now.events l.self.classes.now.numbers.items l.variable (get_or l.accesses l.event-index (length l.self.indexed.now.events)) l.lanes.list.items;
+      whole : (i : ℕ) → i < l.event-index → IsInLanes l.lanes.list.items (slice_index l.accesses i);
+      found : AreFound l.self l.variable l.leasts;
+      more : AreMore l.self.most l.variable l.fn.leasts l.leasts;
+      noted : AreTrueNotes l.self l.variable l.leasts l.noted;
+      taken : AreTakenBefore l.self l.variable l.leasts (get_or l.accesses l.event-index (length l.self.indexed.now.events));
+    }

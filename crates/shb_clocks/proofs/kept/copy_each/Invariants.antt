@@ -1,0 +1,9 @@
+use Rattle.std.proofs.Common.{◌≡◌, ℕ, ◌+◌, ◌<◌, length, get_or}
+use Rattle.shb_clocks.proofs.kept.copy_each.Given as goal
+
+abbrev pub invariant-loop-thread : goal.invariant-loop-thread
+invariant-loop-thread l =
+    record {
+      len : length l.row ≡ length l.fn.row;
+      sums : (t : ℕ) → t < l.thread → get_or l.row t 0 ≡ get_or l.wholes t 0 + get_or l.rises t 0;
+    }
