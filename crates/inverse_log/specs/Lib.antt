@@ -1,4 +1,5 @@
 pub mod Answer
+pub mod Compact
 pub mod Headline
 pub mod Kept
 pub mod Limits
@@ -6,5 +7,6 @@ pub mod Log
 pub mod Nearest
 pub mod Next
 pub mod Pairs
+pub mod ShortNames
 pub mod Steps
 pub mod Touching

@@ -1,20 +1,22 @@
 //! The bench: a workspace and its board, and the log of what clients did to them.
-ghost use Rattle.std.specs.Prelude.{◌≡◌, ◌<◌, ◌≤◌, ◌++◌, ◌∷◌, [], All, length, slice_get, Some, None, true, Ok, OnOk, OnErr, IfOk, IfErr};
+ghost use Rattle.std.specs.Prelude.{◌≡◌, ◌<◌, ◌≤◌, ◌++◌, ◌∷◌, [], ℕ, All, length, slice_get, Some, None, true, Ok, Err, OnOk, OnErr, IfOk, IfErr, IfSome, IfNone};
 ghost use Rattle.dependence.specs.Limits.{client_limit};
 ghost use Rattle.std.specs.Arc.{arc_value};
-ghost use Rattle.inverse_log.specs.Answer.{Called, IsLegal, is_batch};
+ghost use Rattle.inverse_log.specs.Answer.{Called, IsLegal, answer_of, is_batch};
 ghost use Rattle.inverse_log.specs.Kept.{IsJudged, IsLive, live_there, IsUnblocked, IsUndone};
 ghost use Rattle.inverse_log.specs.Headline.{IsFoldOfLive, IsSound};
 ghost use Rattle.inverse_log.specs.Limits.{entry_limit};
 ghost use Rattle.inverse_log.specs.Log.{blocker_of, board_of, edits_of};
+ghost use Rattle.inverse_log.specs.Steps.{single_at};
 
 use crate::call::Call;
+use crate::compact::CompactCommand;
 use crate::counted::Counted;
 use crate::entry::Entry;
 use crate::kept::{Held, Kept, Spare};
 use crate::parts::{
     add_entry, add_held, add_nothing, commands_at, enter, first_blocker, is_batch, is_own, leave,
-    make_room, put_back, refused, take_out,
+    make_room, put_back, refused, single_at, take_out,
 };
 use crate::proposals::judge;
 use crate::races::shown_pairs;
@@ -211,6 +213,9 @@ impl Bench {
         let Ok(()) = make_room(self.alloc, &mut self.log, &mut self.steps, &mut self.spare) else {
             return Err(OutOfMemory);
         };
+        let Ok(compact) = CompactCommand::of(self.alloc, command) else {
+            return Err(OutOfMemory);
+        };
         let commands = slice::from_ref(command);
         let Ok(()) = enter(
             &mut self.touches,
@@ -236,7 +241,7 @@ impl Bench {
             &mut self.log,
             Entry::Did {
                 client,
-                command: *command,
+                command: compact,
             },
         );
         Ok(())
@@ -360,22 +365,29 @@ impl Bench {
         ensures undone { IsUndone self.old.log client (live_there self.old.log client entry) result self.new.log }
     {
         let number = self.log.len() as u64;
-        let commands = commands_at(&self.log, entry);
+        let single = single_at(&self.log, entry);
+        let commands = commands_at(&self.log, entry, &single);
         if let Some(rests) = first_blocker(&self.touches, entry, commands) {
             return Err(Refusal::RestsOn {
                 entry: rests.0,
                 name: rests.1,
             });
         }
-        let Ok(()) = self.take_back(client, entry) else {
+        let Ok(()) = self.take_back(client, entry, &single) else {
             return Err(Refusal::OutOfMemory);
         };
         Ok(Reply::Undone { number, entry })
     }
 
-    // Takes back a client's live entry that nothing blocks.
-    fn take_back(&mut self, client: u32, entry: u64) -> Result<(), OutOfMemory>
+    // Takes back a client's live entry that nothing blocks. `single` is its command, where it did a single one.
+    fn take_back(
+        &mut self,
+        client: u32,
+        entry: u64,
+        single: &Option<Command>,
+    ) -> Result<(), OutOfMemory>
         requires client { client ≤ client_limit }
+        requires single { single.now ≡ single_at self.old.log entry }
         requires room { length self.old.log < entry_limit }
         requires free { IsUnblocked self.old.log (live_there self.old.log client entry) }
         requires legal { IsLegal self.old.trace (self.old.log ++ Entry.Undid client entry ∷ []) }
@@ -387,7 +399,7 @@ impl Bench {
             return Err(OutOfMemory);
         };
         let held = take_out(&mut self.steps, entry);
-        let commands = commands_at(&self.log, entry);
+        let commands = commands_at(&self.log, entry, single);
         let Err(held) = self.rows.take_back(&self.indexed, commands, held) else {
             leave(
                 &mut self.touches,
@@ -471,14 +483,27 @@ impl Bench {
         Ok(proposal)
     }
 
+    /// The events of this schedule, as a call `Show` answers them. They are lent, so this takes no memory.
+    pub fn shown(&self, name: &Name) -> Option<&[u32]>
+        ensures none { (c : ℕ) → IfNone result
+            (answer_of self.now.trace self.now.log c (Call.Show name.now) ≡ Err (Refusal.Move MoveRefusal.NoSuchSchedule)) }
+        ensures some { (c : ℕ) → IfSome result
+            (λ events. answer_of self.now.trace self.now.log c (Call.Show name.now) ≡ Ok (Reply.Shown events.now)) }
+    {
+        match self.rows.workspace().get(name) {
+            Some(schedule) => Some(schedule.events()),
+            None => None,
+        }
+    }
+
     fn show(&self, client: u32, name: &Name) -> Result<Reply, Refusal>
         ensures { Called self.now.trace self.now.log client (Call.Show name.now) result self.now.log }
     {
         let _ = client;
-        let Some(schedule) = self.rows.workspace().get(name) else {
+        let Some(events) = self.shown(name) else {
             return Err(Refusal::Move(MoveRefusal::NoSuchSchedule));
         };
-        let Ok(events) = EventList::of(self.alloc, schedule.events()) else {
+        let Ok(events) = EventList::of(self.alloc, events) else {
             return Err(Refusal::OutOfMemory);
         };
         Ok(Reply::Shown(events))

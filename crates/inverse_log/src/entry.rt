@@ -1,7 +1,8 @@
 //! What the log remembers.
 
+use crate::compact::CompactCommand;
 use event_index::EventList;
-use moves::{Command, Commands};
+use moves::Commands;
 
 /// One entry of the log: an accepted call that changed the workspace or the board.
 #[derive(Drop)]
@@ -11,7 +12,7 @@ pub enum Entry {
         /// Whose it was, 1 to 32.
         client: u32,
         /// The command.
-        command: Command,
+        command: CompactCommand,
     },
     /// Commands were applied, one after another.
     Batch {

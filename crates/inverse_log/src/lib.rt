@@ -4,6 +4,7 @@
 mod bench;
 mod call;
 mod changing;
+mod compact;
 mod counted;
 mod entry;
 pub mod headline;
@@ -16,6 +17,7 @@ mod reply;
 
 pub use bench::Bench;
 pub use call::Call;
+pub use compact::CompactCommand;
 pub use entry::Entry;
 pub use refusal::{Refusal, SeatRefusal};
 pub use reply::Reply;

@@ -6,6 +6,7 @@ ghost use Rattle.moves.specs.Commands.{writes};
 ghost use Rattle.inverse_log.specs.declared.kept.Held.TheVariants as held;
 ghost use Rattle.inverse_log.specs.Answer.{is_batch};
 ghost use Rattle.inverse_log.specs.Log.{commands_at, is_own};
+ghost use Rattle.inverse_log.specs.Steps.{single_at, batch_at};
 ghost use Rattle.inverse_log.specs.Nearest.{nearer, nearest};
 ghost use Rattle.inverse_log.specs.Kept.{refused_as};
 
@@ -137,21 +138,49 @@ pub(crate) fn leave(
     clients.remove(client, undone);
 }
 
-/// The commands that an entry did, none where it did none.
-pub(crate) fn commands_at(log: &[Entry], entry: u64) -> &[Command]
-    ensures { result.now ≡ commands_at log.now entry }
+/// The command of an entry that did a single one.
+pub(crate) fn single_at(log: &[Entry], entry: u64) -> Option<Command>
+    ensures { result ≡ single_at log.now entry }
+{
+    let entry = entry as usize;
+    if entry >= log.len() {
+        return None;
+    }
+    match &log[entry] {
+        Entry::Did { client: _, command } => Some(command.command()),
+        _ => None,
+    }
+}
+
+/// The commands of a batch, none where the entry is no batch.
+fn batch_at(log: &[Entry], entry: u64) -> &[Command]
+    ensures { result.now ≡ batch_at log.now entry }
 {
     let entry = entry as usize;
     if entry >= log.len() {
         return &[];
     }
     match &log[entry] {
-        Entry::Did { client: _, command } => slice::from_ref(command),
         Entry::Batch {
             client: _,
             commands,
         } => commands.items(),
         _ => &[],
+    }
+}
+
+/// The commands that an entry did, none where it did none. The log has a single one in few bytes: `single` is that.
+pub(crate) fn commands_at<'a>(
+    log: &'a [Entry],
+    entry: u64,
+    single: &'a Option<Command>,
+) -> &'a [Command]
+    requires { single.now ≡ single_at log.now entry }
+    ensures { result.now ≡ commands_at log.now entry }
+{
+    match single {
+        Some(command) => slice::from_ref(command),
+        None => batch_at(log, entry),
     }
 }
 

@@ -27,7 +27,8 @@ use Rattle.moves.specs.Applied.{IsApplied, TakesBack}
 use Rattle.moves.proofs.RowLemmas.{All-removed, All-put, with_row-other}
 use Rattle.moves.proofs.ChainLemmas.{IsPlain, plain_more, plain_step}
 use Rattle.moves.proofs.UndoLemmas.{free_here, row_updated}
-use Rattle.moves.proofs.TurnLemmas.{with_schedule, applied_parts, refused_same, listing-applied}
+use Rattle.moves.specs.Rising.{with_schedule}
+use Rattle.moves.proofs.TurnLemmas.{applied_parts, refused_same, listing-applied}
 
 -- the row, where there is one, is of the trace
 abbrev pub Traced : Recording → Option Row → Type 0

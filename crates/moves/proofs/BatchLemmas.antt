@@ -1,5 +1,5 @@
 -- Batches: what the commands before the next one tell, and that their inverses take them back.
-use Rattle.std.proofs.Common.{◌≡◌, ◌≢◌, inl, inr, ℕ, zero, suc, ◌+◌, ◌<◌, ◌≤◌, ◌||◌, take, get_or, length-take-le, true, false, true≢false, Bool, List, [], ◌∷◌, ◌++◌, Option, Some, None, Result, Ok, Err, All, length, reverse, slice_get, refl, sym, ap, ◌∙◌, subst, arith}
+use Rattle.std.proofs.Common.{◌≡◌, ◌≢◌, inl, inr, ℕ, zero, suc, ◌+◌, ◌<◌, ◌≤◌, ◌||◌, take, get_or, length-take-le, true, false, true≢false, Bool, List, [], ◌∷◌, ◌++◌, Option, Some, Result, Ok, Err, All, length, reverse, slice_get, refl, sym, ap, ◌∙◌, subst, arith}
 use Rattle.std.specs.Result.{IfOk}
 use Rattle.std.specs.Str.{bytes_eq}
 use Rattle.std.proofs.Math.Seq.{take-suc}
@@ -22,11 +22,11 @@ use Rattle.moves.specs.Commands.{writes, reads, touches}
 use Rattle.moves.specs.Fold.{Numbered, numbered, Leads}
 use Rattle.moves.specs.Inverses.{turned, Fits, IsStepOf, IsStepBelow}
 use Rattle.moves.specs.Moves.{made_at, applied, put_made}
-use Rattle.moves.specs.Rows.{Rows, row_of, with_row, IsListing, IsFree, IsOfTrace, Below}
+use Rattle.moves.specs.Rows.{Rows, row_of, with_row, IsFree, IsOfTrace, Below}
 use Rattle.moves.proofs.BackLemmas.{step_traced, step_below, traced_made}
 use Rattle.moves.proofs.ChainLemmas.{IsPlain, plain_step}
-use Rattle.moves.proofs.NameLemmas.{bytes_tells, bytes-false, eq-bytes}
-use Rattle.moves.proofs.RowLemmas.{with_row-same, with_row-other, rows_same}
+use Rattle.moves.proofs.NameLemmas.{bytes_tells, eq-bytes}
+use Rattle.moves.proofs.RowLemmas.{with_row-same, with_row-other}
 use Rattle.moves.proofs.TurnLemmas.{applied_parts}
 use Rattle.moves.proofs.UndoLemmas.{free_here, row_updated}
 

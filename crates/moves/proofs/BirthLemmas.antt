@@ -8,10 +8,11 @@ use Rattle.std.specs.Result.{IsOk, OnOk}
 use Rattle.std.specs.Option.{IfSome, IsSome, option_map}
 use Rattle.std.proofs.lemmas.Bool.{cases_lt, lt-ltb, le-ltb, eq-eqb, ne_eqb}
 use Rattle.std.proofs.lemmas.Bool.Decides.{eqb_tells}
-use Rattle.std.proofs.lemmas.List.Elements.{All-head, All-tail}
+use Rattle.std.proofs.lemmas.List.Elements.{All-head, All-map, All-tail}
 use Rattle.std.proofs.lemmas.Map.Entries.{All-lookup}
 use Rattle.moves.specs.declared.row.Row.{Row}
 use Rattle.moves.specs.Rows.{Rows, row_of, put_in, with_row, IsListing, IsFree}
+use Rattle.moves.specs.Rising.{Rises}
 use Rattle.moves.specs.Births.{by_birth, born, birth_of, IsHeld}
 use Rattle.moves.specs.Applied.{IsAt}
 use Rattle.moves.proofs.NameLemmas.{bytes_tells}
@@ -22,17 +23,23 @@ pub values-by_birth : (W : Rows) → values_of (by_birth W) ≡ W
 values-by_birth [] = refl
 values-by_birth (p ∷ W) = ap (λ V. p ∷ V) (values-by_birth W)
 
-at_same : (b c : ℕ) → b ≡ c → is_at (nat_cmp b) c ≡ true
+pub at_same : (b c : ℕ) → b ≡ c → is_at (nat_cmp b) c ≡ true
 at_same b c e = rw (le-ltb b c (omega arith), eq-eqb b c e) refl
 
-at_other : (b c : ℕ) → b ≢ c → is_at (nat_cmp b) c ≡ false
+pub at_other : (b c : ℕ) → b ≢ c → is_at (nat_cmp b) c ≡ false
 at_other b c apart = elim (cases_lt b c) [
   | inl h ↦ rw (lt-ltb b c h) refl
   | inr h ↦ rw (le-ltb b c h, ne_eqb b c apart) refl
 ]
 
-at_later : (b c : ℕ) → c < b → is_at (nat_cmp b) c ≡ false
+pub at_later : (b c : ℕ) → c < b → is_at (nat_cmp b) c ≡ false
 at_later b c h = rw (le-ltb b c (omega arith), ne_eqb b c (λ e. absurd (omega arith))) refl
+
+-- rows under their births rise
+rises_by_birth : (W : Rows) → IsListing W → Rises (by_birth W)
+rises_by_birth [] l = tt
+rises_by_birth (p ∷ W) l =
+    (All-map (λ (f : ℕ × (List ℕ × Row)). p.1.birth < f.0) (λ (q : List ℕ × Row). (q.1.birth, q)) W l.1, rises_by_birth W l.2)
 
 -- a row in the rest of a listing is later than the first
 later : (p : List ℕ × Row) (W : Rows) (x : List ℕ) (r : Row) → IsListing (p ∷ W) → row_of W x ≡ Some r → p.1.birth < r.birth
@@ -137,6 +144,9 @@ module _ (N : List (List ℕ × ℕ)) (T : List (ℕ × (List ℕ × Row))) (hel
   abbrev W : Rows
   W = values_of T
 
+  pub rises_held : Rises T
+  rises_held = subst Rises (sym held.tree) (rises_by_birth W held.listing)
+
   pub in_tree : (b : ℕ) → lookup (is_at (nat_cmp b)) T ≡ born W b
   in_tree b = ap (lookup (is_at (nat_cmp b))) held.tree
 
@@ -156,6 +166,16 @@ module _ (N : List (List ℕ × ℕ)) (T : List (ℕ × (List ℕ × Row))) (hel
           let e : lookup (bytes_eq x) N ≡ Some r.birth = held.names x ∙ ap (option_map (λ (t : Row). t.birth)) at in
           let same : r.birth ≡ b = cc in
           (r, subst (λ c. born W c ≡ Some (x, r)) same (born-row W x r held.listing at), at)
+
+  -- the birth of a row that may come is no other's
+  pub free_held : (x : List ℕ) (r : Row) → row_of W x ≡ None → IsFree W x (Some r) → lookup (is_at (nat_cmp r.birth)) T ≡ None
+  free_held x r none free = by (born W r.birth) refl
+    where
+      by : (o : Option (List ℕ × Row)) → born W r.birth ≡ o → lookup (is_at (nat_cmp r.birth)) T ≡ None
+      by None at = in_tree r.birth ∙ at
+      by (Some p) at =
+          let there = row-born W r.birth p held.listing at in
+          absurd (free p.0 p.1 (λ e. let some : row_of W x ≡ Some p.1 = ap (row_of W) (sym e) ∙ there.0 in absurd cc) there.0 there.1)
 
   -- a row in a name's place that keeps its birth
   pub held_set : (U : List (ℕ × (List ℕ × Row))) (b : ℕ) (p : List ℕ × Row) (s : Row) → lookup (is_at (nat_cmp b)) T ≡ Some p → s.birth ≡ p.1.birth → U ≡ set_value (is_at (nat_cmp b)) T (p.0, s)

@@ -1,11 +1,11 @@
 -- Each row's schedule stays one of the trace, and a correct reordering.
-use Rattle.std.proofs.Common.{◌≡◌, ℕ, zero, suc, ◌-◌, eqb, leb, List, [], ◌∷◌, Option, Some, None, Result, All, length, slice_get, subst, arith, refl}
+use Rattle.std.proofs.Common.{◌≡◌, ℕ, ◌-◌, eqb, leb, List, [], ◌∷◌, Option, Some, None, Result, length, slice_get, subst, arith, refl}
 use Rattle.std.specs.Option.{IfSome}
 use Rattle.std.specs.Result.{IfOk}
 use Rattle.std.specs.Str.{bytes_eq}
 use Rattle.std.specs.Map.{remove_entry}
 use Rattle.std.proofs.lemmas.Bool.{cond_both, leb-true}
-use Rattle.std.proofs.lemmas.List.Elements.{All-nil, All-head, All-tail, All-weaker}
+use Rattle.std.proofs.lemmas.List.Elements.{All-nil, All-weaker}
 use Rattle.std.proofs.lemmas.Map.Entries.{All-lookup}
 use Rattle.rapid_text.specs.Recording.{Recording}
 use Rattle.trace_rules.specs.Rules.{IsDisciplined}

@@ -9,6 +9,7 @@ pub mod JudgeLemmas
 pub mod KeepLemmas
 pub mod ManyLemmas
 pub mod NameLemmas
+pub mod RisingLemmas
 pub mod RowLemmas
 pub mod SpareLemmas
 pub mod StepLemmas

@@ -1,5 +1,5 @@
 -- Batches that are done in place: what takes their commands back wants no memory.
-use Rattle.std.proofs.Common.{◌≡◌, ℕ, zero, suc, ◌+◌, ◌<◌, ◌≤◌, ◌&&◌, true, false, true≢false, leb, List, [], ◌∷◌, ◌++◌, Option, Some, None, Result, Ok, Err, length, length-append, take, reverse, refl, sym, ap, ◌∙◌, subst, arith}
+use Rattle.std.proofs.Common.{◌≡◌, ℕ, zero, suc, ◌+◌, ◌<◌, ◌≤◌, ◌&&◌, true, false, true≢false, leb, List, [], ◌∷◌, ◌++◌, Option, Some, None, Result, Err, length, length-append, take, reverse, refl, sym, ap, ◌∙◌, subst, arith}
 use Rattle.std.specs.List.{list_all}
 use Rattle.std.specs.Result.{IfOk}
 use Rattle.std.proofs.lemmas.Bool.{cond_both, and_parts}
@@ -28,7 +28,7 @@ use Rattle.moves.specs.Rows.{Rows, row_of, with_row}
 use Rattle.moves.specs.Spares.{builds, spares_memory, is_spare}
 use Rattle.moves.proofs.BatchLemmas.{runs_back, turns_same}
 use Rattle.moves.proofs.ChainLemmas.{IsPlain}
-use Rattle.moves.proofs.TurnLemmas.{with_schedule}
+use Rattle.moves.specs.Rising.{with_schedule}
 
 -- a row is there afterwards, with no fewer events
 abbrev Grows : Option Row → Option Row → Type 0

@@ -2,7 +2,6 @@
 use Rattle.std.proofs.Common.{◌≡◌, ℕ, List, [], ◌∷◌, ◌++◌, Some, None, sym, ap, ◌∙◌}
 use Rattle.schedule.specs.Scheduled.{Scheduled}
 use Rattle.schedule.specs.Reordering.{IsCorrectReordering}
-use Rattle.schedule.specs.Refusals.{refusal_of}
 use Rattle.schedule.specs.Swaps.{exchanged, swap_refusal, MayExchange}
 use Rattle.schedule.proofs.CallerLemmas.{refusal_of-enabled, MayExchange-none, MayExchange-exchanged, swap_refusal-may, exchanged-exchanged}
 use Rattle.moves.specs.declared.inverse.Step.TheVariants.{Gains, Exchanges}

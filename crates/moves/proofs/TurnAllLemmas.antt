@@ -1,13 +1,12 @@
 -- The inverses of a batch, taken from the last to the first.
-use Rattle.std.proofs.Common.{◌≡◌, ℕ, List, [], ◌∷◌, ◌++◌, Option, Some, Result, Ok, Err, All, reverse, refl, sym, ap, ◌∙◌, subst}
+use Rattle.std.proofs.Common.{◌≡◌, ℕ, List, [], ◌∷◌, ◌++◌, Some, Result, Ok, Err, All, reverse, refl, sym, ap, ◌∙◌, subst}
 use Rattle.std.specs.Result.{OnOk, OnErr}
 use Rattle.std.proofs.lemmas.List.{reverse-append}
 use Rattle.std.proofs.lemmas.List.Elements.{All-nil, All-cons, All-head, All-tail}
 use Rattle.rapid_text.specs.Recording.{Recording}
 use Rattle.moves.specs.declared.inverse.Inverse.{Inverse}
-use Rattle.moves.specs.declared.inverse.Step.{Step}
 use Rattle.moves.specs.Batches.{Turns, IsTurnedAll, CanTurnAll, AreOfTrace, AreBelow}
-use Rattle.moves.specs.Inverses.{turned, CanTurn, IsTurned, IsStepOf, IsStepBelow}
+use Rattle.moves.specs.Inverses.{CanTurn, IsTurned, IsStepOf, IsStepBelow}
 use Rattle.moves.specs.Rows.{Rows, with_row, IsOfTrace, Below}
 use Rattle.moves.proofs.BackLemmas.{of_trace-turned, below-turned}
 

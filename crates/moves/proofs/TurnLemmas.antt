@@ -1,38 +1,34 @@
 -- A step of a row, told by a step of its schedule; what a judged command is once its step is taken.
-use Rattle.std.proofs.Common.{◌≡◌, ◌≢◌, ℕ, true, eqb, List, [], ◌∷◌, ◌++◌, Option, Some, None, Result, Ok, Err, length, sym, ap, subst, ◌∙◌, refl}
+use Rattle.std.proofs.Common.{◌≡◌, ◌≢◌, ℕ, true, List, Option, Some, None, Result, Ok, Err, sym, ap, subst, ◌∙◌, refl}
 use Rattle.std.specs.BTreeMap.{is_at}
 use Rattle.std.specs.Map.{lookup, set_value, values_of}
 use Rattle.std.specs.Ordering.{nat_cmp}
 use Rattle.std.specs.Result.{IsOk, IfOk, OnOk, OnErr}
+use Rattle.std.specs.Option.{IfSome}
+use Rattle.std.specs.Str.{bytes_eq}
+use Rattle.std.proofs.lemmas.Map.Entries.{All-lookup}
 use Rattle.std.proofs.lemmas.Map.Steps.{set_value_same}
 use Rattle.rapid_text.specs.Recording.{Recording}
-use Rattle.schedule.specs.Refusals.{refusal_of}
-use Rattle.schedule.specs.Reordering.{IsCorrectReordering}
 use Rattle.schedule.specs.Scheduled.{Scheduled}
-use Rattle.schedule.specs.Swaps.{swap_refusal}
 use Rattle.moves.specs.declared.row.Row.{Row}
 use Rattle.moves.specs.declared.board.Proposal.{Proposal}
 use Rattle.moves.specs.declared.command.Command.{Command}
-use Rattle.moves.specs.declared.judged.Judged.{Judged}
 use Rattle.moves.specs.declared.refusal.MoveRefusal.{MoveRefusal}
 use Rattle.moves.specs.declared.refusal.MoveRefusal.TheVariants.{NoSuchSchedule, NameTaken, NoSuchProposal, NothingToRetract, Disabled, Swap, TooShort, OutOfMemory}
 use Rattle.moves.specs.declared.inverse.Step.{Step}
 use Rattle.moves.specs.declared.inverse.Step.TheVariants.{Goes, Comes, Was, Loses, Gains, Exchanges}
 use Rattle.moves.specs.declared.inverse.Inverse.{Inverse}
-use Rattle.moves.specs.Applied.{IsAt, IsApplied, IsChecked}
+use Rattle.moves.specs.Applied.{IsAt, IsApplied}
 use Rattle.moves.specs.Births.{IsHeld}
-use Rattle.moves.specs.Rows.{Rows, row_of, put_in, with_row, IsListing, IsFree, Below}
+use Rattle.moves.specs.Rising.{CanStep, IsStepped, StepsAt, with_schedule}
+use Rattle.moves.specs.Rows.{Rows, row_of, put_in, with_row, IsListing, IsFree, IsOfTrace, Below}
 use Rattle.moves.specs.Commands.{writes}
 use Rattle.moves.specs.Judged.{Makes, IsJudged}
-use Rattle.moves.specs.Moves.{made_at, applied, put_made, front}
+use Rattle.moves.specs.Moves.{made_at, applied, put_made}
 use Rattle.moves.specs.Inverses.{stepped, in_row, turned, is_change, IsReordered, Fits, CanTurn, IsTurned}
 use Rattle.moves.proofs.BirthLemmas.{in_tree, held_set}
 use Rattle.moves.proofs.ChainLemmas.{IsPlain, plain_step, made_free}
 use Rattle.moves.proofs.RowLemmas.{listing-with_row, with_row-same, put_same, removed_none}
-
--- the row with this schedule
-abbrev pub with_schedule : Row → Scheduled → Row
-with_schedule r s = record { birth = r.birth; schedule = s }
 
 pub turned_stepped : (step : Step) (r : Row) (t : Scheduled) → stepped step r.schedule ≡ Some t → turned step (Some r) ≡ Some (Some (with_schedule r t))
 turned_stepped Goes r t is = absurd cc
@@ -58,47 +54,62 @@ comes_turned W V x r step none s is = (Some r, rw (s, none) refl, is ∙ ap (put
 pub comes_fits : (W V : Rows) (x : List ℕ) (r : Row) → row_of W x ≡ None → V ≡ put_in x r W → Fits Goes (row_of W x) (row_of V x)
 comes_fits W V x r none is = (ap (turned Goes) (ap (λ S. row_of S x) is ∙ put_same W x r none) ∙ ap Some (sym none), subst IsReordered (sym none) tt)
 
--- The row of x, which lies at `slot` in the tree, gets another schedule; `old` are the rows before.
-module _ (N : List (List ℕ × ℕ)) (M : List (ℕ × (List ℕ × Row))) (held : IsHeld N M) (old : Rows) (is_old : values_of M ≡ old) (x : List ℕ) (b a : ℕ) (age : a ≡ b) (found : IsAt old b x)
-    (slot : List ℕ × Row) (there : lookup (is_at (nat_cmp a)) M ≡ Some slot) where
+-- The row of x, whose birth is b, goes a step; `old` are the rows before.
+module _ (N : List (List ℕ × ℕ)) (M : List (ℕ × (List ℕ × Row))) (held : IsHeld N M) (old : Rows) (is_old : values_of M ≡ old) (x : List ℕ) (b a : ℕ) (age : a ≡ b) (found : IsAt old b x) where
   at : IsAt (values_of M) a x
   at = subst (λ S. IsAt S a x) (sym is_old) (subst (λ n. IsAt old n x) (sym age) found)
 
-  slot_is : (x, at.0) ≡ slot
-  slot_is = let e : Some (x, at.0) ≡ Some slot = sym at.1 ∙ sym (in_tree N M held a) ∙ there in cc
+  abbrev row : Row
+  row = at.0
 
-  slot_row : row_of old x ≡ Some slot.1
-  slot_row = sym (ap (λ S. row_of S x) is_old) ∙ at.2 ∙ ap (λ (p : List ℕ × Row). Some p.1) slot_is
+  there : lookup (is_at (nat_cmp a)) M ≡ Some (x, row)
+  there = in_tree N M held a ∙ at.1
 
-  pub change_may : (step : Step) → is_change step ≡ true → CanTurn x step old → stepped step slot.1.schedule ≢ None
-  change_may step stays can = turned_may step slot.1 can.0 stays (sym (ap (turned step) slot_row) ∙ can.1)
+  row_there : row_of old x ≡ Some row
+  row_there = sym (ap (λ S. row_of S x) is_old) ∙ at.2
 
-  module _ (t : Scheduled) (U : List (ℕ × (List ℕ × Row))) (set : U ≡ set_value (is_at (nat_cmp a)) M (slot.0, with_schedule slot.1 t)) where
-    is_set : (values_of U ≡ with_row (values_of M) slot.0 (Some (with_schedule slot.1 t))) × IsHeld N U
-    is_set = held_set N M held U a slot (with_schedule slot.1 t) there refl set
+  pub change_may : (T : Recording) (step : Step) → IsOfTrace T old → is_change step ≡ true → CanTurn x step old → CanStep T a step M
+  change_may T step of_trace stays can =
+      let trace : row.schedule.trace ≡ T = subst (λ o. IfSome o (λ (r : Row). r.schedule.trace ≡ T)) row_there (All-lookup (λ (r : Row). r.schedule.trace ≡ T) (bytes_eq x) old of_trace) in
+      ((x, row), there, trace, turned_may step row can.0 stays (sym (ap (turned step) row_there) ∙ can.1))
+
+  module _ (U : List (ℕ × (List ℕ × Row))) (step : Step) (q : Result Step Step) (steps : IsStepped a step M U q) where
+    taken : StepsAt a step M U q (x, row)
+    taken = subst (λ o. IfSome o (StepsAt a step M U q)) there steps
+
+    is_set : (values_of U ≡ with_row (values_of M) x (Some (with_schedule row taken.0))) × IsHeld N U
+    is_set = held_set N M held U a (x, row) (with_schedule row taken.0) there refl taken.1
 
     pub change_held : IsHeld N U
     change_held = is_set.1
 
-    rows_set : values_of U ≡ with_row old x (Some (with_schedule slot.1 t))
-    rows_set = is_set.0 ∙ ap (λ (p : List ℕ × Row). with_row (values_of M) p.0 (Some (with_schedule slot.1 t))) (sym slot_is) ∙ ap (λ S. with_row S x (Some (with_schedule slot.1 t))) is_old
+    rows_set : values_of U ≡ with_row old x (Some (with_schedule row taken.0))
+    rows_set = is_set.0 ∙ ap (λ S. with_row S x (Some (with_schedule row taken.0))) is_old
 
-    pub change_turned : (step : Step) (q : Result Step Step) → IfOk q (λ back. stepped step slot.1.schedule ≡ Some t) → OnOk q (IsTurned x step old (values_of U))
-    change_turned step (Ok back) is = (Some (with_schedule slot.1 t), ap (turned step) slot_row ∙ turned_stepped step slot.1 t is, rows_set)
-    change_turned step (Err e) is = tt
+    pub change_turned : OnOk q (IsTurned x step old (values_of U))
+    change_turned = by q taken.2
+      where
+        by : (q : Result Step Step) → IfOk q (λ back. stepped step row.schedule ≡ Some taken.0) → OnOk q (IsTurned x step old (values_of U))
+        by (Ok back) is = (Some (with_schedule row taken.0), ap (turned step) row_there ∙ turned_stepped step row taken.0 is, rows_set)
+        by (Err e) is = tt
 
-    pub change_fits : (q : Result Step Step) → IfOk q (λ back. stepped back t ≡ Some slot.1.schedule) → IsCorrectReordering slot.1.schedule.trace.events slot.1.schedule.events
-        → IfOk q (λ back. Fits back (row_of old x) (row_of (values_of U) x))
-    change_fits (Ok back) is reordering =
-        let listed : IsListing old = subst IsListing is_old held.listing in
-        let now : row_of (values_of U) x ≡ Some (with_schedule slot.1 t) = ap (λ S. row_of S x) rows_set ∙ with_row-same old x (Some (with_schedule slot.1 t)) listed in
-        (ap (turned back) now ∙ turned_stepped back (with_schedule slot.1 t) slot.1.schedule is ∙ ap Some (sym slot_row), subst IsReordered (sym slot_row) reordering)
-    change_fits (Err e) is reordering = tt
+    pub change_fits : IfOk q (λ back. Fits back (row_of old x) (row_of (values_of U) x))
+    change_fits = by q taken.3
+      where
+        by : (q : Result Step Step) → IfOk q (λ back. stepped back taken.0 ≡ Some row.schedule) → IfOk q (λ back. Fits back (row_of old x) (row_of (values_of U) x))
+        by (Ok back) is =
+            let listed : IsListing old = subst IsListing is_old held.listing in
+            let now : row_of (values_of U) x ≡ Some (with_schedule row taken.0) = ap (λ S. row_of S x) rows_set ∙ with_row-same old x (Some (with_schedule row taken.0)) listed in
+            (ap (turned back) now ∙ turned_stepped back (with_schedule row taken.0) row.schedule is ∙ ap Some (sym row_there), subst IsReordered (sym row_there) taken.5)
+        by (Err e) is = tt
 
-    pub change_none : (q : Result Step Step) → OnErr q (t ≡ slot.1.schedule) → OnErr q (values_of U ≡ old)
-    change_none (Ok back) same = tt
-    change_none (Err e) same =
-        ap values_of (set ∙ ap (λ (s : Scheduled). set_value (is_at (nat_cmp a)) M (slot.0, with_schedule slot.1 s)) same ∙ set_value_same (is_at (nat_cmp a)) M slot there) ∙ is_old
+    pub change_none : OnErr q (values_of U ≡ old)
+    change_none = by q taken.4
+      where
+        by : (q : Result Step Step) → OnErr q (taken.0 ≡ row.schedule) → OnErr q (values_of U ≡ old)
+        by (Ok back) same = tt
+        by (Err e) same =
+            ap values_of (taken.1 ∙ ap (λ (s : Scheduled). set_value (is_at (nat_cmp a)) M (x, with_schedule row s)) same ∙ set_value_same (is_at (nat_cmp a)) M (x, row) there) ∙ is_old
 
 -- a command that is accepted
 applied_made : (T : Recording) (B : List Proposal) (n : ℕ) (d : Command) (W V : Rows) (q : Result (Option Row) MoveRefusal) → made_at T B n d W ≡ q → put_made W (writes d) q ≡ Ok V

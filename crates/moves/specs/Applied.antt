@@ -1,5 +1,5 @@
 -- What `apply`, `check` and `take_back` answer.
-use Rattle.std.specs.Prelude.{◌≡◌, ℕ, List, Option, Some, Result, Ok, Err, IsOk}
+use Rattle.std.specs.Prelude.{◌≡◌, ℕ, List, Some, Result, Ok, Err, IsOk}
 use Rattle.rapid_text.specs.Recording.{Recording}
 use Rattle.moves.specs.declared.row.Row.{Row}
 use Rattle.moves.specs.declared.board.Proposal.{Proposal}

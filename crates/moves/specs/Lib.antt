@@ -11,6 +11,7 @@ pub mod Layout
 pub mod Moves
 pub mod Names
 pub mod Ready
+pub mod Rising
 pub mod Rows
 pub mod Spares
 pub mod Words

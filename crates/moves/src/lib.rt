@@ -12,6 +12,7 @@ mod listing;
 mod lists;
 mod name;
 mod refusal;
+mod rising;
 mod row;
 mod workspace;
 

@@ -15,18 +15,18 @@ use crate::birth::Birth;
 use crate::board::Board;
 use crate::command::Command;
 use crate::guesses::Guesses;
-use crate::inverse::{Inverse, Step, turn_schedule};
+use crate::inverse::{Inverse, Step};
 use crate::judged::{copy_of, judge};
 use crate::lists::Names;
 use crate::name::Name;
 use crate::refusal::MoveRefusal;
+use crate::rising::Rising;
 use crate::row::Row;
 use event_index::Indexed;
 use indexmap::IndexMap;
 use rapid_text::{OutOfMemory, TextKeyed};
 use schedule::Schedule;
 use std::alloc::Global;
-use std::collections::BTreeMap;
 use std::marker::Model;
 
 /// The birth of each name's row.
@@ -38,7 +38,7 @@ pub(crate) struct Listing {
     births: Births,
     // where names stand among the births
     guesses: Guesses,
-    rows: BTreeMap<u128, (Name, Row)>,
+    rows: Rising,
 }
 
 impl Model for Listing {
@@ -48,9 +48,9 @@ impl Model for Listing {
 
     ghost Value = { Rows };
 
-    ghost view = { λ l. values_of l.rows.entries };
+    ghost view = { λ l. values_of l.rows };
 
-    ghost invariant = { λ l. IsHeld l.births.entries l.rows.entries };
+    ghost invariant = { λ l. IsHeld l.births.entries l.rows };
 }
 
 impl Listing {
@@ -61,7 +61,7 @@ impl Listing {
         Listing {
             births: IndexMap::with_hasher(alloc, hashers),
             guesses: Guesses::new(),
-            rows: BTreeMap::new(alloc),
+            rows: Rising::new(alloc),
         }
     }
 
@@ -78,7 +78,7 @@ impl Listing {
         requires { at < length self.now }
         ensures { slice_get self.now at ≡ Some (result.0, result.1.now) }
     {
-        let (name, row) = self.rows.values().nth(at).unwrap();
+        let (name, row) = self.rows.at(at);
         (*name, row)
     }
 
@@ -103,9 +103,7 @@ impl Listing {
         ensures { IfOk result (λ names. names ≡ names_of self.now) }
     {
         let mut names = Names::new(alloc);
-        for pair in self.rows.values() {
-            names.push(pair.0)?;
-        }
+        self.rows.append_names(&mut names)?;
         Ok(names)
     }
 
@@ -172,7 +170,7 @@ impl Listing {
             (λ s. option_map (λ (r : RowValue). r.schedule) (row_of self.now name.now) ≡ Some s.now) }
     {
         let birth = self.find(name)?;
-        let (_, row) = self.rows.get(&birth.age())?;
+        let (_, row) = self.rows.get(birth.age())?;
         Some(&row.schedule)
     }
 
@@ -202,12 +200,14 @@ impl Listing {
             return Err(row);
         };
         let birth = row.birth;
-        let Err(failed) = self.rows.insert(birth.age(), (name, row)) else {
-            self.guesses.note(&name, usize::MAX, self.births.len());
-            let _ = self.births.insert(name, birth);
-            return Ok(());
-        };
-        Err(failed.value.1.1)
+        match self.rows.insert(birth.age(), (name, row)) {
+            Ok(()) => {
+                self.guesses.note(&name, usize::MAX, self.births.len());
+                let _ = self.births.insert(name, birth);
+                Ok(())
+            },
+            Err((_, row)) => Err(row),
+        }
     }
 
     /// Takes out the row of a name.
@@ -218,7 +218,7 @@ impl Listing {
         ensures unchanged { IfNone result (self.new ≡ self.old) }
     {
         let birth = take_birth(&mut self.births, self.guesses.place(name), name)?;
-        let (_, row) = take_out(&mut self.rows, birth.age()).unwrap();
+        let (_, row) = self.rows.remove(birth.age()).unwrap();
         Some(row)
     }
 
@@ -291,8 +291,7 @@ impl Listing {
         let Some(birth) = birth_noted(&self.births, &mut self.guesses, name) else {
             return Err(step);
         };
-        let (_, row) = self.rows.get_mut(&birth.age()).unwrap();
-        turn_schedule(&mut row.schedule, indexed, step)
+        self.rows.turn(birth.age(), indexed, step)
     }
 }
 
@@ -306,14 +305,6 @@ pub(crate) fn copy_of_row(row: &Row, alloc: Global, indexed: &Indexed) -> Result
         birth: row.birth,
         schedule,
     })
-}
-
-/// Takes out what lies under the birth. What lies under the others stays where it is.
-fn take_out(rows: &mut BTreeMap<u128, (Name, Row)>, birth: u128) -> Option<(Name, Row)>
-    ensures value { result ≡ get_by (nat_cmp birth) rows.old }
-    ensures entries { rows.new.entries ≡ remove_entry (is_at (nat_cmp birth)) rows.old.entries }
-{
-    rows.remove(&birth)
 }
 
 /// The birth of the name, where it stands at the guessed place.

@@ -9,6 +9,7 @@ pub mod LatestLemmas
 pub mod ListLemmas
 pub mod LockLemmas
 pub mod ShowLemmas
+pub mod SlotLemmas
 pub mod SwapLemmas
 pub mod SwapTables
 pub mod TableLemmas

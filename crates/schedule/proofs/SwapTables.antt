@@ -1,6 +1,5 @@
 -- An exchange of two independent neighbours exchanges what their places shadow, and leaves the other tables.
 use Rattle.std.proofs.Common.{◌≡◌, ◌≢◌, ℕ, ◌+◌, ◌-◌, ◌<◌, ◌≤◌, nat_eq, Bool, true, cond, List, [], ◌∷◌, ◌++◌, length, take, drop, reverse, get_or, set, find, count_by, Option, Some, None, slice_get, sym, refl, ap, ◌∙◌, subst, arith, inl, inr, get_or-set_other}
-use Rattle.std.specs.HashMap.{get}
 use Rattle.std.specs.List.{swap}
 use Rattle.std.specs.Option.{option_or}
 use Rattle.std.proofs.lemmas.Bool.{cases_eq, cases_lt, eq-eqb, ne_eqb, false_from_ne_true, or_left, or_right, cond-true, cond-false}
@@ -17,7 +16,7 @@ use Rattle.event_index.specs.Relations.{IsIndependent}
 use Rattle.event_index.proofs.CallerLemmas.{get_or-IsTable, IsTable-set, IsIndependent-sym}
 use Rattle.schedule.specs.Swaps.{exchanged, MayExchange}
 use Rattle.schedule.specs.Counts.{count_in, AreByThread}
-use Rattle.schedule.specs.Keys.{key_eq}
+use Rattle.schedule.specs.LatestTables.{held}
 use Rattle.schedule.specs.Tables.{AreTables, sets_op, sets, frees, last_set, latest_by, latest_of, shadow_of, shadow_at, shadow_by}
 use Rattle.schedule.specs.declared.latest.Key.{Key}
 use Rattle.schedule.specs.declared.latest.Key.TheVariants.{Variable, Lock}
@@ -215,7 +214,7 @@ module _ (T : List Event) (P : List ℕ) (i : ℕ) (may : MayExchange T P i) whe
   AreTables-exchanged s after tables counts latest shadows = record {
     order = subst (λ c. AreByThread c.items) (sym counts) tables.order;
     counts = λ t. ap (λ c. count_in c.items t) counts ∙ tables.counts t ∙ sym (count_exchanged (is_of_thread T t));
-    latest = λ q. ap (λ m. get key_eq m q) latest ∙ tables.latest q ∙ latest_of-exchanged q;
+    latest = λ q. ap (λ m. held m q) latest ∙ tables.latest q ∙ latest_of-exchanged q;
     shadows = subst (IsTable (shadow_of T Q) (length Q)) (sym shadows)
         (subst (λ (n : ℕ). IsTable (shadow_of T Q) n (swap s.shadows.items i (i + 1))) (sym (length-exchanged P i))
         (IsTable-swap (shadow_of T P) (shadow_of T Q) (length P) s.shadows.items i may.within tables.shadows shadow_of-second shadow_of-first (λ k _ first second. shadow_of-other k first second)));

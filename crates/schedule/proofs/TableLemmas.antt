@@ -1,6 +1,5 @@
 -- What one event more, or one less, makes of the tables.
 use Rattle.std.proofs.Common.{◌≡◌, ◌≢◌, ℕ, ◌+◌, ◌-◌, ◌<◌, ◌≤◌, ◌==◌, cond, List, [], ◌∷◌, ◌++◌, length, take, get_or, slice_index, count_by, Option, Some, None, slice_get, sym, refl, ap, ◌∙◌, subst, arith, inl, inr}
-use Rattle.std.specs.HashMap.{get}
 use Rattle.std.proofs.lemmas.Bool.{cases_eq, eq-eqb, ne_eqb}
 use Rattle.std.proofs.lemmas.List.{length_push, take_at, take-append-le, get_or_append_left, get_or_push}
 use Rattle.std.proofs.lemmas.List.Sums.{count_by-le-length}
@@ -11,7 +10,7 @@ use Rattle.event_index.specs.Tables.{IsTable}
 use Rattle.event_index.proofs.CallerLemmas.{get_or-IsTable, IsTable-from_get_or, IsTable-nil, IsTable-push, IsTable-like}
 use Rattle.schedule.specs.Reordering.{IsCorrectReordering, IsEnabled}
 use Rattle.schedule.specs.Counts.{count_in, AreByThread}
-use Rattle.schedule.specs.Keys.{key_eq}
+use Rattle.schedule.specs.LatestTables.{held}
 use Rattle.schedule.specs.Tables.{AreTables, latest_of, last_set, shadow_of, shadow_at, shadow_of_op, event_of, depth_of, stepped, stepped_back, sets, frees}
 use Rattle.schedule.specs.declared.latest.Key.{Key}
 use Rattle.schedule.specs.declared.latest.Key.TheVariants.{Variable}
@@ -106,8 +105,8 @@ module _ (T : List Event) (P : List ℕ) (e : ℕ) (v : Event) (found : slice_ge
         → AreByThread after.counts.items
         → (room : ℕ → ℕ) → ((t : ℕ) → room t ≡ count_in s.counts.items t)
         → ((t : ℕ) → count_in after.counts.items t ≡ cond (v.thread == t) (room v.thread + 1) (room t))
-        → ((q : Key) → get key_eq after.latest q ≡ stepped v.op e q (get key_eq s.latest q))
-        → (shadow : Option ℕ) → shadow ≡ shadow_of_op (λ q. event_of (get key_eq s.latest q)) v.op
+        → ((q : Key) → held after.latest q ≡ stepped v.op e q (held s.latest q))
+        → (shadow : Option ℕ) → shadow ≡ shadow_of_op (λ q. event_of (held s.latest q)) v.op
         → after.shadows.items ≡ s.shadows.items ++ shadow ∷ []
         → AreTables T (P ++ e ∷ []) after
     AreTables-push tables order room same counts latest shadow is_last shadows = record {
@@ -120,7 +119,7 @@ module _ (T : List Event) (P : List ℕ) (e : ℕ) (v : Event) (found : slice_ge
       shadows =
           let hidden : shadow ≡ shadow_of T (P ++ e ∷ []) (length P) =
           is_last
-          ∙ shadow_of_op-own (λ q. event_of (get key_eq s.latest q)) (last_set T P) v.op
+          ∙ shadow_of_op-own (λ q. event_of (held s.latest q)) (last_set T P) v.op
           (λ q _. ap event_of (tables.latest q) ∙ event_of-latest (last_set T P q) (count_by (sets T q) P) (count_by (frees T q) P))
           ∙ sym (shadow_at-op T P e v found (Variable 0))
           ∙ sym (shadow_of-last T P e) in
@@ -138,7 +137,7 @@ module _ (T : List Event) (P : List ℕ) (e : ℕ) (v : Event) (found : slice_ge
         → AreByThread after.counts.items
         → ((t : ℕ) → count_in after.counts.items t ≡ cond (v.thread == t) (count_in s.counts.items v.thread - 1) (count_in s.counts.items t))
         → (shadow : Option ℕ)
-        → ((q : Key) → get key_eq after.latest q ≡ stepped_back v.op shadow q (get key_eq s.latest q))
+        → ((q : Key) → held after.latest q ≡ stepped_back v.op shadow q (held s.latest q))
         → s.shadows.items ≡ after.shadows.items ++ shadow ∷ []
         → AreTables T P after
     AreTables-pop more tables order counts shadow latest shadows =
@@ -158,7 +157,7 @@ module _ (T : List Event) (P : List ℕ) (e : ℕ) (v : Event) (found : slice_ge
         }
 
 -- the tables of the empty list
-pub AreTables-nil : (T : List Event) (s : Tables) → s.counts.items ≡ [] → ((q : Key) → get key_eq s.latest q ≡ None) → s.shadows.items ≡ [] → AreTables T [] s
+pub AreTables-nil : (T : List Event) (s : Tables) → s.counts.items ≡ [] → ((q : Key) → held s.latest q ≡ None) → s.shadows.items ≡ [] → AreTables T [] s
 AreTables-nil T s counts latest shadows = record {
   order = subst AreByThread (sym counts) AreByThread-nil;
   counts = λ t. ap (λ l. count_in l t) counts;
@@ -167,7 +166,7 @@ AreTables-nil T s counts latest shadows = record {
 }
 
 -- the numbers in the tables are small
-pub depth_of-small : (T : List Event) (P : List ℕ) (s : Tables) (n : ℕ) → length P ≤ n → AreTables T P s → (q : Key) → depth_of (get key_eq s.latest q) ≤ n
+pub depth_of-small : (T : List Event) (P : List ℕ) (s : Tables) (n : ℕ) → length P ≤ n → AreTables T P s → (q : Key) → depth_of (held s.latest q) ≤ n
 depth_of-small T P s n few tables q =
     omega (arith, few, ap depth_of (tables.latest q), depth-within T P q)
 

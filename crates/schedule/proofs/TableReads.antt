@@ -1,6 +1,5 @@
 -- What the tables of a list tell of it.
 use Rattle.std.proofs.Common.{◌≡◌, ℕ, ◌-◌, nat_lt, List, get_or, reverse, count_by, Contains, Option, Some, None, slice_get, option_map, option_and_then, sym, ap, ◌∙◌, subst, arith, inl, inr}
-use Rattle.std.specs.HashMap.{get}
 use Rattle.std.proofs.lemmas.Bool.{cases_lt, lt-ltb, ltb-true, false_from_ne_true}
 use Rattle.std.proofs.lemmas.Option.{same_Some, none-some, slice_get_within, get_or_from_slice_get}
 use Rattle.rapid_text.specs.declared.event.Event.{Event}
@@ -11,7 +10,7 @@ use Rattle.event_index.proofs.CallerLemmas.{events_of-place, find-same}
 use Rattle.schedule.specs.Locks.{is_acquire_at, last_acquire, last_taker}
 use Rattle.schedule.specs.Refusals.{is_in}
 use Rattle.schedule.specs.Reordering.{IsCorrectReordering, KeepsThreadOrder, events_at}
-use Rattle.schedule.specs.Keys.{key_eq}
+use Rattle.schedule.specs.LatestTables.{held}
 use Rattle.schedule.specs.Tables.{AreTables, sets, frees, last_set, latest_by, event_of}
 use Rattle.schedule.specs.declared.latest.Key.TheVariants.{Variable, Lock}
 use Rattle.schedule.specs.declared.latest.Latest.{Latest}
@@ -42,23 +41,23 @@ is_in-count T P f v found order =
     ]
 
 module _ (T : List Event) (P : List ℕ) (s : Tables) (tables : AreTables T P s) where
-  pub last_write-latest : (x : ℕ) → event_of (get key_eq s.latest (Variable x)) ≡ last_write T x P
+  pub last_write-latest : (x : ℕ) → event_of (held s.latest (Variable x)) ≡ last_write T x P
   last_write-latest x =
       ap event_of (tables.latest (Variable x))
       ∙ event_of-latest (last_set T P (Variable x)) (count_by (sets T (Variable x)) P) (count_by (frees T (Variable x)) P)
       ∙ find-same (sets T (Variable x)) (is_write_at T x) (sets_variable T x) (reverse P)
 
-  last_acquire-latest : (l : ℕ) → event_of (get key_eq s.latest (Lock l)) ≡ last_acquire T P l
+  last_acquire-latest : (l : ℕ) → event_of (held s.latest (Lock l)) ≡ last_acquire T P l
   last_acquire-latest l =
       ap event_of (tables.latest (Lock l))
       ∙ event_of-latest (last_set T P (Lock l)) (count_by (sets T (Lock l)) P) (count_by (frees T (Lock l)) P)
       ∙ find-same (sets T (Lock l)) (is_acquire_at T l) (sets_lock T l) (reverse P)
 
   -- nothing stands at the key of a lock that no thread took
-  pub no_taker : (l : ℕ) → get key_eq s.latest (Lock l) ≡ None → last_taker T P l ≡ None
+  pub no_taker : (l : ℕ) → held s.latest (Lock l) ≡ None → last_taker T P l ≡ None
   no_taker l none = ap (option_and_then (thread_at T)) (sym (last_acquire-latest l) ∙ ap event_of none)
 
-  module _ (l : ℕ) (m : Latest) (is : get key_eq s.latest (Lock l) ≡ Some m) where
+  module _ (l : ℕ) (m : Latest) (is : held s.latest (Lock l) ≡ Some m) where
     taken_last : last_acquire T P l ≡ Some m.event
     taken_last = sym (last_acquire-latest l) ∙ ap event_of is
 

@@ -1,6 +1,7 @@
 pub mod Counts
 pub mod Faults
 pub mod Keys
+pub mod LatestTables
 pub mod Locks
 pub mod Refusals
 pub mod Reordering

@@ -2,7 +2,6 @@
 -- A write sets its variable; an acquire sets its lock, and a release frees it. `T` is the events of the
 -- trace, `P` the list, `q` a variable or a lock.
 use Rattle.std.specs.Prelude.{◌≡◌, ℕ, ◌+◌, ◌-◌, Bool, false, List, length, take, reverse, find, count_by, slice_get, slice_index, option_map, Option, Some, None, if◌then◌else◌}
-use Rattle.std.specs.HashMap.{get}
 use Rattle.rapid_text.specs.declared.event.Event.{Event}
 use Rattle.rapid_text.specs.declared.event.Op.{Op}
 use Rattle.rapid_text.specs.declared.event.Op.TheVariants.{Write, Acquire, Release}
@@ -10,6 +9,7 @@ use Rattle.event_index.specs.Events.{passes_at, is_of_thread}
 use Rattle.event_index.specs.Tables.{IsTable}
 use Rattle.schedule.specs.Counts.{count_in, AreByThread}
 use Rattle.schedule.specs.Keys.{key_eq}
+use Rattle.schedule.specs.LatestTables.{held}
 use Rattle.schedule.specs.declared.latest.Key.{Key}
 use Rattle.schedule.specs.declared.latest.Key.TheVariants.{Variable, Lock}
 use Rattle.schedule.specs.declared.latest.Latest.{Latest}
@@ -68,7 +68,7 @@ shadow_of T P i = shadow_at T (take i P) (slice_index P i)
 pub record AreTables (T : List Event) (P : List ℕ) (s : Tables) : Type 0 where
   pub order : AreByThread s.counts.items
   pub counts : (t : ℕ) → count_in s.counts.items t ≡ count_by (is_of_thread T t) P
-  pub latest : (q : Key) → get key_eq s.latest q ≡ latest_of T P q
+  pub latest : (q : Key) → held s.latest q ≡ latest_of T P q
   pub shadows : IsTable (shadow_of T P) (length P) s.shadows.items
 
 -- what an operation makes of what is kept at a key, and what taking it back does

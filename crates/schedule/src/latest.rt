@@ -1,14 +1,14 @@
 //! The latest event of each variable and lock.
 ghost use Rattle.std.specs.Prelude.{◌≡◌, ◌≤◌, OnOk, OnErr, if◌then◌else◌};
-ghost use Rattle.std.specs.HashMap.{get};
 ghost use Rattle.rapid_text.specs.Limits.{event_limit};
 ghost use Rattle.schedule.specs.Keys.{key_eq};
+ghost use Rattle.schedule.specs.LatestTables.{held};
 ghost use Rattle.schedule.specs.Tables.{event_of, depth_of, covered, lowered, raised, uncovered, stepped, stepped_back, shadow_of_op};
 ghost use Rattle.schedule.specs.declared.latest.Key.{Key};
 
+use crate::latest_table::LatestTable;
 use rapid_text::Op;
 use std::alloc::AllocError;
-use std::collections::HashMap;
 
 /// What events set: a variable by writes, a lock by acquires.
 #[derive(Clone, Copy, Hash)]
@@ -48,14 +48,11 @@ pub(crate) struct Latest {
     pub(crate) depth: u32,
 }
 
-/// What is kept of the variables and locks that a list's events set.
-pub(crate) type LatestTable = HashMap<Key, Latest>;
-
 /// The last event that set the key.
 pub(crate) fn latest_event(latest: &LatestTable, key: Key) -> Option<u32>
-    ensures { result ≡ event_of (get key_eq latest.now key) }
+    ensures { result ≡ event_of (held latest.now key) }
 {
-    match latest.get(&key) {
+    match latest.get(key) {
         Some(kept) => Some(kept.event),
         None => None,
     }
@@ -63,7 +60,7 @@ pub(crate) fn latest_event(latest: &LatestTable, key: Key) -> Option<u32>
 
 /// What the operation will shadow.
 pub(crate) fn shadow_of(latest: &LatestTable, op: Op) -> Option<u32>
-    ensures { result ≡ shadow_of_op (λ q. event_of (get key_eq latest.now q)) op }
+    ensures { result ≡ shadow_of_op (λ q. event_of (held latest.now q)) op }
 {
     match op {
         Op::Write(variable) => latest_event(latest, Key::Variable(variable)),
@@ -73,12 +70,12 @@ pub(crate) fn shadow_of(latest: &LatestTable, op: Op) -> Option<u32>
 }
 
 fn cover(latest: &mut LatestTable, key: Key, event: u32) -> Result<(), AllocError>
-    requires { (q : Key) → depth_of (get key_eq latest.old q) ≤ event_limit }
-    ensures ok { OnOk result ((q : Key) → get key_eq latest.new q
-        ≡ (if key_eq key q then covered event (get key_eq latest.old key) else get key_eq latest.old q)) }
-    ensures err { OnErr result ((q : Key) → get key_eq latest.new q ≡ get key_eq latest.old q) }
+    requires { (q : Key) → depth_of (held latest.old q) ≤ event_limit }
+    ensures ok { OnOk result ((q : Key) → held latest.new q
+        ≡ (if key_eq key q then covered event (held latest.old key) else held latest.old q)) }
+    ensures err { OnErr result ((q : Key) → held latest.new q ≡ held latest.old q) }
 {
-    let depth = match latest.get(&key) {
+    let depth = match latest.get(key) {
         Some(kept) => kept.depth,
         None => 0,
     };
@@ -86,52 +83,70 @@ fn cover(latest: &mut LatestTable, key: Key, event: u32) -> Result<(), AllocErro
         event,
         depth: depth + 1,
     };
-    let Ok(_) = latest.insert(key, kept) else {
-        return Err(AllocError);
-    };
-    Ok(())
+    latest.put(key, kept)
 }
 
 fn lower(latest: &mut LatestTable, key: Key)
-    ensures { (q : Key) → get key_eq latest.new q
-        ≡ (if key_eq key q then lowered (get key_eq latest.old key) else get key_eq latest.old q) }
+    ensures { (q : Key) → held latest.new q
+        ≡ (if key_eq key q then lowered (held latest.old key) else held latest.old q) }
 {
-    if let Some(kept) = latest.get_mut(&key) {
-        kept.depth = kept.depth.saturating_sub(1);
-    }
+    let kept = latest.get(key);
+    latest.change(key, lowered(kept));
+}
+
+/// What is kept of a lock that was freed once more.
+fn lowered(kept: Option<Latest>) -> Option<Latest>
+    ensures { result ≡ lowered kept }
+{
+    let mut kept = kept?;
+    kept.depth = kept.depth.saturating_sub(1);
+    Some(kept)
 }
 
 fn raise(latest: &mut LatestTable, key: Key)
-    requires { (q : Key) → depth_of (get key_eq latest.old q) ≤ event_limit }
-    ensures { (q : Key) → get key_eq latest.new q
-        ≡ (if key_eq key q then raised (get key_eq latest.old key) else get key_eq latest.old q) }
+    requires { (q : Key) → depth_of (held latest.old q) ≤ event_limit }
+    ensures { (q : Key) → held latest.new q
+        ≡ (if key_eq key q then raised (held latest.old key) else held latest.old q) }
 {
-    if let Some(kept) = latest.get_mut(&key) {
-        kept.depth += 1;
-    }
+    let kept = latest.get(key);
+    latest.change(key, raised(kept));
+}
+
+/// What is kept of a lock that was freed once less.
+fn raised(kept: Option<Latest>) -> Option<Latest>
+    requires { depth_of kept ≤ event_limit }
+    ensures { result ≡ raised kept }
+{
+    let mut kept = kept?;
+    kept.depth += 1;
+    Some(kept)
 }
 
 fn uncover(latest: &mut LatestTable, key: Key, shadow: Option<u32>)
-    ensures { (q : Key) → get key_eq latest.new q
-        ≡ (if key_eq key q then uncovered shadow (get key_eq latest.old key) else get key_eq latest.old q) }
+    ensures { (q : Key) → held latest.new q
+        ≡ (if key_eq key q then uncovered shadow (held latest.old key) else held latest.old q) }
 {
-    let Some(event) = shadow else {
-        let _ = latest.remove(&key);
-        return;
-    };
-    if let Some(kept) = latest.get_mut(&key) {
-        *kept = Latest {
-            event,
-            depth: kept.depth.saturating_sub(1),
-        };
-    }
+    let kept = latest.get(key);
+    latest.change(key, uncovered(shadow, kept));
+}
+
+/// What is kept of a key where the event that set it last, and shadows this one, is taken off.
+fn uncovered(shadow: Option<u32>, kept: Option<Latest>) -> Option<Latest>
+    ensures { result ≡ uncovered shadow kept }
+{
+    let event = shadow?;
+    let kept = kept?;
+    Some(Latest {
+        event,
+        depth: kept.depth.saturating_sub(1),
+    })
 }
 
 /// Sets or frees the key of the operation.
 pub(crate) fn step(latest: &mut LatestTable, op: Op, event: u32) -> Result<(), AllocError>
-    requires { (q : Key) → depth_of (get key_eq latest.old q) ≤ event_limit }
-    ensures ok { OnOk result ((q : Key) → get key_eq latest.new q ≡ stepped op event q (get key_eq latest.old q)) }
-    ensures err { OnErr result ((q : Key) → get key_eq latest.new q ≡ get key_eq latest.old q) }
+    requires { (q : Key) → depth_of (held latest.old q) ≤ event_limit }
+    ensures ok { OnOk result ((q : Key) → held latest.new q ≡ stepped op event q (held latest.old q)) }
+    ensures err { OnErr result ((q : Key) → held latest.new q ≡ held latest.old q) }
 {
     match op {
         Op::Write(variable) => cover(latest, Key::Variable(variable), event),
@@ -146,8 +161,8 @@ pub(crate) fn step(latest: &mut LatestTable, op: Op, event: u32) -> Result<(), A
 
 /// Takes back what the operation did, where it shadows this event.
 pub(crate) fn step_back(latest: &mut LatestTable, op: Op, shadow: Option<u32>)
-    requires { (q : Key) → depth_of (get key_eq latest.old q) ≤ event_limit }
-    ensures { (q : Key) → get key_eq latest.new q ≡ stepped_back op shadow q (get key_eq latest.old q) }
+    requires { (q : Key) → depth_of (held latest.old q) ≤ event_limit }
+    ensures { (q : Key) → held latest.new q ≡ stepped_back op shadow q (held latest.old q) }
 {
     match op {
         Op::Write(variable) => uncover(latest, Key::Variable(variable), shadow),

@@ -3,6 +3,7 @@
 
 mod counts;
 mod latest;
+mod latest_table;
 mod reads;
 mod refusal;
 mod refusing;

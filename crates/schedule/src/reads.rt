@@ -101,7 +101,7 @@ pub(crate) fn other_holder(
     ensures { result ≡ other_holder indexed.now.events events.now thread lock }
 {
     let _ = events;
-    let Some(kept) = tables.latest.get(&Key::Lock(lock)) else {
+    let Some(kept) = tables.latest.get(Key::Lock(lock)) else {
         return None;
     };
     let Some(found) = indexed.get(kept.event) else {

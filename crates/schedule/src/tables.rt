@@ -5,10 +5,10 @@ ghost use Rattle.schedule.specs.Reordering.{IsCorrectReordering, IsEnabled};
 ghost use Rattle.schedule.specs.Tables.{AreTables};
 
 use crate::counts::{ThreadCount, count_down, count_up, make_room};
-use crate::latest::{LatestTable, shadow_of, step, step_back};
+use crate::latest::{shadow_of, step, step_back};
+use crate::latest_table::LatestTable;
 use event_index::Indexed;
 use std::alloc::{AllocError, Global};
-use std::collections::HashMap;
 
 /// The tables of a list of events.
 #[derive(Drop)]
@@ -35,7 +35,7 @@ pub(crate) fn tables_with_room(
     let _ = indexed;
     Ok(Tables {
         counts: Vec::new(alloc),
-        latest: HashMap::new(alloc),
+        latest: LatestTable::new(alloc),
         shadows,
     })
 }
@@ -88,7 +88,7 @@ pub(crate) fn forget(tables: &mut Tables, indexed: &Indexed, events: &[u32], eve
 pub(crate) fn trim(tables: &mut Tables)
     ensures { (T : List Event) (P : List ℕ) → AreTables T P tables.old → AreTables T P tables.new }
 {
-    tables.latest.shrink_to_fit();
+    tables.latest.trim();
 }
 
 /// Tables of their own that hold the same, with no room for more places.
@@ -96,12 +96,11 @@ pub(crate) fn copied(alloc: Global, tables: &Tables) -> Result<Box<Tables>, Allo
     ensures { (T : List Event) (P : List ℕ) → AreTables T P tables.now
         → IfOk result (λ copy. AreTables T P copy.value) }
 {
-    let mut copy = Tables {
+    let copy = Tables {
         counts: Vec::from_slice(alloc, &tables.counts)?,
-        latest: tables.latest.clone()?,
+        latest: tables.latest.copied(alloc)?,
         shadows: Vec::from_slice(alloc, &tables.shadows)?,
     };
-    trim(&mut copy);
     let Ok(copy) = Box::new(alloc, copy) else {
         return Err(AllocError);
     };

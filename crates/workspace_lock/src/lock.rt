@@ -3,9 +3,9 @@ ghost use Rattle.std.specs.Prelude.{List, []};
 ghost use Rattle.inverse_log.specs.declared.entry.Entry.{Entry};
 
 use crate::bells::Bells;
+use crate::boxed::BoxedBench;
 use crate::door::Door;
 use atomic_table::{Join, Play, Seat, Split, Table, TableRule};
-use inverse_log::Bench;
 use std::alloc::Global;
 use std::marker::{Brand, Model, PhantomData};
 use std::snapshot::Snapshot;
@@ -29,14 +29,14 @@ impl Model for View {
 /// What the lock is told when it is made: the bench, and how many seats there are.
 #[derive(Drop)]
 pub struct Opening {
-    pub bench: Snapshot<Bench>,
+    pub bench: Snapshot<BoxedBench>,
     pub clients: u32,
 }
 
 /// The rule that the words, the slot and all places keep.
 pub struct Order;
 
-impl TableRule<Option<Bench>, View, Opening> for Order {
+impl TableRule<Option<BoxedBench>, View, Opening> for Order {
     ghost use Rattle.workspace_lock.specs.Rule.{Kept, opened};
 
     ghost holds = { λ key. Kept key.bench.value key.clients };
@@ -44,8 +44,8 @@ impl TableRule<Option<Bench>, View, Opening> for Order {
     ghost first = { λ key. opened key.bench.value key.clients };
 }
 
-/// Three words, TICKET, SERVING and FRONT, and a slot for the bench.
-pub type Lock = Table<Option<Bench>, View, Opening, Order, Global>;
+/// Three words, TICKET, SERVING and FRONT, and a slot for the bench in its box.
+pub type Lock = Table<Option<BoxedBench>, View, Opening, Order, Global>;
 
 /// What the seats share.
 #[derive(Drop)]
@@ -56,12 +56,12 @@ pub struct Hall {
 }
 
 /// One client's place at the lock.
-pub type Place = Seat<Option<Bench>, View>;
+pub type Place = Seat<Option<BoxedBench>, View>;
 
 /// A ticket is drawn.
 pub struct Draw;
 
-impl Play<Option<Bench>, View> for Draw {
+impl Play<Option<BoxedBench>, View> for Draw {
     ghost use Rattle.workspace_lock.specs.Steps.{drew};
 
     ghost then = { drew };
@@ -70,7 +70,7 @@ impl Play<Option<Bench>, View> for Draw {
 /// SERVING is read.
 pub struct Watch;
 
-impl Play<Option<Bench>, View> for Watch {
+impl Play<Option<BoxedBench>, View> for Watch {
     ghost use Rattle.workspace_lock.specs.Steps.{watched};
 
     ghost then = { watched };
@@ -90,7 +90,7 @@ pub struct Publish<N: Named> {
     of: PhantomData<N>,
 }
 
-impl<N: Named> Play<Option<Bench>, View> for Publish<N> {
+impl<N: Named> Play<Option<BoxedBench>, View> for Publish<N> {
     ghost use Rattle.workspace_lock.specs.Steps.{published};
 
     ghost then = { published N.log };
@@ -99,7 +99,7 @@ impl<N: Named> Play<Option<Bench>, View> for Publish<N> {
 /// FRONT is read.
 pub struct Look;
 
-impl Play<Option<Bench>, View> for Look {
+impl Play<Option<BoxedBench>, View> for Look {
     ghost use Rattle.workspace_lock.specs.Steps.{fronted};
 
     ghost then = { fronted };
@@ -108,7 +108,7 @@ impl Play<Option<Bench>, View> for Look {
 /// SERVING grows by one.
 pub struct PassOn;
 
-impl Play<Option<Bench>, View> for PassOn {
+impl Play<Option<BoxedBench>, View> for PassOn {
     ghost use Rattle.workspace_lock.specs.Steps.{passed};
 
     ghost then = { passed };
@@ -117,7 +117,7 @@ impl Play<Option<Bench>, View> for PassOn {
 /// SERVING is read for the last time, by the place that has all marks.
 pub struct Finish;
 
-impl Play<Option<Bench>, View> for Finish {
+impl Play<Option<BoxedBench>, View> for Finish {
     ghost use Rattle.workspace_lock.specs.Steps.{ended};
 
     ghost then = { ended };

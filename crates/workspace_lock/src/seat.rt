@@ -11,8 +11,9 @@ ghost use Rattle.workspace_lock.specs.Places.{idle, holds, mark_of, saw, solo, t
 ghost use Rattle.workspace_lock.specs.Places.{IsSized, IsResting, IsWaiting, IsBusy, GotTurn, TookBench, Looked};
 ghost use Rattle.inverse_log.specs.declared.refusal.SeatRefusal.TheVariants.{SeatSpent};
 
+use crate::boxed::BoxedBench;
 use crate::lock::{Draw, Hall, Lock, Look, Named, PassOn, Place, Publish, Watch};
-use inverse_log::{Bench, Call, Refusal, Reply, SeatRefusal};
+use inverse_log::{Call, Refusal, Reply, SeatRefusal};
 use std::alloc::Global;
 use std::marker::{Brand, Model};
 use std::sync::{Arc, Wait};
@@ -93,7 +94,7 @@ fn watch<R: Wait>(rt: &R, hall: &Hall, place: &mut Place, ticket: u64)
 }
 
 // Passes the door, draws a ticket, waits for its turn and takes the bench.
-fn take_bench<R: Wait>(rt: &R, hall: &Hall, place: &mut Place) -> Bench
+fn take_bench<R: Wait>(rt: &R, hall: &Hall, place: &mut Place) -> BoxedBench
     requires { (place.old.table_id ≡ hall.now.lock.shared.table_id) × IsSized place.old.table_id
         × IsResting place.old.me × (place.old.me.0.turns < turn_limit) }
     ensures { (place.new.table_id ≡ place.old.table_id) × (place.new.id ≡ place.old.id) × TookBench place.old.me result place.new.me }
@@ -105,7 +106,7 @@ fn take_bench<R: Wait>(rt: &R, hall: &Hall, place: &mut Place) -> Bench
 }
 
 // FRONT follows the log, which is one entry longer than the place has seen.
-fn publish<N: Named>(lock: &Lock, place: &mut Place, bench: &Bench)
+fn publish<N: Named>(lock: &Lock, place: &mut Place, bench: &BoxedBench)
     requires place { (place.old.table_id ≡ lock.now.shared.table_id) × IsSized place.old.table_id × IsBusy place.old.me }
     requires log { bench.now.log ≡ N.log }
     requires bench { IsLegal (mark_of place.old.me.0).start.trace bench.now.log
@@ -119,7 +120,7 @@ fn publish<N: Named>(lock: &Lock, place: &mut Place, bench: &Bench)
 }
 
 // Publishes what was logged, puts the bench back, passes the turn on, wakes the one whose it is, and leaves the door.
-fn give_back(hall: &Hall, place: &mut Place, bench: Bench, before: u64)
+fn give_back(hall: &Hall, place: &mut Place, bench: BoxedBench, before: u64)
     requires place { (place.old.table_id ≡ hall.now.lock.shared.table_id) × IsSized place.old.table_id × IsBusy place.old.me }
     requires bench { IsLegal (mark_of place.old.me.0).start.trace bench.log
         × Grown (mark_of place.old.me.0).seen (mark_of place.old.me.0).number bench.log

@@ -9,6 +9,7 @@ ghost use Rattle.workspace_lock.specs.Places.{idle, mark_of, saw, solo, IsSized}
 ghost use Rattle.workspace_lock.specs.Rows.{IsEnd, Gathers, marks_in, AllSeated, HasAll, dealt};
 
 use crate::bells::Bells;
+use crate::boxed::BoxedBench;
 use crate::door::{BEST_ROOM, Door};
 use crate::lock::{Deal, Draw, Finish, Gather, Hall, Lock, MAX_CLIENTS, Opening, Place};
 use crate::seat::Seat;
@@ -27,7 +28,7 @@ fn finish(lock: &Lock, place: &mut Place) -> Bench
 {
     lock.shared.fetch_add::<Draw>(place, 0, 1);
     lock.shared.load::<Finish>(place, 1);
-    lock.shared.exchange(place, 0, None).unwrap()
+    lock.shared.exchange(place, 0, None).unwrap().into_bench()
 }
 
 // The seat's view goes into the place's.
@@ -227,6 +228,39 @@ fn share(
     }
 }
 
+// The bench goes into the lock's slot.
+fn open_boxed(
+    alloc: Global,
+    boxed: BoxedBench,
+    clients: u32,
+    room: u32,
+) -> Result<Seats, (Bench, OpenRefusal)>
+    requires { (0 < clients) × (clients ≤ client_limit) }
+    ensures ok { IfOk result (λ s. Opened boxed clients s) }
+    ensures err { IfErr result (λ e. e.0 ≡ boxed) }
+    ensures memory { IfErr result (λ e. e.1 ≡ OpenRefusal.OutOfMemory) }
+{
+    let Ok(rows) = Vec::with_capacity(alloc, clients as usize) else {
+        return Err((boxed.into_bench(), OpenRefusal::OutOfMemory));
+    };
+    let Ok(mut slots) = Vec::with_capacity(alloc, 1) else {
+        return Err((boxed.into_bench(), OpenRefusal::OutOfMemory));
+    };
+    let opening = Opening {
+        bench: Snapshot::of(&boxed),
+        clients,
+    };
+    let length = boxed.log_len();
+    slots.push_reserved(Some(boxed));
+    match Table::new(alloc, &[0, 0, length], slots, &opening) {
+        Ok((lock, place)) => share(alloc, lock, place, rows, clients, room),
+        Err(Refused { mut slots }) => match slots.pop() {
+            Some(Some(boxed)) => Err((boxed.into_bench(), OpenRefusal::OutOfMemory)),
+            _ => unreachable!(),
+        },
+    }
+}
+
 /// Seats for the clients 1 to `clients`, each of which has seen the bench's log.
 pub fn open(alloc: Global, bench: Bench, clients: u32) -> Result<Seats, (Bench, OpenRefusal)>
     ensures ok { IfOk result (λ s. (0 < clients) × (clients ≤ client_limit) × Opened bench clients s) }
@@ -252,23 +286,8 @@ pub fn open_with_room(
     if clients == 0 || clients > MAX_CLIENTS {
         return Err((bench, OpenRefusal::BadCount));
     }
-    let Ok(rows) = Vec::with_capacity(alloc, clients as usize) else {
-        return Err((bench, OpenRefusal::OutOfMemory));
-    };
-    let Ok(mut slots) = Vec::with_capacity(alloc, 1) else {
-        return Err((bench, OpenRefusal::OutOfMemory));
-    };
-    let opening = Opening {
-        bench: Snapshot::of(&bench),
-        clients,
-    };
-    let length = bench.log_len();
-    slots.push_reserved(Some(bench));
-    match Table::new(alloc, &[0, 0, length], slots, &opening) {
-        Ok((lock, place)) => share(alloc, lock, place, rows, clients, room),
-        Err(Refused { mut slots }) => match slots.pop() {
-            Some(Some(bench)) => Err((bench, OpenRefusal::OutOfMemory)),
-            _ => unreachable!(),
-        },
+    match BoxedBench::try_new(alloc, bench) {
+        Ok(boxed) => open_boxed(alloc, boxed, clients, room),
+        Err(bench) => Err((bench, OpenRefusal::OutOfMemory)),
     }
 }

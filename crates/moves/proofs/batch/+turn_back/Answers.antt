@@ -1,4 +1,4 @@
-use Rattle.std.proofs.Common.{◌≡◌, ◌+◌, ◌<◌, length, arith, subst}
+use Rattle.std.proofs.Common.{arith, subst}
 use Rattle.moves.specs.declared.inverse.Inverse.{Inverse}
 use Rattle.moves.specs.Batches.{AreOfTrace}
 use Rattle.moves.specs.Inverses.{IsTurned}

@@ -1,10 +1,10 @@
-use Rattle.std.proofs.Common.{arith, subst, ◌≡◌, List}
+use Rattle.std.proofs.Common.{arith, subst}
 use Rattle.moves.specs.Batches.{AreOfTrace}
 use Rattle.moves.specs.Inverses.{IsTurned}
 use Rattle.moves.proofs.BackLemmas.{of_trace-turned}
 use Rattle.moves.proofs.BirthLemmas.{is_done}
 use Rattle.moves.proofs.SpareLemmas.{spare_free, spare_earlier}
-use Rattle.moves.proofs.TurnAllLemmas.{all_earlier, turn_rest, turn_done, turn_can}
+use Rattle.moves.proofs.TurnAllLemmas.{all_earlier, turn_rest}
 use Rattle.moves.proofs.batch.+unwind.Goals as goal
 
 pub unwind-requires : goal.unwind-requires

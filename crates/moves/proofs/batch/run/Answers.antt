@@ -1,4 +1,4 @@
-use Rattle.std.proofs.Common.{◌≡◌, ◌+◌, ◌<◌, ◌≤◌, Err, sym, subst, arith, length, take}
+use Rattle.std.proofs.Common.{◌+◌, ◌≤◌, Err, sym, subst, arith, length, take}
 use Rattle.moves.specs.Ages.{age}
 use Rattle.moves.specs.Batches.{Runs, IsRun}
 use Rattle.moves.proofs.BatchLemmas.{next_runs, next_refused, run_ends, next_birth, below_as}

@@ -1,6 +1,5 @@
 use Rattle.std.proofs.Common.{take}
 use Rattle.moves.specs.Ages.{age}
-use Rattle.moves.specs.Batches.{HasRun}
 use Rattle.moves.proofs.BatchLemmas.{runs_traced, runs_back}
 use Rattle.moves.proofs.SpareLemmas.{has_run, runs_spare, refused_here}
 use Rattle.moves.proofs.batch.run_here.Goals as goal

@@ -5,6 +5,6 @@ pub returns : goal.returns
 returns c = λ T P tables. record {
   order = tables.order;
   counts = tables.counts;
-  latest = λ q. c.shrink_to_fit.ensures.entries.2 q ∙ tables.latest q;
+  latest = λ q. c.trim.ensures q ∙ tables.latest q;
   shadows = tables.shadows;
 }

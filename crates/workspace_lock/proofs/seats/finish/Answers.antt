@@ -1,7 +1,8 @@
-use Rattle.std.proofs.Common.{rules, Some}
+use Rattle.std.proofs.Common.{rules, Some, sym, subst}
 use mathlib.Core.Option.{none}
 use Rattle.atomic_table.specs.Table.{step}
 use Rattle.workspace_lock.specs.Places.{bench_of, mark_of}
+use Rattle.workspace_lock.specs.Rows.{IsEnd}
 use Rattle.workspace_lock.proofs.PlaceLemmas.{last_draw, ends_from, last_slot, slot_first, end_is}
 use Rattle.workspace_lock.proofs.seats.finish.Goals as goal
 
@@ -16,4 +17,5 @@ exchange-requires c = let m = c.args.place.now.me in let h = last_slot m c.fetch
     (search rules, (Some (bench_of (mark_of m.0).start.trace h.0), slot_first c.load.new.seat.me _ h.2))
 
 pub returns : goal.returns
-returns c = end_is c.args.place.now.me c.fetch_add.new.seat.me c.load.new.seat.me (step 1 1 0 0 none) c.load.result c.fetch_add.result c.exchange.result c.unwrap.result c.fetch_add.ensures.2 c.load.ensures.2 c.exchange.ensures.2 c.unwrap.ensures
+returns c = let m = c.args.place.now.me in subst (IsEnd (mark_of m.0).start.trace m.0.marks) (sym c.into_bench.ensures)
+    (end_is m c.fetch_add.new.seat.me c.load.new.seat.me (step 1 1 0 0 none) c.load.result c.fetch_add.result c.exchange.result c.unwrap.result c.fetch_add.ensures.2 c.load.ensures.2 c.exchange.ensures.2 c.unwrap.ensures)

@@ -59,7 +59,7 @@ invariant_of-self-2 c =
     let d = c.args.command.now in
     let i = c.in-Ok-apply.inverse in
     let entered = c.in-Ok-enter.ensures.ok in
-    let log : c.add_entry.new.log.items ≡ s.log.items ++ Did c.args.client d ∷ [] = rw (c.in-Ok.ensures.log) at c.add_entry.ensures in
+    let log : c.add_entry.new.log.items ≡ s.log.items ++ Did c.args.client d ∷ [] = rw (c.in-Ok.ensures.log, c.in-Ok-of.ensures) at c.add_entry.ensures in
     let runs = one_runs s c.self.invariant c.deref.result.now (age c.len-number.result 0) c.len-number.result d c.apply.new.self.rows i number refl c.in-Ok-apply.ensures.applied in
     let legal = subst (λ (v : Benched). IsLegal v.trace (v.log ++ Did c.args.client d ∷ [])) (sym c.self.view_is) c.requires.legal in
     done_bench s c.self.invariant c.add_entry.new.log.items c.deref.result.now c.len-number.result c.args.client (Did c.args.client d) (d ∷ []) c.apply.new.self.rows (record { name = writes d; step = i.step } ∷ []) (One i.step)

@@ -8,6 +8,7 @@ use Rattle.inverse_log.specs.declared.kept.Held.TheVariants.{Nothing}
 use Rattle.inverse_log.specs.Answer.{IsLegal}
 use Rattle.inverse_log.specs.Kept.{IsUnblocked, live_there}
 use Rattle.inverse_log.specs.Log.{Benched, commands_at}
+use Rattle.inverse_log.specs.Steps.{single_at}
 use Rattle.inverse_log.proofs.DoLemmas.{of_trace, edits_low}
 use Rattle.inverse_log.proofs.Inner.{benched}
 use Rattle.inverse_log.proofs.UndoneLemmas.{take_within, take_can, take_of, take_few, take_whole, took_bench, back_bench}
@@ -24,6 +25,11 @@ had s k log seen steps h D same see kept is taken = (subst (λ S. slice_get S k 
 pub take_out-held-requires : goal.take_out-held-requires
 take_out-held-requires c =
     take_within c.self.inside c.self.invariant c.args.client c.args.entry (free_in c.self.inside _ _ _ c.self.view_is c.requires.free) _ (omega (arith, c.make_room.ensures.steps_len))
+
+pub commands_at-commands-requires : goal.commands_at-commands-requires
+commands_at-commands-requires c =
+    c.requires.single ∙ ap (λ (v : Benched). single_at v.log c.args.entry) (sym c.self.view_is)
+    ∙ ap (λ L. single_at L c.args.entry) (sym (c.deref.ensures.value ∙ c.in-Ok.ensures.log))
 
 pub take_back-requires-clause-of_trace : goal.take_back-requires-clause-of_trace
 take_back-requires-clause-of_trace c = of_trace c.self.inside c.self.invariant c.deref-2.result.now c.deref-2.ensures

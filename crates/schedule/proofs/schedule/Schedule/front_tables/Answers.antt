@@ -1,4 +1,4 @@
-use Rattle.std.proofs.Common.{◌≡◌, ◌≤◌, length, sym, subst, rules}
+use Rattle.std.proofs.Common.{◌≤◌, length, rules}
 use Rattle.schedule.specs.Reordering.{IsCorrectReordering}
 use Rattle.schedule.proofs.CallerLemmas.{IsCorrectReordering-take}
 use Rattle.schedule.proofs.schedule.Schedule.front_tables.Goals as goal

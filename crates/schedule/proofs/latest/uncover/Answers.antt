@@ -1,0 +1,13 @@
+use Rattle.std.proofs.Common.{ap, ◌∙◌, cond}
+use Rattle.schedule.specs.Keys.{key_eq}
+use Rattle.schedule.specs.LatestTables.{held, changed}
+use Rattle.schedule.specs.Tables.{uncovered}
+use Rattle.schedule.proofs.SlotLemmas.{changed_own, uncovered_none}
+use Rattle.schedule.proofs.latest.uncover.Goals as goal
+
+pub returns : goal.returns
+returns c =
+    let o = held c.args.latest.now c.args.key in
+    λ q. c.change.ensures q
+    ∙ ap (λ r. cond (key_eq c.args.key q) (changed r o) (held c.args.latest.now q)) (c.uncovered.ensures ∙ ap (uncovered c.args.shadow) c.get-kept.ensures)
+    ∙ ap (λ r. cond (key_eq c.args.key q) r (held c.args.latest.now q)) (changed_own (uncovered c.args.shadow) (uncovered_none c.args.shadow) o)

@@ -1,0 +1,31 @@
+-- What the table of the latest events holds of each key. No public clause cites this module.
+use Rattle.std.specs.Prelude.{◌≡◌, ℕ, List, Option, Some, None, slice_get, slice_set, if◌then◌else◌}
+use Rattle.std.specs.HashMap.{get}
+use Rattle.std.specs.Map.{lookup}
+use Rattle.schedule.specs.Keys.{key_eq}
+use Rattle.schedule.specs.declared.latest.Key.{Key}
+use Rattle.schedule.specs.declared.latest.Latest.{Latest}
+use Rattle.schedule.specs.declared.latest_table.LatestTable.{LatestTable}
+
+-- what the list has of a key, if the key has a place there, and else what the map has
+abbrev pub held_or : Option (Option Latest) → Option Latest → Option Latest
+held_or None o = o
+held_or (Some m) o = m
+
+-- what the table holds of the key
+abbrev pub held : LatestTable → Key → Option Latest
+held t q = held_or (lookup (key_eq q) t.near.items) (get key_eq t.far q)
+
+-- what is kept after a change, if anything was
+abbrev pub changed : Option Latest → Option Latest → Option Latest
+changed latest None = None
+changed latest (Some m) = latest
+
+-- the key has this place in the list: what stands there is what the list has of it, and what is put there is what the
+-- list has then
+pub record IsPlaceOf (near : List (Key × Option Latest)) (k : Key) (i : ℕ) : Type 0 where
+  pub kept : Option Latest
+  pub there : slice_get near i ≡ Some (k, kept)
+  pub found : lookup (key_eq k) near ≡ Some kept
+  pub placed : (v : Option Latest) (q : Key)
+      → lookup (key_eq q) (slice_set near i (k, v)) ≡ (if key_eq k q then Some v else lookup (key_eq q) near)
