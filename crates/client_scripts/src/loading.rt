@@ -56,6 +56,18 @@ pub fn load(alloc: Global, text: &[u8]) -> Result<Indexed, ReplayFault>
     Ok(indexed)
 }
 
+/// The same of a text that goes once it is read, since the tables take the room that it took.
+fn load_owned(alloc: Global, text: Vec<u8>) -> Result<Indexed, ReplayFault>
+    ensures { (result ≡ Err OutOfMemory) ⊎ (trace_of text.items ≡ result) }
+{
+    let read = parse(alloc, &text);
+    drop(text);
+    let raw = read?;
+    let trace = check_trace(alloc, raw)?;
+    let indexed = Indexed::new(alloc, trace)?;
+    Ok(indexed)
+}
+
 /// Reads the whole of an input, which is number 1, and makes the tables of the trace that it holds; or 91, 92 or 94, or 96 for want of memory.
 pub fn read_trace<S: Source>(alloc: Global, reader: &mut S) -> Result<Indexed, ReplayFault>
     requires { S.has_failed reader.old ≡ false }
@@ -71,7 +83,7 @@ pub fn read_trace<S: Source>(alloc: Global, reader: &mut S) -> Result<Indexed, R
     ensures failed { S.has_failed reader.new ≡ true → result ≡ Err (Read 1 Device) }
 {
     match read_input(alloc, reader, 1) {
-        Ok(text) => load(alloc, &text),
+        Ok(text) => load_owned(alloc, text),
         Err(fault) => Err(fault),
     }
 }

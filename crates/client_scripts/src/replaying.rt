@@ -26,8 +26,33 @@ use std::sync::Arc;
 /// How many bytes are kept back before they are written.
 const FULL: usize = 65_536;
 
-/// Makes a call and appends the line of its answer; says whether the answer is a reply.
+/// Makes a call and appends the line of its answer; says whether the answer is a reply. A look at a schedule prints its
+/// events where they are, and copies no list.
 fn make_call(
+    bench: &mut Bench,
+    client: u32,
+    call: &Call,
+    out: &mut Vec<u8>,
+) -> Result<bool, OutOfMemory>
+    requires low { 1 ≤ client }
+    requires high { client ≤ client_limit }
+    ensures trace { bench.new.trace ≡ bench.old.trace }
+    ensures text { OnOk result
+        (out.new.items ≡ out.old.items ++ answer_text bench.old.trace (answer_of bench.old.trace bench.old.log client call.now)) }
+    ensures accepted { IfOk result (λ accepted. accepted ≡ is_ok (answer_of bench.old.trace bench.old.log client call.now)) }
+    ensures log { OnOk result (bench.new.log ≡ log_after bench.old.trace bench.old.log client call.now) }
+{
+    if let Call::Show(name) = call {
+        if let Some(events) = bench.shown(name) {
+            report::shown(events, out)?;
+            return Ok(true);
+        }
+    }
+    tell_answer(bench, client, call, out)
+}
+
+/// The same by the answer as a value.
+fn tell_answer(
     bench: &mut Bench,
     client: u32,
     call: &Call,

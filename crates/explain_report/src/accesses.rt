@@ -6,22 +6,20 @@ ghost use Rattle.explain_report.specs.Accesses.{access_text, held_locks, lock_li
 use crate::event_lines::{append_event, append_lock};
 use crate::pieces::{append_number, append_words};
 use event_index::Indexed;
-use must_order::Must;
+use must_order::Analysis;
 use rapid_text::OutOfMemory;
 
 /// Appends both accesses of a pair, each behind its number.
 pub(crate) fn append_pair(
     out: &mut Vec<u8>,
-    indexed: &Indexed,
-    must: &Must,
+    analysis: &Analysis<'_>,
     first: u32,
     second: u32,
 ) -> Result<(), OutOfMemory>
-    requires { must.now ≡ indexed.now }
-    ensures { OnOk result (out.new.items ≡ out.old.items ++ pair_text indexed.now first second) }
+    ensures { OnOk result (out.new.items ≡ out.old.items ++ pair_text analysis.now first second) }
 {
-    append_numbered_access(out, indexed, must, first)?;
-    append_numbered_access(out, indexed, must, second)?;
+    append_numbered_access(out, analysis, first)?;
+    append_numbered_access(out, analysis, second)?;
     Ok(())
 }
 
@@ -29,51 +27,37 @@ pub(crate) fn append_pair(
 /// no such event.
 fn append_numbered_access(
     out: &mut Vec<u8>,
-    indexed: &Indexed,
-    must: &Must,
+    analysis: &Analysis<'_>,
     event: u32,
 ) -> Result<(), OutOfMemory>
-    requires { must.now ≡ indexed.now }
-    ensures { OnOk result (out.new.items ≡ out.old.items ++ numbered_access indexed.now event) }
+    ensures { OnOk result (out.new.items ≡ out.old.items ++ numbered_access analysis.now event) }
 {
-    if event >= indexed.len() {
+    if event >= analysis.indexed().len() {
         return Ok(());
     }
     append_number(out, u64::from(event))?;
-    append_access(out, indexed, must, event)?;
+    append_access(out, analysis, event)?;
     Ok(())
 }
 
 /// Appends the canonical line of the event behind two blanks, and a line for each lock that its thread holds before it.
-fn append_access(
-    out: &mut Vec<u8>,
-    indexed: &Indexed,
-    must: &Must,
-    event: u32,
-) -> Result<(), OutOfMemory>
-    requires must { must.now ≡ indexed.now }
-    requires event { event < length indexed.now.events }
-    ensures { OnOk result (out.new.items ≡ out.old.items ++ access_text indexed.now event) }
+fn append_access(out: &mut Vec<u8>, analysis: &Analysis<'_>, event: u32) -> Result<(), OutOfMemory>
+    requires event { event < length analysis.now.events }
+    ensures { OnOk result (out.new.items ≡ out.old.items ++ access_text analysis.now event) }
 {
     append_words(out, b"  ")?;
-    append_event(out, indexed, event)?;
-    append_held(out, indexed, must, event)?;
+    append_event(out, analysis.indexed(), event)?;
+    append_held(out, analysis, event)?;
     Ok(())
 }
 
 /// Appends a line for each lock that the event's thread holds before it.
-fn append_held(
-    out: &mut Vec<u8>,
-    indexed: &Indexed,
-    must: &Must,
-    event: u32,
-) -> Result<(), OutOfMemory>
-    requires must { must.now ≡ indexed.now }
-    requires event { event < length indexed.now.events }
-    ensures { OnOk result (out.new.items ≡ out.old.items ++ lock_lines indexed.now (held_locks indexed.now event)) }
+fn append_held(out: &mut Vec<u8>, analysis: &Analysis<'_>, event: u32) -> Result<(), OutOfMemory>
+    requires event { event < length analysis.now.events }
+    ensures { OnOk result (out.new.items ≡ out.old.items ++ lock_lines analysis.now (held_locks analysis.now event)) }
 {
-    let locks = must.locks_held(*out.allocator(), indexed, event)?;
-    append_locks(out, indexed, locks.as_slice())?;
+    let locks = analysis.locks_held(*out.allocator(), event)?;
+    append_locks(out, analysis.indexed(), locks.as_slice())?;
     Ok(())
 }
 

@@ -11,9 +11,8 @@ use crate::event_lines::{append_line, append_lock, append_thread_of};
 use crate::pieces::{append_number, append_words};
 use crate::shb_order::append_shb_chain;
 use event_index::Indexed;
-use must_order::{Chain, Must};
+use must_order::{Analysis, Chain};
 use rapid_text::OutOfMemory;
-use shb_clocks::Clocks;
 
 /// Appends the line that the first event comes before the second.
 pub(crate) fn append_forced_head(
@@ -34,20 +33,16 @@ pub(crate) fn append_forced_head(
 /// Appends that the first event comes before the second, the two events, and by which chains.
 pub(crate) fn append_forced(
     out: &mut Vec<u8>,
-    indexed: &Indexed,
-    clocks: &Clocks,
-    must: &Must,
+    analysis: &Analysis<'_>,
     chains: &[Chain],
     pair: (u32, u32),
 ) -> Result<(), OutOfMemory>
-    requires clocks { clocks.now ≡ indexed.now }
-    requires must { must.now ≡ indexed.now }
-    ensures { OnOk result ((text : List ℕ) × IsForcedTold indexed.now chains.now pair.0 pair.1 text × (out.new.items ≡ out.old.items ++ text)) }
+    ensures { OnOk result ((text : List ℕ) × IsForcedTold analysis.now chains.now pair.0 pair.1 text × (out.new.items ≡ out.old.items ++ text)) }
 {
     append_forced_head(out, pair.0, pair.1)?;
-    append_pair(out, indexed, must, pair.0, pair.1)?;
+    append_pair(out, analysis, pair.0, pair.1)?;
     append_words(out, b"since\n")?;
-    append_chains(out, indexed, clocks, chains)?;
+    append_chains(out, analysis, chains)?;
     Ok(())
 }
 
@@ -68,39 +63,36 @@ pub(crate) fn append_guarded_head(
 /// Appends that both threads hold the lock, the two events, and since when and until when they do.
 pub(crate) fn append_guarded(
     out: &mut Vec<u8>,
-    indexed: &Indexed,
-    must: &Must,
+    analysis: &Analysis<'_>,
     lock: u32,
     pair: (u32, u32),
 ) -> Result<(), OutOfMemory>
-    requires { must.now ≡ indexed.now }
-    ensures { OnOk result ((text : List ℕ) × IsGuardedTold indexed.now lock pair.0 pair.1 text × (out.new.items ≡ out.old.items ++ text)) }
+    ensures { OnOk result ((text : List ℕ) × IsGuardedTold analysis.now lock pair.0 pair.1 text × (out.new.items ≡ out.old.items ++ text)) }
 {
-    append_guarded_head(out, indexed, lock)?;
-    append_pair(out, indexed, must, pair.0, pair.1)?;
-    append_section(out, indexed, must, lock, pair.0)?;
-    append_section(out, indexed, must, lock, pair.1)?;
+    append_guarded_head(out, analysis.indexed(), lock)?;
+    append_pair(out, analysis, pair.0, pair.1)?;
+    append_section(out, analysis, lock, pair.0)?;
+    append_section(out, analysis, lock, pair.1)?;
     Ok(())
 }
 
 /// Appends the section of the lock in which the event lies, where it lies in one.
 fn append_section(
     out: &mut Vec<u8>,
-    indexed: &Indexed,
-    must: &Must,
+    analysis: &Analysis<'_>,
     lock: u32,
     event: u32,
 ) -> Result<(), OutOfMemory>
-    requires { must.now ≡ indexed.now }
-    ensures { OnOk result ((text : List ℕ) × IsSectionTold indexed.now event lock text × (out.new.items ≡ out.old.items ++ text)) }
+    ensures { OnOk result ((text : List ℕ) × IsSectionTold analysis.now event lock text × (out.new.items ≡ out.old.items ++ text)) }
 {
+    let indexed = analysis.indexed();
     if lock >= indexed.locks() {
         return Ok(());
     }
     if event >= indexed.len() {
         return Ok(());
     }
-    match must.held_since(indexed, event, lock) {
+    match analysis.held_since(event, lock) {
         Some(acquire) => append_held(out, indexed, event, acquire),
         None => Ok(()),
     }
@@ -158,19 +150,15 @@ pub(crate) fn append_undecided_head(out: &mut Vec<u8>) -> Result<(), OutOfMemory
 /// Appends that neither was found, the two events, and by which events SHB orders the pair.
 pub(crate) fn append_undecided(
     out: &mut Vec<u8>,
-    indexed: &Indexed,
-    clocks: &Clocks,
-    must: &Must,
+    analysis: &Analysis<'_>,
     events: &[u32],
     pair: (u32, u32),
 ) -> Result<(), OutOfMemory>
-    requires clocks { clocks.now ≡ indexed.now }
-    requires must { must.now ≡ indexed.now }
-    ensures { OnOk result ((text : List ℕ) × IsUndecidedTold indexed.now pair.0 pair.1 text × (out.new.items ≡ out.old.items ++ text)) }
+    ensures { OnOk result ((text : List ℕ) × IsUndecidedTold analysis.now pair.0 pair.1 text × (out.new.items ≡ out.old.items ++ text)) }
 {
     append_undecided_head(out)?;
-    append_pair(out, indexed, must, pair.0, pair.1)?;
+    append_pair(out, analysis, pair.0, pair.1)?;
     append_words(out, b"in SHB\n")?;
-    append_shb_chain(out, indexed, clocks, events)?;
+    append_shb_chain(out, analysis, events)?;
     Ok(())
 }

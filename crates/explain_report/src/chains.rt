@@ -8,39 +8,34 @@ use crate::event_lines::{append_line, append_lock_of, append_thread_of, op_of};
 use crate::pieces::{append_indent, append_number, append_words};
 use crate::raced::append_race_note;
 use event_index::Indexed;
-use must_order::{Chain, Reason, Step};
+use must_order::{Analysis, Chain, Reason, Step};
 use rapid_text::OutOfMemory;
-use shb_clocks::Clocks;
 
 /// Appends the first chain, and below it, each a step deeper and each once, the chains that tell why a section began
 /// before another.
 pub(crate) fn append_chains(
     out: &mut Vec<u8>,
-    indexed: &Indexed,
-    clocks: &Clocks,
+    analysis: &Analysis<'_>,
     chains: &[Chain],
 ) -> Result<(), OutOfMemory>
-    requires { clocks.now ≡ indexed.now }
-    ensures { OnOk result ((told : List ℕ) × AreTold indexed.now chains.now told × (out.new.items ≡ out.old.items ++ told)) }
+    ensures { OnOk result ((told : List ℕ) × AreTold analysis.now chains.now told × (out.new.items ≡ out.old.items ++ told)) }
 {
     let Some(chain) = chains.first() else {
         return Ok(());
     };
-    append_chain(out, indexed, clocks, chain, 0)?;
-    append_causes(out, indexed, clocks, chains, chain)?;
+    append_chain(out, analysis, chain, 0)?;
+    append_causes(out, analysis, chains, chain)?;
     Ok(())
 }
 
 /// Appends, below the first chain, which was told, the others.
 fn append_causes(
     out: &mut Vec<u8>,
-    indexed: &Indexed,
-    clocks: &Clocks,
+    analysis: &Analysis<'_>,
     chains: &[Chain],
     first: &Chain,
 ) -> Result<(), OutOfMemory>
-    requires { clocks.now ≡ indexed.now }
-    ensures { OnOk result ((told : List ℕ) × GoesOn indexed.now chains.now told × (out.new.items ≡ out.old.items ++ told)) }
+    ensures { OnOk result ((told : List ℕ) × GoesOn analysis.now chains.now told × (out.new.items ≡ out.old.items ++ told)) }
 {
     let alloc = *out.allocator();
     let mut told = vec![in alloc; false; chains.len()]?;
@@ -53,7 +48,7 @@ fn append_causes(
         if at >= chains.len() {
             break;
         }
-        append_below(out, indexed, clocks, &chains[at], depth)?;
+        append_below(out, analysis, &chains[at], depth)?;
         let deeper = depth.saturating_add(1);
         open_causes(&mut open, &mut told, chains, &chains[at], deeper)?;
     }
@@ -63,17 +58,15 @@ fn append_causes(
 /// Appends for what a chain stands, a step less deep, and the chain.
 fn append_below(
     out: &mut Vec<u8>,
-    indexed: &Indexed,
-    clocks: &Clocks,
+    analysis: &Analysis<'_>,
     chain: &Chain,
     depth: u32,
 ) -> Result<(), OutOfMemory>
-    requires { clocks.now ≡ indexed.now }
     ensures { OnOk result ((d : ℕ) × (takes : Bool)
-        × (out.new.items ≡ out.old.items ++ (cause_text indexed.now d chain.now (holding takes) ++ chain_text indexed.now depth chain.now))) }
+        × (out.new.items ≡ out.old.items ++ (cause_text analysis.now d chain.now (holding takes) ++ chain_text analysis.now depth chain.now))) }
 {
-    append_cause(out, indexed, chain, depth.saturating_sub(1))?;
-    append_chain(out, indexed, clocks, chain, depth)?;
+    append_cause(out, analysis.indexed(), chain, depth.saturating_sub(1))?;
+    append_chain(out, analysis, chain, depth)?;
     Ok(())
 }
 
@@ -161,36 +154,32 @@ fn holding_of(takes: bool) -> &'static [u8]
 /// Appends a chain so deep: where it begins, and its steps.
 fn append_chain(
     out: &mut Vec<u8>,
-    indexed: &Indexed,
-    clocks: &Clocks,
+    analysis: &Analysis<'_>,
     chain: &Chain,
     depth: u32,
 ) -> Result<(), OutOfMemory>
-    requires { clocks.now ≡ indexed.now }
-    ensures { OnOk result (out.new.items ≡ out.old.items ++ chain_text indexed.now depth chain.now) }
+    ensures { OnOk result (out.new.items ≡ out.old.items ++ chain_text analysis.now depth chain.now) }
 {
     append_indent(out, depth)?;
-    append_line(out, indexed, chain.first)?;
-    append_steps(out, indexed, clocks, chain.steps.as_slice(), depth)?;
+    append_line(out, analysis.indexed(), chain.first)?;
+    append_steps(out, analysis, chain.steps.as_slice(), depth)?;
     Ok(())
 }
 
 /// Appends the steps; those along one thread are drawn together.
 fn append_steps(
     out: &mut Vec<u8>,
-    indexed: &Indexed,
-    clocks: &Clocks,
+    analysis: &Analysis<'_>,
     steps: &[Step],
     depth: u32,
 ) -> Result<(), OutOfMemory>
-    requires { clocks.now ≡ indexed.now }
-    ensures { OnOk result (out.new.items ≡ out.old.items ++ steps_text indexed.now depth None steps.now) }
+    ensures { OnOk result (out.new.items ≡ out.old.items ++ steps_text analysis.now depth None steps.now) }
 {
     let mut later = None;
     for step in steps {
-        later = append_next(out, indexed, clocks, later, *step, depth)?;
+        later = append_next(out, analysis, later, *step, depth)?;
     }
-    append_later(out, indexed, later, depth)?;
+    append_later(out, analysis.indexed(), later, depth)?;
     Ok(())
 }
 
@@ -198,21 +187,19 @@ fn append_steps(
 /// that wait now.
 fn append_next(
     out: &mut Vec<u8>,
-    indexed: &Indexed,
-    clocks: &Clocks,
+    analysis: &Analysis<'_>,
     later: Option<u32>,
     step: Step,
     depth: u32,
 ) -> Result<Option<u32>, OutOfMemory>
-    requires { clocks.now ≡ indexed.now }
     ensures { IfOk result (λ next. (rest : List StepValue)
-        → out.new.items ++ steps_text indexed.now depth next rest ≡ out.old.items ++ steps_text indexed.now depth later (step ∷ rest)) }
+        → out.new.items ++ steps_text analysis.now depth next rest ≡ out.old.items ++ steps_text analysis.now depth later (step ∷ rest)) }
 {
     if is_later(step.reason) {
         return Ok(Some(step.to));
     }
-    append_later(out, indexed, later, depth)?;
-    append_step(out, indexed, clocks, step, depth)?;
+    append_later(out, analysis.indexed(), later, depth)?;
+    append_step(out, analysis, step, depth)?;
     Ok(None)
 }
 
@@ -262,54 +249,44 @@ fn append_later_line(
 /// Appends why the step leads on, and the event to which it leads.
 fn append_step(
     out: &mut Vec<u8>,
-    indexed: &Indexed,
-    clocks: &Clocks,
+    analysis: &Analysis<'_>,
     step: Step,
     depth: u32,
 ) -> Result<(), OutOfMemory>
-    requires { clocks.now ≡ indexed.now }
-    ensures { OnOk result (out.new.items ≡ out.old.items ++ step_text indexed.now depth step) }
+    ensures { OnOk result (out.new.items ≡ out.old.items ++ step_text analysis.now depth step) }
 {
     append_indent(out, depth)?;
-    append_reason(out, indexed, clocks, step)?;
+    append_reason(out, analysis, step)?;
     append_indent(out, depth)?;
-    append_line(out, indexed, step.to)?;
+    append_line(out, analysis.indexed(), step.to)?;
     Ok(())
 }
 
 /// Appends why the step leads on; of a read that races with the write that it reads, that this is so.
-fn append_reason(
-    out: &mut Vec<u8>,
-    indexed: &Indexed,
-    clocks: &Clocks,
-    step: Step,
-) -> Result<(), OutOfMemory>
-    requires { clocks.now ≡ indexed.now }
-    ensures { OnOk result (out.new.items ≡ out.old.items ++ reason_text indexed.now step.from step.to step.reason) }
+fn append_reason(out: &mut Vec<u8>, analysis: &Analysis<'_>, step: Step) -> Result<(), OutOfMemory>
+    ensures { OnOk result (out.new.items ≡ out.old.items ++ reason_text analysis.now step.from step.to step.reason) }
 {
     match step.reason {
         Reason::Later => append_words(out, b"  and later in its thread\n"),
         Reason::Forked => append_words(out, b"  begins the thread of\n"),
-        Reason::Written => append_written(out, indexed, clocks, step.from, step.to),
+        Reason::Written => append_written(out, analysis, step.from, step.to),
         Reason::Joined => append_words(out, b"  ends the thread that is joined by\n"),
         Reason::ForkJoined => append_words(out, b"  forks the thread that is joined by\n"),
-        Reason::Ended(acquire) => append_ended(out, indexed, acquire),
+        Reason::Ended(acquire) => append_ended(out, analysis.indexed(), acquire),
     }
 }
 
 /// Appends that the second event reads what the first wrote, and whether the two race.
 pub(crate) fn append_written(
     out: &mut Vec<u8>,
-    indexed: &Indexed,
-    clocks: &Clocks,
+    analysis: &Analysis<'_>,
     first: u32,
     second: u32,
 ) -> Result<(), OutOfMemory>
-    requires { clocks.now ≡ indexed.now }
-    ensures { OnOk result (out.new.items ≡ out.old.items ++ reason_text indexed.now first second Written) }
+    ensures { OnOk result (out.new.items ≡ out.old.items ++ reason_text analysis.now first second Written) }
 {
     append_words(out, b"  is read by")?;
-    append_race_note(out, indexed, clocks, first, second)?;
+    append_race_note(out, analysis, first, second)?;
     append_words(out, b"\n")?;
     Ok(())
 }

@@ -3,10 +3,8 @@ ghost use Rattle.std.specs.Prelude.{◌≡◌, ◌++◌, OnOk, find};
 ghost use Rattle.explain_report.specs.Chains.{CandidatesAreTold, is_candidate, is_raced, is_written, race_note, raced_step};
 
 use crate::pieces::{append_number, append_words};
-use event_index::Indexed;
-use must_order::{Chain, Reason, Step};
+use must_order::{Analysis, Chain, Reason, Step};
 use rapid_text::OutOfMemory;
-use shb_clocks::Clocks;
 
 /// That two events race is told exactly where they are a candidate.
 pub fn candidates_are_told()
@@ -14,28 +12,25 @@ pub fn candidates_are_told()
 {}
 
 /// Whether the two events are a candidate, the first the earlier.
-fn is_race(indexed: &Indexed, clocks: &Clocks, first: u32, second: u32) -> bool
-    requires { clocks.now ≡ indexed.now }
-    ensures { result ≡ is_candidate indexed.now.events first second }
+fn is_race(analysis: &Analysis<'_>, first: u32, second: u32) -> bool
+    ensures { result ≡ is_candidate analysis.now.events first second }
 {
-    if first >= second || second >= indexed.len() {
+    if first >= second || second >= analysis.indexed().len() {
         return false;
     }
-    clocks.candidate(indexed, first, second)
+    analysis.is_candidate(first, second)
 }
 
 /// Appends that the two events race, where they do.
 pub(crate) fn append_race_note(
     out: &mut Vec<u8>,
-    indexed: &Indexed,
-    clocks: &Clocks,
+    analysis: &Analysis<'_>,
     first: u32,
     second: u32,
 ) -> Result<(), OutOfMemory>
-    requires { clocks.now ≡ indexed.now }
-    ensures { OnOk result (out.new.items ≡ out.old.items ++ race_note indexed.now.events first second) }
+    ensures { OnOk result (out.new.items ≡ out.old.items ++ race_note analysis.now.events first second) }
 {
-    if !is_race(indexed, clocks, first, second) {
+    if !is_race(analysis, first, second) {
         return Ok(());
     }
     append_words(out, b" (these two race: explain ")?;
@@ -47,12 +42,11 @@ pub(crate) fn append_race_note(
 }
 
 /// The first step of the chains from a write to a read of what it wrote that race themselves.
-pub fn first_raced(indexed: &Indexed, clocks: &Clocks, chains: &[Chain]) -> Option<Step>
-    requires { clocks.now ≡ indexed.now }
-    ensures { result ≡ raced_step indexed.now.events chains.now }
+pub fn first_raced(analysis: &Analysis<'_>, chains: &[Chain]) -> Option<Step>
+    ensures { result ≡ raced_step analysis.now.events chains.now }
 {
     for chain in chains {
-        if let Some(step) = raced_of(indexed, clocks, chain.steps.as_slice()) {
+        if let Some(step) = raced_of(analysis, chain.steps.as_slice()) {
             return Some(step);
         }
     }
@@ -60,12 +54,11 @@ pub fn first_raced(indexed: &Indexed, clocks: &Clocks, chains: &[Chain]) -> Opti
 }
 
 /// The first such of these steps.
-fn raced_of(indexed: &Indexed, clocks: &Clocks, steps: &[Step]) -> Option<Step>
-    requires { clocks.now ≡ indexed.now }
-    ensures { result ≡ find (is_raced indexed.now.events) steps.now }
+fn raced_of(analysis: &Analysis<'_>, steps: &[Step]) -> Option<Step>
+    ensures { result ≡ find (is_raced analysis.now.events) steps.now }
 {
     for step in steps {
-        if is_raced_step(indexed, clocks, *step) {
+        if is_raced_step(analysis, *step) {
             return Some(*step);
         }
     }
@@ -73,11 +66,10 @@ fn raced_of(indexed: &Indexed, clocks: &Clocks, steps: &[Step]) -> Option<Step>
 }
 
 /// Whether the step is from a write to a read of what it wrote, and the two race.
-fn is_raced_step(indexed: &Indexed, clocks: &Clocks, step: Step) -> bool
-    requires { clocks.now ≡ indexed.now }
-    ensures { result ≡ is_raced indexed.now.events step }
+fn is_raced_step(analysis: &Analysis<'_>, step: Step) -> bool
+    ensures { result ≡ is_raced analysis.now.events step }
 {
-    is_written(step.reason) && is_race(indexed, clocks, step.from, step.to)
+    is_written(step.reason) && is_race(analysis, step.from, step.to)
 }
 
 fn is_written(reason: Reason) -> bool

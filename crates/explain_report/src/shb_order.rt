@@ -6,21 +6,19 @@ use crate::event_lines::{append_line, op_of, thread_of};
 use crate::pieces::append_words;
 use crate::waiting::words_between;
 use event_index::Indexed;
+use must_order::Analysis;
 use rapid_text::{Op, OutOfMemory};
-use shb_clocks::Clocks;
 use std::alloc::Global;
 
 /// Events from the first to the second, of which each is an edge of SHB before the next, where SHB keeps the first
 /// before the base of the second; else fewer.
 pub fn shb_chain(
     alloc: Global,
-    indexed: &Indexed,
-    clocks: &Clocks,
+    analysis: &Analysis<'_>,
     first: u32,
     second: u32,
-) -> Result<Vec<u32>, OutOfMemory>
-    requires { clocks.now ≡ indexed.now }
-{
+) -> Result<Vec<u32>, OutOfMemory> {
+    let indexed = analysis.indexed();
     let releases = releases_before(alloc, indexed)?;
     let mut events = Vec::new(alloc);
     events.push(second)?;
@@ -31,7 +29,7 @@ pub fn shb_chain(
         if event == first {
             break;
         }
-        next = step_back(indexed, clocks, releases.as_slice(), first, event);
+        next = step_back(analysis, releases.as_slice(), first, event);
     }
     events.reverse();
     Ok(events)
@@ -67,18 +65,16 @@ fn releases_before(alloc: Global, indexed: &Indexed) -> Result<Vec<Option<u32>>,
 
 /// What comes directly before the event, and is the first event or after it in SHB.
 fn step_back(
-    indexed: &Indexed,
-    clocks: &Clocks,
+    analysis: &Analysis<'_>,
     releases: &[Option<u32>],
     first: u32,
     event: u32,
-) -> Option<u32>
-    requires { clocks.now ≡ indexed.now }
-{
+) -> Option<u32> {
+    let indexed = analysis.indexed();
     let release = releases.get(event as usize).copied().flatten();
-    is_after(indexed, clocks, first, base_of(indexed, event))
-        .or(is_after(indexed, clocks, first, source_of(indexed, event)))
-        .or(is_after(indexed, clocks, first, release))
+    is_after(analysis, first, base_of(indexed, event))
+        .or(is_after(analysis, first, source_of(indexed, event)))
+        .or(is_after(analysis, first, release))
 }
 
 /// The write that the event reads, or the end of the thread that it joins.
@@ -107,9 +103,8 @@ fn end_of(indexed: &Indexed, thread: u32) -> Option<u32> {
 }
 
 /// The event, where it is the first one or after it in SHB.
-fn is_after(indexed: &Indexed, clocks: &Clocks, first: u32, event: Option<u32>) -> Option<u32>
-    requires { clocks.now ≡ indexed.now }
-{
+fn is_after(analysis: &Analysis<'_>, first: u32, event: Option<u32>) -> Option<u32> {
+    let indexed = analysis.indexed();
     let event = event?;
     if first >= indexed.len() {
         return None;
@@ -117,7 +112,7 @@ fn is_after(indexed: &Indexed, clocks: &Clocks, first: u32, event: Option<u32>) 
     if event >= indexed.len() {
         return None;
     }
-    if clocks.ordered(first, event) {
+    if analysis.clocks().ordered(first, event) {
         return Some(event);
     }
     None
@@ -126,15 +121,13 @@ fn is_after(indexed: &Indexed, clocks: &Clocks, first: u32, event: Option<u32>) 
 /// Appends the chain; events of one thread in a row are drawn together.
 pub(crate) fn append_shb_chain(
     out: &mut Vec<u8>,
-    indexed: &Indexed,
-    clocks: &Clocks,
+    analysis: &Analysis<'_>,
     events: &[u32],
 ) -> Result<(), OutOfMemory>
-    requires { clocks.now ≡ indexed.now }
     ensures { OnOk result ((text : List ℕ) × (out.new.items ≡ out.old.items ++ text)) }
 {
     let mut text = Vec::new(*out.allocator());
-    append_links(&mut text, indexed, clocks, events)?;
+    append_links(&mut text, analysis, events)?;
     out.extend_from_slice(text.as_slice())?;
     Ok(())
 }
@@ -142,12 +135,10 @@ pub(crate) fn append_shb_chain(
 /// Appends the events of the chain, and between those of two threads why the one comes before the other.
 fn append_links(
     out: &mut Vec<u8>,
-    indexed: &Indexed,
-    clocks: &Clocks,
+    analysis: &Analysis<'_>,
     events: &[u32],
-) -> Result<(), OutOfMemory>
-    requires { clocks.now ≡ indexed.now }
-{
+) -> Result<(), OutOfMemory> {
+    let indexed = analysis.indexed();
     let mut before: Option<u32> = None;
     let mut later: Option<u32> = None;
     for event in events {
@@ -161,7 +152,7 @@ fn append_links(
             append_later(out, indexed, later)?;
             later = None;
             if let Some(other) = before {
-                append_link(out, indexed, clocks, other, *event)?;
+                append_link(out, analysis, other, *event)?;
             }
             append_line(out, indexed, *event)?;
         }
@@ -173,18 +164,16 @@ fn append_links(
 /// Appends why the first event comes before the second, which is of another thread.
 fn append_link(
     out: &mut Vec<u8>,
-    indexed: &Indexed,
-    clocks: &Clocks,
+    analysis: &Analysis<'_>,
     first: u32,
     second: u32,
-) -> Result<(), OutOfMemory>
-    requires { clocks.now ≡ indexed.now }
-{
+) -> Result<(), OutOfMemory> {
+    let indexed = analysis.indexed();
     if let (Some(Op::Write(_)), Some(Op::Read(_))) = (
         op_of(indexed, first),
         op_of(indexed, second),
     ) {
-        return append_written(out, indexed, clocks, first, second);
+        return append_written(out, analysis, first, second);
     }
     append_words(out, b"  ")?;
     append_words(out, words_between(indexed, first, second))?;

@@ -11,9 +11,8 @@ use crate::apart::{
 use crate::pieces::{append_count, append_words};
 use crate::runs::{append_runs, run_count};
 use event_index::Indexed;
-use must_order::{Chain, Must};
+use must_order::{Analysis, Chain};
 use rapid_text::OutOfMemory;
-use shb_clocks::Clocks;
 
 /// How a race is shown.
 #[derive(Clone, Copy, PartialEq, Eq, Debug)]
@@ -60,21 +59,17 @@ pub enum Verdict<'a> {
 /// Appends what is known of the pair, whose earlier event stands first, the two events, and the reason. Where memory is refused
 /// `out` stays as it was.
 pub fn explain_text(
-    indexed: &Indexed,
-    clocks: &Clocks,
-    must: &Must,
+    analysis: &Analysis<'_>,
     verdict: &Verdict<'_>,
     pair: (u32, u32),
     out: &mut Vec<u8>,
 ) -> Result<(), OutOfMemory>
-    requires clocks { clocks.now ≡ indexed.now }
-    requires must { must.now ≡ indexed.now }
     // The text tells the verdict, both accesses with the locks that are held, and the reason.
-    ensures ok { OnOk result ((text : List ℕ) × IsTold indexed.now verdict.now pair.0 pair.1 text × (out.new.items ≡ out.old.items ++ text)) }
+    ensures ok { OnOk result ((text : List ℕ) × IsTold analysis.now verdict.now pair.0 pair.1 text × (out.new.items ≡ out.old.items ++ text)) }
     ensures err { OnErr result (out.new.items ≡ out.old.items) }
 {
     let mut text = Vec::new(*out.allocator());
-    append_told(&mut text, indexed, clocks, must, verdict, pair)?;
+    append_told(&mut text, analysis, verdict, pair)?;
     out.extend_from_slice(text.as_slice())?;
     Ok(())
 }
@@ -82,23 +77,19 @@ pub fn explain_text(
 /// Appends the same. Where memory is refused a beginning of it may stand.
 fn append_told(
     out: &mut Vec<u8>,
-    indexed: &Indexed,
-    clocks: &Clocks,
-    must: &Must,
+    analysis: &Analysis<'_>,
     verdict: &Verdict<'_>,
     pair: (u32, u32),
 ) -> Result<(), OutOfMemory>
-    requires clocks { clocks.now ≡ indexed.now }
-    requires must { must.now ≡ indexed.now }
-    ensures { OnOk result ((text : List ℕ) × IsTold indexed.now verdict.now pair.0 pair.1 text × (out.new.items ≡ out.old.items ++ text)) }
+    ensures { OnOk result ((text : List ℕ) × IsTold analysis.now verdict.now pair.0 pair.1 text × (out.new.items ≡ out.old.items ++ text)) }
 {
     match *verdict {
         Verdict::Race { how, events, all } => {
-            append_race(out, indexed, must, events, (how, all), pair)
+            append_race(out, analysis, events, (how, all), pair)
         }
-        Verdict::Forced { chains } => append_forced(out, indexed, clocks, must, chains, pair),
-        Verdict::Guarded { lock } => append_guarded(out, indexed, must, lock, pair),
-        Verdict::Undecided { events } => append_undecided(out, indexed, clocks, must, events, pair),
+        Verdict::Forced { chains } => append_forced(out, analysis, chains, pair),
+        Verdict::Guarded { lock } => append_guarded(out, analysis, lock, pair),
+        Verdict::Undecided { events } => append_undecided(out, analysis, events, pair),
     }
 }
 
@@ -138,39 +129,35 @@ fn append_race_head(out: &mut Vec<u8>, how: How, events: u64) -> Result<(), OutO
 /// Appends that the pair is a race, the two events, and the runs of its schedule: all of them, or of many the last alone.
 fn append_race(
     out: &mut Vec<u8>,
-    indexed: &Indexed,
-    must: &Must,
+    analysis: &Analysis<'_>,
     events: &[u32],
     shown: (How, bool),
     pair: (u32, u32),
 ) -> Result<(), OutOfMemory>
-    requires { must.now ≡ indexed.now }
-    ensures { OnOk result ((text : List ℕ) × IsRaceTold indexed.now shown.0 (length events.now) pair.0 pair.1 text
+    ensures { OnOk result ((text : List ℕ) × IsRaceTold analysis.now shown.0 (length events.now) pair.0 pair.1 text
         × (out.new.items ≡ out.old.items ++ text)) }
 {
-    append_race_words(out, indexed, must, shown.0, events, pair)?;
-    append_runs(out, indexed, events, shown.1)?;
+    append_race_words(out, analysis, shown.0, events, pair)?;
+    append_runs(out, analysis.indexed(), events, shown.1)?;
     Ok(())
 }
 
 /// Appends that the pair is a race, in how many runs its schedule stands, and the two events.
 fn append_race_words(
     out: &mut Vec<u8>,
-    indexed: &Indexed,
-    must: &Must,
+    analysis: &Analysis<'_>,
     how: How,
     events: &[u32],
     pair: (u32, u32),
 ) -> Result<(), OutOfMemory>
-    requires { must.now ≡ indexed.now }
     ensures { OnOk result ((runs : ℕ)
-        × (out.new.items ≡ out.old.items ++ race_words indexed.now how (length events.now) runs pair.0 pair.1)) }
+        × (out.new.items ≡ out.old.items ++ race_words analysis.now how (length events.now) runs pair.0 pair.1)) }
 {
-    let runs = run_count(*out.allocator(), indexed, events)?;
+    let runs = run_count(*out.allocator(), analysis.indexed(), events)?;
     append_race_head(out, how, events.len() as u64)?;
     append_count(out, runs, b"run")?;
     append_words(out, b" both are next\n")?;
-    append_pair(out, indexed, must, pair.0, pair.1)?;
+    append_pair(out, analysis, pair.0, pair.1)?;
     Ok(())
 }
 

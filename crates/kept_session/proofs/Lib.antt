@@ -10,3 +10,7 @@ pub mod RunLemmas
 pub mod SplitLemmas
 pub mod WholeLemmas
 mod PrintLemmas
+mod QuestionFindLemmas
+mod QuestionOkLemmas
+mod QuestionRowLemmas
+mod QuestionRunLemmas

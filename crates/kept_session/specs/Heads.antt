@@ -1,9 +1,10 @@
 -- The head of a log's file. The format is this project's own; the digest is SHA-256 of FIPS 180-4.
-use Rattle.std.specs.Prelude.{◌≡◌, ℕ, List, ◌++◌, codes, length}
+use Rattle.std.specs.Prelude.{◌≡◌, ℕ, List, ◌++◌, codes, flat_map, length}
 use Rattle.rapid_text.specs.Recording.{Recording}
 use Rattle.rapid_text.specs.Canonical.{canonical_text}
 use Rattle.sha2.specs.Sha256.{sha256}
-use Rattle.kept_log.specs.Lines.{IsLine}
+use Rattle.client_scripts.specs.Joint.{ended}
+use Rattle.kept_log.specs.Lines.{IsLine, kept_lines}
 use Rattle.hex.specs.Hex.{encode_lower}
 
 -- the name of the format, and the digest of the trace's canonical text
@@ -17,3 +18,7 @@ pub record IsHeaded (bytes text : List ℕ) : Type 0 where
   pub size : length digest ≡ 64
   pub line : IsLine digest
   pub split : bytes ≡ codes "racebench log 1 " ++ digest ++ codes "\n" ++ text
+
+-- the lines that count in what stands behind the head, as a script
+abbrev pub script_in : List ℕ → List ℕ
+script_in text = flat_map ended (kept_lines text)

@@ -7,3 +7,7 @@ pub mod Lines
 pub mod Runs
 pub mod Sessions
 pub mod Steps
+pub mod Views
+pub mod QuestionAnswers
+pub mod QuestionItems
+pub mod QuestionWitnesses

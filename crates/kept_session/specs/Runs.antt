@@ -2,11 +2,14 @@
 -- the trace.
 use Rattle.std.specs.Prelude.{◌≡◌, ◌⊎◌, ℕ, ◌<◌, Bool, true, false, List, [], ◌∷◌, ◌++◌, Option, Some, length, take}
 use Rattle.std.specs.List.{slice_split}
-use Rattle.std.specs.Io.KnownBytes.{Appends}
+use Rattle.std.specs.Io.KnownBytes.{Appends, Consumes}
 use Rattle.rapid_text.specs.Recording.{Recording}
 use Rattle.rapid_text.specs.Reading.{is_line_feed}
 use Rattle.client_scripts.specs.Replay.{IsUnreadable}
 use Rattle.client_scripts.specs.declared.fault.ReadCause.{ReadCause}
+use Rattle.client_scripts.specs.declared.sink.Sink.{Ghosts as Sinks}
+use Rattle.client_scripts.specs.declared.source.Source.{Ghosts as Sources}
+use Rattle.inverse_log.specs.Log.{Benched}
 use Rattle.client_scripts.specs.declared.fault.ReplayFault.TheVariants.{Read, Write}
 use Rattle.kept_log.specs.Log.{LosesNone, head_of, lines_of, lines_behind}
 use Rattle.kept_log.specs.declared.device.Device.{Ghosts}
@@ -78,3 +81,15 @@ module _ {D : Type 0} (disk : Ghosts D) (T : Recording) (client : Option ℕ) wh
     pub behind : IsUnanswered log new text failed taken_old taken_new fault
         ⊎ IsUnwritten (number_behind number run.asked) log new text left failed taken_old taken_new fault
     pub unread : (why : ReadCause) → fault ≡ Replay (Read 3 why) → (line : List ℕ) × (left ≡ line ∷ []) × IsUnreadable bytes why
+
+-- What a session has read, it has answered to the end of it.
+abbrev pub IsWholeRun : {D S K : Type 0} → Ghosts D → Sources S → Sinks K → Benched → Option ℕ → KeptLog D → KeptLog D → S → S → K → K → Type 0
+IsWholeRun disk source sink bench client old new reader_old reader_new writer_old writer_new =
+    (bytes : List ℕ) × Consumes (source.rest reader_old) (source.rest reader_new) bytes
+    × IsFinished disk bench.trace client 1 old new bytes (sink.taken writer_old) (sink.taken writer_new)
+
+-- Of what a session has read, it has answered the first lines, and then this fault came.
+abbrev pub IsHaltedRun : {D S K : Type 0} → Ghosts D → Sources S → Sinks K → Benched → Option ℕ → KeptLog D → KeptLog D → S → S → K → K → SessionFault → Type 0
+IsHaltedRun disk source sink bench client old new reader_old reader_new writer_old writer_new fault =
+    (bytes : List ℕ) × Consumes (source.rest reader_old) (source.rest reader_new) bytes
+    × IsHalted disk bench.trace client 1 old new bytes (sink.has_failed writer_new) (sink.taken writer_old) (sink.taken writer_new) fault

@@ -18,7 +18,7 @@ use Rattle.kept_log.specs.Moments.{LeavesOnly}
 use Rattle.kept_log.specs.Log.{StandsFor, IsOldOrNew, BeginsWith, HasTurn, IsAtRest, IsLeft, head_of, lines_of, lines_behind}
 use Rattle.kept_log.specs.declared.device.Device.{Ghosts}
 use Rattle.kept_log.specs.declared.log.KeptLog.{KeptLog}
-use Rattle.session_questions.specs.Answers.{IsAnswer}
+use Rattle.kept_session.specs.QuestionAnswers.{IsAnswer}
 use Rattle.kept_session.specs.Lines.{line_for}
 
 -- the log L after the call that a line reads as

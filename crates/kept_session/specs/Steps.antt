@@ -1,8 +1,11 @@
 -- What the steps of a session do. No public clause cites this module. `T` is the trace; L and M are the bench's logs before and after a step.
 use Rattle.std.specs.Prelude.{◌≡◌, ◌⊎◌, ◌≤◌, ℕ, List, [], ◌∷◌, ◌++◌, length, Option, Some, Result, Ok}
+use Rattle.std.specs.List.{slice_split}
 use Rattle.std.specs.Io.KnownBytes.{Appends, Consumes}
+use Rattle.rapid_text.specs.Reading.{is_line_feed}
 use Rattle.rapid_text.specs.Recording.{Recording}
 use Rattle.inverse_log.specs.Answer.{Called}
+use Rattle.inverse_log.specs.Log.{Benched}
 use Rattle.inverse_log.specs.declared.call.Call.{Call}
 use Rattle.inverse_log.specs.declared.call.Call.TheVariants.{Undo, UndoAt}
 use Rattle.inverse_log.specs.declared.entry.Entry.{Entry}
@@ -14,14 +17,16 @@ use Rattle.script_language.specs.declared.refusal.ScriptCause.{ScriptCause}
 use Rattle.client_scripts.specs.Replay.{answer_text, IsUnreadable}
 use Rattle.client_scripts.specs.declared.fault.ReadCause.TheVariants.{TooLong}
 use Rattle.client_scripts.specs.declared.fault.ReplayFault.TheVariants.{Read, OutOfMemory as NoMemory}
+use Rattle.client_scripts.specs.declared.sink.Sink.{Ghosts as Sinks}
 use Rattle.kept_log.specs.Moments.{LeavesOnly}
 use Rattle.kept_log.specs.Log.{IsOldOrNew, head_of, lines_of}
 use Rattle.kept_log.specs.declared.device.Device.{Ghosts}
 use Rattle.kept_log.specs.declared.log.KeptLog.{KeptLog}
-use Rattle.kept_session.specs.Runs.{IsRun}
+use Rattle.kept_session.specs.Runs.{IsHalted, IsLogTurn, IsRun}
 use Rattle.kept_session.specs.Sessions.{log_behind, AreLogged, AreGained, IsAnswered, IsLineAnswered, AreAnswered, number_behind}
 use Rattle.kept_session.specs.declared.fault.SessionFault.{SessionFault}
 use Rattle.kept_session.specs.declared.fault.SessionFault.TheVariants.{Replay}
+use Rattle.kept_session.specs.declared.running.Pending.{Pending}
 
 -- the line reads as the call, or, of an undo that was answered so, as the undo of that entry by its number
 abbrev pub SaysCall : ℕ → Call → Reply → List ℕ → Type 0
@@ -69,6 +74,11 @@ pub record PieceAnswered (T : Recording) (client : Option ℕ) (first : ℕ) (ra
   pub gained : log_behind T L lines ≡ M
   pub logged : AreLogged T L lines
 
+-- A piece was answered on a bench, and its lines went to the log.
+abbrev pub IsPieceMade : {D : Type 0} → Ghosts D → Option ℕ → ℕ → List (List ℕ) → Benched → Benched → List ℕ → List ℕ → KeptLog D → KeptLog D → Type 0
+IsPieceMade disk client first raws before after out_old out_new old new =
+    PieceAnswered before.trace client first raws before.log after.log out_old out_new (lines_of disk old) (lines_of disk new)
+
 -- A piece was put into the file, or was not, whole: a crash at any moment, and the file that is seen, have the lines from before, with these or
 -- without them; and these are the lines of all its calls, or there are none.
 pub record IsPut {D : Type 0} (disk : Ghosts D) (T : Recording) (client : Option ℕ) (first : ℕ) (raws : List (List ℕ))
@@ -76,6 +86,10 @@ pub record IsPut {D : Type 0} (disk : Ghosts D) (T : Recording) (client : Option
   pub calls : (gained ≡ []) ⊎ AreGained T client first raws L gained
   pub moments : LeavesOnly disk old.device new.device (IsOldOrNew (head_of disk old) (lines_of disk old) gained)
   pub shown : IsOldOrNew (head_of disk old) (lines_of disk old) gained (disk.seen new.device)
+
+-- the same of a piece on this bench, whose log the file's lines stood for
+abbrev pub IsPutOn : {D : Type 0} → Ghosts D → Benched → Option ℕ → ℕ → List (List ℕ) → KeptLog D → KeptLog D → List (List ℕ) → Type 0
+IsPutOn disk bench client first raws old new gained = IsPut disk bench.trace client first raws bench.log old new gained
 
 -- Bytes were taken in: their whole lines were answered, of which the first had this number, and the answers written. What is begun, the line of
 -- number `next`, is left.
@@ -95,3 +109,21 @@ pub record IsUnderway {D : Type 0} (disk : Ghosts D) (T : Recording) (client : O
   pub read : Consumes rest_old rest_new bytes
   pub some : reads ≤ length bytes
   pub taken_in : IsTakenIn disk T client 1 next old new bytes begun taken_old taken_new
+
+module _ {D K : Type 0} (disk : Ghosts D) (sink : Sinks K) (bench : Benched) (client : Option ℕ) where
+  -- the lines that were begun were answered in one turn, and the answers written
+  abbrev pub IsTurnWritten : Pending → KeptLog D → KeptLog D → K → K → Type 0
+  IsTurnWritten pending old new writer_old writer_new =
+      (text : List ℕ) × IsLogTurn disk bench.trace client pending.number (slice_split is_line_feed pending.begun.items) old new text
+      × Appends (sink.taken writer_old) (sink.taken writer_new) text
+
+  -- bytes were taken in behind what was begun
+  abbrev pub IsPieceTaken : Pending → Pending → List ℕ → KeptLog D → KeptLog D → K → K → Type 0
+  IsPieceTaken before after bytes old new writer_old writer_new =
+      IsTakenIn disk bench.trace client before.number after.number old new (before.begun.items ++ bytes) after.begun.items
+      (sink.taken writer_old) (sink.taken writer_new)
+
+  -- a fault came while these bytes were answered, of which the first line has this number
+  abbrev pub IsPieceHalted : ℕ → List ℕ → KeptLog D → KeptLog D → K → K → SessionFault → Type 0
+  IsPieceHalted number bytes old new writer_old writer_new fault =
+      IsHalted disk bench.trace client number old new bytes (sink.has_failed writer_new) (sink.taken writer_old) (sink.taken writer_new) fault

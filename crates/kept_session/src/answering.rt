@@ -1,6 +1,5 @@
 //! Answers lines: makes their calls, and gathers the texts of the answers and the lines that the log gains.
-ghost use Rattle.std.specs.Prelude.{◌≡◌, ◌≢◌, ℕ, ◌≤◌, ◌++◌, ◌∷◌, [], List, IsTrue, ◌↔◌, OnOk, IfOk, IfSome, Ok, Some};
-ghost use Rattle.inverse_log.specs.Answer.{Called};
+ghost use Rattle.std.specs.Prelude.{◌≡◌, ◌≢◌, ℕ, ◌≤◌, ◌++◌, ◌∷◌, [], List, IsTrue, OnOk, IfOk, IfSome, Ok, Some};
 ghost use Rattle.inverse_log.specs.declared.call.Call.TheVariants.{Undo, UndoAt};
 ghost use Rattle.inverse_log.specs.declared.reply.Reply.TheVariants.{Undone};
 ghost use Rattle.script_language.specs.Scripts.{script_line_reading};
@@ -13,13 +12,13 @@ ghost use Rattle.kept_session.specs.Sessions.{line_fault, question_fault, number
 ghost use Rattle.kept_session.specs.Steps.{SaysCall, CallMade, ReadingAnswered, LineAnswered, PieceAnswered};
 
 use crate::asking::line_for;
+use crate::questions::answer_question;
 use client_scripts::script_words;
 use inverse_log::{Bench, Call, Reply};
 use kept_log::Block;
 use rapid_text::OutOfMemory;
 use report::{Piece, append_pieces};
 use script_language::{Lines, Question, ScriptCause, read_line, read_question};
-use session_questions::answer;
 use std::alloc::Global;
 
 /// The line of an undo that names its entry.
@@ -101,7 +100,6 @@ fn keep_line(
 
 /// Makes a call, appends the line of its answer, and adds the call's line where the log gained an entry.
 fn make_call(
-    alloc: Global,
     bench: &mut Bench,
     client: u32,
     call: &Call,
@@ -123,7 +121,7 @@ fn make_call(
             if bench.log_len() == before {
                 return Ok(());
             }
-            keep_line(alloc, client, call, &reply, line, block)?;
+            keep_line(*out.allocator(), client, call, &reply, line, block)?;
             Ok(())
         }
         Err(why) => {
@@ -155,7 +153,6 @@ fn append_fault(out: &mut Vec<u8>, number: u64, why: ScriptCause) -> Result<(), 
 
 /// Answers the line of this number, which is no question.
 fn answer_reading(
-    alloc: Global,
     bench: &mut Bench,
     client: Option<u32>,
     number: u64,
@@ -168,11 +165,12 @@ fn answer_reading(
     ensures answered { OnOk result (ReadingAnswered bench.old.trace number (script_line_reading (line_for client raw.now)) bench.old.log bench.new.log
         out.old.items out.new.items block.old block.new) }
 {
+    let alloc = *out.allocator();
     let line = line_for(alloc, client, raw)?;
     match read_line(alloc, &line) {
         Ok(None) => Ok(()),
         Ok(Some((client, call))) => {
-            make_call(alloc, bench, client, &call, &line, block, out)?;
+            make_call(bench, client, &call, &line, block, out)?;
             Ok(())
         }
         Err(ScriptCause::OutOfMemory) => Err(OutOfMemory),
@@ -207,14 +205,13 @@ fn answer_asked(
     ensures { OnOk result ((text : List ℕ) × (out.new.items ≡ out.old.items ++ text) × IsAsked bench.now.trace bench.now.log number asked.now text) }
 {
     match asked {
-        Ok(question) => answer(bench, question, out),
+        Ok(question) => answer_question(bench, question, out),
         Err(_) => append_faulty(out, number),
     }
 }
 
 /// Answers the line of this number. A question adds nothing to the log.
 fn answer_line(
-    alloc: Global,
     bench: &mut Bench,
     client: Option<u32>,
     number: u64,
@@ -229,13 +226,12 @@ fn answer_line(
 {
     match read_question(raw) {
         Some(asked) => answer_asked(bench, number, &asked, out),
-        None => answer_reading(alloc, bench, client, number, raw, block, out),
+        None => answer_reading(bench, client, number, raw, block, out),
     }
 }
 
 /// Answers the lines of a piece, of which the first has this number. It tells the number of the line behind them.
 pub(crate) fn answer_lines(
-    alloc: Global,
     bench: &mut Bench,
     client: Option<u32>,
     first: u64,
@@ -251,7 +247,7 @@ pub(crate) fn answer_lines(
     let mut number = first;
     let mut lines = Lines::of(piece);
     while let Some(raw) = lines.next() {
-        answer_line(alloc, bench, client, number, raw, block, out)?;
+        answer_line(bench, client, number, raw, block, out)?;
         number = number.saturating_add(1);
     }
     Ok(number)

@@ -7,7 +7,7 @@ ghost use Rattle.client_scripts.specs.declared.fault.ReadCause.TheVariants.{Devi
 ghost use Rattle.client_scripts.specs.declared.fault.ReplayFault.TheVariants.{Read, Write};
 ghost use Rattle.kept_log.specs.Lines.{kept_lines};
 ghost use Rattle.kept_session.specs.Faults.{IsPrintFault};
-ghost use Rattle.kept_session.specs.Heads.{IsHeaded};
+ghost use Rattle.kept_session.specs.Heads.{IsHeaded, script_in};
 ghost use Rattle.kept_session.specs.declared.fault.SessionFault.TheVariants.{Replay, LogLine};
 
 use crate::fault::{LOG_INPUT, SessionFault};
@@ -42,13 +42,13 @@ pub fn print_log<S: Source, K: Sink>(
 
     // What is written is, as a script, the lines that count behind the head of the file.
     ensures printed { OnOk result (IfSome (S.rest reader.old) (λ bytes. (text : List ℕ) × IsHeaded bytes text
-        × Appends (K.taken writer.old) (K.taken writer.new) (flat_map ended (kept_lines text)))) }
+        × Appends (K.taken writer.old) (K.taken writer.new) (script_in text))) }
     ensures refused { result ≡ Err (LogLine 1) → IfSome (S.rest reader.old) (λ bytes. (text : List ℕ) → ¬ IsHeaded bytes text) }
 
     // Nothing is written before that text is there. If a write fails, a beginning of it was written.
     ensures unwritten { IfErr result (λ fault. fault ≢ Replay Write → K.taken writer.new ≡ K.taken writer.old) }
     ensures begun { result ≡ Err (Replay Write) → IfSome (S.rest reader.old) (λ bytes. (text : List ℕ) × IsHeaded bytes text
-        × AppendsPart (K.taken writer.old) (K.taken writer.new) (flat_map ended (kept_lines text))) }
+        × AppendsPart (K.taken writer.old) (K.taken writer.new) (script_in text)) }
 
     // The device is at fault exactly if a read failed, and the writer exactly if a write failed; no other fault is told.
     ensures device { result ≡ Err (Replay (Read 2 DeviceFailed)) → S.has_failed reader.new ≡ true }

@@ -1,15 +1,14 @@
 //! Answers an input line by line, as it comes.
-ghost use Rattle.std.specs.Io.KnownBytes.{Appends, Consumes, IsAtEnd};
-ghost use Rattle.std.specs.Prelude.{◌≡◌, ◌≢◌, ◌⊎◌, ◌<◌, ℕ, List, [], ◌∷◌, ◌++◌, false, true, length, None, IfSome, IfErr, OnOk};
-ghost use Rattle.rapid_text.specs.Reading.{is_line_feed};
+ghost use Rattle.std.specs.Io.KnownBytes.{IsAtEnd};
+ghost use Rattle.std.specs.Prelude.{◌≡◌, ◌≢◌, ◌<◌, [], ◌∷◌, ◌++◌, false, true, length, None, IfSome, IfErr, OnOk};
 ghost use Rattle.client_scripts.specs.declared.fault.ReadCause.{ReadCause};
 ghost use Rattle.client_scripts.specs.declared.fault.ReadCause.TheVariants.{Device as DeviceFailed};
-ghost use Rattle.client_scripts.specs.declared.fault.ReplayFault.TheVariants.{Read, OutOfMemory as NoMemory};
-ghost use Rattle.std.specs.List.{slice_split};
+ghost use Rattle.client_scripts.specs.declared.fault.ReplayFault.TheVariants.{Read};
 ghost use Rattle.kept_log.specs.Lines.{IsLine};
-ghost use Rattle.kept_session.specs.Runs.{IsLogTurn, IsFinished, IsHalted};
+ghost use Rattle.kept_session.specs.Runs.{IsHaltedRun, IsWholeRun};
 ghost use Rattle.kept_session.specs.Sessions.{number_behind};
-ghost use Rattle.kept_session.specs.Steps.{IsKeepFault, IsTakenIn};
+ghost use Rattle.kept_session.specs.Steps.{IsKeepFault, IsPieceHalted, IsPieceTaken, IsTurnWritten};
+ghost use Rattle.kept_session.specs.Views.{lines_in, trace_of};
 ghost use Rattle.kept_session.specs.declared.fault.SessionFault.TheVariants.{Replay};
 
 use crate::fault::{LINES_INPUT, SessionFault};
@@ -50,14 +49,13 @@ fn answer_begun<D: Device + Drop, K: Sink>(
     requires in_step { session.old.is_in_step ≡ true }
     requires writer { K.has_failed writer.old ≡ false }
     ensures in_step { OnOk result (session.new.is_in_step ≡ true) }
-    ensures trace { session.new.bench.trace ≡ session.old.bench.trace }
+    ensures trace { trace_of session.new.bench ≡ trace_of session.old.bench }
     ensures working { OnOk result (K.has_failed writer.new ≡ false) }
     ensures begun { OnOk result (pending.new.begun.items ≡ []) }
-    ensures next { OnOk result (pending.new.number ≡ number_behind pending.old.number (slice_split is_line_feed pending.old.begun.items)) }
-    ensures answered { OnOk result ((text : List ℕ) × IsLogTurn D.Device session.old.bench.trace client pending.old.number
-        (slice_split is_line_feed pending.old.begun.items) session.old.log session.new.log text × Appends (K.taken writer.old) (K.taken writer.new) text) }
-    ensures halted { IfErr result (λ fault. IsHalted D.Device session.old.bench.trace client pending.old.number session.old.log session.new.log
-        pending.old.begun.items (K.has_failed writer.new) (K.taken writer.old) (K.taken writer.new) fault) }
+    ensures next { OnOk result (pending.new.number ≡ number_behind pending.old.number (lines_in pending.old.begun.items)) }
+    ensures answered { OnOk result (IsTurnWritten D.Device K.Sink session.old.bench client pending.old session.old.log session.new.log writer.old writer.new) }
+    ensures halted { IfErr result (IsPieceHalted D.Device K.Sink session.old.bench client pending.old.number pending.old.begun.items
+        session.old.log session.new.log writer.old writer.new) }
     ensures lines_read { IfErr result (λ fault. (why : ReadCause) → fault ≢ Replay (Read 3 why)) }
 {
     let mut out = Vec::new(alloc);
@@ -104,13 +102,13 @@ fn take_in<D: Device + Drop, K: Sink>(
     requires writer { K.has_failed writer.old ≡ false }
     requires begun { IsLine pending.old.begun.items }
     ensures in_step { OnOk result (session.new.is_in_step ≡ true) }
-    ensures trace { session.new.bench.trace ≡ session.old.bench.trace }
+    ensures trace { trace_of session.new.bench ≡ trace_of session.old.bench }
     ensures working { OnOk result (K.has_failed writer.new ≡ false) }
     ensures begun { OnOk result (IsLine pending.new.begun.items) }
-    ensures taken_in { OnOk result (IsTakenIn D.Device session.old.bench.trace client pending.old.number pending.new.number session.old.log session.new.log
-        (pending.old.begun.items ++ bytes.now) pending.new.begun.items (K.taken writer.old) (K.taken writer.new)) }
-    ensures halted { IfErr result (λ fault. IsHalted D.Device session.old.bench.trace client pending.old.number session.old.log session.new.log
-        (pending.old.begun.items ++ bytes.now) (K.has_failed writer.new) (K.taken writer.old) (K.taken writer.new) fault) }
+    ensures taken_in { OnOk result (IsPieceTaken D.Device K.Sink session.old.bench client pending.old pending.new bytes.now
+        session.old.log session.new.log writer.old writer.new) }
+    ensures halted { IfErr result (IsPieceHalted D.Device K.Sink session.old.bench client pending.old.number (pending.old.begun.items ++ bytes.now)
+        session.old.log session.new.log writer.old writer.new) }
     ensures reader { IfErr result (λ fault. fault ≢ Replay (Read 3 DeviceFailed)) }
 {
     let Some((lines, rest)) = cut_last_end(bytes) else {
@@ -134,16 +132,16 @@ fn run_pieces<D: Device + Drop, S: Source, K: Sink>(
     requires writer { K.has_failed writer.old ≡ false }
     requires room { 0 < length piece.old }
     ensures in_step { OnOk result (session.new.is_in_step ≡ true) }
-    ensures trace { session.new.bench.trace ≡ session.old.bench.trace }
+    ensures trace { trace_of session.new.bench ≡ trace_of session.old.bench }
 
     // It ends without a fault only at the end of the input, and where the reader has not failed meanwhile.
     ensures end { OnOk result (IsAtEnd (S.rest reader.new)) }
     ensures read { OnOk result (S.has_failed reader.new ≡ S.has_failed reader.old) }
     ensures device { IfErr result (λ fault. fault ≡ Replay (Read 3 DeviceFailed) → S.has_failed reader.new ≡ true) }
-    ensures answered { OnOk result ((bytes : List ℕ) × Consumes (S.rest reader.old) (S.rest reader.new) bytes × IsFinished D.Device session.old.bench.trace
-        client 1 session.old.log session.new.log bytes (K.taken writer.old) (K.taken writer.new)) }
-    ensures halted { IfErr result (λ fault. (bytes : List ℕ) × Consumes (S.rest reader.old) (S.rest reader.new) bytes × IsHalted D.Device session.old.bench.trace
-        client 1 session.old.log session.new.log bytes (K.has_failed writer.new) (K.taken writer.old) (K.taken writer.new) fault) }
+    ensures answered { OnOk result (IsWholeRun D.Device S.Source K.Sink session.old.bench client session.old.log session.new.log
+        reader.old reader.new writer.old writer.new) }
+    ensures halted { IfErr result (IsHaltedRun D.Device S.Source K.Sink session.old.bench client session.old.log session.new.log
+        reader.old reader.new writer.old writer.new) }
 {
     let mut pending = Pending {
         begun: Vec::new(alloc),
@@ -184,7 +182,7 @@ pub fn run_session<D: Device + Drop, S: Source, K: Sink>(
     requires in_step { session.old.is_in_step ≡ true }
     requires writer { K.has_failed writer.old ≡ false }
     ensures in_step { OnOk result (session.new.is_in_step ≡ true) }
-    ensures trace { session.new.bench.trace ≡ session.old.bench.trace }
+    ensures trace { trace_of session.new.bench ≡ trace_of session.old.bench }
 
     // It ends without a fault only at the end of the input, and where the reader has not failed meanwhile.
     ensures end { OnOk result (IsAtEnd (S.rest reader.new)) }
@@ -194,12 +192,12 @@ pub fn run_session<D: Device + Drop, S: Source, K: Sink>(
     ensures device { IfErr result (λ fault. fault ≡ Replay (Read 3 DeviceFailed) → S.has_failed reader.new ≡ true) }
 
     // Each line that was read is answered once and in order, in turns, and what was written is the answers, in order, and nothing else.
-    ensures answered { OnOk result ((bytes : List ℕ) × Consumes (S.rest reader.old) (S.rest reader.new) bytes × IsFinished D.Device session.old.bench.trace
-        client 1 session.old.log session.new.log bytes (K.taken writer.old) (K.taken writer.new)) }
+    ensures answered { OnOk result (IsWholeRun D.Device S.Source K.Sink session.old.bench client session.old.log session.new.log
+        reader.old reader.new writer.old writer.new) }
 
     // At a fault that is so of the first lines. Of the answers of one turn more a part may be written, where the writer failed.
-    ensures halted { IfErr result (λ fault. (bytes : List ℕ) × Consumes (S.rest reader.old) (S.rest reader.new) bytes × IsHalted D.Device session.old.bench.trace
-        client 1 session.old.log session.new.log bytes (K.has_failed writer.new) (K.taken writer.old) (K.taken writer.new) fault) }
+    ensures halted { IfErr result (IsHaltedRun D.Device S.Source K.Sink session.old.bench client session.old.log session.new.log
+        reader.old reader.new writer.old writer.new) }
 {
     let mut piece = vec![in alloc; 0u8; PIECE]?;
     run_pieces(alloc, session, client, reader, &mut piece, writer)

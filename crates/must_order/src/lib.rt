@@ -2,6 +2,7 @@
 //! of events no correct reordering shows.
 #![tactic(auto)]
 
+mod analysis;
 mod chains;
 mod joins;
 mod kind;
@@ -11,6 +12,7 @@ mod reasons;
 mod rows;
 mod sections;
 
+pub use analysis::Analysis;
 pub use chains::{Chain, Reason, Step};
 pub use kind::Kind;
 pub use laws::{apart_is_never_shown, must_before_stands_before};

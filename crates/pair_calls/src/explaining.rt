@@ -13,10 +13,9 @@ use crate::writing::write_text;
 use client_scripts::{Sink, Source, read_trace};
 use event_index::Indexed;
 use explain_report::{Verdict, explain_text};
-use must_order::Must;
+use must_order::Analysis;
 use pair_findings::{Finding, find};
 use rapid_text::OutOfMemory;
-use shb_clocks::Clocks;
 use source_places::Name;
 use std::alloc::Global;
 
@@ -32,34 +31,10 @@ pub(crate) fn finding_of(
     ensures finding { IfOk result (IsFinding indexed.now first second) }
     ensures never { IfOk result (IsNeverShown indexed.now.events first second) }
 {
-    match Clocks::new(alloc, indexed) {
-        Ok(clocks) => {
-            let found = finding_by(alloc, indexed, &clocks, first, second);
-            drop(clocks);
-            found
-        }
-        Err(refused) => Err(refused),
-    }
-}
-
-/// The same by the trace's clocks.
-fn finding_by(
-    alloc: Global,
-    indexed: &Indexed,
-    clocks: &Clocks,
-    first: u32,
-    second: u32,
-) -> Result<Finding, OutOfMemory>
-    requires clocks { clocks.now ≡ indexed.now }
-    requires first { first < length indexed.now.events }
-    requires second { second < length indexed.now.events }
-    ensures finding { IfOk result (IsFinding indexed.now first second) }
-    ensures never { IfOk result (IsNeverShown indexed.now.events first second) }
-{
-    match Must::new(alloc, indexed) {
-        Ok(must) => {
-            let found = find(alloc, indexed, clocks, &must, first, second);
-            drop(must);
+    match Analysis::new(alloc, indexed) {
+        Ok(analysis) => {
+            let found = find(alloc, &analysis, first, second);
+            drop(analysis);
             found
         }
         Err(refused) => Err(refused),
@@ -69,16 +44,12 @@ fn finding_by(
 /// Appends what was found of the pair, whose earlier event stands first.
 fn append_finding(
     text: &mut Vec<u8>,
-    indexed: &Indexed,
-    clocks: &Clocks,
-    must: &Must,
+    analysis: &Analysis<'_>,
     finding: &Finding,
     pair: (u32, u32),
     all: bool,
 ) -> Result<(), OutOfMemory>
-    requires clocks { clocks.now ≡ indexed.now }
-    requires must { must.now ≡ indexed.now }
-    ensures { OnOk result ((told : List ℕ) × IsFindingTold indexed.now finding.now pair.0 pair.1 told × (text.new.items ≡ text.old.items ++ told)) }
+    ensures { OnOk result ((told : List ℕ) × IsFindingTold analysis.now finding.now pair.0 pair.1 told × (text.new.items ≡ text.old.items ++ told)) }
 {
     match finding {
         Finding::Race { how, events } => {
@@ -87,19 +58,19 @@ fn append_finding(
                 events: events.items(),
                 all,
             };
-            explain_text(indexed, clocks, must, &verdict, pair, text)?;
+            explain_text(analysis, &verdict, pair, text)?;
         }
         Finding::Forced { chains } => {
             let verdict = Verdict::Forced { chains };
-            explain_text(indexed, clocks, must, &verdict, pair, text)?;
+            explain_text(analysis, &verdict, pair, text)?;
         }
         Finding::Guarded { lock } => {
             let verdict = Verdict::Guarded { lock: *lock };
-            explain_text(indexed, clocks, must, &verdict, pair, text)?;
+            explain_text(analysis, &verdict, pair, text)?;
         }
         Finding::Undecided { events } => {
             let verdict = Verdict::Undecided { events };
-            explain_text(indexed, clocks, must, &verdict, pair, text)?;
+            explain_text(analysis, &verdict, pair, text)?;
         }
     }
     Ok(())
@@ -108,59 +79,32 @@ fn append_finding(
 /// Appends a right finding on the pair.
 fn append_found(
     text: &mut Vec<u8>,
-    indexed: &Indexed,
-    clocks: &Clocks,
-    must: &Must,
+    analysis: &Analysis<'_>,
     finding: &Finding,
     pair: (u32, u32),
     all: bool,
 ) -> Result<(), OutOfMemory>
-    requires clocks { clocks.now ≡ indexed.now }
-    requires must { must.now ≡ indexed.now }
-    requires finding { IsFinding indexed.now pair.0 pair.1 finding.now }
-    requires never { IsNeverShown indexed.now.events pair.0 pair.1 finding.now }
-    ensures { OnOk result ((told : List ℕ) × IsPairTold indexed.now pair.0 pair.1 told × (text.new.items ≡ text.old.items ++ told)) }
+    requires finding { IsFinding analysis.now pair.0 pair.1 finding.now }
+    requires never { IsNeverShown analysis.now.events pair.0 pair.1 finding.now }
+    ensures { OnOk result ((told : List ℕ) × IsPairTold analysis.now pair.0 pair.1 told × (text.new.items ≡ text.old.items ++ told)) }
 {
-    append_finding(text, indexed, clocks, must, finding, pair, all)?;
+    append_finding(text, analysis, finding, pair, all)?;
     Ok(())
 }
 
 /// Appends what is found of the pair, by the trace's orders.
 fn append_explained(
     text: &mut Vec<u8>,
-    indexed: &Indexed,
-    clocks: &Clocks,
-    must: &Must,
+    analysis: &Analysis<'_>,
     pair: (u32, u32),
     all: bool,
 ) -> Result<(), OutOfMemory>
-    requires clocks { clocks.now ≡ indexed.now }
-    requires must { must.now ≡ indexed.now }
-    requires first { pair.0 < length indexed.now.events }
-    requires second { pair.1 < length indexed.now.events }
-    ensures { OnOk result ((told : List ℕ) × IsPairTold indexed.now pair.0 pair.1 told × (text.new.items ≡ text.old.items ++ told)) }
+    requires first { pair.0 < length analysis.now.events }
+    requires second { pair.1 < length analysis.now.events }
+    ensures { OnOk result ((told : List ℕ) × IsPairTold analysis.now pair.0 pair.1 told × (text.new.items ≡ text.old.items ++ told)) }
 {
-    match find(*text.allocator(), indexed, clocks, must, pair.0, pair.1) {
-        Ok(finding) => append_found(text, indexed, clocks, must, &finding, pair, all),
-        Err(refused) => Err(refused),
-    }
-}
-
-/// Appends the same by the trace's clocks.
-fn append_by_clocks(
-    text: &mut Vec<u8>,
-    indexed: &Indexed,
-    clocks: &Clocks,
-    pair: (u32, u32),
-    all: bool,
-) -> Result<(), OutOfMemory>
-    requires clocks { clocks.now ≡ indexed.now }
-    requires first { pair.0 < length indexed.now.events }
-    requires second { pair.1 < length indexed.now.events }
-    ensures { OnOk result ((told : List ℕ) × IsPairTold indexed.now pair.0 pair.1 told × (text.new.items ≡ text.old.items ++ told)) }
-{
-    match Must::new(*text.allocator(), indexed) {
-        Ok(must) => append_explained(text, indexed, clocks, &must, pair, all),
+    match find(*text.allocator(), analysis, pair.0, pair.1) {
+        Ok(finding) => append_found(text, analysis, &finding, pair, all),
         Err(refused) => Err(refused),
     }
 }
@@ -176,8 +120,8 @@ fn append_explanation(
     requires second { pair.1 < length indexed.now.events }
     ensures { OnOk result ((told : List ℕ) × IsPairTold indexed.now pair.0 pair.1 told × (text.new.items ≡ text.old.items ++ told)) }
 {
-    match Clocks::new(*text.allocator(), indexed) {
-        Ok(clocks) => append_by_clocks(text, indexed, &clocks, pair, all),
+    match Analysis::new(*text.allocator(), indexed) {
+        Ok(analysis) => append_explained(text, &analysis, pair, all),
         Err(refused) => Err(refused),
     }
 }

@@ -6,11 +6,10 @@ ghost use Rattle.source_places.specs.Accesses.{HaveShared, flags_of};
 ghost use Rattle.pair_calls.specs.Named.{AreSame, IsMeant, IsNamedPair, IsNoPair, IsPlaced, IsReported, IsUnplaced, mark, marks_of};
 
 use event_index::Indexed;
-use must_order::Must;
+use must_order::Analysis;
 use pair_findings::pair_of;
 use race_triage::verdict_between;
 use rapid_text::OutOfMemory;
-use shb_clocks::Clocks;
 use source_places::{Name, are_apart, are_at_one_place, flags_of};
 use std::alloc::Global;
 
@@ -170,55 +169,28 @@ fn reported(
     ensures second { IfOk result (λ found. IfSome found (λ p. p.1 < length indexed.now.events)) }
     ensures conflict { IfOk result (λ found. IfSome found (λ p. IsConflicting indexed.now.events p.0 p.1)) }
 {
-    match Clocks::new(alloc, indexed) {
-        Ok(clocks) => reported_by(alloc, indexed, &clocks, marks, between),
+    match Analysis::new(alloc, indexed) {
+        Ok(analysis) => reported_in(alloc, &analysis, marks, between),
         Err(refused) => Err(refused),
     }
 }
 
-/// The same by the trace's clocks.
-fn reported_by(
-    alloc: Global,
-    indexed: &Indexed,
-    clocks: &Clocks,
-    marks: &[u32],
-    between: (u32, u32),
-) -> Result<Option<(u32, u32)>, OutOfMemory>
-    requires clocks { clocks.now ≡ indexed.now }
-    requires len { length marks.now ≡ length indexed.now.events }
-    requires few { (e : ℕ) → slice_index marks.now e < 3 }
-    ensures reported { IfOk result (λ found. IfSome found (λ p. IsReported indexed.now (slice_index marks.now) between p.0 p.1)) }
-    ensures none { result ≡ Ok None → ¬ HaveConflict indexed.now.events (slice_index marks.now) between }
-    ensures first { IfOk result (λ found. IfSome found (λ p. p.0 < length indexed.now.events)) }
-    ensures second { IfOk result (λ found. IfSome found (λ p. p.1 < length indexed.now.events)) }
-    ensures conflict { IfOk result (λ found. IfSome found (λ p. IsConflicting indexed.now.events p.0 p.1)) }
-{
-    match Must::new(alloc, indexed) {
-        Ok(must) => reported_in(alloc, indexed, clocks, &must, marks, between),
-        Err(refused) => Err(refused),
-    }
-}
-
-/// The same by both orders.
+/// The same by the orders of the trace.
 fn reported_in(
     alloc: Global,
-    indexed: &Indexed,
-    clocks: &Clocks,
-    must: &Must,
+    analysis: &Analysis<'_>,
     marks: &[u32],
     between: (u32, u32),
 ) -> Result<Option<(u32, u32)>, OutOfMemory>
-    requires clocks { clocks.now ≡ indexed.now }
-    requires must { must.now ≡ indexed.now }
-    requires len { length marks.now ≡ length indexed.now.events }
+    requires len { length marks.now ≡ length analysis.now.events }
     requires few { (e : ℕ) → slice_index marks.now e < 3 }
-    ensures reported { IfOk result (λ found. IfSome found (λ p. IsReported indexed.now (slice_index marks.now) between p.0 p.1)) }
-    ensures none { result ≡ Ok None → ¬ HaveConflict indexed.now.events (slice_index marks.now) between }
-    ensures first { IfOk result (λ found. IfSome found (λ p. p.0 < length indexed.now.events)) }
-    ensures second { IfOk result (λ found. IfSome found (λ p. p.1 < length indexed.now.events)) }
-    ensures conflict { IfOk result (λ found. IfSome found (λ p. IsConflicting indexed.now.events p.0 p.1)) }
+    ensures reported { IfOk result (λ found. IfSome found (λ p. IsReported analysis.now (slice_index marks.now) between p.0 p.1)) }
+    ensures none { result ≡ Ok None → ¬ HaveConflict analysis.now.events (slice_index marks.now) between }
+    ensures first { IfOk result (λ found. IfSome found (λ p. p.0 < length analysis.now.events)) }
+    ensures second { IfOk result (λ found. IfSome found (λ p. p.1 < length analysis.now.events)) }
+    ensures conflict { IfOk result (λ found. IfSome found (λ p. IsConflicting analysis.now.events p.0 p.1)) }
 {
-    match verdict_between(alloc, indexed, clocks, must, marks, between) {
+    match verdict_between(alloc, analysis, marks, between) {
         Ok(Some(verdict)) => Ok(Some((verdict.first, verdict.second))),
         Ok(None) => Ok(None),
         Err(refused) => Err(refused),

@@ -1,17 +1,17 @@
 -- What a refusal of the list in order, and a finding, say of the pair.
-use Rattle.std.proofs.Common.{◌≡◌, ◌≢◌, ◌<◌, ◌↔◌, ℕ, List, length, Bool, true, false, IsTrue, refl, sym, ◌∙◌, subst, inl, inr}
+use Rattle.std.proofs.Common.{◌≡◌, ◌≢◌, ◌<◌, ◌↔◌, ℕ, List, Bool, false, IsTrue, refl, sym, ◌∙◌, inl, inr}
 use Rattle.std.proofs.lemmas.Bool.{false≢true}
 use Rattle.std.proofs.lemmas.Option.{slice_get_within}
 use Rattle.rapid_text.specs.declared.event.Event.{Event}
 use Rattle.rapid_text.specs.Recording.{Recording}
 use Rattle.trace_rules.specs.Rules.{IsDisciplined}
 use Rattle.must_order.specs.Laws.{ApartIsNeverShown}
-use Rattle.must_order.specs.MustBefore.{Link, by_base, IsMustBefore, link, IsForced, IsSharedBefore}
+use Rattle.must_order.specs.MustBefore.{Link, by_base, IsMustBefore, link, IsForced}
 use Rattle.in_order.specs.Laws.{HasListInOrder}
 use Rattle.in_order.specs.Refusals.{IsRefusalOf}
 use Rattle.in_order.specs.declared.refusal.InOrderRefusal.{InOrderRefusal}
 use Rattle.in_order.specs.declared.refusal.InOrderRefusal.TheVariants.{NoSuchEvent, NotConflicting, NotInOrder, OutOfMemory}
-use Rattle.pair_findings.specs.Findings.{IsFinding, IsLeastShared, IsNeverShown}
+use Rattle.pair_findings.specs.Findings.{IsFinding, IsNeverShown}
 use Rattle.pair_findings.specs.declared.finding.Finding.{Finding}
 use Rattle.pair_findings.specs.declared.finding.Finding.TheVariants.{Race, Forced, Guarded, Undecided}
 
@@ -35,18 +35,6 @@ never_shown r a b (Undecided events) law rules is = tt
 pub forced_before : (T : List Event) (a b : ℕ) → IsForced T a b → IsMustBefore T a b
 forced_before T a b f = link a f.0 b f.2 (by_base f.1)
 
--- What tests of another table of the same trace tell.
-module _ (P : Recording → Type 0) (s r : Recording) (b : Bool) (same : s ≡ r) (tells : IsTrue b ↔ P s) where
-  pub tested_true : b ≡ true → P r
-  tested_true so = subst P same (tells.0 so)
-
-  pub tested_false : b ≡ false → ¬ P r
-  tested_false not_so p = false≢true (sym not_so ∙ tells.1 (subst P (sym same) p))
-
-module _ (s r : Recording) (a b : ℕ) (same : s ≡ r) where
-  pub least_shared : (l : ℕ) → (l < length s.locks) × IsSharedBefore s.events a b l → ((k : ℕ) → k < l → ¬ IsSharedBefore s.events a b k) → IsLeastShared r a b l
-  least_shared l found least =
-      subst (λ (t : Recording). IsLeastShared t a b l) same (record { lock = found.0; shared = found.1; least = least })
-
-  pub none_shared : ((k : ℕ) → k < length s.locks → ¬ IsSharedBefore s.events a b k) → (k : ℕ) → k < length r.locks → ¬ IsSharedBefore r.events a b k
-  none_shared none = subst (λ (t : Recording). (k : ℕ) → k < length t.locks → ¬ IsSharedBefore t.events a b k) same none
+-- what a test that failed refutes
+pub refuted : (P : Type 0) (b : Bool) → IsTrue b ↔ P → b ≡ false → ¬ P
+refuted P b tells not_so p = false≢true (sym not_so ∙ tells.1 p)

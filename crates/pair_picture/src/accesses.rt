@@ -5,7 +5,7 @@ use crate::columns::MARGIN;
 use crate::labels::{lock_name, op_of, thread_name, thread_of};
 use crate::layout::height_of;
 use crate::pieces::{Piece, plural_of};
-use crate::rows::{draw_box, draw_label, draw_pieces};
+use crate::rows::{BoxLine, draw_box, draw_label, draw_pieces};
 use event_index::Indexed;
 use rapid_text::{Op, OutOfMemory};
 
@@ -78,9 +78,18 @@ pub(crate) fn draw_access(
     };
     let name = [Piece::Words(thread_name(indexed, thread))];
     draw_box(canvas, Class::Race, MARGIN, top, access_height(locks))?;
-    draw_pieces(canvas, Class::Name, MARGIN, top, 0, &name)?;
-    draw_label(canvas, Class::Access, indexed, event, MARGIN, top, 1)?;
-    draw_locks(canvas, indexed, locks, MARGIN, top)
+    draw_pieces(canvas, Class::Name, line_at(top, 0), &name)?;
+    draw_label(canvas, Class::Access, indexed, event, line_at(top, 1))?;
+    draw_locks(canvas, indexed, locks, top)
+}
+
+/// A line of a box at the left edge.
+fn line_at(top: u64, line: u64) -> BoxLine {
+    BoxLine {
+        left: MARGIN,
+        top,
+        line,
+    }
 }
 
 /// Draws a line for each of the locks, and one for those that are too many.
@@ -88,22 +97,16 @@ fn draw_locks(
     canvas: &mut Canvas,
     indexed: &Indexed,
     locks: &[u32],
-    left: u64,
     top: u64,
 ) -> Result<(), OutOfMemory> {
     let mut line = 2u64;
     for lock in locks.iter().take(MOST_LOCKS) {
-        draw_held(canvas, indexed, *lock, left, top, line)?;
+        draw_held(canvas, indexed, *lock, line_at(top, line))?;
         line = line.saturating_add(1);
     }
     if locks.len() > MOST_LOCKS {
-        draw_more(
-            canvas,
-            locks.len().saturating_sub(MOST_LOCKS),
-            left,
-            top,
-            line,
-        )?;
+        let count = locks.len().saturating_sub(MOST_LOCKS);
+        draw_more(canvas, count, line_at(top, line))?;
     }
     Ok(())
 }
@@ -112,16 +115,12 @@ fn draw_held(
     canvas: &mut Canvas,
     indexed: &Indexed,
     lock: u32,
-    left: u64,
-    top: u64,
-    line: u64,
+    at: BoxLine,
 ) -> Result<(), OutOfMemory> {
     draw_pieces(
         canvas,
         Class::Event,
-        left,
-        top,
-        line,
+        at,
         &[
             Piece::Words(b"holds "),
             Piece::Words(lock_name(indexed, lock)),
@@ -129,19 +128,11 @@ fn draw_held(
     )
 }
 
-fn draw_more(
-    canvas: &mut Canvas,
-    count: usize,
-    left: u64,
-    top: u64,
-    line: u64,
-) -> Result<(), OutOfMemory> {
+fn draw_more(canvas: &mut Canvas, count: usize, at: BoxLine) -> Result<(), OutOfMemory> {
     draw_pieces(
         canvas,
         Class::Note,
-        left,
-        top,
-        line,
+        at,
         &[
             Piece::Words(b"and "),
             Piece::Number(count as u64),

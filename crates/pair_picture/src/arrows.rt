@@ -3,6 +3,7 @@ use crate::canvas::Canvas;
 use crate::columns::Columns;
 use crate::labels::thread_of;
 use crate::layout::{BOX, Placed};
+use crate::shapes::Arrow;
 use event_index::Indexed;
 use rapid_text::OutOfMemory;
 
@@ -19,37 +20,29 @@ pub(crate) fn draw_arrows(
 ) -> Result<(), OutOfMemory> {
     for from in placed {
         if let Some(waiter) = from.waiter {
-            draw_to_waiter(canvas, indexed, columns, list, placed, from, waiter)?;
+            let thread = thread_of(indexed, waiter);
+            if let Some(to) = waiting_run(list, placed, from, thread, waiter) {
+                draw_arrow(canvas, columns, from, to)?;
+            }
         }
     }
     Ok(())
 }
 
-/// Draws the arrow to the box that has the event.
-fn draw_to_waiter(
-    canvas: &mut Canvas,
-    indexed: &Indexed,
-    columns: &Columns,
+/// The first run behind this one that has the event of the thread.
+fn waiting_run<'a>(
     list: &[u32],
-    placed: &[Placed],
+    placed: &'a [Placed],
     from: &Placed,
-    waiter: u32,
-) -> Result<(), OutOfMemory> {
+    thread: Option<u32>,
+    event: u32,
+) -> Option<&'a Placed> {
     for to in placed {
-        if to.number > from.number
-            && thread_of(indexed, waiter) == Some(to.run.thread)
-            && has_event(list, to, waiter)
-        {
-            return draw_arrow(
-                canvas,
-                columns.left(from.run.thread),
-                columns.left(to.run.thread),
-                from,
-                to,
-            );
+        if to.number > from.number && thread == Some(to.run.thread) && has_event(list, to, event) {
+            return Some(to);
         }
     }
-    Ok(())
+    None
 }
 
 /// Whether the run has the event.
@@ -65,11 +58,12 @@ fn has_event(list: &[u32], placed: &Placed, event: u32) -> bool {
 /// Draws an arrow from the lower edge of one box to the upper edge of another.
 fn draw_arrow(
     canvas: &mut Canvas,
-    from_left: u64,
-    to_left: u64,
+    columns: &Columns,
     from: &Placed,
     to: &Placed,
 ) -> Result<(), OutOfMemory> {
+    let from_left = columns.left(from.run.thread);
+    let to_left = columns.left(to.run.thread);
     let start = from.top.saturating_add(from.height);
     let x = from_left.saturating_add(BOX / 2);
     let to_x = to_left.saturating_add(if from_left < to_left {
@@ -77,7 +71,10 @@ fn draw_arrow(
     } else {
         BOX - BOX / 4
     });
-    let below = start.saturating_add(BEND);
-    let above = to.top.saturating_sub(BEND);
-    canvas.arrow(x, start, below, to_x, to.top, above)
+    canvas.arrow(Arrow {
+        from: (x, start),
+        below: start.saturating_add(BEND),
+        to: (to_x, to.top),
+        above: to.top.saturating_sub(BEND),
+    })
 }

@@ -3,7 +3,7 @@ ghost use Rattle.std.specs.Prelude.{◌≡◌};
 ghost use Rattle.pair_picture.specs.Shapes.{AreShapes};
 
 use crate::class::Class;
-use crate::shapes::{append_arrow, append_line, append_rect};
+use crate::shapes::{Arrow, append_arrow, append_line, append_rect};
 use rapid_text::OutOfMemory;
 use std::alloc::Global;
 use std::marker::Model;
@@ -75,18 +75,10 @@ impl Canvas {
         Ok(())
     }
 
-    /// Draws an arrow, which leaves a point downwards as if to `below`, and comes to another from above as if from `above`.
-    pub(crate) fn arrow(
-        &mut self,
-        from_x: u64,
-        from_y: u64,
-        below: u64,
-        to_x: u64,
-        to_y: u64,
-        above: u64,
-    ) -> Result<(), OutOfMemory> {
+    /// Draws an arrow.
+    pub(crate) fn arrow(&mut self, arrow: Arrow) -> Result<(), OutOfMemory> {
         let mut shape = Vec::new(self.allocator());
-        append_arrow(&mut shape, from_x, from_y, below, to_x, to_y, above)?;
+        append_arrow(&mut shape, arrow)?;
         self.text.extend_from_slice(shape.as_slice())?;
         Ok(())
     }

@@ -21,20 +21,26 @@ pub(crate) fn draw_box(
     canvas.rect(class, left, top, BOX, height)
 }
 
-/// Draws a line of a box that begins at `left` and `top`.
+/// A line of a box: where the box begins, and which of its lines it is, from 0.
+#[derive(Clone, Copy)]
+pub(crate) struct BoxLine {
+    pub(crate) left: u64,
+    pub(crate) top: u64,
+    pub(crate) line: u64,
+}
+
+/// Draws a line of a box.
 fn draw_box_line(
     canvas: &mut Canvas,
     class: Class,
-    left: u64,
-    top: u64,
-    line: u64,
+    at: BoxLine,
     text: &[u8],
 ) -> Result<(), OutOfMemory> {
     draw_line(
         canvas,
         class,
-        left.saturating_add(INDENT),
-        base_of(top, line),
+        at.left.saturating_add(INDENT),
+        base_of(at.top, at.line),
         text,
     )
 }
@@ -43,14 +49,12 @@ fn draw_box_line(
 pub(crate) fn draw_pieces(
     canvas: &mut Canvas,
     class: Class,
-    left: u64,
-    top: u64,
-    line: u64,
+    at: BoxLine,
     pieces: &[Piece<'_>],
 ) -> Result<(), OutOfMemory> {
     let mut text = Vec::new(canvas.allocator());
     append_pieces(&mut text, pieces)?;
-    draw_box_line(canvas, class, left, top, line, &text)
+    draw_box_line(canvas, class, at, &text)
 }
 
 /// Draws the box of a run: how many events it has, its first, its last, and for which event of another thread it was.
@@ -81,9 +85,7 @@ fn draw_count(
     draw_pieces(
         canvas,
         Class::Note,
-        left,
-        placed.top,
-        0,
+        line_of(placed, left, 0),
         &[
             Piece::Words(b"run "),
             Piece::Number(placed.number),
@@ -110,15 +112,24 @@ fn draw_ends(
     placed: &Placed,
     left: u64,
 ) -> Result<(), OutOfMemory> {
-    let top = placed.top;
     let last = placed.run.end.saturating_sub(1);
     let mut line = 1u64;
     if count_of(&placed.run) > 1 {
-        draw_event(canvas, indexed, list, placed.run.start, left, top, line)?;
+        let at = line_of(placed, left, line);
+        draw_event(canvas, indexed, list, placed.run.start, at)?;
         line = 2;
     }
-    draw_event(canvas, indexed, list, last, left, top, line)?;
+    draw_event(canvas, indexed, list, last, line_of(placed, left, line))?;
     draw_waiter(canvas, indexed, list, placed, left, line.saturating_add(1))
+}
+
+/// A line of the box of a run.
+fn line_of(placed: &Placed, left: u64, line: u64) -> BoxLine {
+    BoxLine {
+        left,
+        top: placed.top,
+        line,
+    }
 }
 
 /// Draws a line with the event at this place of the list.
@@ -127,12 +138,10 @@ fn draw_event(
     indexed: &Indexed,
     list: &[u32],
     place: u32,
-    left: u64,
-    top: u64,
-    line: u64,
+    at: BoxLine,
 ) -> Result<(), OutOfMemory> {
     match list.get(place as usize) {
-        Some(event) => draw_label(canvas, Class::Event, indexed, *event, left, top, line),
+        Some(event) => draw_label(canvas, Class::Event, indexed, *event, at),
         None => Ok(()),
     }
 }
@@ -143,21 +152,17 @@ pub(crate) fn draw_label(
     class: Class,
     indexed: &Indexed,
     event: u32,
-    left: u64,
-    top: u64,
-    line: u64,
+    at: BoxLine,
 ) -> Result<(), OutOfMemory> {
     if event >= indexed.len() {
-        return draw_box_line(canvas, class, left, top, line, b"");
+        return draw_box_line(canvas, class, at, b"");
     }
     let raw = indexed.trace().raw();
     let op = raw.event(event).op;
     draw_pieces(
         canvas,
         class,
-        left,
-        top,
-        line,
+        at,
         &[
             Piece::Number(u64::from(event)),
             Piece::Words(b"  "),
@@ -189,9 +194,7 @@ fn draw_waiter(
     draw_pieces(
         canvas,
         Class::Note,
-        left,
-        placed.top,
-        line,
+        line_of(placed, left, line),
         &[
             Piece::Words(words_between(indexed, event, waiter)),
             Piece::Words(b" "),
@@ -242,7 +245,12 @@ pub(crate) fn earlier_height() -> u64 {
 
 /// Draws a line of that box.
 fn draw_counted(canvas: &mut Canvas, line: u64, pieces: &[Piece<'_>]) -> Result<(), OutOfMemory> {
-    draw_pieces(canvas, Class::Note, MARGIN, TOP, line, pieces)
+    let at = BoxLine {
+        left: MARGIN,
+        top: TOP,
+        line,
+    };
+    draw_pieces(canvas, Class::Note, at, pieces)
 }
 
 /// How many runs are not drawn one by one, of how many threads, and how many events they have.

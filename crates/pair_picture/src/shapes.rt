@@ -42,37 +42,38 @@ pub(crate) fn append_line(
     Ok(())
 }
 
-/// Appends an arrow, which leaves a point downwards and comes to another from above.
-pub(crate) fn append_arrow(
-    out: &mut Vec<u8>,
-    from_x: u64,
-    from_y: u64,
-    below: u64,
-    to_x: u64,
-    to_y: u64,
-    above: u64,
-) -> Result<(), OutOfMemory>
-    ensures { OnOk result (out.new.items ≡ out.old.items ++ arrow_text from_x from_y below to_x to_y above) }
+/// An arrow, which leaves a point downwards as if to `below`, and comes to another from above as if from `above`.
+#[derive(Clone, Copy)]
+pub(crate) struct Arrow {
+    pub(crate) from: (u64, u64),
+    pub(crate) below: u64,
+    pub(crate) to: (u64, u64),
+    pub(crate) above: u64,
+}
+
+/// Appends an arrow.
+pub(crate) fn append_arrow(out: &mut Vec<u8>, arrow: Arrow) -> Result<(), OutOfMemory>
+    ensures { OnOk result (out.new.items ≡ out.old.items ++ arrow_text arrow.from.0 arrow.from.1 arrow.below arrow.to.0 arrow.to.1 arrow.above) }
 {
     append_pieces(
         out,
         &[
             Piece::Words(b"<path class=\"arrow\" marker-end=\"url(#tip)\" d=\"M"),
-            Piece::Number(from_x),
+            Piece::Number(arrow.from.0),
             Piece::Words(b" "),
-            Piece::Number(from_y),
+            Piece::Number(arrow.from.1),
             Piece::Words(b"C"),
-            Piece::Number(from_x),
+            Piece::Number(arrow.from.0),
             Piece::Words(b" "),
-            Piece::Number(below),
+            Piece::Number(arrow.below),
             Piece::Words(b" "),
-            Piece::Number(to_x),
+            Piece::Number(arrow.to.0),
             Piece::Words(b" "),
-            Piece::Number(above),
+            Piece::Number(arrow.above),
             Piece::Words(b" "),
-            Piece::Number(to_x),
+            Piece::Number(arrow.to.0),
             Piece::Words(b" "),
-            Piece::Number(to_y),
+            Piece::Number(arrow.to.1),
             Piece::Words(b"\"/>\n"),
         ],
     )?;

@@ -1,8 +1,9 @@
 //! What `clap` is told: the program and its commands, made from the table a word at a time.
 
-use crate::commands::{COMMANDS, Kind, Word, Words, words_of};
+use crate::commands::{COMMANDS, words_of};
 use crate::program::{NAME, VERSION, program_words};
 use crate::task::Limits;
+use crate::words::{Kind, Word, Words};
 use clap::builder::ValueParser;
 use clap::{Arg, ArgAction, Command};
 use std::alloc::{AllocError, Global};
@@ -29,6 +30,14 @@ fn numbered<'a>(arg: Arg<'a>, least: u32, most: u32, default: Option<&'static st
     }
 }
 
+/// A flag with a number behind it, or without one.
+fn optional<'a>(arg: Arg<'a>, least: u32, most: u32, missing: &'static str) -> Arg<'a> {
+    numbered(arg, least, most, None)
+        .num_args(0..=1)
+        .require_equals(true)
+        .default_missing_value(missing)
+}
+
 /// A word of a command.
 fn argument<'a>(alloc: Global, word: &Word, limits: Limits) -> Result<Arg<'a>, AllocError> {
     let arg = shown(Arg::new(alloc, word.name), word.help);
@@ -50,6 +59,11 @@ fn argument<'a>(alloc: Global, word: &Word, limits: Limits) -> Result<Arg<'a>, A
             most,
             default,
         } => Ok(numbered(arg.long(word.name), least, limits.most(most), default)),
+        Kind::Optional {
+            least,
+            most,
+            missing,
+        } => Ok(optional(arg.long(word.name), least, limits.most(most), missing)),
     }
 }
 

@@ -1,5 +1,8 @@
 //! The commands of the program, each with its words, as a table: what help says of them, and what `clap` is told of them.
 
+use crate::words::{Kind, Most, TRACE, Word, Words};
+use crate::workspace_commands::{LOG, REPLAY, SESSION, THREADS};
+
 /// The commands.
 #[derive(Clone, Copy)]
 pub(crate) enum CommandName {
@@ -29,75 +32,6 @@ pub(crate) const COMMANDS: [CommandName; 10] = [
     CommandName::Merge,
 ];
 
-/// What is said of a command, or of the program itself, and the words that it takes.
-#[derive(Clone, Copy)]
-pub(crate) struct Words {
-    pub(crate) name: &'static str,
-    /// What it does.
-    pub(crate) about: &'static str,
-    /// What help says behind the words.
-    pub(crate) example: &'static str,
-    pub(crate) words: &'static [Word],
-}
-
-/// A word behind a command.
-pub(crate) struct Word {
-    /// Its name, by which it is read; a flag is this name behind two hyphens.
-    pub(crate) name: &'static str,
-    pub(crate) kind: Kind,
-    /// What help says of it; it names no word of which it says nothing.
-    pub(crate) help: Option<&'static str>,
-}
-
-/// What kind of word it is.
-#[derive(Clone, Copy)]
-pub(crate) enum Kind {
-    /// A word that has to be there.
-    Needed,
-    /// Words of which one has to be there.
-    SeveralNeeded,
-    /// A flag, which may not stand beside these.
-    Flag(&'static [&'static str]),
-    /// A flag with a text behind it, which help calls so.
-    Text(&'static str),
-    /// The same, which may be given again.
-    Texts(&'static str),
-    /// A flag with a number behind it.
-    Number {
-        /// The least that it may be.
-        least: u32,
-        /// The most.
-        most: Most,
-        /// The number where the flag is not there.
-        default: Option<&'static str>,
-    },
-}
-
-/// Which limit a number has.
-#[derive(Clone, Copy)]
-pub(crate) enum Most {
-    /// That of clients.
-    Clients,
-    /// That of workers.
-    Workers,
-    /// That of tries.
-    Tries,
-    /// That of the events of a trace.
-    Events,
-}
-
-const TRACE: Word = Word {
-    name: "TRACE",
-    kind: Kind::Needed,
-    help: Some("File that holds a trace; `-` is standard input"),
-};
-
-const TRACE_FILE: Word = Word {
-    name: "TRACE",
-    kind: Kind::Needed,
-    help: Some("File that holds a trace"),
-};
-
 const FIRST: Word = Word {
     name: "A",
     kind: Kind::Needed,
@@ -121,115 +55,6 @@ The file holds a trace alone, without a line `---` and a script. A candidate is 
 that the order of the trace leaves open. No candidate does not mean no race: a schedule can show
 a pair that is no candidate. `racebench triage` finds those too.",
     words: &[TRACE],
-};
-
-const REPLAY: Words = Words {
-    name: "replay",
-    about: "Run a script on a trace, and print the answer to each line",
-    example: "For example
-
-  racebench replay trace.std script.txt
-
-Each line of the script has the number of a client, from 1 to 32, a command and its arguments,
-such as `1 new A` or `2 add A 3`. Events are counted from 0.",
-    words: &[
-        TRACE,
-        Word {
-            name: "SCRIPT",
-            kind: Kind::Needed,
-            help: Some("File that holds a script; `-` is standard input"),
-        },
-    ],
-};
-
-const SESSION: Words = Words {
-    name: "session",
-    about: "Interactive session: run commands from standard input, and save them to LOG",
-    example: "For example
-
-  racebench session trace.std work.log --client 1
-
-The session answers each line as soon as it reads it, and saves each accepted command to the log.
-The next session continues from there, even if this one is killed. Several sessions can share one
-log, and each sees what the others did. If the log is missing, the session creates it. It refuses
-the log of another trace.",
-    words: &[
-        TRACE_FILE,
-        Word {
-            name: "LOG",
-            kind: Kind::Needed,
-            help: Some("File that holds the log; created if it is missing"),
-        },
-        Word {
-            name: "client",
-            kind: Kind::Number {
-                least: 1,
-                most: Most::Clients,
-                default: None,
-            },
-            help: Some(
-                "Client that the lines belong to, 1 to 32; without it each line starts with its client",
-            ),
-        },
-    ],
-};
-
-const LOG: Words = Words {
-    name: "log",
-    about: "Print the log of a session, as a script",
-    example: "For example
-
-  racebench log work.log > script.txt
-  racebench replay trace.std script.txt
-
-Each entry of the log is one line. `replay` answers the lines as the session did.",
-    words: &[Word {
-        name: "LOG",
-        kind: Kind::Needed,
-        help: Some("File that holds a log; `-` is standard input"),
-    }],
-};
-
-const THREADS: Words = Words {
-    name: "threads",
-    about: "Run several scripts on one trace at once, each in its own thread",
-    example: "For example
-
-  racebench threads trace.std first.txt second.txt
-
-Script i belongs to client i: each of its lines starts with the number i. There can be 31 scripts.
-When all have ended, `threads` prints a line `client i` and the answers for each script, and then
-the log. The log has the order in which the calls were made, which can differ from run to run.
-
-With `--workers 4`, four threads compute the slices of the first 64 candidates in the background,
-and post them as one extra client. A slice is the least that has to come before the pair.",
-    words: &[
-        TRACE,
-        Word {
-            name: "SCRIPT",
-            kind: Kind::SeveralNeeded,
-            help: Some("Files that hold one script each; `-` is standard input"),
-        },
-        Word {
-            name: "workers",
-            kind: Kind::Number {
-                least: 0,
-                most: Most::Workers,
-                default: Some("0"),
-            },
-            help: Some("Threads that slice candidates in the background, 0 to 16"),
-        },
-        // It is for the tests, which judge how calls are mixed.
-        Word {
-            name: "room",
-            kind: Kind::Number {
-                least: 1,
-                most: Most::Clients,
-                default: None,
-            },
-            help: None,
-        },
-    ],
 };
 
 const TRIAGE: Words = Words {
@@ -284,7 +109,16 @@ locations may race.",
                 most: Most::Workers,
                 default: Some("0"),
             },
-            help: Some("Threads that look for schedules, 0 to 16"),
+            help: Some("Threads that share the counting and look for schedules, 0 to 16"),
+        },
+        Word {
+            name: "windows",
+            kind: Kind::Optional {
+                least: 1,
+                most: Most::Events,
+                missing: "1000000",
+            },
+            help: Some("Read a trace of any length in windows of N events, by default 1000000"),
         },
         Word {
             name: "json",
@@ -413,10 +247,12 @@ const CUT: Words = Words {
     example: "For example
 
   racebench cut trace.std --windows 1000 --window 5000
+  racebench cut trace.std --windows 1000 --into windows
 
 The window has the events 5000 to 5999. Before them come a few events that take the locks which
 are held at event 5000, so that a race in the window is a race of the whole trace. The first line
-says where the window lies, and how many events come before its first own event.",
+says where the window lies, and how many events come before its first own event. The second
+command writes windows that overlap by half. The trace may have any length.",
     words: &[
         TRACE,
         Word {
@@ -432,10 +268,15 @@ says where the window lies, and how many events come before its first own event.
             name: "window",
             kind: Kind::Number {
                 least: 0,
-                most: Most::Events,
-                default: Some("0"),
+                most: Most::Numbers,
+                default: None,
             },
-            help: Some("Event at which the window begins, counted from 0"),
+            help: Some("Event at which the window begins, counted from 0; by default 0"),
+        },
+        Word {
+            name: "into",
+            kind: Kind::Text("FOLDER"),
+            help: Some("Write all windows into FOLDER, which must be new or empty"),
         },
     ],
 };
@@ -467,6 +308,23 @@ parts means nothing, and a part that comes twice counts once.",
             name: "json",
             kind: Kind::Flag(&[]),
             help: Some("Print one JSON object per line; it holds the parts"),
+        },
+        Word {
+            name: "page",
+            kind: Kind::Flag(&["json"]),
+            help: Some("Write a self-contained HTML report"),
+        },
+        Word {
+            name: "sarif",
+            kind: Kind::Flag(&["json", "page"]),
+            help: Some("Write SARIF 2.1.0, for code-scanning pages and viewers"),
+        },
+        Word {
+            name: "source",
+            kind: Kind::Text("DIR"),
+            help: Some(
+                "With --sarif, the folder of the code: paths are relative to it, and fingerprints have its lines",
+            ),
         },
         Word {
             name: "fail",

@@ -7,6 +7,9 @@ mod program;
 mod reading;
 mod task;
 mod told;
+mod values;
+mod words;
+mod workspace_commands;
 
 pub use program::{LISTED_BEHIND, overview};
 pub use reading::task_of;

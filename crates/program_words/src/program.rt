@@ -1,6 +1,6 @@
 //! The program's own words: its name, its version, and what help says where no command is named.
 
-use crate::commands::Words;
+use crate::words::Words;
 
 /// The program's name.
 pub(crate) const NAME: &str = "racebench";

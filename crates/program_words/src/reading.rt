@@ -1,89 +1,22 @@
 //! What the words ask for, read from what `clap` found in them.
-ghost use Rattle.std.specs.Prelude.{◌≤◌, IfOk};
+ghost use Rattle.std.specs.Prelude.{IfOk};
 ghost use Rattle.program_words.specs.Tasks.{IsWithin, IsCutWithin, IsSessionWithin, IsThreadsWithin, IsTriageWithin};
 
 use crate::building::words_taken;
 use crate::commands::{CommandName, command_of};
 use crate::task::{
-    CutTask, Limits, MergeTask, Named, PairTask, RacesForm, ScheduleForm, SessionTask, Task,
-    ThreadsTask, TriageTask,
+    CutTask, Limits, MergeTask, PairTask, RacesForm, ScheduleForm, SessionTask, Task, ThreadsTask,
+    TriageTask,
 };
 use crate::told::{Told, refused, told_of};
+use crate::values::{STANDARD, Unread, check_inputs, day, named, number, share_input};
 use clap::ArgMatches;
 use clap::error::Error;
 use std::alloc::{AllocError, Global};
 
-/// Why words that `clap` takes are refused all the same.
-enum Unread {
-    /// For this reason.
-    Refused(&'static str),
-    /// There was no memory.
-    OutOfMemory,
-}
-
-impl From<AllocError> for Unread {
-    fn from(_error: AllocError) -> Unread {
-        Unread::OutOfMemory
-    }
-}
-
 /// The word of this name, which `clap` has seen to be there.
 fn word<'a>(given: &ArgMatches<'a>, name: &str) -> &'a str {
     given.get_str(name).unwrap_or("")
-}
-
-/// Whether the word is one or more decimal digits.
-fn is_number(word: &str) -> bool {
-    !word.is_empty() && word.as_bytes().iter().all(|byte| byte.is_ascii_digit())
-}
-
-/// The number that the word is, from `least` to `most`. `clap` has seen to the bounds, and takes a sign before the digits, which is
-/// refused for this reason.
-fn number(word: &str, least: u32, most: u32, reason: &'static str) -> Result<u32, Unread>
-    ensures { IfOk result (λ n. (least ≤ n) × (n ≤ most)) }
-{
-    if !is_number(word) {
-        return Err(Unread::Refused(reason));
-    }
-    match word.parse::<u32>() {
-        Ok(number) if least <= number && number <= most => Ok(number),
-        _ => Err(Unread::Refused(reason)),
-    }
-}
-
-/// What the word names: digits an event, any other word a place. A number that is larger than any event is one that no
-/// trace has.
-fn named(word: &str) -> Named<'_> {
-    if is_number(word) {
-        Named::Event(word.parse::<u32>().unwrap_or(u32::MAX))
-    } else {
-        Named::Place(word)
-    }
-}
-
-/// The path that stands for standard input.
-const STANDARD: &str = "-";
-
-/// Whether more than one of the paths is that of standard input.
-fn share_input(paths: &[&str]) -> bool {
-    let mut has_one = false;
-    for path in paths {
-        if *path == STANDARD {
-            if has_one {
-                return true;
-            }
-            has_one = true;
-        }
-    }
-    false
-}
-
-/// A refusal if more than one of the paths is that of standard input.
-fn check_inputs(paths: &[&str]) -> Result<(), Unread> {
-    if share_input(paths) {
-        return Err(Unread::Refused("`-` is standard input, and may be given once"));
-    }
-    Ok(())
 }
 
 /// The two files that `replay` is asked for.
@@ -197,50 +130,32 @@ fn check_source(given: &ArgMatches<'_>, source: Option<&str>) -> Result<(), Unre
     Ok(())
 }
 
-/// A date such as 2027-12-31 as the number 20271231, if there is one.
-fn day(word: Option<&str>, may_be: bool) -> Result<Option<u32>, Unread> {
-    let Some(word) = word else {
+/// How many events a window has at most, if the trace is read in windows. Nothing may be asked for that a report of them has not.
+fn windows_of(given: &ArgMatches<'_>, limits: Limits) -> Result<Option<u32>, Unread> {
+    let Some(word) = given.get_str("windows") else {
         return Ok(None);
     };
-    if !may_be {
-        return Err(Unread::Refused("`--today` goes with `--triage`"));
-    }
-    match day_of(word.as_bytes()) {
-        Some(day) => Ok(Some(day)),
-        None => Err(Unread::Refused("`--today` takes a date such as 2027-12-31")),
-    }
-}
-
-/// The number of a date.
-fn day_of(word: &[u8]) -> Option<u32> {
-    if word.len() != 10 || word[4] != b'-' || word[7] != b'-' {
-        return None;
-    }
-    let mut day = 0u32;
-    for at in 0..10 {
-        if at != 4 && at != 7 {
-            day = with_digit(day, word[at])?;
+    for flag in ["lines", "init-triage"] {
+        if given.get_flag(flag) {
+            return Err(Unread::Refused(ALONE));
         }
     }
-    let (month, date) = (day / 100 % 100, day % 100);
-    if 1 <= month && month <= 12 && 1 <= date && date <= 31 {
-        Some(day)
-    } else {
-        None
+    for flag in ["known", "confirmed", "triage"] {
+        if given.get_str(flag).is_some() {
+            return Err(Unread::Refused(ALONE));
+        }
     }
+    for flag in ["only", "hide"] {
+        if given.get_strs(flag).is_some() {
+            return Err(Unread::Refused(ALONE));
+        }
+    }
+    Ok(Some(number(word, 1, limits.events, WINDOWS)?))
 }
 
-/// The number with one more digit.
-fn with_digit(number: u32, digit: u8) -> Option<u32> {
-    if !(b'0' <= digit && digit <= b'9') {
-        return None;
-    }
-    Some(
-        number
-            .saturating_mul(10)
-            .saturating_add(u32::from(digit - b'0')),
-    )
-}
+/// Why other flags are refused beside `--windows`.
+const ALONE: &str =
+    "`--windows` does not go with `--lines`, `--init-triage`, `--known`, `--confirmed`, `--triage`, `--only`, `--hide`";
 
 /// What `triage` is asked for.
 fn triage<'a>(
@@ -279,6 +194,7 @@ fn triage<'a>(
         tries,
         workers,
         form: races_form(given),
+        windows: windows_of(given, limits)?,
         confirmed,
         source,
         triage: decided,
@@ -310,26 +226,57 @@ fn schedule_form(given: &ArgMatches<'_>) -> ScheduleForm {
     }
 }
 
-/// The window that `cut` is asked for.
+/// Why the numbers of windows are refused.
+const WINDOWS: &str = "`--windows` and `--window` take numbers in decimal digits";
+
+/// The event at which the window begins that `cut` is asked for.
+fn start(given: &ArgMatches<'_>, into: Option<&str>) -> Result<u32, Unread> {
+    let Some(word) = given.get_str("window") else {
+        return Ok(0);
+    };
+    if into.is_some() {
+        return Err(Unread::Refused("`--into` writes all windows, and `--window` prints one"));
+    }
+    number(word, 0, u32::MAX, WINDOWS)
+}
+
+/// The windows that `cut` is asked for.
 fn window<'a>(given: &ArgMatches<'a>, limits: Limits) -> Result<CutTask<'a>, Unread>
     ensures { IfOk result IsCutWithin }
 {
-    let reason = "`--windows` and `--window` take numbers in decimal digits";
+    let into = given.get_str("into");
     Ok(CutTask {
         trace: word(given, "TRACE"),
-        from: number(word(given, "window"), 0, limits.events, reason)?,
-        most: number(word(given, "windows"), 1, limits.events, reason)?,
+        from: start(given, into)?,
+        most: number(word(given, "windows"), 1, limits.events, WINDOWS)?,
+        into,
     })
+}
+
+/// In which form `merge` is asked for.
+fn merged_form(given: &ArgMatches<'_>) -> RacesForm {
+    if given.get_flag("sarif") {
+        RacesForm::Sarif
+    } else if given.get_flag("page") {
+        RacesForm::Page
+    } else if given.get_flag("json") {
+        RacesForm::Json
+    } else {
+        RacesForm::Text
+    }
 }
 
 /// What `merge` is asked for.
 fn merge<'a>(alloc: Global, given: &ArgMatches<'a>) -> Result<MergeTask<'a>, Unread> {
     let parts = texts(alloc, given, "PART")?;
     check_inputs(&parts)?;
+    let source = given.get_str("source");
+    check_source(given, source)?;
     Ok(MergeTask {
         parts,
         apart: given.get_flag("apart"),
-        json: given.get_flag("json"),
+        form: merged_form(given),
+        source,
         fail: given.get_flag("fail"),
     })
 }

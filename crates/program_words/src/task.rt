@@ -1,6 +1,6 @@
 //! What the words may ask for.
 
-use crate::commands::Most;
+use crate::words::Most;
 
 /// How large the numbers among the words may be.
 #[derive(Clone, Copy)]
@@ -23,6 +23,7 @@ impl Limits {
             Most::Workers => self.workers,
             Most::Tries => self.tries,
             Most::Events => self.events,
+            Most::Numbers => u32::MAX,
         }
     }
 }
@@ -114,10 +115,12 @@ pub struct TriageTask<'a> {
     pub apart: bool,
     /// How many open pairs of a pair of places are tried.
     pub tries: u32,
-    /// How many threads look for schedules at once.
+    /// How many threads share the counting and look for schedules.
     pub workers: u32,
     /// In which form they are printed.
     pub form: RacesForm,
+    /// How many events a window of the trace has at most, if it is read in windows.
+    pub windows: Option<u32>,
     /// The path of what `record/confirm` wrote, which a page shows beside its races.
     pub confirmed: Option<&'a str>,
     /// The path of the folder of the code, for a log.
@@ -141,6 +144,8 @@ pub struct CutTask<'a> {
     pub from: u32,
     /// The most events that it has, at least one.
     pub most: u32,
+    /// The path of the folder into which all windows are written, if one is named.
+    pub into: Option<&'a str>,
 }
 
 /// Reports that are merged.
@@ -150,8 +155,10 @@ pub struct MergeTask<'a> {
     pub parts: Vec<&'a str>,
     /// Whether blocks are printed of what is apart.
     pub apart: bool,
-    /// Whether an object is printed a line, in place of text.
-    pub json: bool,
+    /// In which form: text, an object a line, or a log.
+    pub form: RacesForm,
+    /// The path of the folder of the code, for a log.
+    pub source: Option<&'a str>,
     /// Whether a race that is printed makes the status 3.
     pub fail: bool,
 }

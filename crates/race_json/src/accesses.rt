@@ -9,7 +9,7 @@ ghost use Rattle.race_json.specs.Objects.{access_at, access_object, accesses, lo
 
 use crate::members::{object_with, put_number, put_text, put_word, text_of};
 use event_index::Indexed;
-use must_order::Must;
+use must_order::Analysis;
 use rapid_text::{Op, OutOfMemory, RawTrace};
 use serde_json::{Map, Value};
 use std::alloc::{AllocError, Global};
@@ -17,86 +17,70 @@ use std::alloc::{AllocError, Global};
 /// The two accesses of a pair.
 pub(crate) fn accesses_of(
     alloc: Global,
-    indexed: &Indexed,
-    must: &Must,
+    analysis: &Analysis<'_>,
     first: u32,
     second: u32,
 ) -> Result<Value, OutOfMemory>
-    requires must { must.now ≡ indexed.now }
-    ensures { IfOk result (λ both. view both ≡ accesses indexed.now first second) }
+    ensures { IfOk result (λ both. view both ≡ accesses analysis.now first second) }
 {
     let mut both = Vec::new(alloc);
-    push_access(&mut both, indexed, must, first)?;
-    push_access(&mut both, indexed, must, second)?;
+    push_access(&mut both, analysis, first)?;
+    push_access(&mut both, analysis, second)?;
     Ok(Value::Array(both))
 }
 
 /// Adds the access of the event, where the trace has it.
 fn push_access(
     both: &mut Vec<Value>,
-    indexed: &Indexed,
-    must: &Must,
+    analysis: &Analysis<'_>,
     event: u32,
 ) -> Result<(), OutOfMemory>
-    requires must { must.now ≡ indexed.now }
-    ensures { OnOk result (map view both.new.items ≡ map view both.old.items ++ access_at indexed.now event) }
+    ensures { OnOk result (map view both.new.items ≡ map view both.old.items ++ access_at analysis.now event) }
 {
-    if event >= indexed.len() {
+    if event >= analysis.indexed().len() {
         return Ok(());
     }
-    let access = access_of(*both.allocator(), indexed, must, event)?;
+    let access = access_of(*both.allocator(), analysis, event)?;
     both.push(access)?;
     Ok(())
 }
 
 /// The access of an event.
-fn access_of(
-    alloc: Global,
-    indexed: &Indexed,
-    must: &Must,
-    event: u32,
-) -> Result<Value, OutOfMemory>
-    requires must { must.now ≡ indexed.now }
-    requires event { event < length indexed.now.events }
-    ensures { IfOk result (λ access. view access ∷ [] ≡ access_at indexed.now event) }
+fn access_of(alloc: Global, analysis: &Analysis<'_>, event: u32) -> Result<Value, OutOfMemory>
+    requires event { event < length analysis.now.events }
+    ensures { IfOk result (λ access. view access ∷ [] ≡ access_at analysis.now event) }
 {
-    let holds = locks_of(alloc, indexed, must, event)?;
-    let raw = indexed.trace().raw();
+    let holds = locks_of(alloc, analysis, event)?;
+    let raw = analysis.indexed().trace().raw();
     let found = raw.event(event);
-    let access = named(
-        alloc,
+    let names = Names {
         event,
-        holds,
-        raw.location(event),
-        word_of(found.op),
-        raw.thread_name(found.thread),
-        name_of(raw, found.op),
-    )?;
+        thread: raw.thread_name(found.thread),
+        operation: word_of(found.op),
+        variable: name_of(raw, found.op),
+        location: raw.location(event),
+    };
+    let access = named(alloc, names, holds)?;
     Ok(access)
 }
 
-/// An access with these names.
-fn named(
-    alloc: Global,
+/// What an object tells of an access, but the locks that its thread holds.
+#[derive(Clone, Copy)]
+struct Names<'a> {
     event: u32,
-    holds: Value,
-    location: &[u8],
-    operation: &str,
-    thread: &[u8],
-    variable: &[u8],
-) -> Result<Value, AllocError>
-    ensures { IfOk result (λ access. view access ≡ access_object event (view holds) location.now operation.now thread.now variable.now) }
+    thread: &'a [u8],
+    operation: &'static str,
+    variable: &'a [u8],
+    location: &'a [u8],
+}
+
+/// An access with these names.
+fn named(alloc: Global, names: Names<'_>, holds: Value) -> Result<Value, AllocError>
+    ensures { IfOk result (λ access. view access ≡ access_object names.entry.event (view holds) names.entry.location.now
+        names.entry.operation.now names.entry.thread.now names.entry.variable.now) }
 {
     let mut members = Map::new(alloc);
-    match put_names(
-        &mut members,
-        alloc,
-        event,
-        location,
-        operation,
-        thread,
-        variable,
-    ) {
+    match put_names(&mut members, alloc, names) {
         Ok(()) => object_with(alloc, members, "holds", holds),
         Err(refused) => Err(refused),
     }
@@ -106,32 +90,27 @@ fn named(
 fn put_names(
     members: &mut Map<String, Value>,
     alloc: Global,
-    event: u32,
-    location: &[u8],
-    operation: &str,
-    thread: &[u8],
-    variable: &[u8],
+    names: Names<'_>,
 ) -> Result<(), AllocError>
     requires { members.old.entries ≡ [] }
     ensures { OnOk result ((holds : Data) → object (with_member (codes "holds") holds (members_view members.new.entries))
-        ≡ access_object event holds location.now operation.now thread.now variable.now) }
+        ≡ access_object names.entry.event holds names.entry.location.now names.entry.operation.now names.entry.thread.now names.entry.variable.now) }
 {
-    put_number(members, alloc, "event", u64::from(event))?;
-    put_text(members, alloc, "thread", thread)?;
-    put_word(members, alloc, "operation", operation)?;
-    put_text(members, alloc, "variable", variable)?;
-    put_text(members, alloc, "location", location)?;
+    put_number(members, alloc, "event", u64::from(names.event))?;
+    put_text(members, alloc, "thread", names.thread)?;
+    put_word(members, alloc, "operation", names.operation)?;
+    put_text(members, alloc, "variable", names.variable)?;
+    put_text(members, alloc, "location", names.location)?;
     Ok(())
 }
 
 /// The names of the locks that the event's thread holds before it.
-fn locks_of(alloc: Global, indexed: &Indexed, must: &Must, event: u32) -> Result<Value, OutOfMemory>
-    requires must { must.now ≡ indexed.now }
-    requires event { event < length indexed.now.events }
-    ensures { IfOk result (λ names. view names ≡ lock_names indexed.now (held_locks indexed.now event)) }
+fn locks_of(alloc: Global, analysis: &Analysis<'_>, event: u32) -> Result<Value, OutOfMemory>
+    requires event { event < length analysis.now.events }
+    ensures { IfOk result (λ names. view names ≡ lock_names analysis.now (held_locks analysis.now event)) }
 {
-    let locks = must.locks_held(alloc, indexed, event)?;
-    names_of(alloc, indexed, locks.as_slice())
+    let locks = analysis.locks_held(alloc, event)?;
+    names_of(alloc, analysis.indexed(), locks.as_slice())
 }
 
 /// The names of these locks.

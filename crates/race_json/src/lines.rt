@@ -6,8 +6,7 @@ ghost use Rattle.race_json.specs.Lines.{json_line, left_out_line, triage_lines, 
 ghost use Rattle.race_json.specs.Objects.{counts_object, verdict_object};
 
 use crate::objects::{counts_of, left_out_of, verdict_of};
-use event_index::Indexed;
-use must_order::Must;
+use must_order::Analysis;
 use race_triage::{Chosen, Totals, Verdict, Verdicts};
 use rapid_text::OutOfMemory;
 use serde_json::Value;
@@ -15,20 +14,18 @@ use serde_json::Value;
 /// Appends what `triage_text` tells, as JSON: an object a line, the counts first, then one for each of the chosen verdicts, in their order, and how
 /// many were left out last. Where memory is refused `out` stays as it was.
 pub fn triage_json(
-    indexed: &Indexed,
-    must: &Must,
+    analysis: &Analysis<'_>,
     found: &Verdicts,
     chosen: &Chosen,
     out: &mut Vec<u8>,
 ) -> Result<(), OutOfMemory>
-    requires must { must.now ≡ indexed.now }
     // The text is the one that belongs to the trace, the counts of all verdicts, and the chosen ones.
-    ensures ok { OnOk result ((text : List ℕ) × IsTriageJson indexed.now found.now.verdicts.items chosen.now text × (out.new.items ≡ out.old.items ++ text)) }
+    ensures ok { OnOk result ((text : List ℕ) × IsTriageJson analysis.now found.now.verdicts.items chosen.now text × (out.new.items ≡ out.old.items ++ text)) }
     ensures err { OnErr result (out.new.items ≡ out.old.items) }
 {
-    let totals = found.totals(indexed);
+    let totals = found.totals(analysis.indexed());
     let mut text = Vec::new(*out.allocator());
-    append_all(&mut text, indexed, must, &totals, chosen)?;
+    append_all(&mut text, analysis, &totals, chosen)?;
     out.extend_from_slice(text.as_slice())?;
     Ok(())
 }
@@ -36,16 +33,14 @@ pub fn triage_json(
 /// Appends the lines of the counts, of the chosen verdicts, and of how many were left out.
 fn append_all(
     out: &mut Vec<u8>,
-    indexed: &Indexed,
-    must: &Must,
+    analysis: &Analysis<'_>,
     totals: &Totals,
     chosen: &Chosen,
 ) -> Result<(), OutOfMemory>
-    requires must { must.now ≡ indexed.now }
-    ensures { OnOk result (out.new.items ≡ out.old.items ++ triage_lines indexed.now totals.now chosen.now) }
+    ensures { OnOk result (out.new.items ≡ out.old.items ++ triage_lines analysis.now totals.now chosen.now) }
 {
     append_counts(out, totals)?;
-    append_verdicts(out, indexed, must, chosen.verdicts.as_slice())?;
+    append_verdicts(out, analysis, chosen.verdicts.as_slice())?;
     append_left_out(out, "known", chosen.known)?;
     append_left_out(out, "hidden", chosen.hidden)?;
     Ok(())
@@ -62,15 +57,13 @@ fn append_counts(out: &mut Vec<u8>, totals: &Totals) -> Result<(), OutOfMemory>
 /// Appends a line for each of the verdicts.
 fn append_verdicts(
     out: &mut Vec<u8>,
-    indexed: &Indexed,
-    must: &Must,
+    analysis: &Analysis<'_>,
     verdicts: &[Verdict],
 ) -> Result<(), OutOfMemory>
-    requires must { must.now ≡ indexed.now }
-    ensures { OnOk result (out.new.items ≡ out.old.items ++ verdict_lines indexed.now verdicts.now) }
+    ensures { OnOk result (out.new.items ≡ out.old.items ++ verdict_lines analysis.now verdicts.now) }
 {
     for verdict in verdicts {
-        append_verdict(out, indexed, must, verdict)?;
+        append_verdict(out, analysis, verdict)?;
     }
     Ok(())
 }
@@ -78,14 +71,12 @@ fn append_verdicts(
 /// Appends the line of a verdict.
 fn append_verdict(
     out: &mut Vec<u8>,
-    indexed: &Indexed,
-    must: &Must,
+    analysis: &Analysis<'_>,
     verdict: &Verdict,
 ) -> Result<(), OutOfMemory>
-    requires must { must.now ≡ indexed.now }
-    ensures { OnOk result (out.new.items ≡ out.old.items ++ json_line (verdict_object indexed.now verdict.now)) }
+    ensures { OnOk result (out.new.items ≡ out.old.items ++ json_line (verdict_object analysis.now verdict.now)) }
 {
-    let object = verdict_of(*out.allocator(), indexed, must, verdict)?;
+    let object = verdict_of(*out.allocator(), analysis, verdict)?;
     append_line(out, &object)
 }
 

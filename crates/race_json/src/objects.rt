@@ -6,9 +6,8 @@ ghost use Rattle.race_json.specs.Objects.{apart_object, counts_object, how_word,
 
 use crate::accesses::accesses_of;
 use crate::members::{object_with, put_number, put_word};
-use event_index::Indexed;
 use explain_report::How;
-use must_order::Must;
+use must_order::Analysis;
 use race_triage::{Outcome, Totals, Verdict};
 use rapid_text::OutOfMemory;
 use serde_json::{Map, Value, json};
@@ -59,14 +58,12 @@ pub(crate) fn left_out_of(alloc: Global, kind: &str, count: u64) -> Result<Value
 /// A verdict with its two accesses.
 pub(crate) fn verdict_of(
     alloc: Global,
-    indexed: &Indexed,
-    must: &Must,
+    analysis: &Analysis<'_>,
     verdict: &Verdict,
 ) -> Result<Value, OutOfMemory>
-    requires must { must.now ≡ indexed.now }
-    ensures { IfOk result (λ object. view object ≡ verdict_object indexed.now verdict.now) }
+    ensures { IfOk result (λ object. view object ≡ verdict_object analysis.now verdict.now) }
 {
-    let accesses = accesses_of(alloc, indexed, must, verdict.first, verdict.second)?;
+    let accesses = accesses_of(alloc, analysis, verdict.first, verdict.second)?;
     let object = told_of(alloc, verdict, accesses)?;
     Ok(object)
 }
@@ -91,17 +88,26 @@ fn put_told(
     requires { members.old.entries ≡ [] }
     ensures { OnOk result ((both : Data) → object (with_member (codes "accesses") both (members_view members.new.entries)) ≡ told_object verdict.now both) }
 {
-    let pairs = verdict.pairs();
-    let variables = verdict.variables;
+    let reach = Reach {
+        pairs: verdict.pairs(),
+        variables: verdict.variables,
+    };
     match verdict.outcome {
         Outcome::Race {
             how,
             events,
             threads,
-        } => put_race(members, alloc, how, events, threads, pairs, variables),
-        Outcome::Undecided { tried } => put_undecided(members, alloc, tried, pairs, variables),
-        Outcome::Apart => put_apart(members, alloc, pairs),
+        } => put_race(members, alloc, how, events, threads, reach),
+        Outcome::Undecided { tried } => put_undecided(members, alloc, tried, reach),
+        Outcome::Apart => put_apart(members, alloc, reach.pairs),
     }
+}
+
+/// How much a verdict is about.
+#[derive(Clone, Copy)]
+struct Reach {
+    pairs: u64,
+    variables: u32,
 }
 
 /// Puts the members of a race.
@@ -111,17 +117,16 @@ fn put_race(
     how: How,
     events: u32,
     threads: u32,
-    pairs: u64,
-    variables: u32,
+    reach: Reach,
 ) -> Result<(), AllocError>
     requires { members.old.entries ≡ [] }
     ensures { OnOk result ((both : Data)
-        → object (with_member (codes "accesses") both (members_view members.new.entries)) ≡ race_object how events threads pairs variables both) }
+        → object (with_member (codes "accesses") both (members_view members.new.entries)) ≡ race_object how events threads reach.pairs reach.variables both) }
 {
     put_word(members, alloc, "kind", "race")?;
     put_word(members, alloc, "how", word_of(how))?;
-    put_number(members, alloc, "pairs", pairs)?;
-    put_number(members, alloc, "variables", u64::from(variables))?;
+    put_number(members, alloc, "pairs", reach.pairs)?;
+    put_number(members, alloc, "variables", u64::from(reach.variables))?;
     put_number(members, alloc, "events", u64::from(events))?;
     put_number(members, alloc, "threads", u64::from(threads))?;
     Ok(())
@@ -132,16 +137,15 @@ fn put_undecided(
     members: &mut Map<String, Value>,
     alloc: Global,
     tried: u32,
-    pairs: u64,
-    variables: u32,
+    reach: Reach,
 ) -> Result<(), AllocError>
     requires { members.old.entries ≡ [] }
     ensures { OnOk result ((both : Data)
-        → object (with_member (codes "accesses") both (members_view members.new.entries)) ≡ undecided_object tried pairs variables both) }
+        → object (with_member (codes "accesses") both (members_view members.new.entries)) ≡ undecided_object tried reach.pairs reach.variables both) }
 {
     put_word(members, alloc, "kind", "undecided")?;
-    put_number(members, alloc, "pairs", pairs)?;
-    put_number(members, alloc, "variables", u64::from(variables))?;
+    put_number(members, alloc, "pairs", reach.pairs)?;
+    put_number(members, alloc, "variables", u64::from(reach.variables))?;
     put_number(members, alloc, "tried", u64::from(tried))?;
     Ok(())
 }

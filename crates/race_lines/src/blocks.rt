@@ -8,7 +8,7 @@ ghost use Rattle.race_lines.specs.Lines.{about_line, access_lines, earlier_words
 use crate::accesses::{spot_of, thread_of, variable_of, verb_of};
 use crate::calls::append_calls;
 use event_index::Indexed;
-use must_order::Must;
+use must_order::Analysis;
 use race_triage::{Outcome, Verdict};
 use rapid_text::OutOfMemory;
 use report::{Piece, append_pieces};
@@ -17,16 +17,15 @@ use source_places::location_of;
 /// Appends the lines of a pair, its later access first.
 pub(crate) fn append_verdict(
     out: &mut Vec<u8>,
-    indexed: &Indexed,
-    must: &Must,
+    analysis: &Analysis<'_>,
     verdict: &Verdict,
 ) -> Result<(), OutOfMemory>
-    requires must { must.now ≡ indexed.now }
-    ensures { OnOk result (out.new.items ≡ out.old.items ++ verdict_lines indexed.now verdict.now) }
+    ensures { OnOk result (out.new.items ≡ out.old.items ++ verdict_lines analysis.now verdict.now) }
 {
+    let indexed = analysis.indexed();
     append_head(out, indexed, verdict)?;
-    append_access(out, indexed, must, verdict.second)?;
-    append_access(out, indexed, must, verdict.first)?;
+    append_access(out, analysis, verdict.second)?;
+    append_access(out, analysis, verdict.first)?;
     append_reason(out, indexed, verdict)?;
     Ok(())
 }
@@ -117,21 +116,16 @@ fn append_earlier(
 }
 
 /// Appends the lines of an access, if the trace has it.
-fn append_access(
-    out: &mut Vec<u8>,
-    indexed: &Indexed,
-    must: &Must,
-    event: u32,
-) -> Result<(), OutOfMemory>
-    requires must { must.now ≡ indexed.now }
-    ensures { OnOk result (out.new.items ≡ out.old.items ++ access_lines indexed.now event) }
+fn append_access(out: &mut Vec<u8>, analysis: &Analysis<'_>, event: u32) -> Result<(), OutOfMemory>
+    ensures { OnOk result (out.new.items ≡ out.old.items ++ access_lines analysis.now event) }
 {
+    let indexed = analysis.indexed();
     if event >= indexed.len() {
         return Ok(());
     }
     let place = spot_of(indexed, event);
     append_about(out, indexed, event)?;
-    append_held(out, indexed, must, place, event)?;
+    append_held(out, analysis, place, event)?;
     append_calls(out, place, location_of(indexed, event))?;
     Ok(())
 }
@@ -160,17 +154,15 @@ fn append_about(out: &mut Vec<u8>, indexed: &Indexed, event: u32) -> Result<(), 
 /// Appends a line for each lock that the event's thread holds before it.
 fn append_held(
     out: &mut Vec<u8>,
-    indexed: &Indexed,
-    must: &Must,
+    analysis: &Analysis<'_>,
     place: &[u8],
     event: u32,
 ) -> Result<(), OutOfMemory>
-    requires must { must.now ≡ indexed.now }
-    requires event { event < length indexed.now.events }
-    ensures { OnOk result (out.new.items ≡ out.old.items ++ lock_lines indexed.now place.now (held_locks indexed.now event)) }
+    requires event { event < length analysis.now.events }
+    ensures { OnOk result (out.new.items ≡ out.old.items ++ lock_lines analysis.now place.now (held_locks analysis.now event)) }
 {
-    let locks = must.locks_held(*out.allocator(), indexed, event)?;
-    append_locks(out, indexed, place, locks.as_slice())?;
+    let locks = analysis.locks_held(*out.allocator(), event)?;
+    append_locks(out, analysis.indexed(), place, locks.as_slice())?;
     Ok(())
 }
 

@@ -3,26 +3,23 @@ ghost use Rattle.std.specs.Prelude.{◌≡◌, ◌++◌, List, ℕ, OnOk, OnErr}
 ghost use Rattle.race_lines.specs.Lines.{all_lines, IsLinesText};
 
 use crate::blocks::append_verdict;
-use event_index::Indexed;
-use must_order::Must;
+use must_order::Analysis;
 use race_triage::{Chosen, Verdict};
 use rapid_text::OutOfMemory;
 
 /// Appends the lines of the chosen verdicts, in their order: of each one line `FILE:LINE: KIND: TEXT` at its later access, and notes in the same
 /// form. If memory is refused `out` stays as it was.
 pub fn triage_lines(
-    indexed: &Indexed,
-    must: &Must,
+    analysis: &Analysis<'_>,
     chosen: &Chosen,
     out: &mut Vec<u8>,
 ) -> Result<(), OutOfMemory>
-    requires must { must.now ≡ indexed.now }
     // The text is the one that belongs to the trace and the chosen verdicts.
-    ensures ok { OnOk result ((text : List ℕ) × IsLinesText indexed.now chosen.now text × (out.new.items ≡ out.old.items ++ text)) }
+    ensures ok { OnOk result ((text : List ℕ) × IsLinesText analysis.now chosen.now text × (out.new.items ≡ out.old.items ++ text)) }
     ensures err { OnErr result (out.new.items ≡ out.old.items) }
 {
     let mut text = Vec::new(*out.allocator());
-    append_all(&mut text, indexed, must, chosen.verdicts.as_slice())?;
+    append_all(&mut text, analysis, chosen.verdicts.as_slice())?;
     out.extend_from_slice(text.as_slice())?;
     Ok(())
 }
@@ -30,15 +27,13 @@ pub fn triage_lines(
 /// Appends the lines of each of the verdicts.
 fn append_all(
     out: &mut Vec<u8>,
-    indexed: &Indexed,
-    must: &Must,
+    analysis: &Analysis<'_>,
     verdicts: &[Verdict],
 ) -> Result<(), OutOfMemory>
-    requires must { must.now ≡ indexed.now }
-    ensures { OnOk result (out.new.items ≡ out.old.items ++ all_lines indexed.now verdicts.now) }
+    ensures { OnOk result (out.new.items ≡ out.old.items ++ all_lines analysis.now verdicts.now) }
 {
     for verdict in verdicts {
-        append_verdict(out, indexed, must, verdict)?;
+        append_verdict(out, analysis, verdict)?;
     }
     Ok(())
 }

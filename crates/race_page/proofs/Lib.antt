@@ -1,2 +1,3 @@
+pub mod MergedLemmas
 pub mod PieceLemmas
 pub mod RowLemmas

@@ -1,5 +1,8 @@
 pub mod Counts
 pub mod Heads
+pub mod Marks
+pub mod Merged
+pub mod MergedRows
 pub mod Own
 pub mod Pages
 pub mod Raced

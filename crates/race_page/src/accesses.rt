@@ -1,23 +1,20 @@
 //! The two accesses of a row: each as its line of the trace, with the locks that its thread holds before it.
-ghost use Rattle.std.specs.Prelude.{◌≡◌, ◌<◌, length};
+ghost use Rattle.std.specs.Prelude.{◌<◌, length};
 
 use crate::own::Tag;
 use crate::piece::{Item, Piece};
 use event_index::Indexed;
-use must_order::Must;
+use must_order::Analysis;
 use race_triage::append_event;
 use rapid_text::OutOfMemory;
 
 /// Writes a table of the two, under its heading.
 pub(crate) fn write_accesses(
     piece: &mut Piece,
-    indexed: &Indexed,
-    must: &Must,
+    analysis: &Analysis<'_>,
     first: u32,
     second: u32,
-) -> Result<(), OutOfMemory>
-    requires { must.now ≡ indexed.now }
-{
+) -> Result<(), OutOfMemory> {
     piece.write(&[
         Item::Element(Tag::PartHeading, b"The two accesses"),
         Item::Begin(Tag::Table),
@@ -30,39 +27,30 @@ pub(crate) fn write_accesses(
         Item::End(Tag::TableHead),
         Item::Begin(Tag::TableBody),
     ])?;
-    write_access(piece, indexed, must, first)?;
-    write_access(piece, indexed, must, second)?;
+    write_access(piece, analysis, first)?;
+    write_access(piece, analysis, second)?;
     piece.write(&[Item::End(Tag::TableBody), Item::End(Tag::Table)])
 }
 
 /// Writes the line of an access, where the trace has it.
-fn write_access(
-    piece: &mut Piece,
-    indexed: &Indexed,
-    must: &Must,
-    event: u32,
-) -> Result<(), OutOfMemory>
-    requires { must.now ≡ indexed.now }
-{
-    if event >= indexed.len() {
+fn write_access(piece: &mut Piece, analysis: &Analysis<'_>, event: u32) -> Result<(), OutOfMemory> {
+    if event >= analysis.indexed().len() {
         return Ok(());
     }
     let mut text = Vec::new(piece.allocator());
-    write_line(piece, &mut text, indexed, must, event)
+    write_line(piece, &mut text, analysis, event)
 }
 
 /// Writes the line of an access, whose words are made in a text of their own.
 fn write_line(
     piece: &mut Piece,
     text: &mut Vec<u8>,
-    indexed: &Indexed,
-    must: &Must,
+    analysis: &Analysis<'_>,
     event: u32,
 ) -> Result<(), OutOfMemory>
-    requires must { must.now ≡ indexed.now }
-    requires event { event < length indexed.now.events }
+    requires event { event < length analysis.now.events }
 {
-    append_event(text, indexed, event)?;
+    append_event(text, analysis.indexed(), event)?;
     piece.write(&[
         Item::Begin(Tag::Line),
         Item::Begin(Tag::LineHead),
@@ -73,21 +61,15 @@ fn write_line(
         Item::End(Tag::Cell),
         Item::Begin(Tag::Cell),
     ])?;
-    write_locks(piece, indexed, must, event)
+    write_locks(piece, analysis, event)
 }
 
 /// Writes the locks that the event's thread holds before it, and ends their cell and its line.
-fn write_locks(
-    piece: &mut Piece,
-    indexed: &Indexed,
-    must: &Must,
-    event: u32,
-) -> Result<(), OutOfMemory>
-    requires must { must.now ≡ indexed.now }
-    requires event { event < length indexed.now.events }
+fn write_locks(piece: &mut Piece, analysis: &Analysis<'_>, event: u32) -> Result<(), OutOfMemory>
+    requires event { event < length analysis.now.events }
 {
-    match must.locks_held(piece.allocator(), indexed, event) {
-        Ok(locks) => write_held(piece, indexed, locks.as_slice()),
+    match analysis.locks_held(piece.allocator(), event) {
+        Ok(locks) => write_held(piece, analysis.indexed(), locks.as_slice()),
         Err(refused) => Err(refused),
     }
 }

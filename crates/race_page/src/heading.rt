@@ -62,7 +62,7 @@ fn append_heading(out: &mut Vec<u8>, races: u64, file: &[u8]) -> Result<(), OutO
 }
 
 /// Appends how many races there are, in words.
-fn append_races(out: &mut Vec<u8>, races: u64) -> Result<(), OutOfMemory>
+pub(crate) fn append_races(out: &mut Vec<u8>, races: u64) -> Result<(), OutOfMemory>
     ensures { OnOk result (out.new.items ≡ out.old.items ++ races_words races) }
 {
     if races == 0 {

@@ -9,7 +9,10 @@ mod ending;
 mod followed;
 mod heading;
 mod leftovers;
+mod marks;
 mod meanings;
+mod merged;
+mod merged_rows;
 mod own;
 mod page;
 mod piece;
@@ -24,6 +27,7 @@ mod whole;
 mod words;
 
 pub use about::About;
+pub use merged::merged_page;
 pub use own::{Part, Tag};
 pub use rows::{MOST_PICTURES, MOST_ROWS};
 pub use shown::{Seen, Shown, Sort};

@@ -9,10 +9,9 @@ use crate::piece::Piece;
 use crate::shown::{Shown, row_begin_of, seen_of};
 use event_index::Indexed;
 use itoa::Buffer;
-use must_order::Must;
+use must_order::Analysis;
 use pair_picture::figure_text;
 use rapid_text::OutOfMemory;
-use shb_clocks::Clocks;
 use std::alloc::Global;
 use std::marker::Model;
 
@@ -20,41 +19,29 @@ use std::marker::Model;
 /// and its rows.
 #[derive(Drop)]
 pub(crate) struct Page<'a> {
-    indexed: &'a Indexed,
-    clocks: &'a Clocks,
-    must: &'a Must,
+    analysis: &'a Analysis<'a>,
     text: Vec<u8>,
     rows: Vec<Shown>,
 }
 
 impl<'a> Model for Page<'a> {
-    ghost use Rattle.std.specs.Prelude.{◌≡◌};
     ghost use Rattle.race_page.specs.Pages.{AreParts, Made};
 
     ghost Value = { Made };
 
-    ghost view = { λ p. record { trace = p.indexed.now; text = p.text.items; rows = p.rows.items } };
+    ghost view = { λ p. record { trace = p.analysis.now; text = p.text.items; rows = p.rows.items } };
 
-    ghost invariant = { λ p. AreParts p.indexed.now p.text.items p.rows.items × (p.clocks.now ≡ p.indexed.now) × (p.must.now ≡ p.indexed.now) };
+    ghost invariant = { λ p. AreParts p.analysis.now p.text.items p.rows.items };
 }
 
 impl<'a> Page<'a> {
     /// A page of this trace on which nothing stands yet.
-    pub(crate) fn new(
-        alloc: Global,
-        indexed: &'a Indexed,
-        clocks: &'a Clocks,
-        must: &'a Must,
-    ) -> Page<'a>
-        requires clocks { clocks.now ≡ indexed.now }
-        requires must { must.now ≡ indexed.now }
-        ensures trace { result.trace ≡ indexed.now }
+    pub(crate) fn new(alloc: Global, analysis: &'a Analysis<'a>) -> Page<'a>
+        ensures trace { result.trace ≡ analysis.now }
         ensures rows { result.rows ≡ [] }
     {
         Page {
-            indexed,
-            clocks,
-            must,
+            analysis,
             text: Vec::new(alloc),
             rows: Vec::new(alloc),
         }
@@ -64,21 +51,14 @@ impl<'a> Page<'a> {
     pub(crate) fn indexed(&self) -> &'a Indexed
         ensures { result.now ≡ self.now.trace }
     {
-        self.indexed
+        self.analysis.indexed()
     }
 
-    /// Its clocks.
-    pub(crate) fn clocks(&self) -> &'a Clocks
+    /// The trace with its orders.
+    pub(crate) fn analysis(&self) -> &'a Analysis<'a>
         ensures { result.now ≡ self.now.trace }
     {
-        self.clocks
-    }
-
-    /// Its must-order.
-    pub(crate) fn must(&self) -> &'a Must
-        ensures { result.now ≡ self.now.trace }
-    {
-        self.must
+        self.analysis
     }
 
     /// The allocator.
@@ -139,7 +119,13 @@ impl<'a> Page<'a> {
         ensures rows { OnOk result (self.new.rows ≡ self.old.rows ++ shown ∷ []) }
     {
         let mut figure = Vec::new(*self.text.allocator());
-        figure_text(self.indexed, events, shown.first, shown.second, &mut figure)?;
+        figure_text(
+            self.analysis.indexed(),
+            events,
+            shown.first,
+            shown.second,
+            &mut figure,
+        )?;
         self.add_drawn(figure.as_slice(), shown, before, after)
     }
 

@@ -1,5 +1,5 @@
 //! Why a pair of places is no race, in a line.
-ghost use Rattle.std.specs.Prelude.{◌≡◌, ◌<◌, IfOk, length};
+ghost use Rattle.std.specs.Prelude.{◌<◌, IfOk, length};
 ghost use Rattle.race_page.specs.Raced.{IsRacedIn};
 
 use crate::own::Tag;
@@ -7,12 +7,10 @@ use crate::page::Page;
 use crate::piece::{Item, Piece};
 use crate::shown::Shown;
 use crate::words::cut_line;
-use event_index::Indexed;
 use explain_report::{Verdict as Reason, append_head, first_raced};
-use must_order::{Must, Step};
+use must_order::{Analysis, Step};
 use race_triage::{Outcome, Verdict};
 use rapid_text::OutOfMemory;
-use shb_clocks::Clocks;
 use std::alloc::Global;
 
 /// What is said where no open pair was tried, so that none could be shown.
@@ -34,13 +32,7 @@ pub(crate) fn write_reason(
     let mut text = Vec::new(piece.allocator());
     write_line(piece, &mut text, page, verdict, shown)?;
     if verdict.outcome == Outcome::Apart {
-        let raced = raced_in(
-            piece.allocator(),
-            indexed,
-            page.clocks(),
-            page.must(),
-            shown,
-        )?;
+        let raced = raced_in(piece.allocator(), page.analysis(), shown)?;
         write_raced(piece, raced)?;
     }
     piece.write(&[Item::End(Tag::Facts)])
@@ -66,19 +58,15 @@ fn write_line(
 /// themselves.
 fn raced_in(
     alloc: Global,
-    indexed: &Indexed,
-    clocks: &Clocks,
-    must: &Must,
+    analysis: &Analysis<'_>,
     shown: Shown,
 ) -> Result<Option<Step>, OutOfMemory>
-    requires clocks { clocks.now ≡ indexed.now }
-    requires must { must.now ≡ indexed.now }
-    requires first { shown.first < length indexed.now.events }
-    requires second { shown.second < length indexed.now.events }
-    ensures { IfOk result (IsRacedIn indexed.now shown.first shown.second) }
+    requires first { shown.first < length analysis.now.events }
+    requires second { shown.second < length analysis.now.events }
+    ensures { IfOk result (IsRacedIn analysis.now shown.first shown.second) }
 {
-    match must.reasons(alloc, indexed, shown.first, shown.second)? {
-        Some(chains) => Ok(first_raced(indexed, clocks, chains.as_slice())),
+    match analysis.reasons(alloc, shown.first, shown.second)? {
+        Some(chains) => Ok(first_raced(analysis, chains.as_slice())),
         None => Ok(None),
     }
 }
@@ -111,19 +99,19 @@ fn append_reason(
     requires first { shown.first < length page.now.trace.events }
     requires second { shown.second < length page.now.trace.events }
 {
-    let (indexed, must) = (page.indexed(), page.must());
+    let analysis = page.analysis();
     if verdict.outcome == (Outcome::Undecided { tried: 0 }) {
         text.extend_from_slice(UNTRIED)?;
     } else {
         let mut reason = Reason::Undecided { events: &[] };
         if verdict.outcome == Outcome::Apart {
-            if must.is_forced(indexed, shown.first, shown.second) {
+            if analysis.is_forced(shown.first, shown.second) {
                 reason = Reason::Forced { chains: &[] };
-            } else if let Some(lock) = must.guard(indexed, shown.first, shown.second) {
+            } else if let Some(lock) = analysis.guard(shown.first, shown.second) {
                 reason = Reason::Guarded { lock };
             }
         }
-        append_head(text, indexed, &reason, shown.first, shown.second)?;
+        append_head(text, analysis.indexed(), &reason, shown.first, shown.second)?;
     }
     Ok(())
 }

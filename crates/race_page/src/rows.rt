@@ -55,7 +55,7 @@ fn write_row(
     let shown = shown_of(about, indexed, verdict);
     piece.clear();
     write_summary(piece, page, verdict, shown)?;
-    write_accesses(piece, indexed, page.must(), shown.first, shown.second)?;
+    write_accesses(piece, page.analysis(), shown.first, shown.second)?;
     write_followed(piece, indexed, about, shown)?;
     if is_drawn && shown.sort == Sort::Race {
         write_with_schedule(page, piece, about.name, shown)

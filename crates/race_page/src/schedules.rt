@@ -42,14 +42,7 @@ pub(crate) fn write_with_schedule(
     if shown.first >= indexed.len() || shown.second >= indexed.len() {
         return write_plain(page, piece, word, shown);
     }
-    match find(
-        page.allocator(),
-        indexed,
-        page.clocks(),
-        page.must(),
-        shown.first,
-        shown.second,
-    ) {
+    match find(page.allocator(), page.analysis(), shown.first, shown.second) {
         Ok(finding) => write_finding(page, piece, word, &finding, shown),
         Err(refused) => Err(refused),
     }
@@ -167,14 +160,7 @@ fn write_explained(
     verdict: &Verdict<'_>,
     shown: Shown,
 ) -> Result<(), OutOfMemory> {
-    explain_text(
-        page.indexed(),
-        page.clocks(),
-        page.must(),
-        verdict,
-        (shown.first, shown.second),
-        text,
-    )?;
+    explain_text(page.analysis(), verdict, (shown.first, shown.second), text)?;
     piece.write(&[Item::Element(Tag::PartHeading, b"Its runs in words")])?;
     lines(piece, text.as_slice())
 }

@@ -1,7 +1,5 @@
 //! The whole page.
-ghost use Rattle.std.specs.Prelude.{◌≡◌, ◌++◌, [], List, ℕ, IfOk, OnErr, OnOk, map};
-ghost use Rattle.race_triage.specs.Chosen.{known_places, AreChosen};
-ghost use Rattle.race_triage.specs.declared.chosen.Chosen.{Chosen as Choice};
+ghost use Rattle.std.specs.Prelude.{◌≡◌, ◌++◌, [], List, ℕ, OnErr, OnOk};
 ghost use Rattle.race_triage.specs.declared.verdicts.Verdict.{Verdict as Told};
 ghost use Rattle.race_page.specs.Pages.{IsEnd, IsPage};
 ghost use Rattle.race_page.specs.Rows.{all_rows, followed_in, rows_of, sort_rows};
@@ -18,49 +16,32 @@ use crate::piece::{Item, Piece};
 use crate::rows::write_rows;
 use crate::selecting::of_sort;
 use crate::shown::Sort;
-use event_index::Indexed;
-use must_order::Must;
-use race_triage::{Chosen, Filters, Known, Verdict, Verdicts, chosen_of};
+use must_order::Analysis;
+use race_triage::{Chosen, Verdict, Verdicts};
 use rapid_text::OutOfMemory;
-use shb_clocks::Clocks;
 
-/// Appends a page (HTML) of the verdicts. Its first line is `6 races in pdsh.std`: how many are told, and `name` without folders. Then there is a row for
-/// each race, each pair of places that is undecided, and where `apart` is true each that is apart; of each sort the first 2,000, and a picture
-/// for each of the first 200 races. Then come the eleven counts of the whole trace, and what the words mean. Races of known places are left out, and rows that the
-/// filters do not keep; where there are such, the page tells how many. `about` has the trace's name, and how its races came out when they were followed
-/// on the real program: that stands beside each race. Answers how many races
-/// there are among those that were not left out, also where there are more than rows. Where memory is refused `out` stays as it was.
+/// Appends a page (HTML) of these verdicts, of which some are chosen. Its first line is `6 races in pdsh.std`: how many are chosen, and `name` without
+/// folders. Then there is a row for each chosen race, each pair of places that is undecided, and where `apart` is true each that is apart; of each sort the
+/// first 2,000, and a picture for each of the first 200 races. Then come the eleven counts of the whole trace, and what the words mean. The page tells how
+/// many were left out. `about` has the trace's name, and how its races came out when they were followed on the real program: that stands beside each race.
+/// Where memory is refused `out` stays as it was.
 pub fn page_text(
-    indexed: &Indexed,
-    clocks: &Clocks,
-    must: &Must,
+    analysis: &Analysis<'_>,
     verdicts: &Verdicts,
-    known: &Option<Known>,
-    filters: Filters<'_>,
+    chosen: &Chosen,
     apart: bool,
     about: About<'_>,
     out: &mut Vec<u8>,
-) -> Result<u64, OutOfMemory>
-    requires clocks { clocks.now ≡ indexed.now }
-    requires must { must.now ≡ indexed.now }
-    // The verdicts that are told are chosen as for a text. What is appended is a page with a row for each of them, of each sort the first 2,000, and no
-    // others. Answered is how many races are told, with those that have no row. The first line says the same number, and the file's name.
-    ensures ok { IfOk result (λ races. (chosen : Choice)
-        × AreChosen indexed.now (known_places known.now) (map (λ t. t.now) filters.entry.only.now) (map (λ t. t.now) filters.entry.hide.now) apart
-        verdicts.now.verdicts.items chosen
-        × (text : List ℕ) × (out.new.items ≡ out.old.items ++ text)
-        × IsPage indexed.now verdicts.now.verdicts.items chosen.races about.entry.name.now text
-        (all_rows indexed.now (followed_in about.entry) apart chosen.verdicts.items) × (races ≡ chosen.races)) }
+) -> Result<(), OutOfMemory>
+    // What is appended is a page with a row for each of the chosen verdicts, of each sort the first 2,000, and no others. The first line has the number of
+    // chosen races, with those that have no row, and the file's name.
+    ensures ok { OnOk result ((text : List ℕ) × (out.new.items ≡ out.old.items ++ text)
+        × IsPage analysis.now verdicts.now.verdicts.items chosen.now.races about.entry.name.now text
+        (all_rows analysis.now (followed_in about.entry) apart chosen.now.verdicts.items)) }
     ensures err { OnErr result (out.new.items ≡ out.old.items) }
 {
-    match chosen_of(*out.allocator(), indexed, verdicts, known, filters, apart) {
-        Ok(chosen) => {
-            let mut page = Page::new(*out.allocator(), indexed, clocks, must);
-            append_page(&mut page, verdicts, &chosen, apart, about, out)?;
-            Ok(chosen.races)
-        }
-        Err(refused) => Err(refused),
-    }
+    let mut page = Page::new(*out.allocator(), analysis);
+    append_page(&mut page, verdicts, chosen, apart, about, out)
 }
 
 /// Appends the page of the verdicts that are told, on which nothing stands yet.

@@ -1,5 +1,9 @@
+pub mod FactLemmas
 pub mod LineLemmas
 pub mod LoopLemmas
 pub mod MergingLemmas
+pub mod PairLemmas
 pub mod PutLemmas
+pub mod ReadLemmas
+pub mod ScanLemmas
 pub mod UnionLemmas

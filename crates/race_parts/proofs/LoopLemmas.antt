@@ -6,7 +6,9 @@ use Rattle.serde_json.specs.Find.{as_array, get}
 use Rattle.serde_json.specs.View.{items_of, items_view, view}
 use Rattle.serde_json.specs.declared.value.Value.{Value}
 use Rattle.std.specs.Prelude.{codes}
-use Rattle.race_parts.specs.Cells.{cell_key, is_same, key_of, keys_from, row_said}
+use Rattle.race_parts.proofs.LineLemmas.{lines-more, lines-none}
+use Rattle.race_parts.specs.Lines.{HasNoFeed, lines_of}
+use Rattle.race_parts.specs.Cells.{Said, cell_key, is_same, key_of, keys_from, row_said}
 use Rattle.race_parts.specs.Objects.{json_line, news_count, pair_lines, pair_object_at}
 use Rattle.race_parts.specs.Texts.{block_text, blocks_text, heads_count, held_by, hold_line, hold_lines, holds_text, is_head, is_new, item_lines, list_lines, one_if, run_count}
 use Rattle.race_parts.specs.declared.cells.Cell.{Cell}
@@ -79,15 +81,31 @@ keys-more cells more c n r rows rest last e key =
     ∙ ap (λ m. map cell_key cells ++ key_of n (row_said r) ∷ keys_from m (map row_said rest)) (omega arith)
     ∙ ap (λ (rs : List Row). map cell_key cells ++ keys_from n (map row_said rs)) (sym e)
 
-lines_of : (vs : List Value) → item_lines (items_of (map view vs)) ≡ hold_lines vs
-lines_of [] = refl
-lines_of (v ∷ vs) = ap (λ (xs : List ℕ). hold_line (view v) ++ xs) (lines_of vs)
+item_lines-holds : (vs : List Value) → item_lines (items_of (map view vs)) ≡ hold_lines vs
+item_lines-holds [] = refl
+item_lines-holds (v ∷ vs) = ap (λ (xs : List ℕ). hold_line (view v) ++ xs) (item_lines-holds vs)
 
 pub holds-are : (d e : Data) (vs : List Value) → get (codes "holds") d ≡ Some e → as_array e ≡ Some (items_view vs) → holds_text d ≡ hold_lines vs
-holds-are d e vs there list = ap held_by there ∙ ap list_lines list ∙ lines_of vs
+holds-are d e vs there list = ap held_by there ∙ ap list_lines list ∙ item_lines-holds vs
 
 pub holds-no_list : (d e : Data) → get (codes "holds") d ≡ Some e → as_array e ≡ None → holds_text d ≡ []
 holds-no_list d e there list = ap held_by there ∙ ap list_lines list
 
 pub holds-none : (d : Data) → get (codes "holds") d ≡ None → holds_text d ≡ []
 holds-none d there = ap held_by there
+
+-- a row more
+pub rows-more : (f : List ℕ → Said) (rows more : List Row) (row : Row) (line rest behind : List ℕ) (all : List Said) → rest ≡ line ++ 10 ∷ behind → HasNoFeed line → row_said row ≡ f line
+    → more ≡ rows ++ row ∷ [] → map row_said rows ++ map f (lines_of rest) ≡ all → map row_said more ++ map f (lines_of behind) ≡ all
+rows-more f rows more row line rest behind all cut free said last before =
+    ap (λ (rs : List Row). map row_said rs ++ map f (lines_of behind)) last
+    ∙ ap (λ (ss : List Said). ss ++ map f (lines_of behind)) (map-append row_said rows (row ∷ []))
+    ∙ append_assoc (map row_said rows) (row_said row ∷ []) (map f (lines_of behind))
+    ∙ ap (λ (s : Said). map row_said rows ++ s ∷ map f (lines_of behind)) said
+    ∙ ap (λ (ls : List (List ℕ)). map row_said rows ++ map f ls) (sym (ap lines_of cut ∙ lines-more line behind free))
+    ∙ before
+
+-- no line is left
+pub rows-end : (f : List ℕ → Said) (rows : List Row) (rest : List ℕ) (all : List Said) → HasNoFeed rest → map row_said rows ++ map f (lines_of rest) ≡ all → map row_said rows ≡ all
+rows-end f rows rest all free before =
+    sym (append-nil (map row_said rows)) ∙ ap (λ (ls : List (List ℕ)). map row_said rows ++ map f ls) (sym (lines-none rest free)) ∙ before

@@ -1,12 +1,15 @@
 -- The parts of a merged report, taken in one after another.
-use Rattle.std.proofs.Common.{◌≡◌, ℕ, ◌+◌, ◌-◌, All, List, [], ◌∷◌, ◌++◌, append_assoc, length, map, Vec, Result, Ok, Err, OnOk, refl, sym, ap, ◌∙◌, subst, arith}
+use Rattle.std.proofs.Common.{◌≡◌, ◌==◌, ℕ, ◌+◌, ◌-◌, All, IfErr, List, [], ◌∷◌, ◌++◌, append_assoc, length, map, Vec, Result, Ok, Err, OnOk, inl, inr, true, false, refl, sym, ap, ◌∙◌, subst, arith}
 use Rattle.std.specs.BTreeMap.{BTreeMap}
 use Rattle.std.specs.declared.alloc.Global.{Global}
+use Rattle.std.proofs.lemmas.Bool.{eqb-true}
 use Rattle.std.proofs.lemmas.List.{length-append}
 use Rattle.std.proofs.lemmas.List.Elements.{All-cons}
 use Rattle.serde_json.specs.declared.value.Value.{Value}
 use Rattle.serde_json.specs.View.{view}
-use Rattle.race_parts.specs.Merging.{AreWrong, IsLineRefused, IsPartText, IsUntaken, told_of}
+use Rattle.serde_json.specs.Data.{Data}
+use Rattle.race_parts.specs.Lines.{AreLines, IsUnread}
+use Rattle.race_parts.specs.Merging.{IsPartRefused, IsRefused, IsReportRefused, IsUnsound, is_merged, is_merged_head, IsLineRefused, IsPartText, IsUnputOr, IsUntaken, told_of}
 use Rattle.race_parts.specs.Parts.{IsPutFault, joined, single, text_at, told_in}
 use Rattle.race_parts.specs.declared.lines.PartRefusal.{PartRefusal}
 use Rattle.race_parts.specs.declared.lines.PartRefusal.TheVariants.{Line, Version, Clash, OutOfMemory}
@@ -75,13 +78,54 @@ put_line text place Version h = h
 put_line text place (Clash file) h = tt
 put_line text place OutOfMemory h = tt
 
-pub put_wrong : (vs : List Value) (why : PartRefusal) → IsPutFault why → AreWrong vs why
-put_wrong vs (Line line) h = absurd h
-put_wrong vs Version h = h
-put_wrong vs (Clash file) h = tt
-put_wrong vs OutOfMemory h = tt
+pub put_or : (P : PartRefusal → Type 0) (why : PartRefusal) → IsPutFault why → IsUnputOr P why
+put_or P (Line line) h = absurd h
+put_or P Version h = absurd h
+put_or P (Clash file) h = tt
+put_or P OutOfMemory h = tt
 
 -- what a call says of its success says what follows from it
 pub on_ok-map : {P Q : Type 0} (r : Result (Unit {0}) PartRefusal) → (P → Q) → OnOk r P → OnOk r Q
 on_ok-map (Ok u) f h = f h
 on_ok-map (Err e) f h = tt
+
+pub if_err-map : {A : Type 0} {P Q : PartRefusal → Type 0} (r : Result A PartRefusal) → ((why : PartRefusal) → P why → Q why) → IfErr r P → IfErr r Q
+if_err-map (Ok a) f h = tt
+if_err-map (Err e) f h = f e h
+
+-- a text of no line is no part
+no_byte : (text : List ℕ) → true ≡ (length text == 0) → text ≡ []
+no_byte [] e = refl
+no_byte (b ∷ bs) e = let none : length (b ∷ bs) ≡ 0 = eqb-true (length (b ∷ bs)) 0 (sym e) in absurd (omega (arith, none))
+
+pub empty_part : (text : List ℕ) → true ≡ (length text == 0) → IsPartRefused text (Line 0)
+empty_part text e = rw (no_byte text e) (inr ([], AreLines.none, refl, refl))
+
+pub empty_file : (text : List ℕ) → true ≡ (length text == 0) → IsRefused text (Line 0)
+empty_file text e = rw (no_byte text e) (inr (inl ([], AreLines.none, refl, refl, refl)))
+
+-- why a file is refused
+pub unread_file : (text : List ℕ) (why : PartRefusal) → IsUnread text why → IsRefused text why
+unread_file text (Line line) h = inl h
+unread_file text Version h = absurd h
+unread_file text (Clash file) h = tt
+unread_file text OutOfMemory h = tt
+
+pub report_refused : (text : List ℕ) (why : PartRefusal) → IsReportRefused text why → IsRefused text why
+report_refused text (Line line) h = inr (inr h)
+report_refused text Version h = h
+report_refused text (Clash file) h = tt
+report_refused text OutOfMemory h = tt
+
+unsound_line : (text : List ℕ) (d : Data) (line : ℕ) → is_merged_head d ≡ false → IsUnsound text d (Line line) → IsRefused text (Line line)
+unsound_line text d line other (inl h) = inl h
+unsound_line text d line other (inr h) = inr (inl (d ∷ h.0, h.1, h.2, other, h.3))
+
+pub part_refused : (text : List ℕ) (d : Data) (why : PartRefusal) → is_merged_head d ≡ false → IsUnputOr (IsUnsound text d) why → IsRefused text why
+part_refused text d (Line line) other h = unsound_line text d line other h
+part_refused text d Version other h = (d ∷ h.0, h.1, h.2)
+part_refused text d (Clash file) other h = tt
+part_refused text d OutOfMemory other h = tt
+
+pub merged_begins : (vs behind : List Value) (v : Value) → vs ≡ v ∷ behind → is_merged_head (view v) ≡ true → is_merged (map view vs) ≡ true
+merged_begins vs behind v e merged = rw e merged

@@ -1,11 +1,11 @@
 -- Names with their texts, put together.
-use Rattle.std.proofs.Common.{◌≡◌, ℕ, Bool, true, false, cond, List, [], ◌∷◌, ◌++◌, append_assoc, Option, Some, None, refl, sym, ap, ◌∙◌, inl, inr}
+use Rattle.std.proofs.Common.{◌≡◌, ℕ, cond, List, [], ◌∷◌, ◌++◌, append_assoc, Option, Some, None, refl, sym, ap, ◌∙◌, inl, inr}
 use Rattle.std.specs.BTreeMap.{is_at}
 use Rattle.std.specs.Cmp.Lexicographic.{nat_list_cmp_total}
 use Rattle.std.proofs.lemmas.Map.Lookups.{exact_bytes, btree_map_from_get}
 use Rattle.std.proofs.lemmas.Bool.{cases_Bool}
 use Rattle.race_parts.specs.Parts.{bytes_cmp, joined, told_in}
-use Rattle.race_parts.specs.Laws.{AreAlike, MergingIsAUnion}
+use Rattle.race_parts.specs.Laws.{MergingIsAUnion}
 
 pub joined-none : (o : Option (List ℕ)) → joined o None ≡ o
 joined-none None = refl

@@ -1,54 +1,77 @@
 -- The rows of all parts, and the order in which they are told. All notions here are this project's own.
-use Rattle.std.specs.Prelude.{◌≡◌, ℕ, ◌+◌, suc, Bool, ◌&&◌, cond, List, [], ◌∷◌, ◌++◌, map, flat_map, drop, unwrap_or, option_and_then, Vec, Option, Some, None, codes, bytes_eq}
+use Rattle.std.specs.Prelude.{◌≡◌, ℕ, suc, Bool, ◌&&◌, cond, List, [], ◌∷◌, map, flat_map, drop, Vec, bytes_eq}
 use Rattle.std.specs.declared.alloc.Global.{Global}
 use Rattle.std.specs.declared.cmp.Ordering.{Ordering}
 use Rattle.std.specs.Ordering.{nat_cmp, ordering_then, is_gt}
 use Rattle.std.specs.List.Sorted.{IsPermutation, IsSorted}
 use Rattle.serde_json.specs.Data.{Data}
 use Rattle.serde_json.specs.View.{view}
-use Rattle.serde_json.specs.declared.value.Value.{Value}
-use Rattle.race_parts.specs.Members.{access_in, find_number, find_text, is_kind, said_number, said_text}
+use Rattle.race_parts.specs.Accesses.{event_in, location_in, rank_of, size_of}
+use Rattle.race_parts.specs.Facts.{data_in}
+use Rattle.race_parts.specs.Lines.{lines_of}
 use Rattle.race_parts.specs.Parts.{bytes_cmp}
 use Rattle.race_parts.specs.declared.cells.Cell.{Cell}
 use Rattle.race_parts.specs.declared.cells.Row.{Row}
+use Rattle.race_parts.specs.declared.facts.Fact.{Fact}
+use Rattle.race_parts.specs.declared.facts.Fact.TheVariants.{Known as of_row, Other as of_value}
 use Rattle.race_parts.specs.declared.parts.Part.{Part}
+use Rattle.race_parts.specs.declared.scan.Known.{Known}
 
--- a row: the name of its part, and what it says
-abbrev pub Said : Type 0
-Said = List ℕ × Value
+-- a row: the name of its part, its line, and what its place depends on
+pub record Said : Type 0 where
+  pub part : List ℕ
+  pub line : List ℕ
+  pub one : List ℕ
+  pub other : List ℕ
+  pub rank : ℕ
+  pub size : ℕ
+  pub later : ℕ
+  pub earlier : ℕ
+
+-- a row in a line with this value
+abbrev pub said_by : List ℕ → List ℕ → Data → Said
+said_by name line d = record {
+  part = name;
+  line = line;
+  one = location_in 0 d;
+  other = location_in 1 d;
+  rank = rank_of d;
+  size = size_of d;
+  later = event_in 1 d;
+  earlier = event_in 0 d;
+}
+
+-- a row of which this is known
+abbrev pub known_said : List ℕ → List ℕ → Known → Said
+known_said name line k = record {
+  part = name;
+  line = line;
+  one = k.one.now;
+  other = k.other.now;
+  rank = k.rank;
+  size = k.size;
+  later = k.later;
+  earlier = k.earlier;
+}
+
+abbrev pub fact_said : List ℕ → List ℕ → Fact → Said
+fact_said name line (of_row k) = known_said name line k
+fact_said name line (of_value v) = said_by name line (view v)
 
 abbrev pub row_said : Row → Said
-row_said r = (r.part.now, r.value.now)
+row_said r = fact_said r.part.now r.line.now r.fact
 
--- the rows of a part are its lines but the first
+-- the row in a line
+abbrev pub said_in : List ℕ → List ℕ → Said
+said_in name line = said_by name line (data_in line)
+
+-- the rows of a part are the lines of its text but the first
 abbrev pub rows_of_part : List ℕ → Part → List Said
-rows_of_part name p = map (λ v. (name, v)) (drop 1 p.lines.items)
+rows_of_part name p = map (said_in name) (drop 1 (lines_of p.text.items))
 
 -- those of all parts, by the names of the parts
 abbrev pub rows_in : List (Vec ℕ Global × Part) → List Said
 rows_in es = flat_map (λ e. rows_of_part e.0.items e.1) es
-
-abbrev pub location_by : Option Data → List ℕ
-location_by None = []
-location_by (Some d) = said_text (codes "location") d
-
-abbrev pub location_in : ℕ → Data → List ℕ
-location_in place d = location_by (access_in place d)
-
-abbrev pub event_by : Option Data → ℕ
-event_by None = 0
-event_by (Some d) = said_number (codes "event") d
-
-abbrev pub event_in : ℕ → Data → ℕ
-event_in place d = event_by (access_in place d)
-
--- 0 for a race, 1 for what is undecided, 2 for what is apart
-abbrev pub rank_of : Data → ℕ
-rank_of d = cond (is_kind (codes "race") d) 0 (cond (is_kind (codes "undecided") d) 1 2)
-
--- how many events the schedule of a race has
-abbrev pub size_of : Data → ℕ
-size_of d = cond (is_kind (codes "race") d) (said_number (codes "events") d) 0
 
 abbrev pub lesser_of : List ℕ → List ℕ → List ℕ
 lesser_of one other = cond (is_gt (bytes_cmp one other)) other one
@@ -69,14 +92,14 @@ pub record Key : Type 0 where
   pub number : ℕ
 
 abbrev pub key_of : ℕ → Said → Key
-key_of number said = record {
-  first = lesser_of (location_in 0 (view said.1)) (location_in 1 (view said.1));
-  second = greater_of (location_in 0 (view said.1)) (location_in 1 (view said.1));
-  rank = rank_of (view said.1);
-  size = size_of (view said.1);
-  part = said.0;
-  later = event_in 1 (view said.1);
-  earlier = event_in 0 (view said.1);
+key_of number s = record {
+  first = lesser_of s.one s.other;
+  second = greater_of s.one s.other;
+  rank = s.rank;
+  size = s.size;
+  part = s.part;
+  later = s.later;
+  earlier = s.earlier;
   number = number;
 }
 

@@ -1,9 +1,13 @@
+pub mod Accesses
 pub mod Cells
+pub mod Facts
 pub mod Laws
 pub mod Lines
 pub mod Members
 pub mod Merging
 pub mod Objects
+pub mod Pairs
 pub mod Parts
+pub mod Printed
 pub mod Rows
 pub mod Texts

@@ -1,5 +1,5 @@
 -- What a file gives: a part, or the parts of a merged report. All notions here are this project's own.
-use Rattle.std.specs.Prelude.{◌≡◌, ◌⊎◌, ℕ, ◌+◌, ◌-◌, nat_eq, nat_lt, Bool, ◌&&◌, not, true, false, cond, All, List, [], ◌∷◌, ◌++◌, length, map, take, position, slice_get, Option, Some, None, codes, ⊤}
+use Rattle.std.specs.Prelude.{◌≡◌, ◌⊎◌, ℕ, ◌+◌, ◌-◌, nat_eq, nat_lt, Bool, ◌&&◌, not, true, false, cond, All, List, [], ◌∷◌, ◌++◌, length, map, take, position, Option, Some, None, codes, ⊤}
 use Rattle.serde_json.specs.Data.{Data}
 use Rattle.serde_json.specs.View.{view}
 use Rattle.serde_json.specs.declared.value.Value.{Value}
@@ -10,17 +10,17 @@ use Rattle.race_parts.specs.declared.lines.PartRefusal.{PartRefusal}
 use Rattle.race_parts.specs.declared.lines.PartRefusal.TheVariants.{Line, Version, Clash, OutOfMemory}
 
 -- whether the first line says that the file is of another version
-abbrev pub is_foreign : List Value → Bool
+abbrev pub is_foreign : List Data → Bool
 is_foreign [] = false
-is_foreign (v ∷ vs) = is_other_version (view v)
+is_foreign (d ∷ ds) = is_other_version d
 
 -- whether the first line is that of a merged report
 abbrev pub is_merged_head : Data → Bool
 is_merged_head d = is_kind (codes "merged") d && has_number (codes "parts") d && has_number (codes "pairs") d
 
-abbrev pub is_merged : List Value → Bool
+abbrev pub is_merged : List Data → Bool
 is_merged [] = false
-is_merged (v ∷ vs) = is_merged_head (view v)
+is_merged (d ∷ ds) = is_merged_head d
 
 -- the line of a part in a merged report
 abbrev pub is_part_line : Data → Bool
@@ -64,14 +64,23 @@ told_parts vs = map told_of (part_lines vs)
 
 -- the text is that of a part
 abbrev pub IsPartText : List ℕ → Type 0
-IsPartText text = (vs : List Value) × AreLines text vs × (wrong_line vs ≡ None)
+IsPartText text = (ds : List Data) × AreLines text ds × (is_foreign ds ≡ false) × (wrong_line ds ≡ None)
+
+-- the text is that of a merged report with these parts
+abbrev pub GivesReport : List ℕ → List (List ℕ × List ℕ) → Type 0
+GivesReport text given =
+    (vs : List Value) × AreLines text (map view vs) × (is_foreign (map view vs) ≡ false) × (is_merged (map view vs) ≡ true)
+    × (wrong_merged vs ≡ None) × (given ≡ told_parts vs) × All (λ p. IsPartText p.1) given
+
+-- the text is that of a part, with this as its first line
+abbrev pub IsSound : List ℕ → Data → Type 0
+IsSound text d = (ds : List Data) × AreLines text (d ∷ ds) × (is_other_version d ≡ false) × (wrong_line (d ∷ ds) ≡ None)
 
 -- a file of this name gives these parts
 abbrev pub Gives : List ℕ → List ℕ → List (List ℕ × List ℕ) → Type 0
 Gives name text given =
-    (vs : List Value) × AreLines text vs × (is_foreign vs ≡ false)
-    × (((is_merged vs ≡ false) × (wrong_line vs ≡ None) × (given ≡ (name, text) ∷ []))
-    ⊎ ((is_merged vs ≡ true) × (wrong_merged vs ≡ None) × (given ≡ told_parts vs) × All (λ p. IsPartText p.1) given))
+    ((d : Data) × IsSound text d × (is_merged_head d ≡ false) × (given ≡ (name, text) ∷ []))
+    ⊎ GivesReport text given
 
 -- the line of this place does not fit
 abbrev pub IsAt : Option ℕ → PartRefusal → Type 0
@@ -81,10 +90,19 @@ IsAt None why = ⊥
 
 -- why the text is no part
 abbrev pub IsPartRefused : List ℕ → PartRefusal → Type 0
-IsPartRefused text (Line line) = StopsAt text line ⊎ ((vs : List Value) × AreLines text vs × IsAt (wrong_line vs) (Line line))
-IsPartRefused text Version = (vs : List Value) × AreLines text vs × (is_foreign vs ≡ true)
+IsPartRefused text (Line line) =
+    StopsAt text line ⊎ ((ds : List Data) × AreLines text ds × (is_foreign ds ≡ false) × IsAt (wrong_line ds) (Line line))
+IsPartRefused text Version = (ds : List Data) × AreLines text ds × (is_foreign ds ≡ true)
 IsPartRefused text (Clash file) = ⊥
 IsPartRefused text OutOfMemory = ⊤
+
+-- the same of a text with this first line
+abbrev pub IsUnsound : List ℕ → Data → PartRefusal → Type 0
+IsUnsound text d (Line line) =
+    StopsAt text line ⊎ ((ds : List Data) × AreLines text (d ∷ ds) × (is_other_version d ≡ false) × IsAt (wrong_line (d ∷ ds)) (Line line))
+IsUnsound text d Version = (ds : List Data) × AreLines text (d ∷ ds) × (is_other_version d ≡ true)
+IsUnsound text d (Clash file) = ⊥
+IsUnsound text d OutOfMemory = ⊤
 
 -- why the part in a line is refused
 abbrev pub IsLineRefused : List ℕ → ℕ → PartRefusal → Type 0
@@ -116,19 +134,28 @@ AreWrongIn vs Version = ⊥
 AreWrongIn vs (Clash file) = ⊤
 AreWrongIn vs OutOfMemory = ⊤
 
--- why lines that are to be a part are refused
-abbrev pub AreWrong : List Value → PartRefusal → Type 0
-AreWrong vs (Line line) = IsAt (wrong_line vs) (Line line)
-AreWrong vs Version = ⊥
-AreWrong vs (Clash file) = ⊤
-AreWrong vs OutOfMemory = ⊤
+-- for this, or another part has its name, or there is no memory
+abbrev pub IsUnputOr : (PartRefusal → Type 0) → PartRefusal → Type 0
+IsUnputOr P (Line line) = P (Line line)
+IsUnputOr P Version = P Version
+IsUnputOr P (Clash file) = ⊤
+IsUnputOr P OutOfMemory = ⊤
 
-abbrev pub AreRefused : List Value → PartRefusal → Type 0
-AreRefused vs why = ((is_merged vs ≡ false) × AreWrong vs why) ⊎ ((is_merged vs ≡ true) × AreWrongIn vs why)
+-- why a merged report is refused
+abbrev pub IsReportRefused : List ℕ → PartRefusal → Type 0
+IsReportRefused text (Line line) =
+    StopsAt text line
+    ⊎ ((vs : List Value) × AreLines text (map view vs) × (is_foreign (map view vs) ≡ false) × (is_merged (map view vs) ≡ true) × AreWrongIn vs (Line line))
+IsReportRefused text Version = (ds : List Data) × AreLines text ds × (is_foreign ds ≡ true)
+IsReportRefused text (Clash file) = ⊤
+IsReportRefused text OutOfMemory = ⊤
 
 -- why a file is refused: a line of it does not fit, it is of another version, or a part of it has the name of another part
 abbrev pub IsRefused : List ℕ → PartRefusal → Type 0
-IsRefused text (Line line) = StopsAt text line ⊎ ((vs : List Value) × AreLines text vs × (is_foreign vs ≡ false) × AreRefused vs (Line line))
-IsRefused text Version = (vs : List Value) × AreLines text vs × (is_foreign vs ≡ true)
+IsRefused text (Line line) =
+    StopsAt text line
+    ⊎ (((ds : List Data) × AreLines text ds × (is_foreign ds ≡ false) × (is_merged ds ≡ false) × IsAt (wrong_line ds) (Line line))
+    ⊎ IsReportRefused text (Line line))
+IsRefused text Version = (ds : List Data) × AreLines text ds × (is_foreign ds ≡ true)
 IsRefused text (Clash file) = ⊤
 IsRefused text OutOfMemory = ⊤

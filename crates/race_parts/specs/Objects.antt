@@ -1,5 +1,5 @@
 -- What is told of the parts as JSON. The members of an object stand in the order of their names. All notions here are this project's own.
-use Rattle.std.specs.Prelude.{ℕ, ◌+◌, ◌-◌, nat_eq, Bool, cond, List, [], ◌∷◌, ◌++◌, flat_map, length, Vec, Option, Some, None, codes}
+use Rattle.std.specs.Prelude.{ℕ, ◌+◌, ◌-◌, nat_eq, cond, List, [], ◌∷◌, ◌++◌, flat_map, length, Vec, Option, Some, None, codes}
 use Rattle.std.specs.declared.alloc.Global.{Global}
 use Rattle.std.specs.Str.Lossy.{utf8_lossy}
 use Rattle.serde_json.specs.Data.{Data, number, unsigned, string, object, no_members, member}

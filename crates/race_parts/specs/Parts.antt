@@ -1,5 +1,5 @@
 -- Parts by their names, and how they are joined. All notions here are this project's own.
-use Rattle.std.specs.Prelude.{◌≡◌, ℕ, cond, List, [], ◌∷◌, ◌++◌, Vec, Option, Some, None, option_map, ⊤}
+use Rattle.std.specs.Prelude.{ℕ, cond, List, Vec, Option, Some, None, option_map, ⊤}
 use Rattle.std.specs.declared.alloc.Global.{Global}
 use Rattle.std.specs.declared.cmp.Ordering.{Ordering}
 use Rattle.std.specs.BTreeMap.{BTreeMap, get, is_at}

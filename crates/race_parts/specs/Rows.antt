@@ -1,11 +1,10 @@
 -- Which lines stand in a part: the counts, and a row for each race, each undecided pair of places, and each that is apart. All notions here
 -- are this project's own.
-use Rattle.std.specs.Prelude.{ℕ, ◌+◌, nat_eq, Bool, ◌&&◌, ◌||◌, not, true, false, cond, List, [], ◌∷◌, length, count_by, position, Option, Some, None, is_some, option_and_then, codes, bytes_eq}
+use Rattle.std.specs.Prelude.{ℕ, ◌+◌, nat_eq, Bool, ◌&&◌, ◌||◌, not, false, cond, List, [], ◌∷◌, length, map, count_by, position, Option, Some, None, is_some, option_and_then, codes, bytes_eq}
 use Rattle.serde_json.specs.Data.{Data}
 use Rattle.serde_json.specs.Find.{as_array, get}
-use Rattle.serde_json.specs.View.{view}
-use Rattle.serde_json.specs.declared.value.Value.{Value}
 use Rattle.race_parts.specs.Members.{access_in, find_number, has_number, has_text, is_kind, said_number, said_text}
+use Rattle.race_parts.specs.declared.rows.Mark.{Mark}
 
 -- the object of the counts
 abbrev pub is_counts : Data → Bool
@@ -56,22 +55,31 @@ is_apart d = is_kind (codes "apart") d && has_accesses d
 abbrev pub is_row : Data → Bool
 is_row d = is_race d || is_undecided d || is_apart d
 
--- how many are of a kind
-abbrev pub count_of : List ℕ → List Value → ℕ
-count_of word vs = count_by (λ v. is_kind word (view v)) vs
+-- what a line is as a line of a part
+abbrev pub mark_of : Data → Mark
+mark_of d = record {
+  is_row = is_row d;
+  is_race = is_kind (codes "race") d;
+  is_undecided = is_kind (codes "undecided") d;
+  is_apart = is_kind (codes "apart") d;
+}
 
--- the rows are all that the counts count; those that are apart may be missing
-abbrev pub is_whole : Data → List Value → Bool
-is_whole d vs =
-    nat_eq (said_number (codes "races") d) (count_of (codes "race") vs)
-    && nat_eq (said_number (codes "undecided") d) (count_of (codes "undecided") vs)
-    && (nat_eq (count_of (codes "apart") vs) 0 || nat_eq (said_number (codes "apart") d) (count_of (codes "apart") vs))
+-- The counts count so many races, so many undecided pairs, and so many that are apart, which may be missing.
+abbrev pub is_whole : Data → ℕ → ℕ → ℕ → Bool
+is_whole d races undecided apart =
+    nat_eq (said_number (codes "races") d) races
+    && nat_eq (said_number (codes "undecided") d) undecided
+    && (nat_eq apart 0 || nat_eq (said_number (codes "apart") d) apart)
 
-abbrev pub wrong_behind : Data → List Value → Option ℕ → Option ℕ
-wrong_behind d vs (Some at) = Some (at + 1)
-wrong_behind d vs None = cond (is_whole d vs) None (Some (length vs + 1))
+-- the rows are all that the counts count
+abbrev pub are_whole : Data → List Mark → Bool
+are_whole d ms = is_whole d (count_by (λ m. m.is_race) ms) (count_by (λ m. m.is_undecided) ms) (count_by (λ m. m.is_apart) ms)
+
+abbrev pub wrong_behind : Data → List Mark → Option ℕ → Option ℕ
+wrong_behind d ms (Some at) = Some (at + 1)
+wrong_behind d ms None = cond (are_whole d ms) None (Some (length ms + 1))
 
 -- the place of the first line that does not fit there; none if the lines are a part
-abbrev pub wrong_line : List Value → Option ℕ
+abbrev pub wrong_line : List Data → Option ℕ
 wrong_line [] = Some 0
-wrong_line (v ∷ vs) = cond (is_counts (view v)) (wrong_behind (view v) vs (position (λ w. not (is_row (view w))) vs)) (Some 0)
+wrong_line (d ∷ ds) = cond (is_counts d) (wrong_behind d (map mark_of ds) (position (λ m. not m.is_row) (map mark_of ds))) (Some 0)

@@ -1,11 +1,13 @@
 -- What is told of the parts, as text. All notions here are this project's own.
-use Rattle.std.specs.Prelude.{ℕ, ◌+◌, ◌-◌, nat_eq, Bool, ◌&&◌, not, true, false, cond, List, [], ◌∷◌, ◌++◌, map, flat_map, slice_get, unwrap_or, Option, Some, None, codes, decimal, bytes_eq}
+use Rattle.std.specs.Prelude.{ℕ, ◌+◌, ◌-◌, nat_eq, Bool, ◌&&◌, not, true, false, cond, List, [], ◌∷◌, ◌++◌, map, flat_map, slice_get, Option, Some, None, codes, decimal}
 use Rattle.serde_json.specs.Data.{Data, Items, no_items, item}
 use Rattle.serde_json.specs.Find.{as_array, as_str, get}
 use Rattle.serde_json.specs.View.{view}
 use Rattle.serde_json.specs.declared.value.Value.{Value}
 use Rattle.race_parts.specs.Members.{access_in, is_kind, said_number, said_text}
-use Rattle.race_parts.specs.Cells.{Said, event_in, is_same, row_said}
+use Rattle.race_parts.specs.Accesses.{event_in}
+use Rattle.race_parts.specs.Cells.{is_same}
+use Rattle.race_parts.specs.Facts.{data_in}
 use Rattle.race_parts.specs.declared.cells.Cell.{Cell}
 use Rattle.race_parts.specs.declared.cells.Row.{Row}
 
@@ -105,7 +107,7 @@ row_text d = head_text d ++ codes "\n" ++ access_text 0 d ++ access_text 1 d
 
 abbrev pub row_text_at : Option Row → List ℕ
 row_text_at None = []
-row_text_at (Some r) = row_text (view r.value.now)
+row_text_at (Some r) = row_text (data_in r.line.now)
 
 abbrev pub one_if : Bool → ℕ
 one_if b = cond b 1 0

@@ -1,22 +1,29 @@
 //! The rows of all parts, and the order in which they are told.
-ghost use Rattle.std.specs.Prelude.{◌≡◌, ◌<◌, ◌+◌, ◌++◌, ◌∷◌, IfOk, OnOk, drop, length, map};
+ghost use Rattle.std.specs.Prelude.{◌≡◌, ◌<◌, ◌+◌, ◌++◌, ◌∷◌, IfOk, OnOk, List, ℕ, drop, length, map};
 ghost use Rattle.serde_json.specs.View.{view};
-ghost use Rattle.race_parts.specs.Cells.{cell_key, event_in, greater_of, is_same, key_of, keys_from, lesser_of, location_in, rank_of, row_said, rows_in, rows_of_part, size_of, AreSorted};
+ghost use Rattle.race_parts.specs.Accesses.{event_in, location_in, rank_of, size_of};
+ghost use Rattle.race_parts.specs.Cells.{cell_key, greater_of, is_same, key_of, keys_from, known_said, lesser_of, row_said, rows_in, rows_of_part, said_by, said_in, AreSorted};
+ghost use Rattle.race_parts.specs.Lines.{lines_of};
 
+use crate::facts::{Fact, fact_in};
+use crate::lines::cut_line;
 use crate::members::{access_in, is_kind, number_of, text_of};
 use crate::parts::{Part, Parts};
+use crate::scan::Known;
 use rapid_text::OutOfMemory;
 use serde_json::Value;
 use std::alloc::Global;
 use std::cmp::Ordering;
 
 /// A row of a part.
-#[derive(Clone, Copy)]
+#[derive(Drop)]
 pub struct Row<'a> {
     /// The name of the part.
     pub part: &'a [u8],
-    /// What it says of a pair of places.
-    pub value: &'a Value,
+    /// The line that the row is.
+    pub line: &'a [u8],
+    /// What was read of the line.
+    pub fact: Fact<'a>,
 }
 
 /// What a row is ordered by: its pair of places, and then how much it says of it.
@@ -55,26 +62,40 @@ pub fn rows_of(alloc: Global, parts: &Parts) -> Result<Vec<Row<'_>>, OutOfMemory
 fn push_part<'a>(rows: &mut Vec<Row<'a>>, name: &'a [u8], part: &'a Part) -> Result<(), OutOfMemory>
     ensures { OnOk result (map row_said rows.new.items ≡ map row_said rows.old.items ++ rows_of_part name.now part.now) }
 {
-    let lines = part.lines.as_slice();
-    if lines.is_empty() {
-        Ok(())
-    } else {
-        push_rows(rows, name, &lines[1..])
+    push_rows(rows, name, after_first(part.text.as_slice()))
+}
+
+/// What stands after the first line.
+fn after_first(text: &[u8]) -> &[u8]
+    ensures { lines_of result.now ≡ drop 1 (lines_of text.now) }
+{
+    match cut_line(text) {
+        Some((_, behind)) => behind,
+        None => &[],
     }
 }
 
-/// Adds a row for each value.
-fn push_rows<'a>(
-    rows: &mut Vec<Row<'a>>,
-    name: &'a [u8],
-    values: &'a [Value],
-) -> Result<(), OutOfMemory>
-    ensures { OnOk result (map row_said rows.new.items ≡ map row_said rows.old.items ++ map (λ v. (name.now, v)) values.now) }
+/// Adds a row for each line.
+fn push_rows<'a>(rows: &mut Vec<Row<'a>>, name: &'a [u8], text: &'a [u8]) -> Result<(), OutOfMemory>
+    ensures { OnOk result (map row_said rows.new.items ≡ map row_said rows.old.items ++ map (said_in name.now) (lines_of text.now)) }
 {
-    for value in values {
-        rows.push(Row { part: name, value })?;
+    let mut rest = text;
+    'lines: while let Some((line, behind)) = cut_line(rest) {
+        let row = row_in(*rows.allocator(), name, line)?;
+        rows.push(row)?;
+        rest = behind;
     }
     Ok(())
+}
+
+/// The row in a line.
+fn row_in<'a>(alloc: Global, part: &'a [u8], line: &'a [u8]) -> Result<Row<'a>, OutOfMemory>
+    ensures { IfOk result (λ row. row_said row ≡ said_in part.now line.now) }
+{
+    match fact_in(alloc, line) {
+        Ok(fact) => Ok(Row { part, line, fact }),
+        Err(refused) => Err(refused),
+    }
 }
 
 /// The location of one of the accesses.
@@ -88,7 +109,7 @@ fn location_in(value: &Value, place: usize) -> &[u8]
 }
 
 /// The event of one of the accesses.
-pub(crate) fn event_in(value: &Value, place: usize) -> u64
+pub fn event_in(value: &Value, place: usize) -> u64
     ensures { result ≡ event_in place (view value.now) }
 {
     match access_in(value, place) {
@@ -132,38 +153,46 @@ fn ordered<'a>(one: &'a [u8], other: &'a [u8]) -> (&'a [u8], &'a [u8])
     }
 }
 
-/// What the row of this number is ordered by.
-fn cell_of<'a>(row: Row<'a>, number: usize) -> Cell<'a>
-    ensures { cell_key result ≡ key_of number (row_said row.entry) }
+/// What is known of the row of this value.
+fn known_of(value: &Value) -> Known<'_>
+    ensures { (name line : List ℕ) → known_said name line result ≡ said_by name line (view value.now) }
 {
-    let (first, second) = ordered(location_in(row.value, 0), location_in(row.value, 1));
-    Cell {
-        first,
-        second,
-        rank: rank_of(row.value),
-        size: size_of(row.value),
-        part: row.part,
-        later: event_in(row.value, 1),
-        earlier: event_in(row.value, 0),
-        number,
+    Known {
+        one: location_in(value, 0),
+        other: location_in(value, 1),
+        rank: rank_of(value),
+        size: size_of(value),
+        later: event_in(value, 1),
+        earlier: event_in(value, 0),
     }
 }
 
-/// The first row, and the others.
-fn first_row<'a, 'b>(rows: &'b [Row<'a>]) -> (Row<'a>, &'b [Row<'a>])
-    requires { 0 < length rows.now }
-    ensures { rows.now ≡ result.0 ∷ result.1.now }
+/// What is known of a row.
+fn known_in_row<'b>(row: &'b Row<'_>) -> Known<'b>
+    ensures { known_said row.now.part.now row.now.line.now result ≡ row_said row.now }
 {
-    (rows[0], &rows[1..])
+    match &row.fact {
+        Fact::Known(known) => *known,
+        Fact::Other(value) => known_of(value),
+    }
 }
 
-/// The row at a place.
-fn row_at<'a>(rows: &[Row<'a>], at: usize) -> Row<'a>
-    requires { at < length rows.now }
-    ensures { drop at rows.now ≡ result ∷ drop (at + 1) rows.now }
+/// What the row of this number is ordered by.
+fn cell_of<'b>(row: &'b Row<'_>, number: usize) -> Cell<'b>
+    ensures { cell_key result ≡ key_of number (row_said row.now) }
 {
-    let (row, _) = first_row(&rows[at..]);
-    row
+    let known = known_in_row(row);
+    let (first, second) = ordered(known.one, known.other);
+    Cell {
+        first,
+        second,
+        rank: known.rank,
+        size: known.size,
+        part: row.part,
+        later: known.later,
+        earlier: known.earlier,
+        number,
+    }
 }
 
 /// The cell at a place.
@@ -175,20 +204,20 @@ pub(crate) fn cell_at<'a>(cells: &[Cell<'a>], at: usize) -> Cell<'a>
 }
 
 /// What the rows are ordered by, in the order of the rows.
-fn unsorted<'a>(alloc: Global, rows: &[Row<'a>]) -> Result<Vec<Cell<'a>>, OutOfMemory>
+fn unsorted<'b>(alloc: Global, rows: &'b [Row<'_>]) -> Result<Vec<Cell<'b>>, OutOfMemory>
     ensures { IfOk result (λ cells. map cell_key cells.items ≡ keys_from 0 (map row_said rows.now)) }
 {
     let mut cells = Vec::new(alloc);
     let mut at = 0;
     'rows: while at < rows.len() {
-        cells.push(cell_of(row_at(rows, at), at))?;
+        cells.push(cell_of(&rows[at], at))?;
         at += 1;
     }
     Ok(cells)
 }
 
 /// What the rows are ordered by, in that order.
-pub fn cells_of<'a>(alloc: Global, rows: &[Row<'a>]) -> Result<Vec<Cell<'a>>, OutOfMemory>
+pub fn cells_of<'b>(alloc: Global, rows: &'b [Row<'_>]) -> Result<Vec<Cell<'b>>, OutOfMemory>
     ensures { IfOk result (λ cells. AreSorted (map row_said rows.now) cells.items) }
 {
     let mut cells = unsorted(alloc, rows)?;

@@ -2,19 +2,27 @@
 #![tactic(auto)]
 
 mod cells;
-mod json;
+mod facts;
 mod laws;
 mod lines;
 mod members;
 mod merging;
+mod objects;
+mod pairs;
 mod parts;
 mod rows;
+mod scan;
 mod text;
 
-pub use cells::{Cell, Row, cells_of, rows_of};
-pub use json::merged_json;
+pub use cells::{Cell, Row, cells_of, event_in, rows_of};
+pub use facts::{Fact, data_of};
 pub use laws::merging_is_a_union;
 pub use lines::{MAX_LINES, PartRefusal};
+pub use members::{access_in, number_of, text_of};
 pub use merging::take_file;
+pub use objects::merged_json;
+pub use pairs::{Pair, pairs_of};
 pub use parts::{Part, Parts};
+pub use rows::Mark;
+pub use scan::Known;
 pub use text::{merged_text, races_in};

@@ -1,10 +1,13 @@
 //! The lines of a text, each a value of JSON.
-ghost use Rattle.std.specs.Prelude.{◌≡◌, ◌≤◌, ◌++◌, ◌∷◌, [], length, None, Some, IfErr, IfOk, IfSome, IsUtf8, OnErr, OnOk};
+ghost use Rattle.std.specs.Prelude.{◌≡◌, ◌≢◌, ◌++◌, ◌∷◌, [], List, map, None, IfErr, IfOk, IfSome, OnErr, OnOk};
 ghost use Rattle.serde_json.specs.Data.{Data};
-ghost use Rattle.serde_json.specs.Read.{read};
 ghost use Rattle.serde_json.specs.View.{view};
-ghost use Rattle.race_parts.specs.Lines.{AreLines, HasNoFeed, IsReadOn, IsStopped, IsUnread, Tells};
+ghost use Rattle.serde_json.specs.declared.value.Value.{Value as OneValue};
+ghost use Rattle.race_parts.specs.Rows.{mark_of};
+ghost use Rattle.race_parts.specs.Lines.{AreLines, HasNoFeed, IsReadOn, IsStopped, IsUnread};
 
+use crate::facts::{fact_of, mark_of, value_of};
+use crate::rows::Mark;
 use memchr::memchr;
 use rapid_text::OutOfMemory;
 use serde_json::Value;
@@ -37,56 +40,69 @@ impl From<OutOfMemory> for PartRefusal {
     }
 }
 
-/// The values of the lines, in their order.
-pub(crate) fn lines_in(alloc: Global, text: &[u8]) -> Result<Vec<Value>, PartRefusal>
-    ensures ok { IfOk result (λ found. AreLines text.now found.items) }
-    ensures few { IfOk result (λ found. length found.items ≤ MAX_LINES) }
+/// A text whose first line was read.
+#[derive(Drop)]
+pub(crate) struct Begun<'a> {
+    /// The value of the first line.
+    pub(crate) head: Value,
+    /// What stands after that line.
+    pub(crate) rest: &'a [u8],
+}
+
+/// Reads the first line of a text that is not empty.
+pub(crate) fn begin(alloc: Global, text: &[u8]) -> Result<Begun<'_>, PartRefusal>
+    requires { text.now ≢ [] }
+    ensures ok { IfOk result (λ begun. IsReadOn text.now begun.rest.now (view begun.head)) }
     ensures err { IfErr result (IsUnread text.now) }
 {
-    let mut found = Vec::new(alloc);
-    match read_lines(alloc, &mut found, text) {
-        Ok(()) => Ok(found),
+    match value_on(alloc, text, 0) {
+        Ok((head, rest)) => Ok(Begun { head, rest }),
         Err(refusal) => Err(refusal),
     }
 }
 
-/// Reads the lines, one after another.
-fn read_lines(alloc: Global, found: &mut Vec<Value>, text: &[u8]) -> Result<(), PartRefusal>
-    requires { found.old.items ≡ [] }
-    ensures ok { OnOk result (AreLines text.now found.new.items) }
-    ensures few { length found.new.items ≤ MAX_LINES }
+/// The values of the lines, in their order.
+#[tactic(auto, using(crate::proofs::LineLemmas::values_stop, crate::proofs::LineLemmas::values_end))]
+pub(crate) fn lines_in(
+    alloc: Global,
+    text: &[u8],
+    begun: Begun<'_>,
+) -> Result<Vec<Value>, PartRefusal>
+    requires { IsReadOn text.now begun.rest.now (view begun.head) }
+    ensures ok { IfOk result (λ found. AreLines text.now (map view found.items)) }
+    ensures head { IfOk result (λ found. (behind : List OneValue) × (found.items ≡ begun.entry.head ∷ behind)) }
     ensures err { IfErr result (IsUnread text.now) }
 {
-    let mut rest = text;
-    while !rest.is_empty() {
-        rest = read_on(alloc, found, rest)?;
+    let mut found = Vec::new(alloc);
+    keep(&mut found, begun.head)?;
+    let mut rest = begun.rest;
+    'lines: while !rest.is_empty() {
+        let (value, behind) = value_on(alloc, rest, found.len())?;
+        keep(&mut found, value)?;
+        rest = behind;
     }
-    Ok(())
+    Ok(found)
 }
 
-/// Reads the first line, and answers what stands after it.
-fn read_on<'a>(
+/// What the lines after the first are.
+#[tactic(auto, using(crate::proofs::LineLemmas::marked_stop, crate::proofs::LineLemmas::marked_end))]
+pub(crate) fn marks_in(
     alloc: Global,
-    found: &mut Vec<Value>,
-    text: &'a [u8],
-) -> Result<&'a [u8], PartRefusal>
-    requires { length found.old.items ≤ MAX_LINES }
-    ensures ok { IfOk result (λ behind. IsReadOn found.old.items text.now behind.now found.new.items) }
-    ensures few { length found.new.items ≤ MAX_LINES }
-    ensures err { IfErr result (IsStopped (length found.old.items) text.now) }
+    text: &[u8],
+    begun: &Begun<'_>,
+) -> Result<Vec<Mark>, PartRefusal>
+    requires { IsReadOn text.now begun.now.rest.now (view begun.now.head) }
+    ensures ok { IfOk result (λ marks. (ds : List Data) × AreLines text.now (view begun.now.head ∷ ds) × (marks.items ≡ map mark_of ds)) }
+    ensures err { IfErr result (IsUnread text.now) }
 {
-    let place = found.len();
-    if found.len() >= MAX_LINES {
-        return Err(PartRefusal::Line(place));
+    let mut marks = Vec::new(alloc);
+    let mut rest = begun.rest;
+    'lines: while !rest.is_empty() {
+        let (mark, behind) = mark_on(alloc, rest, marks.len() + 1)?;
+        keep_mark(&mut marks, mark)?;
+        rest = behind;
     }
-    let Some((line, behind)) = cut_line(text) else {
-        return Err(PartRefusal::Line(place));
-    };
-    let Some(value) = value_of(alloc, line)? else {
-        return Err(PartRefusal::Line(place));
-    };
-    keep(found, value)?;
-    Ok(behind)
+    Ok(marks)
 }
 
 /// Keeps the value.
@@ -98,28 +114,57 @@ fn keep(found: &mut Vec<Value>, value: Value) -> Result<(), OutOfMemory>
     Ok(())
 }
 
+/// Keeps the mark.
+fn keep_mark(marks: &mut Vec<Mark>, mark: Mark) -> Result<(), OutOfMemory>
+    ensures ok { OnOk result (marks.new.items ≡ marks.old.items ++ mark ∷ []) }
+{
+    marks.push(mark)?;
+    Ok(())
+}
+
+/// The first line of a text, before which so many lines were read, and what stands after it.
+fn line_on(text: &[u8], place: usize) -> Result<(&[u8], &[u8]), PartRefusal>
+    ensures ok { IfOk result (λ cut. (text.now ≡ cut.0.now ++ 10 ∷ cut.1.now) × HasNoFeed cut.0.now) }
+    ensures err { IfErr result (IsStopped place text.now) }
+{
+    if place >= MAX_LINES {
+        return Err(PartRefusal::Line(place));
+    }
+    match cut_line(text) {
+        Some(cut) => Ok(cut),
+        None => Err(PartRefusal::Line(place)),
+    }
+}
+
+/// The value of the first line of a text, before which so many lines were read, and what stands after it.
+fn value_on(alloc: Global, text: &[u8], place: usize) -> Result<(Value, &[u8]), PartRefusal>
+    ensures ok { IfOk result (λ read. IsReadOn text.now read.1.now (view read.0)) }
+    ensures err { IfErr result (IsStopped place text.now) }
+{
+    let (line, behind) = line_on(text, place)?;
+    match value_of(alloc, line)? {
+        Some(value) => Ok((value, behind)),
+        None => Err(PartRefusal::Line(place)),
+    }
+}
+
+/// What the first line of a text is, before which so many lines were read, and what stands after it.
+fn mark_on(alloc: Global, text: &[u8], place: usize) -> Result<(Mark, &[u8]), PartRefusal>
+    ensures ok { IfOk result (λ read. (d : Data) × IsReadOn text.now read.1.now d × (read.0 ≡ mark_of d)) }
+    ensures err { IfErr result (IsStopped place text.now) }
+{
+    let (line, behind) = line_on(text, place)?;
+    match fact_of(alloc, line)? {
+        Some(fact) => Ok((mark_of(&fact), behind)),
+        None => Err(PartRefusal::Line(place)),
+    }
+}
+
 /// What stands before the first line feed, and what after it.
-fn cut_line(text: &[u8]) -> Option<(&[u8], &[u8])>
+pub(crate) fn cut_line(text: &[u8]) -> Option<(&[u8], &[u8])>
     ensures some { IfSome result (λ parts. (text.now ≡ parts.0.now ++ 10 ∷ parts.1.now) × HasNoFeed parts.0.now) }
     ensures none { result ≡ None → HasNoFeed text.now }
 {
     let at = memchr(b'\n', text)?;
     Some((&text[..at], &text[at + 1..]))
-}
-
-/// The value that a text is as JSON, if it is one.
-fn value_of(alloc: Global, text: &[u8]) -> Result<Option<Value>, OutOfMemory>
-    ensures some { IfOk result (λ found. IfSome found (Tells text.now)) }
-    ensures none { IfOk result (λ found. found ≡ None → IsUtf8 text.now → read text.now ≡ None) }
-{
-    match Value::from_slice(alloc, text) {
-        Ok(value) => Ok(Some(value)),
-        Err(error) => {
-            if error.is_memory() {
-                Err(OutOfMemory)
-            } else {
-                Ok(None)
-            }
-        }
-    }
 }

@@ -40,14 +40,14 @@ pub(crate) fn has_text(value: &Value, name: &str) -> bool
 }
 
 /// The number that the member is; 0 if it is none.
-pub(crate) fn number_of(value: &Value, name: &str) -> u64
+pub fn number_of(value: &Value, name: &str) -> u64
     ensures { result ≡ said_number name.now (view value.now) }
 {
     find_number(value, name).unwrap_or(0)
 }
 
 /// The text that the member is; empty if it is none.
-pub(crate) fn text_of<'a>(value: &'a Value, name: &str) -> &'a [u8]
+pub fn text_of<'a>(value: &'a Value, name: &str) -> &'a [u8]
     ensures { result.now ≡ said_text name.now (view value.now) }
 {
     match find_text(value, name) {
@@ -64,7 +64,7 @@ pub(crate) fn is_kind(value: &Value, word: &str) -> bool
 }
 
 /// One of the accesses.
-pub(crate) fn access_in(value: &Value, place: usize) -> Option<&Value>
+pub fn access_in(value: &Value, place: usize) -> Option<&Value>
     ensures { option_map (λ found. view found.now) result ≡ access_in place (view value.now) }
 {
     match value.get("accesses") {

@@ -2,13 +2,13 @@
 ghost use Rattle.std.specs.Prelude.{◌≡◌, ◌<◌, ◌∷◌, All, codes, List, ℕ, None, Some, Vec, IfErr, IfOk, OnOk, false, length, map, not, option_map, position, take, true, slice_get};
 ghost use Rattle.std.specs.declared.alloc.Global.{Global};
 ghost use Rattle.serde_json.specs.View.{view};
-ghost use Rattle.race_parts.specs.Merging.{told_of, told_parts, Gives, IsPartRefused, IsPartText, IsRefused, is_foreign, is_merged, is_part_line, wrong_behind_head, wrong_merged, AreWrong, AreWrongIn, IsLineRefused, IsUntaken, one_behind, part_lines};
-ghost use Rattle.race_parts.specs.Lines.{AreLines};
+ghost use Rattle.race_parts.specs.Merging.{told_of, told_parts, Gives, IsPartRefused, IsPartText, IsRefused, IsReportRefused, GivesReport, IsSound, IsUnsound, IsUnputOr, is_foreign, is_merged_head, is_part_line, wrong_behind_head, wrong_merged, AreWrongIn, IsLineRefused, IsUntaken, one_behind, part_lines};
+ghost use Rattle.race_parts.specs.Lines.{AreLines, IsReadOn};
 ghost use Rattle.race_parts.specs.Members.{said_text};
 ghost use Rattle.race_parts.specs.Rows.{wrong_line};
-ghost use Rattle.race_parts.specs.Parts.{joined, told_in, single, text_at};
+ghost use Rattle.race_parts.specs.Parts.{IsPutFault, joined, told_in, single, text_at};
 
-use crate::lines::{PartRefusal, lines_in};
+use crate::lines::{Begun, PartRefusal, begin, lines_in, marks_in};
 use crate::members::{has_number, has_text, is_kind, number_of, text_of};
 use crate::parts::{Part, Parts, put};
 use crate::rows::{is_other_version, wrong_line};
@@ -29,37 +29,22 @@ pub fn take_file(
         × ((q : Vec ℕ Global) → text_at parts.new q ≡ joined (text_at parts.old q) (told_in given q.items))) }
     ensures err { IfErr result (IsRefused text.now) }
 {
-    let lines = lines_in(alloc, text)?;
-    if is_foreign(&lines) {
-        return Err(PartRefusal::Version);
+    if text.is_empty() {
+        return Err(PartRefusal::Line(0));
     }
-    if is_merged(&lines) {
-        take_merged(alloc, parts, &lines, file)
+    let begun = begin(alloc, text)?;
+    if is_merged(&begun.head) {
+        take_report(alloc, parts, text, begun, file)
     } else {
-        take_part(alloc, parts, name, text, lines, file)
+        take_part(alloc, parts, name, text, begun, file)
     }
 }
 
-/// Whether the first line says that it is of another version.
-fn is_foreign(lines: &[Value]) -> bool
-    ensures { result ≡ is_foreign lines.now }
+/// Whether the value is the first line of a merged report.
+fn is_merged(head: &Value) -> bool
+    ensures { result ≡ is_merged_head (view head.now) }
 {
-    match lines.first() {
-        Some(head) => is_other_version(head),
-        None => false,
-    }
-}
-
-/// Whether the first line is that of a merged report.
-fn is_merged(lines: &[Value]) -> bool
-    ensures { result ≡ is_merged lines.now }
-{
-    match lines.first() {
-        Some(head) => {
-            is_kind(head, "merged") && has_number(head, "parts") && has_number(head, "pairs")
-        }
-        None => false,
-    }
+    is_kind(head, "merged") && has_number(head, "parts") && has_number(head, "pairs")
 }
 
 /// The same bytes.
@@ -69,26 +54,54 @@ fn copied(alloc: Global, bytes: &[u8]) -> Result<Vec<u8>, OutOfMemory>
     Ok(Vec::from_slice(alloc, bytes)?)
 }
 
-/// Takes in lines that are to be a part.
+/// Takes in a text that is to be a part.
 fn take_part(
     alloc: Global,
     parts: &mut Parts,
     name: &[u8],
     text: &[u8],
-    lines: Vec<Value>,
+    begun: Begun<'_>,
     file: u32,
 ) -> Result<(), PartRefusal>
-    ensures ok { OnOk result ((wrong_line lines.items ≡ None)
+    requires { IsReadOn text.now begun.rest.now (view begun.head) }
+    ensures ok { OnOk result (IsSound text.now (view begun.entry.head)
         × ((q : Vec ℕ Global) → text_at parts.new q ≡ joined (text_at parts.old q) (single name.now text.now q.items))) }
-    ensures err { IfErr result (AreWrong lines.items) }
+    ensures err { IfErr result (IsUnputOr (IsUnsound text.now (view begun.entry.head))) }
 {
-    if let Some(at) = wrong_line(&lines) {
-        return Err(PartRefusal::Line(at));
-    }
+    check_part(alloc, text, &begun)?;
+    put_copy(alloc, parts, name, text, file)
+}
+
+/// Puts a part, copied.
+fn put_copy(
+    alloc: Global,
+    parts: &mut Parts,
+    name: &[u8],
+    text: &[u8],
+    file: u32,
+) -> Result<(), PartRefusal>
+    ensures ok { OnOk result ((q : Vec ℕ Global) → text_at parts.new q ≡ joined (text_at parts.old q) (single name.now text.now q.items)) }
+    ensures why { IfErr result IsPutFault }
+{
     let name = copied(alloc, name)?;
     let text = copied(alloc, text)?;
-    put(parts, name, Part { text, lines, file })?;
-    Ok(())
+    put(parts, name, Part { text, file })
+}
+
+/// Checks that a text is a part.
+fn check_part(alloc: Global, text: &[u8], begun: &Begun<'_>) -> Result<(), PartRefusal>
+    requires { IsReadOn text.now begun.now.rest.now (view begun.now.head) }
+    ensures ok { OnOk result (IsSound text.now (view begun.now.head)) }
+    ensures err { IfErr result (IsUnsound text.now (view begun.now.head)) }
+{
+    let marks = marks_in(alloc, text, begun)?;
+    if is_other_version(&begun.head) {
+        return Err(PartRefusal::Version);
+    }
+    match wrong_line(&begun.head, &marks) {
+        Some(at) => Err(PartRefusal::Line(at)),
+        None => Ok(()),
+    }
 }
 
 /// Whether the value is the line of a part in a merged report.
@@ -140,19 +153,16 @@ fn wrong_behind_head(head: &Value, rest: &[Value]) -> Option<usize>
     }
 }
 
-/// The lines of a text that is to be a part.
-fn part_in(alloc: Global, text: &[u8]) -> Result<Vec<Value>, PartRefusal>
-    ensures ok { IfOk result (λ lines. AreLines text.now lines.items × (wrong_line lines.items ≡ None)) }
+/// Checks that a text in a merged report is a part.
+fn check_text(alloc: Global, text: &[u8]) -> Result<(), PartRefusal>
+    ensures ok { OnOk result (IsPartText text.now) }
     ensures err { IfErr result (IsPartRefused text.now) }
 {
-    let lines = lines_in(alloc, text)?;
-    if is_foreign(&lines) {
-        return Err(PartRefusal::Version);
+    if text.is_empty() {
+        return Err(PartRefusal::Line(0));
     }
-    match wrong_line(&lines) {
-        Some(at) => Err(PartRefusal::Line(at)),
-        None => Ok(lines),
-    }
+    let begun = begin(alloc, text)?;
+    check_part(alloc, text, &begun)
 }
 
 /// Takes in the part in a line of a merged report, the line at this place.
@@ -169,13 +179,8 @@ fn take_line(
     ensures err { IfErr result (IsLineRefused (said_text (codes "text") (view line.now)) place) }
 {
     let text = text_of(line, "text");
-    match part_in(alloc, text) {
-        Ok(lines) => {
-            let name = copied(alloc, text_of(line, "name"))?;
-            let text = copied(alloc, text)?;
-            put(parts, name, Part { text, lines, file })?;
-            Ok(())
-        }
+    match check_text(alloc, text) {
+        Ok(()) => put_copy(alloc, parts, text_of(line, "name"), text, file),
         Err(PartRefusal::OutOfMemory) => Err(PartRefusal::OutOfMemory),
         Err(_) => Err(PartRefusal::Line(place)),
     }
@@ -236,5 +241,36 @@ fn part_lines(lines: &[Value]) -> &[Value]
     match lines.split_first() {
         Some((head, rest)) => &rest[..number_of(head, "parts") as usize],
         None => lines,
+    }
+}
+
+/// Takes in a merged report.
+fn take_report(
+    alloc: Global,
+    parts: &mut Parts,
+    text: &[u8],
+    begun: Begun<'_>,
+    file: u32,
+) -> Result<(), PartRefusal>
+    requires begun { IsReadOn text.now begun.rest.now (view begun.head) }
+    requires merged { is_merged_head (view begun.head) ≡ true }
+    ensures ok { OnOk result ((given : List (List ℕ × List ℕ)) × GivesReport text.now given
+        × ((q : Vec ℕ Global) → text_at parts.new q ≡ joined (text_at parts.old q) (told_in given q.items))) }
+    ensures err { IfErr result (IsReportRefused text.now) }
+{
+    let lines = lines_in(alloc, text, begun)?;
+    if is_foreign(&lines) {
+        return Err(PartRefusal::Version);
+    }
+    take_merged(alloc, parts, &lines, file)
+}
+
+/// Whether the first line says that it is of another version.
+fn is_foreign(lines: &[Value]) -> bool
+    ensures { result ≡ is_foreign (map view lines.now) }
+{
+    match lines.first() {
+        Some(head) => is_other_version(head),
+        None => false,
     }
 }

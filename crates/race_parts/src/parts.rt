@@ -5,7 +5,6 @@ ghost use Rattle.race_parts.specs.declared.lines.PartRefusal.TheVariants.{Clash}
 ghost use Rattle.std.specs.declared.alloc.Global.{Global};
 
 use crate::lines::PartRefusal;
-use serde_json::Value;
 use std::collections::BTreeMap;
 
 /// What `triage --json` printed of a trace or of a window.
@@ -13,8 +12,6 @@ use std::collections::BTreeMap;
 pub struct Part {
     /// What it printed.
     pub text: Vec<u8>,
-    /// The lines of that: the counts, and the rows.
-    pub lines: Vec<Value>,
     /// The number of the file that it comes from.
     pub file: u32,
 }

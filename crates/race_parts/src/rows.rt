@@ -1,7 +1,8 @@
 //! Which lines stand in a part.
-ghost use Rattle.std.specs.Prelude.{◌≡◌, not, position};
+ghost use Rattle.std.specs.Prelude.{◌≡◌, ◌∷◌, List, count_by, map, not, position};
 ghost use Rattle.serde_json.specs.View.{view};
-ghost use Rattle.race_parts.specs.Rows.{count_of, has_access, has_accesses, has_list, is_apart, is_counts, is_how, is_other_version, is_race, is_row, is_undecided, is_whole, wrong_behind, wrong_line};
+ghost use Rattle.serde_json.specs.Data.{Data};
+ghost use Rattle.race_parts.specs.Rows.{are_whole, has_access, has_accesses, has_list, is_apart, is_counts, is_how, is_other_version, is_race, is_row, is_undecided, is_whole, mark_of, wrong_behind, wrong_line};
 
 use crate::members::{access_in, find_number, has_number, has_text, is_kind, number_of, text_of};
 use serde_json::Value;
@@ -9,8 +10,21 @@ use serde_json::Value;
 /// The version of the format that is read.
 const VERSION: u64 = 1;
 
+/// What a line is as a line of a part.
+#[derive(Clone, Copy)]
+pub struct Mark {
+    /// A row.
+    pub is_row: bool,
+    /// Of kind `race`.
+    pub is_race: bool,
+    /// Of kind `undecided`.
+    pub is_undecided: bool,
+    /// Of kind `apart`.
+    pub is_apart: bool,
+}
+
 /// Whether the value is the object of the counts.
-pub(crate) fn is_counts(value: &Value) -> bool
+fn is_counts(value: &Value) -> bool
     ensures { result ≡ is_counts (view value.now) }
 {
     is_kind(value, "counts")
@@ -62,14 +76,14 @@ fn has_accesses(value: &Value) -> bool
 }
 
 /// Whether this is one of the three ways in which a race is shown.
-fn is_how(word: &[u8]) -> bool
+pub(crate) fn is_how(word: &[u8]) -> bool
     ensures { result ≡ is_how word.now }
 {
     word == b"candidate".as_slice() || word == b"beyond".as_slice() || word == b"turned".as_slice()
 }
 
 /// Whether the value is a race.
-pub(crate) fn is_race(value: &Value) -> bool
+fn is_race(value: &Value) -> bool
     ensures { result ≡ is_race (view value.now) }
 {
     is_kind(value, "race")
@@ -81,7 +95,7 @@ pub(crate) fn is_race(value: &Value) -> bool
 }
 
 /// Whether the value is an undecided pair of places.
-pub(crate) fn is_undecided(value: &Value) -> bool
+fn is_undecided(value: &Value) -> bool
     ensures { result ≡ is_undecided (view value.now) }
 {
     is_kind(value, "undecided")
@@ -91,71 +105,90 @@ pub(crate) fn is_undecided(value: &Value) -> bool
 }
 
 /// Whether the value is a pair of places that is apart.
-pub(crate) fn is_apart(value: &Value) -> bool
+fn is_apart(value: &Value) -> bool
     ensures { result ≡ is_apart (view value.now) }
 {
     is_kind(value, "apart") && has_accesses(value)
 }
 
 /// Whether the value is a row: a race, an undecided pair of places, or one that is apart.
-fn is_row(value: &Value) -> bool
+pub(crate) fn is_row(value: &Value) -> bool
     ensures { result ≡ is_row (view value.now) }
 {
     is_race(value) || is_undecided(value) || is_apart(value)
 }
 
-/// How many of the rows are of this kind.
-fn count_of(rows: &[Value], word: &str) -> u64
-    ensures { result ≡ count_of word.now rows.now }
+/// Whether the counts count so many races, so many undecided pairs, and so many that are apart, which may be missing.
+fn is_whole(head: &Value, races: u64, undecided: u64, apart: u64) -> bool
+    ensures { result ≡ is_whole (view head.now) races undecided apart }
 {
-    rows.iter().filter(|row| is_kind(row, word)).count() as u64
-}
-
-/// Whether the rows are all that the counts count; those that are apart may be missing.
-fn is_whole(head: &Value, rows: &[Value]) -> bool
-    ensures { result ≡ is_whole (view head.now) rows.now }
-{
-    let apart = count_of(rows, "apart");
-    number_of(head, "races") == count_of(rows, "race")
-        && number_of(head, "undecided") == count_of(rows, "undecided")
+    number_of(head, "races") == races
+        && number_of(head, "undecided") == undecided
         && (apart == 0 || number_of(head, "apart") == apart)
 }
 
-/// The place of the first line that is no row.
-fn wrong_row(rows: &[Value]) -> Option<usize>
-    ensures { result ≡ position (λ v. not (is_row (view v))) rows.now }
+/// How many lines are of kind `race`.
+fn count_races(marks: &[Mark]) -> u64
+    ensures { result ≡ count_by (λ m. m.is_race) marks.now }
 {
-    rows.iter().position(|row| !is_row(row))
+    marks.iter().filter(|mark| mark.is_race).count() as u64
+}
+
+/// How many are of kind `undecided`.
+fn count_undecided(marks: &[Mark]) -> u64
+    ensures { result ≡ count_by (λ m. m.is_undecided) marks.now }
+{
+    marks.iter().filter(|mark| mark.is_undecided).count() as u64
+}
+
+/// How many are of kind `apart`.
+fn count_apart(marks: &[Mark]) -> u64
+    ensures { result ≡ count_by (λ m. m.is_apart) marks.now }
+{
+    marks.iter().filter(|mark| mark.is_apart).count() as u64
+}
+
+/// Whether the rows are all that the counts count; those that are apart may be missing.
+fn are_whole(head: &Value, marks: &[Mark]) -> bool
+    ensures { result ≡ are_whole (view head.now) marks.now }
+{
+    let races = count_races(marks);
+    let undecided = count_undecided(marks);
+    let apart = count_apart(marks);
+    is_whole(head, races, undecided, apart)
+}
+
+/// The place of the first line that is no row.
+fn wrong_row(marks: &[Mark]) -> Option<usize>
+    ensures { result ≡ position (λ m. not m.is_row) marks.now }
+{
+    marks.iter().position(|mark| !mark.is_row)
 }
 
 /// The place of the first line that does not fit there, behind the counts.
-fn wrong_behind(head: &Value, rows: &[Value]) -> Option<usize>
-    ensures { result ≡ wrong_behind (view head.now) rows.now (position (λ v. not (is_row (view v))) rows.now) }
+fn wrong_behind(head: &Value, marks: &[Mark]) -> Option<usize>
+    ensures { result ≡ wrong_behind (view head.now) marks.now (position (λ m. not m.is_row) marks.now) }
 {
-    match wrong_row(rows) {
+    match wrong_row(marks) {
         Some(at) => Some(at + 1),
         None => {
-            if is_whole(head, rows) {
+            if are_whole(head, marks) {
                 None
             } else {
-                Some(rows.len() + 1)
+                Some(marks.len() + 1)
             }
         }
     }
 }
 
-/// The place of the first line that does not fit there; none if the lines are a part.
-pub(crate) fn wrong_line(lines: &[Value]) -> Option<usize>
-    ensures { result ≡ wrong_line lines.now }
+/// The place of the first line that does not fit there; none if the lines are a part. The first line has this value, and the others are
+/// marked so.
+pub(crate) fn wrong_line(head: &Value, marks: &[Mark]) -> Option<usize>
+    ensures { (ds : List Data) → marks.now ≡ map mark_of ds → result ≡ wrong_line (view head.now ∷ ds) }
 {
-    match lines.split_first() {
-        Some((head, rows)) => {
-            if is_counts(head) {
-                wrong_behind(head, rows)
-            } else {
-                Some(0)
-            }
-        }
-        None => Some(0),
+    if is_counts(head) {
+        wrong_behind(head, marks)
+    } else {
+        Some(0)
     }
 }

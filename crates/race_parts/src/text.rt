@@ -6,6 +6,7 @@ ghost use Rattle.serde_json.specs.View.{view};
 ghost use Rattle.race_parts.specs.Texts.{access_text, apart_text, begin_text, block_text, blocks_text, count_line, counts_text, end_text, event_text, head_text, hold_line, heads_count, hold_lines, holds_text, how_text, is_head, merged_words, named_text, number_text, part_text, race_text, row_text, row_text_at, run_count, shown, sizes_text, tallies_text, tally_text, text_in, undecided_text, words_text};
 
 use crate::cells::{Cell, Row, cell_at, event_in, is_same};
+use crate::facts::data_of;
 use crate::members::{access_in, is_kind, number_of, text_of};
 use itoa::Buffer;
 use rapid_text::OutOfMemory;
@@ -317,7 +318,7 @@ fn append_row_at(out: &mut Vec<u8>, rows: &[Row<'_>], number: usize) -> Result<(
     ensures { OnOk result (out.new.items ≡ out.old.items ++ row_text_at (slice_get rows.now number)) }
 {
     match rows.get(number) {
-        Some(row) => append_row(out, row.value),
+        Some(row) => append_row(out, &data_of(*out.allocator(), row.line)?),
         None => Ok(()),
     }
 }
@@ -358,7 +359,7 @@ fn append_block(
 }
 
 /// Whether the cell is the first of its places, and says this of them.
-fn is_head(before: Option<Cell<'_>>, rank: u8, cell: Cell<'_>) -> bool
+pub(crate) fn is_head(before: Option<Cell<'_>>, rank: u8, cell: Cell<'_>) -> bool
     ensures { result ≡ is_head before.entry rank cell.entry }
 {
     match before {

@@ -10,15 +10,18 @@ use Rattle.serde_json.specs.Written.{has_float, items_have_float, members_have_f
 use Rattle.race_json.specs.Objects.{text}
 use Rattle.race_triage.specs.declared.verdicts.Verdict.{Verdict}
 use Rattle.source_places.specs.Places.{before_arrow, call_function, call_place, calls_in, is_line}
-use Rattle.source_places.specs.Located.{location_at}
 use Rattle.source_places.specs.declared.arrows.TheConstants.{MAX_CALLS}
+use Rattle.race_sarif.specs.Accesses.{Told, told_at}
 use Rattle.race_sarif.specs.Flows.{code_flow, flow_by, flow_if, flows_below, places_below, is_step, step, step_at, steps_at, thread_flow, thread_flows}
 use Rattle.race_sarif.specs.Locations.{artifact, function_members, location, logical, message, physical, region, single}
 use Rattle.race_sarif.specs.Logs.{about_object, base_object, count_members, left_object, root_object, uri_object}
+use Rattle.race_parts.specs.Facts.{data_in}
+use Rattle.race_parts.specs.Pairs.{Shown}
+use Rattle.race_sarif.specs.Merged.{merged_object, merged_words, told_in}
 use Rattle.race_sarif.specs.Places.{file_of, is_absolute, line_of, relative, uri_of}
-use Rattle.race_sarif.specs.Results.{access_members, flow_members, print_members, result_object, said_members, word_members}
-use Rattle.race_sarif.specs.Stacks.{access_location, call_frame, caller_words, callers, frame, frames, own_function, stack, stacks}
-use Rattle.race_sarif.specs.Words.{access_words}
+use Rattle.race_sarif.specs.Results.{found_members, flow_members, result_object}
+use Rattle.race_sarif.specs.Stacks.{access_location, call_frame, caller_words, callers, frame, frames, own_function, stack, stacks, told_location}
+use Rattle.race_sarif.specs.Words.{access_words, message_words, outcome_rank}
 use Rattle.race_sarif.specs.declared.flows.TheConstants.{MOST_STEPS}
 use Rattle.race_sarif.specs.declared.places.TheConstants.{MOST_LINE}
 use Rattle.race_sarif.specs.declared.sources.Sources.{Sources}
@@ -98,8 +101,11 @@ location-no_float root place function words =
     (put-no_float (codes "physicalLocation") (physical root place) ms (physical-no_float root place) called)
     called
 
+told-no_float : (root : List ℕ) (t : Told) → has_float (told_location root t) ≡ false
+told-no_float root t = location-no_float root (before_arrow t.location) (own_function t.location) (access_words t)
+
 access-no_float : (r : Recording) (root : List ℕ) (e : ℕ) → has_float (access_location r root e) ≡ false
-access-no_float r root e = location-no_float root (before_arrow (location_at r e)) (own_function (location_at r e)) (access_words r e)
+access-no_float r root e = told-no_float root (told_at r e)
 
 -- stacks
 call-no_float : (root call : List ℕ) → has_float (call_frame root call) ≡ false
@@ -107,15 +113,15 @@ call-no_float root call =
     let function = call_function call in
     alone (location root (call_place call) function (caller_words function)) (location-no_float root (call_place call) function (caller_words function))
 
-frames-no_float : (r : Recording) (root : List ℕ) (e : ℕ) → has_float (frames r root e) ≡ false
-frames-no_float r root e =
-    neither (has_float (frame (access_location r root e))) _ (alone (access_location r root e) (access-no_float r root e)) (map-no_float (call_frame root) (call-no_float root) (calls_in MAX_CALLS (callers (location_at r e))))
+frames-no_float : (root : List ℕ) (t : Told) → has_float (frames root t) ≡ false
+frames-no_float root t =
+    neither (has_float (frame (told_location root t))) _ (alone (told_location root t) (told-no_float root t)) (map-no_float (call_frame root) (call-no_float root) (calls_in MAX_CALLS (callers t.location)))
 
-stack-no_float : (r : Recording) (root : List ℕ) (e : ℕ) → has_float (stack r root e) ≡ false
-stack-no_float r root e = alone (frames r root e) (frames-no_float r root e)
+stack-no_float : (root : List ℕ) (t : Told) → has_float (stack root t) ≡ false
+stack-no_float root t = alone (frames root t) (frames-no_float root t)
 
-stacks-no_float : (r : Recording) (root : List ℕ) (a b : ℕ) → has_float (stacks r root a b) ≡ false
-stacks-no_float r root a b = neither (has_float (stack r root a)) _ (stack-no_float r root a) (alone (stack r root b) (stack-no_float r root b))
+stacks-no_float : (root : List ℕ) (t u : Told) → has_float (stacks root t u) ≡ false
+stacks-no_float root t u = neither (has_float (stack root t)) _ (stack-no_float root t) (alone (stack root u) (stack-no_float root u))
 
 -- flows
 step-no_float : (r : Recording) (root steps : List ℕ) (at : ℕ) → has_float (step r root steps at) ≡ false
@@ -147,17 +153,25 @@ shown-no_float : (r : Recording) (root : List ℕ) (steps : Option (List ℕ)) (
 shown-no_float r root None ms none = none
 shown-no_float r root (Some steps) ms none = put-no_float (codes "codeFlows") (single (code_flow r root steps)) ms (alone (code_flow r root steps) (code-no_float r root steps)) none
 
-place-no_float : (r : Recording) (root : List ℕ) (e : ℕ) → has_float (single (access_location r root e)) ≡ false
-place-no_float r root e = alone (access_location r root e) (access-no_float r root e)
+place-no_float : (root : List ℕ) (t : Told) → has_float (single (told_location root t)) ≡ false
+place-no_float root t = alone (told_location root t) (told-no_float root t)
+
+found-no_float : (s : Sources) (rank : ℕ) (words : List ℕ) (t u : Told) → members_have_float (found_members s rank words t u no_members) ≡ false
+found-no_float s rank words t u =
+    let root = s.root.now in
+    let both = stacks root u t in
+    neither (has_float (single (told_location root u))) (has_float (single (told_location root t)) || (has_float both || false)) (place-no_float root u)
+    (neither (has_float (single (told_location root t))) (has_float both || false) (place-no_float root t) (alone both (stacks-no_float root u t)))
 
 pub result-no_float : (r : Recording) (s : Sources) (v : Verdict) (steps : Option (List ℕ)) → has_float (result_object r s v steps) ≡ false
 result-no_float r s v steps =
-    let root = s.root.now in
-    let both = stacks r root v.second v.first in
-    let ms = print_members r s v (access_members r root v (said_members r v (word_members v.outcome no_members))) in
-    shown-no_float r root steps ms
-    (neither (has_float (single (access_location r root v.second))) (has_float (single (access_location r root v.first)) || (has_float both || false)) (place-no_float r root v.second)
-    (neither (has_float (single (access_location r root v.first))) (has_float both || false) (place-no_float r root v.first) (alone both (stacks-no_float r root v.second v.first))))
+    let words = message_words r v in
+    let rank = outcome_rank v.outcome in
+    shown-no_float r s.root.now steps (found_members s rank words (told_at r v.first) (told_at r v.second) no_members) (found-no_float s rank words (told_at r v.first) (told_at r v.second))
+
+-- merged rows
+pub merged-no_float : (parts : ℕ) (s : Sources) (p : Shown) → has_float (merged_object parts s p) ≡ false
+merged-no_float parts s p = found-no_float s p.rank (merged_words parts p (data_in p.line)) (told_in 0 (data_in p.line)) (told_in 1 (data_in p.line))
 
 -- the folder, and what was left out
 root-no_float : (b : Bool) (root : List ℕ) → has_float (cond b (uri_object root) about_object) ≡ false

@@ -1,3 +1,4 @@
 mod FloatLemmas
 mod FrameLemmas
 mod LogLemmas
+mod ResultLemmas

@@ -1,8 +1,8 @@
 -- A result more.
-use Rattle.std.proofs.Common.{◌≡◌, ℕ, suc, ◌+◌, ◌<◌, true, false, List, [], ◌∷◌, ◌++◌, length, take, append_assoc, append-nil, ap, sym, ◌∙◌, refl, subst, arith, Bool}
+use Rattle.std.proofs.Common.{◌≡◌, ℕ, suc, ◌+◌, ◌<◌, true, false, List, [], ◌∷◌, ◌++◌, length, map, take, append_assoc, append-nil, ap, sym, ◌∙◌, refl, subst, arith, Bool}
 use Rattle.std.specs.Prelude.{nat_lt}
 use Rattle.std.proofs.lemmas.Bool.{lt-ltb}
-use Rattle.std.proofs.lemmas.List.{length-append}
+use Rattle.std.proofs.lemmas.List.{length-append, length-map, length-take-le, map-append}
 use Rattle.rapid_text.specs.Recording.{Recording}
 use Rattle.serde_json.specs.Data.{Data}
 use Rattle.race_triage.specs.declared.verdicts.Verdict.{Verdict}
@@ -61,3 +61,17 @@ five_pieces old one two three four five x y z v w e1 e2 e3 e4 e5 =
 -- nothing was appended yet
 pub results_begin : (r : Recording) (s : Sources) (old : List ℕ) (vs : List Verdict) → AreAppended r s old (take 0 vs) old
 results_begin r s old vs = ([], AreResults.none, sym (append-nil old))
+
+-- a result more of those that a function gives
+pub objects-more : {X : Type 0} (old before after : List ℕ) (f : X → Data) (xs : List X) (at : ℕ) (x : X) → at < length xs → take (at + 1) xs ≡ take at xs ++ x ∷ []
+    → before ≡ old ++ joined (map f (take at xs)) → after ≡ before ++ item_text (nat_lt 0 at) (f x) → after ≡ old ++ joined (map f (take (at + 1) xs))
+objects-more {X} old before after f xs at x within grown is more =
+    let ds : List Data = map f (take at xs) in
+    let len : length ds ≡ at = length-map (take at xs) f ∙ length-take-le at xs (omega (arith, within)) in
+    more
+    ∙ ap (λ (t : List ℕ). t ++ item_text (nat_lt 0 at) (f x)) is
+    ∙ append_assoc old (joined ds) (item_text (nat_lt 0 at) (f x))
+    ∙ ap (λ (n : ℕ). old ++ (joined ds ++ item_text (nat_lt 0 n) (f x))) (sym len)
+    ∙ ap (λ (t : List ℕ). old ++ t) (sym (joined-more ds (f x)))
+    ∙ ap (λ (es : List Data). old ++ joined es) (sym (map-append f (take at xs) (x ∷ [])))
+    ∙ ap (λ (ys : List X). old ++ joined (map f ys)) (sym grown)

@@ -1,6 +1,8 @@
+pub mod Accesses
 pub mod Flows
 pub mod Locations
 pub mod Logs
+pub mod Merged
 pub mod Places
 pub mod Prints
 pub mod Results

@@ -1,43 +1,47 @@
--- A verdict as a result. `r` is the trace's recording, `root` the folder of the code. All notions here are this project's own.
+-- What was found of a pair as a result. `r` is the trace's recording, `root` the folder of the code. All notions here are this project's own.
 use Rattle.std.specs.Prelude.{ℕ, List, codes, Option, Some, None}
 use Rattle.rapid_text.specs.Recording.{Recording}
 use Rattle.serde_json.specs.Data.{Data, Members, no_members, object, put, string}
 use Rattle.race_json.specs.Objects.{whole}
-use Rattle.race_triage.specs.declared.verdicts.Outcome.{Outcome}
 use Rattle.race_triage.specs.declared.verdicts.Verdict.{Verdict}
+use Rattle.race_sarif.specs.Accesses.{Told, told_at}
 use Rattle.race_sarif.specs.Flows.{code_flow}
 use Rattle.race_sarif.specs.Locations.{message, single}
 use Rattle.race_sarif.specs.Prints.{print_object}
-use Rattle.race_sarif.specs.Stacks.{access_location, stacks}
-use Rattle.race_sarif.specs.Words.{kind_word, level_word, message_words, rule_number, rule_word}
+use Rattle.race_sarif.specs.Stacks.{stacks, told_location}
+use Rattle.race_sarif.specs.Words.{kind_word, level_word, message_words, outcome_rank, rule_number, rule_word}
 use Rattle.race_sarif.specs.declared.sources.Sources.{Sources}
 
 -- the rule, and how bad it is
-abbrev pub word_members : Outcome → Members → Members
-word_members o ms =
-    put (codes "ruleIndex") (whole (rule_number o))
-    (put (codes "ruleId") (string (rule_word o))
-    (put (codes "level") (string (level_word o))
-    (put (codes "kind") (string (kind_word o)) ms)))
+abbrev pub word_members : ℕ → Members → Members
+word_members rank ms =
+    put (codes "ruleIndex") (whole (rule_number rank))
+    (put (codes "ruleId") (string (rule_word rank))
+    (put (codes "level") (string (level_word rank))
+    (put (codes "kind") (string (kind_word rank)) ms)))
 
 -- what is said of the pair
-abbrev pub said_members : Recording → Verdict → Members → Members
-said_members r v ms = put (codes "message") (message (message_words r v)) ms
+abbrev pub said_members : List ℕ → Members → Members
+said_members words ms = put (codes "message") (message words) ms
 
--- the location of access e under this name
-abbrev pub place_members : Recording → List ℕ → List ℕ → ℕ → Members → Members
-place_members r root name e ms = put name (single (access_location r root e)) ms
+-- the location of an access under this name
+abbrev pub place_members : List ℕ → List ℕ → Told → Members → Members
+place_members root name t ms = put name (single (told_location root t)) ms
 
 -- the two accesses, the later first, and their stacks
-abbrev pub access_members : Recording → List ℕ → Verdict → Members → Members
-access_members r root v ms =
-    put (codes "stacks") (stacks r root v.second v.first)
-    (place_members r root (codes "relatedLocations") v.first
-    (place_members r root (codes "locations") v.second ms))
+abbrev pub access_members : List ℕ → Told → Told → Members → Members
+access_members root t u ms =
+    put (codes "stacks") (stacks root u t)
+    (place_members root (codes "relatedLocations") t
+    (place_members root (codes "locations") u ms))
 
 -- the fingerprint
-abbrev pub print_members : Recording → Sources → Verdict → Members → Members
-print_members r s v ms = put (codes "partialFingerprints") (print_object r s v) ms
+abbrev pub print_members : Sources → Told → Told → Members → Members
+print_members s t u ms = put (codes "partialFingerprints") (print_object s t u) ms
+
+-- what every result has: the rule by the rank, what is said, the accesses and the fingerprint
+abbrev pub found_members : Sources → ℕ → List ℕ → Told → Told → Members → Members
+found_members s rank words t u ms = print_members s t u (access_members s.root.now t u (said_members words (word_members rank ms)))
 
 -- the code flow of these steps
 abbrev pub step_members : Recording → List ℕ → List ℕ → Members → Members
@@ -51,4 +55,4 @@ flow_members r root (Some steps) ms = step_members r root steps ms
 -- the result of a verdict, which these steps show if there are any
 abbrev pub result_object : Recording → Sources → Verdict → Option (List ℕ) → Data
 result_object r s v steps =
-    object (flow_members r s.root.now steps (print_members r s v (access_members r s.root.now v (said_members r v (word_members v.outcome no_members)))))
+    object (flow_members r s.root.now steps (found_members s (outcome_rank v.outcome) (message_words r v) (told_at r v.first) (told_at r v.second) no_members))

@@ -4,9 +4,9 @@ use Rattle.std.specs.Prelude.{ℕ, ◌==◌, cond, List, [], ◌∷◌, ◌++◌
 use Rattle.rapid_text.specs.Recording.{Recording}
 use Rattle.serde_json.specs.Data.{Data, Members, array, member, no_members, object, put}
 use Rattle.serde_json.specs.View.{items_of}
-use Rattle.source_places.specs.Located.{location_at}
 use Rattle.source_places.specs.Places.{before_arrow, behind_arrow, call_function, call_place, calls_in}
 use Rattle.source_places.specs.declared.arrows.TheConstants.{MAX_CALLS}
+use Rattle.race_sarif.specs.Accesses.{Told, told_at}
 use Rattle.race_sarif.specs.Locations.{location, message}
 use Rattle.race_sarif.specs.Words.{access_words}
 
@@ -34,9 +34,12 @@ callers_by (Some text) = callers_in text
 abbrev pub callers : List ℕ → Option (List ℕ)
 callers location = callers_by (behind_arrow location)
 
--- the location of access e
+-- the location of an access, and that of access e
+abbrev pub told_location : List ℕ → Told → Data
+told_location root t = location root (before_arrow t.location) (own_function t.location) (access_words t)
+
 abbrev pub access_location : Recording → List ℕ → ℕ → Data
-access_location r root e = location root (before_arrow (location_at r e)) (own_function (location_at r e)) (access_words r e)
+access_location r root e = told_location root (told_at r e)
 
 -- the frame of a location
 abbrev pub frame : Data → Data
@@ -50,18 +53,18 @@ caller_words function = cond (length function == 0) (codes "a call") function
 abbrev pub call_frame : List ℕ → List ℕ → Data
 call_frame root call = frame (location root (call_place call) (call_function call) (caller_words (call_function call)))
 
--- the frames of access e, the innermost first
-abbrev pub frames : Recording → List ℕ → ℕ → Data
-frames r root e = array (items_of (frame (access_location r root e) ∷ map (call_frame root) (calls_in MAX_CALLS (callers (location_at r e)))))
+-- the frames of an access, the innermost first
+abbrev pub frames : List ℕ → Told → Data
+frames root t = array (items_of (frame (told_location root t) ∷ map (call_frame root) (calls_in MAX_CALLS (callers t.location))))
 
--- what is said of access e
-abbrev pub said_members : Recording → ℕ → Members → Members
-said_members r e ms = put (codes "message") (message (access_words r e)) ms
+-- what is said of an access
+abbrev pub said_members : Told → Members → Members
+said_members t ms = put (codes "message") (message (access_words t)) ms
 
--- the stack of access e
-abbrev pub stack : Recording → List ℕ → ℕ → Data
-stack r root e = object (said_members r e (member (codes "frames") (frames r root e) no_members))
+-- the stack of an access
+abbrev pub stack : List ℕ → Told → Data
+stack root t = object (said_members t (member (codes "frames") (frames root t) no_members))
 
 -- the stacks of two accesses
-abbrev pub stacks : Recording → List ℕ → ℕ → ℕ → Data
-stacks r root a b = array (items_of (stack r root a ∷ stack r root b ∷ []))
+abbrev pub stacks : List ℕ → Told → Told → Data
+stacks root t u = array (items_of (stack root t ∷ stack root u ∷ []))

@@ -1,65 +1,71 @@
--- What is said of an access and of a pair. `r` is the trace's recording. All notions here are this project's own.
-use Rattle.std.specs.Prelude.{ℕ, List, [], ◌∷◌, ◌++◌, codes, decimal}
+-- What is said of an access and of a pair. A rank is 0 for a race, 1 for what is undecided, 2 for what is apart. `r` is the trace's recording. All
+-- notions here are this project's own.
+use Rattle.std.specs.Prelude.{ℕ, nat_eq, cond, List, [], ◌∷◌, ◌++◌, codes, decimal}
 use Rattle.std.specs.List.{concat}
 use Rattle.rapid_text.specs.Recording.{Recording}
-use Rattle.race_lines.specs.Accesses.{spot_at, thread_at, variable_at, verb_at}
+use Rattle.race_lines.specs.Accesses.{spot}
 use Rattle.race_triage.specs.declared.verdicts.Outcome.{Outcome}
 use Rattle.race_triage.specs.declared.verdicts.Outcome.TheVariants.{Race, Undecided, Apart}
 use Rattle.race_triage.specs.declared.verdicts.Verdict.{Verdict}
+use Rattle.race_sarif.specs.Accesses.{Told, told_at}
+
+-- the rank of what was found
+abbrev pub outcome_rank : Outcome → ℕ
+outcome_rank (Race how events threads) = 0
+outcome_rank (Undecided tried) = 1
+outcome_rank Apart = 2
 
 -- whether the rule is broken
-abbrev pub kind_word : Outcome → List ℕ
-kind_word (Race how events threads) = codes "fail"
-kind_word (Undecided tried) = codes "fail"
-kind_word Apart = codes "pass"
+abbrev pub kind_word : ℕ → List ℕ
+kind_word rank = cond (nat_eq rank 0) (codes "fail") (cond (nat_eq rank 1) (codes "fail") (codes "pass"))
 
 -- how bad that is
-abbrev pub level_word : Outcome → List ℕ
-level_word (Race how events threads) = codes "error"
-level_word (Undecided tried) = codes "warning"
-level_word Apart = codes "none"
+abbrev pub level_word : ℕ → List ℕ
+level_word rank = cond (nat_eq rank 0) (codes "error") (cond (nat_eq rank 1) (codes "warning") (codes "none"))
 
 -- the name of the rule, and its place among the rules
-abbrev pub rule_word : Outcome → List ℕ
-rule_word (Race how events threads) = codes "data-race"
-rule_word (Undecided tried) = codes "undecided-pair"
-rule_word Apart = codes "apart"
+abbrev pub rule_word : ℕ → List ℕ
+rule_word rank = cond (nat_eq rank 0) (codes "data-race") (cond (nat_eq rank 1) (codes "undecided-pair") (codes "apart"))
 
-abbrev pub rule_number : Outcome → ℕ
-rule_number (Race how events threads) = 0
-rule_number (Undecided tried) = 1
-rule_number Apart = 2
+abbrev pub rule_number : ℕ → ℕ
+rule_number rank = cond (nat_eq rank 0) 0 (cond (nat_eq rank 1) 1 2)
 
--- what event e's thread does, and where
-abbrev pub access_words : Recording → ℕ → List ℕ
-access_words r e = concat (thread_at r e ∷ codes " " ∷ verb_at r e ∷ codes " " ∷ variable_at r e ∷ codes " at " ∷ spot_at r e ∷ [])
+-- what an access does, and where
+abbrev pub access_words : Told → List ℕ
+access_words t = concat (t.thread ∷ codes " " ∷ t.verb ∷ codes " " ∷ t.variable ∷ codes " at " ∷ spot t.location ∷ [])
 
 -- what was found
-abbrev pub found_words : Outcome → List ℕ
-found_words (Race how events threads) = codes "Data race"
-found_words (Undecided tried) = codes "Undecided pair"
-found_words Apart = codes "No race"
+abbrev pub found_words : ℕ → List ℕ
+found_words rank = cond (nat_eq rank 0) (codes "Data race") (cond (nat_eq rank 1) (codes "Undecided pair") (codes "No race"))
 
--- and on which variable
-abbrev pub title_words : Recording → Verdict → List ℕ
-title_words r v = concat (found_words v.outcome ∷ codes " on " ∷ variable_at r v.second ∷ codes ": " ∷ [])
+-- and on which variable, that of the later access
+abbrev pub title_words : ℕ → Told → List ℕ
+title_words rank u = concat (found_words rank ∷ codes " on " ∷ u.variable ∷ codes ": " ∷ [])
+
+-- both accesses, the later first
+abbrev pub both_words : Told → Told → List ℕ
+both_words t u = access_words u ++ codes ", and " ++ access_words t ++ codes "; "
 
 -- why it is said
+abbrev pub race_words : ℕ → ℕ → List ℕ
+race_words events threads = concat (codes "a schedule of " ∷ decimal events ∷ codes " events of " ∷ decimal threads ∷ codes " threads shows it" ∷ [])
+
+abbrev pub undecided_words : ℕ → List ℕ
+undecided_words tried = concat (codes "no schedule was found for " ∷ decimal tried ∷ codes " pairs of events" ∷ [])
+
+abbrev pub apart_words : List ℕ
+apart_words = codes "every correct reordering of this trace keeps the two apart"
+
 abbrev pub reason_words : Outcome → List ℕ
-reason_words (Race how events threads) =
-    concat (codes "a schedule of " ∷ decimal events ∷ codes " events of " ∷ decimal threads ∷ codes " threads shows it" ∷ [])
-reason_words (Undecided tried) = concat (codes "no schedule was found for " ∷ decimal tried ∷ codes " pairs of events" ∷ [])
-reason_words Apart = codes "every correct reordering of this trace keeps the two apart"
+reason_words (Race how events threads) = race_words events threads
+reason_words (Undecided tried) = undecided_words tried
+reason_words Apart = apart_words
 
 -- how to see more
 abbrev pub more_words : Verdict → List ℕ
 more_words v = concat (codes ". More: racebench explain TRACE " ∷ decimal v.first ∷ codes " " ∷ decimal v.second ∷ [])
 
--- both accesses, the later first
-abbrev pub both_words : Recording → Verdict → List ℕ
-both_words r v = access_words r v.second ++ codes ", and " ++ access_words r v.first ++ codes "; "
-
 -- what is said of a pair
 abbrev pub message_words : Recording → Verdict → List ℕ
 message_words r v =
-    title_words r v ++ both_words r v ++ reason_words v.outcome ++ more_words v
+    title_words (outcome_rank v.outcome) (told_at r v.second) ++ both_words (told_at r v.first) (told_at r v.second) ++ reason_words v.outcome ++ more_words v

@@ -19,16 +19,19 @@ pub const MOST_ORDER: u64 = 4_294_967_295;
 /// The most steps of a thread; of more the last ones are told.
 pub const MOST_STEPS: usize = 200;
 
+/// The steps of a schedule of this trace, whose code is in the folder `root`.
+#[derive(Clone, Copy)]
+pub(crate) struct Flow<'a> {
+    pub(crate) indexed: &'a Indexed,
+    pub(crate) root: &'a [u8],
+    pub(crate) steps: &'a [u32],
+}
+
 /// The code flow of these steps.
-pub(crate) fn flow_of(
-    alloc: Global,
-    indexed: &Indexed,
-    root: &[u8],
-    steps: &[u32],
-) -> Result<Value, OutOfMemory>
-    ensures { IfOk result (λ made. view made ≡ code_flow indexed.now root.now steps.now) }
+pub(crate) fn flow_of(alloc: Global, flow: Flow<'_>) -> Result<Value, OutOfMemory>
+    ensures { IfOk result (λ made. view made ≡ code_flow flow.entry.indexed.now flow.entry.root.now flow.entry.steps.now) }
 {
-    let threads = threads_of(alloc, indexed, root, steps)?;
+    let threads = threads_of(alloc, flow)?;
     let mut members = Map::new(alloc);
     match put(&mut members, alloc, "threadFlows", threads) {
         Ok(()) => Ok(Value::Object(members)),
@@ -37,17 +40,12 @@ pub(crate) fn flow_of(
 }
 
 /// A flow for each thread that has a step.
-fn threads_of(
-    alloc: Global,
-    indexed: &Indexed,
-    root: &[u8],
-    steps: &[u32],
-) -> Result<Value, OutOfMemory>
-    ensures { IfOk result (λ made. view made ≡ thread_flows indexed.now root.now steps.now) }
+fn threads_of(alloc: Global, flow: Flow<'_>) -> Result<Value, OutOfMemory>
+    ensures { IfOk result (λ made. view made ≡ thread_flows flow.entry.indexed.now flow.entry.root.now flow.entry.steps.now) }
 {
     let mut flows = Vec::new(alloc);
-    for thread in 0..indexed.threads() {
-        push_flow(&mut flows, alloc, indexed, root, steps, thread)?;
+    for thread in 0..flow.indexed.threads() {
+        push_flow(&mut flows, alloc, flow, thread)?;
     }
     Ok(Value::Array(flows))
 }
@@ -56,41 +54,29 @@ fn threads_of(
 fn push_flow(
     flows: &mut Vec<Value>,
     alloc: Global,
-    indexed: &Indexed,
-    root: &[u8],
-    steps: &[u32],
+    flow: Flow<'_>,
     thread: u32,
 ) -> Result<(), OutOfMemory>
-    ensures { OnOk result (map view flows.new.items ≡ map view flows.old.items ++ flow_if indexed.now root.now steps.now thread) }
+    ensures { OnOk result (map view flows.new.items ≡ map view flows.old.items ++ flow_if flow.entry.indexed.now flow.entry.root.now flow.entry.steps.now thread) }
 {
-    let places = places_of(alloc, indexed, steps, thread)?;
-    push_told(
-        flows,
-        alloc,
-        indexed,
-        root,
-        steps,
-        places.as_slice(),
-        thread,
-    )
+    let places = places_of(alloc, flow.indexed, flow.steps, thread)?;
+    push_told(flows, alloc, flow, places.as_slice(), thread)
 }
 
 /// The same, by the places of its steps in the schedule.
 fn push_told(
     flows: &mut Vec<Value>,
     alloc: Global,
-    indexed: &Indexed,
-    root: &[u8],
-    steps: &[u32],
+    flow: Flow<'_>,
     places: &[usize],
     thread: u32,
 ) -> Result<(), OutOfMemory>
-    ensures { OnOk result (map view flows.new.items ≡ map view flows.old.items ++ flow_by indexed.now root.now steps.now thread places.now) }
+    ensures { OnOk result (map view flows.new.items ≡ map view flows.old.items ++ flow_by flow.entry.indexed.now flow.entry.root.now flow.entry.steps.now thread places.now) }
 {
     if places.is_empty() {
         return Ok(());
     }
-    let made = thread_flow_of(alloc, indexed, root, steps, places, thread)?;
+    let made = thread_flow_of(alloc, flow, places, thread)?;
     flows.push(made)?;
     Ok(())
 }
@@ -136,16 +122,14 @@ fn step_at(steps: &[u32], at: usize) -> u32
 /// The flow of a thread with steps at these places.
 fn thread_flow_of(
     alloc: Global,
-    indexed: &Indexed,
-    root: &[u8],
-    steps: &[u32],
+    flow: Flow<'_>,
     places: &[usize],
     thread: u32,
 ) -> Result<Value, OutOfMemory>
-    ensures { IfOk result (λ made. view made ≡ thread_flow indexed.now root.now steps.now thread places.now) }
+    ensures { IfOk result (λ made. view made ≡ thread_flow flow.entry.indexed.now flow.entry.root.now flow.entry.steps.now thread places.now) }
 {
     let mut members = Map::new(alloc);
-    match put_flow(&mut members, alloc, indexed, root, steps, places, thread) {
+    match put_flow(&mut members, alloc, flow, places, thread) {
         Ok(()) => Ok(Value::Object(members)),
         Err(refused) => Err(refused),
     }
@@ -155,19 +139,17 @@ fn thread_flow_of(
 fn put_flow(
     members: &mut Map<String, Value>,
     alloc: Global,
-    indexed: &Indexed,
-    root: &[u8],
-    steps: &[u32],
+    flow: Flow<'_>,
     places: &[usize],
     thread: u32,
 ) -> Result<(), OutOfMemory>
     requires { members.old.entries ≡ [] }
-    ensures { OnOk result (object (members_view members.new.entries) ≡ thread_flow indexed.now root.now steps.now thread places.now) }
+    ensures { OnOk result (object (members_view members.new.entries) ≡ thread_flow flow.entry.indexed.now flow.entry.root.now flow.entry.steps.now thread places.now) }
 {
     let kept = &places[places.len().saturating_sub(MOST_STEPS)..];
-    let list = steps_at(alloc, indexed, root, steps, kept)?;
+    let list = steps_at(alloc, flow, kept)?;
     put(members, alloc, "locations", list)?;
-    put_text(members, alloc, "id", thread_name(indexed, thread))?;
+    put_text(members, alloc, "id", thread_name(flow.indexed, thread))?;
     put_count(members, alloc, places.len() as u64)
 }
 
@@ -211,18 +193,12 @@ fn thread_name(indexed: &Indexed, thread: u32) -> &[u8]
 }
 
 /// The steps at these places.
-fn steps_at(
-    alloc: Global,
-    indexed: &Indexed,
-    root: &[u8],
-    steps: &[u32],
-    places: &[usize],
-) -> Result<Value, OutOfMemory>
-    ensures { IfOk result (λ made. view made ≡ steps_at indexed.now root.now steps.now places.now) }
+fn steps_at(alloc: Global, flow: Flow<'_>, places: &[usize]) -> Result<Value, OutOfMemory>
+    ensures { IfOk result (λ made. view made ≡ steps_at flow.entry.indexed.now flow.entry.root.now flow.entry.steps.now places.now) }
 {
     let mut list = Vec::new(alloc);
     for at in places {
-        push_step(&mut list, alloc, indexed, root, steps, *at)?;
+        push_step(&mut list, alloc, flow, *at)?;
     }
     Ok(Value::Array(list))
 }
@@ -231,30 +207,22 @@ fn steps_at(
 fn push_step(
     list: &mut Vec<Value>,
     alloc: Global,
-    indexed: &Indexed,
-    root: &[u8],
-    steps: &[u32],
+    flow: Flow<'_>,
     at: usize,
 ) -> Result<(), OutOfMemory>
-    ensures { OnOk result (map view list.new.items ≡ map view list.old.items ++ step indexed.now root.now steps.now at ∷ []) }
+    ensures { OnOk result (map view list.new.items ≡ map view list.old.items ++ step flow.entry.indexed.now flow.entry.root.now flow.entry.steps.now at ∷ []) }
 {
-    let made = step_of(alloc, indexed, root, steps, at)?;
+    let made = step_of(alloc, flow, at)?;
     list.push(made)?;
     Ok(())
 }
 
 /// The step at this place.
-fn step_of(
-    alloc: Global,
-    indexed: &Indexed,
-    root: &[u8],
-    steps: &[u32],
-    at: usize,
-) -> Result<Value, OutOfMemory>
-    ensures { IfOk result (λ made. view made ≡ step indexed.now root.now steps.now at) }
+fn step_of(alloc: Global, flow: Flow<'_>, at: usize) -> Result<Value, OutOfMemory>
+    ensures { IfOk result (λ made. view made ≡ step flow.entry.indexed.now flow.entry.root.now flow.entry.steps.now at) }
 {
     let mut members = Map::new(alloc);
-    match put_step(&mut members, alloc, indexed, root, steps, at) {
+    match put_step(&mut members, alloc, flow, at) {
         Ok(()) => Ok(Value::Object(members)),
         Err(refused) => Err(refused),
     }
@@ -264,18 +232,21 @@ fn step_of(
 fn put_step(
     members: &mut Map<String, Value>,
     alloc: Global,
-    indexed: &Indexed,
-    root: &[u8],
-    steps: &[u32],
+    flow: Flow<'_>,
     at: usize,
 ) -> Result<(), OutOfMemory>
     requires { members.old.entries ≡ [] }
-    ensures { OnOk result (object (members_view members.new.entries) ≡ step indexed.now root.now steps.now at) }
+    ensures { OnOk result (object (members_view members.new.entries) ≡ step flow.entry.indexed.now flow.entry.root.now flow.entry.steps.now at) }
 {
-    let location = access_of(alloc, indexed, root, step_at(steps, at))?;
+    let location = access_of(alloc, flow.indexed, flow.root, step_at(flow.steps, at))?;
     put(members, alloc, "location", location)?;
     put_number(members, alloc, "executionOrder", order_of(at))?;
-    put_word(members, alloc, "importance", importance(steps.len(), at))?;
+    put_word(
+        members,
+        alloc,
+        "importance",
+        importance(flow.steps.len(), at),
+    )?;
     Ok(())
 }
 

@@ -11,11 +11,10 @@ use crate::results::result_of;
 use crate::schedules::steps_of;
 use crate::sources::Sources;
 use event_index::Indexed;
-use must_order::Must;
+use must_order::Analysis;
 use race_triage::{Chosen, Verdict};
 use rapid_text::OutOfMemory;
 use serde_json::Value;
-use shb_clocks::Clocks;
 
 /// The most races with a code flow; they are the first ones.
 pub const MOST_FLOWS: usize = 200;
@@ -46,21 +45,17 @@ pub const END: &[u8] = b"}]}\n";
 /// Appends what was found as SARIF 2.1.0: a result for each of the chosen verdicts, in their order. A race has a schedule as a code flow, if it is
 /// one of the first `MOST_FLOWS` verdicts. If memory is refused `out` stays as it was.
 pub fn triage_sarif(
-    indexed: &Indexed,
-    clocks: &Clocks,
-    must: &Must,
+    analysis: &Analysis<'_>,
     chosen: &Chosen,
     sources: Sources<'_>,
     out: &mut Vec<u8>,
 ) -> Result<(), OutOfMemory>
-    requires clocks { clocks.now ≡ indexed.now }
-    requires must { must.now ≡ indexed.now }
     // The text is the one that belongs to the trace, the chosen verdicts and the code.
-    ensures ok { OnOk result ((text : List ℕ) × IsSarif indexed.now sources.entry chosen.now text × (out.new.items ≡ out.old.items ++ text)) }
+    ensures ok { OnOk result ((text : List ℕ) × IsSarif analysis.now sources.entry chosen.now text × (out.new.items ≡ out.old.items ++ text)) }
     ensures err { OnErr result (out.new.items ≡ out.old.items) }
 {
     let mut text = Vec::new(*out.allocator());
-    append_log(&mut text, indexed, clocks, must, chosen, sources)?;
+    append_log(&mut text, analysis, chosen, sources)?;
     out.extend_from_slice(text.as_slice())?;
     Ok(())
 }
@@ -68,31 +63,20 @@ pub fn triage_sarif(
 /// Appends the whole log.
 fn append_log(
     out: &mut Vec<u8>,
-    indexed: &Indexed,
-    clocks: &Clocks,
-    must: &Must,
+    analysis: &Analysis<'_>,
     chosen: &Chosen,
     sources: Sources<'_>,
 ) -> Result<(), OutOfMemory>
-    requires clocks { clocks.now ≡ indexed.now }
-    requires must { must.now ≡ indexed.now }
-    ensures { OnOk result ((text : List ℕ) × IsSarif indexed.now sources.entry chosen.now text × (out.new.items ≡ out.old.items ++ text)) }
+    ensures { OnOk result ((text : List ℕ) × IsSarif analysis.now sources.entry chosen.now text × (out.new.items ≡ out.old.items ++ text)) }
 {
     out.extend_from_slice(HEAD)?;
-    append_results(
-        out,
-        indexed,
-        clocks,
-        must,
-        sources,
-        chosen.verdicts.as_slice(),
-    )?;
+    append_results(out, analysis, sources, chosen.verdicts.as_slice())?;
     append_rest(out, sources.root, chosen.known, chosen.hidden)?;
     Ok(())
 }
 
 /// Appends what comes after the results.
-fn append_rest(
+pub(crate) fn append_rest(
     out: &mut Vec<u8>,
     root: &[u8],
     known: Option<u64>,
@@ -111,18 +95,14 @@ fn append_rest(
 /// Appends the results.
 fn append_results(
     out: &mut Vec<u8>,
-    indexed: &Indexed,
-    clocks: &Clocks,
-    must: &Must,
+    analysis: &Analysis<'_>,
     sources: Sources<'_>,
     verdicts: &[Verdict],
 ) -> Result<(), OutOfMemory>
-    requires clocks { clocks.now ≡ indexed.now }
-    requires must { must.now ≡ indexed.now }
-    ensures { OnOk result ((ds : List Data) × AreResults indexed.now sources.entry verdicts.now ds × (out.new.items ≡ out.old.items ++ joined ds)) }
+    ensures { OnOk result ((ds : List Data) × AreResults analysis.now sources.entry verdicts.now ds × (out.new.items ≡ out.old.items ++ joined ds)) }
 {
     for at in 0..verdicts.len() {
-        append_result(out, indexed, clocks, must, sources, at, &verdicts[at])?;
+        append_result(out, analysis, sources, at, &verdicts[at])?;
     }
     Ok(())
 }
@@ -130,21 +110,17 @@ fn append_results(
 /// Appends the result of a verdict after so many others.
 fn append_result(
     out: &mut Vec<u8>,
-    indexed: &Indexed,
-    clocks: &Clocks,
-    must: &Must,
+    analysis: &Analysis<'_>,
     sources: Sources<'_>,
     at: usize,
     verdict: &Verdict,
 ) -> Result<(), OutOfMemory>
-    requires clocks { clocks.now ≡ indexed.now }
-    requires must { must.now ≡ indexed.now }
-    ensures { OnOk result ((d : Data) × IsResult indexed.now sources.entry (nat_lt at MOST_FLOWS) verdict.now d
+    ensures { OnOk result ((d : Data) × IsResult analysis.now sources.entry (nat_lt at MOST_FLOWS) verdict.now d
         × (out.new.items ≡ out.old.items ++ item_text (nat_lt 0 at) d)) }
 {
     let alloc = *out.allocator();
-    let steps = steps_of(alloc, indexed, clocks, must, at < MOST_FLOWS, verdict)?;
-    append_shown(out, indexed, sources, at > 0, verdict, &steps)?;
+    let steps = steps_of(alloc, analysis, at < MOST_FLOWS, verdict)?;
+    append_shown(out, analysis.indexed(), sources, at > 0, verdict, &steps)?;
     Ok(())
 }
 
@@ -165,7 +141,11 @@ fn append_shown(
 }
 
 /// Appends a value that has no fraction in it, after a comma if it is a later one.
-fn append_item(out: &mut Vec<u8>, is_later: bool, object: &Value) -> Result<(), OutOfMemory>
+pub(crate) fn append_item(
+    out: &mut Vec<u8>,
+    is_later: bool,
+    object: &Value,
+) -> Result<(), OutOfMemory>
     requires { has_float (view object.now) ≡ false }
     ensures { OnOk result (out.new.items ≡ out.old.items ++ item_text is_later (view object.now)) }
 {

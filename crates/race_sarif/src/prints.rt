@@ -2,33 +2,32 @@
 ghost use Rattle.std.specs.Prelude.{◌≡◌, ◌++◌, [], IfOk, OnOk};
 ghost use Rattle.serde_json.specs.Data.{object};
 ghost use Rattle.serde_json.specs.View.{members_view, view};
+ghost use Rattle.race_sarif.specs.Accesses.{access_told};
 ghost use Rattle.race_sarif.specs.Prints.{both, ordered, print_object, side};
 
+use crate::accesses::Access;
 use crate::places::{file_of, relative};
 use crate::sources::{Sources, line_text};
 use crate::stacks::own_function;
-use event_index::Indexed;
 use race_json::put_text;
-use race_lines::variable_of;
-use race_triage::Verdict;
 use rapid_text::OutOfMemory;
 use report::{Piece, append_pieces};
 use serde_json::{Map, Value};
-use source_places::{location_of, place_of};
+use source_places::cut_at_arrow;
 use std::alloc::Global;
 use std::cmp::Ordering;
 
 /// The fingerprint of a pair.
 pub(crate) fn print_of(
     alloc: Global,
-    indexed: &Indexed,
     sources: Sources<'_>,
-    verdict: &Verdict,
+    first: Access<'_>,
+    second: Access<'_>,
 ) -> Result<Value, OutOfMemory>
-    ensures { IfOk result (λ made. view made ≡ print_object indexed.now sources.entry verdict.now) }
+    ensures { IfOk result (λ made. view made ≡ print_object sources.entry (access_told first.entry) (access_told second.entry)) }
 {
     let mut members = Map::new(alloc);
-    match put_print(&mut members, alloc, indexed, sources, verdict) {
+    match put_print(&mut members, alloc, sources, first, second) {
         Ok(()) => Ok(Value::Object(members)),
         Err(refused) => Err(refused),
     }
@@ -38,15 +37,15 @@ pub(crate) fn print_of(
 fn put_print(
     members: &mut Map<String, Value>,
     alloc: Global,
-    indexed: &Indexed,
     sources: Sources<'_>,
-    verdict: &Verdict,
+    first: Access<'_>,
+    second: Access<'_>,
 ) -> Result<(), OutOfMemory>
     requires { members.old.entries ≡ [] }
-    ensures { OnOk result (object (members_view members.new.entries) ≡ print_object indexed.now sources.entry verdict.now) }
+    ensures { OnOk result (object (members_view members.new.entries) ≡ print_object sources.entry (access_told first.entry) (access_told second.entry)) }
 {
     let mut text = Vec::new(alloc);
-    append_print(&mut text, indexed, sources, verdict)?;
+    append_print(&mut text, sources, first, second)?;
     put_text(members, alloc, "racePair/v1", text.as_slice())?;
     Ok(())
 }
@@ -54,30 +53,29 @@ fn put_print(
 /// Appends the two sides of a pair.
 fn append_print(
     out: &mut Vec<u8>,
-    indexed: &Indexed,
     sources: Sources<'_>,
-    verdict: &Verdict,
+    first: Access<'_>,
+    second: Access<'_>,
 ) -> Result<(), OutOfMemory>
     ensures { OnOk result (out.new.items ≡ out.old.items
-        ++ ordered (side indexed.now sources.entry verdict.now.first) (side indexed.now sources.entry verdict.now.second)) }
+        ++ ordered (side sources.entry (access_told first.entry)) (side sources.entry (access_told second.entry))) }
 {
-    let mut first = Vec::new(*out.allocator());
-    append_side(&mut first, indexed, sources, verdict.first)?;
-    append_beside(out, indexed, sources, first.as_slice(), verdict.second)
+    let mut one = Vec::new(*out.allocator());
+    append_side(&mut one, sources, first)?;
+    append_beside(out, sources, one.as_slice(), second)
 }
 
-/// Appends this side and that of the event.
+/// Appends this side and that of the access.
 fn append_beside(
     out: &mut Vec<u8>,
-    indexed: &Indexed,
     sources: Sources<'_>,
     first: &[u8],
-    event: u32,
+    access: Access<'_>,
 ) -> Result<(), OutOfMemory>
-    ensures { OnOk result (out.new.items ≡ out.old.items ++ ordered first.now (side indexed.now sources.entry event)) }
+    ensures { OnOk result (out.new.items ≡ out.old.items ++ ordered first.now (side sources.entry (access_told access.entry))) }
 {
     let mut second = Vec::new(*out.allocator());
-    append_side(&mut second, indexed, sources, event)?;
+    append_side(&mut second, sources, access)?;
     append_ordered(out, first, second.as_slice())
 }
 
@@ -105,21 +103,20 @@ fn append_both<'a>(out: &mut Vec<u8>, one: &'a [u8], other: &'a [u8]) -> Result<
 /// Appends the file, the function, the variable and the line of an access.
 fn append_side<'a>(
     out: &mut Vec<u8>,
-    indexed: &'a Indexed,
     sources: Sources<'a>,
-    event: u32,
+    access: Access<'a>,
 ) -> Result<(), OutOfMemory>
-    ensures { OnOk result (out.new.items ≡ out.old.items ++ side indexed.now sources.entry event) }
+    ensures { OnOk result (out.new.items ≡ out.old.items ++ side sources.entry (access_told access.entry)) }
 {
-    let place = place_of(indexed, event);
+    let (place, _) = cut_at_arrow(access.location);
     append_pieces(
         out,
         &[
             Piece::Words(relative(sources.root, file_of(place))),
             Piece::Words(b"\n"),
-            Piece::Words(own_function(location_of(indexed, event))),
+            Piece::Words(own_function(access.location)),
             Piece::Words(b"\n"),
-            Piece::Words(variable_of(indexed, event)),
+            Piece::Words(access.variable),
             Piece::Words(b"\n"),
             Piece::Words(line_text(sources.lines, place)),
         ],

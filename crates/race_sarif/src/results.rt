@@ -1,18 +1,20 @@
-//! Verdicts as results.
+//! What was found of pairs as results.
 ghost use Rattle.std.specs.Prelude.{◌≡◌, [], IfOk, OnOk, option_map};
 ghost use Rattle.serde_json.specs.Data.{Data, object};
 ghost use Rattle.serde_json.specs.View.{members_view, view};
-ghost use Rattle.race_sarif.specs.Results.{access_members, flow_members, place_members, print_members, result_object, said_members, step_members, word_members};
+ghost use Rattle.race_sarif.specs.Accesses.{access_told};
+ghost use Rattle.race_sarif.specs.Results.{access_members, flow_members, found_members, place_members, print_members, result_object, step_members, word_members};
 
-use crate::flows::flow_of;
+use crate::accesses::{Access, access_at};
+use crate::flows::{Flow, flow_of};
 use crate::locations::{put_message, put_single};
 use crate::prints::print_of;
 use crate::sources::Sources;
-use crate::stacks::{access_of, stacks_of};
-use crate::words::{append_message, kind_word, level_word, rule_number, rule_word};
+use crate::stacks::{stacks_of, told_of};
+use crate::words::{append_message, kind_word, level_word, outcome_rank, rule_number, rule_word};
 use event_index::Indexed;
 use race_json::{put_number, put_word};
-use race_triage::{Outcome, Verdict};
+use race_triage::Verdict;
 use rapid_text::OutOfMemory;
 use serde_json::{Map, Value, put};
 use std::alloc::Global;
@@ -47,62 +49,73 @@ fn put_result(
     ensures { OnOk result (object (members_view members.new.entries)
         ≡ result_object indexed.now sources.entry verdict.now (option_map (λ s. s.items) steps.now)) }
 {
-    put_words(members, alloc, verdict.outcome)?;
-    put_said(members, alloc, indexed, verdict)?;
-    put_accesses(members, alloc, indexed, sources.root, verdict)?;
-    put_print(members, alloc, indexed, sources, verdict)?;
+    let mut words = Vec::new(alloc);
+    append_message(&mut words, indexed, verdict)?;
+    let found = Found {
+        rank: outcome_rank(verdict.outcome),
+        words: words.as_slice(),
+        first: access_at(indexed, verdict.first),
+        second: access_at(indexed, verdict.second),
+    };
+    put_found(members, alloc, sources, found)?;
     put_flow(members, alloc, indexed, sources.root, steps)
 }
 
-/// Puts the rule, and how bad it is.
-fn put_words(
-    members: &mut Map<String, Value>,
-    alloc: Global,
-    outcome: Outcome,
-) -> Result<(), OutOfMemory>
-    ensures { OnOk result (members_view members.new.entries ≡ word_members outcome (members_view members.old.entries)) }
-{
-    put_word(members, alloc, "kind", kind_word(outcome))?;
-    put_word(members, alloc, "level", level_word(outcome))?;
-    put_word(members, alloc, "ruleId", rule_word(outcome))?;
-    put_number(members, alloc, "ruleIndex", rule_number(outcome))?;
-    Ok(())
+/// What was found of a pair: its rank, what is said of it, and its two accesses.
+#[derive(Clone, Copy)]
+pub struct Found<'a> {
+    /// 0 for a race, 1 for what is undecided, 2 for what is apart.
+    pub rank: u8,
+    /// What is said.
+    pub words: &'a [u8],
+    /// The earlier access.
+    pub first: Access<'a>,
+    /// The later one.
+    pub second: Access<'a>,
 }
 
-/// Puts what is said of the pair.
-fn put_said(
+/// Puts what every result has: the rule, what is said, the accesses and the fingerprint.
+pub(crate) fn put_found(
     members: &mut Map<String, Value>,
     alloc: Global,
-    indexed: &Indexed,
-    verdict: &Verdict,
+    sources: Sources<'_>,
+    found: Found<'_>,
 ) -> Result<(), OutOfMemory>
-    ensures { OnOk result (members_view members.new.entries ≡ said_members indexed.now verdict.now (members_view members.old.entries)) }
+    ensures { OnOk result (members_view members.new.entries
+        ≡ found_members sources.entry found.entry.rank found.entry.words.now (access_told found.entry.first) (access_told found.entry.second)
+        (members_view members.old.entries)) }
 {
-    let mut words = Vec::new(alloc);
-    append_message(&mut words, indexed, verdict)?;
-    put_message(members, alloc, words.as_slice())
+    put_words(members, alloc, found.rank)?;
+    put_message(members, alloc, found.words)?;
+    put_accesses(members, alloc, sources.root, found.first, found.second)?;
+    put_print(members, alloc, sources, found.first, found.second)
+}
+
+/// Puts the rule, and how bad it is.
+fn put_words(members: &mut Map<String, Value>, alloc: Global, rank: u8) -> Result<(), OutOfMemory>
+    ensures { OnOk result (members_view members.new.entries ≡ word_members rank (members_view members.old.entries)) }
+{
+    put_word(members, alloc, "kind", kind_word(rank))?;
+    put_word(members, alloc, "level", level_word(rank))?;
+    put_word(members, alloc, "ruleId", rule_word(rank))?;
+    put_number(members, alloc, "ruleIndex", rule_number(rank))?;
+    Ok(())
 }
 
 /// Puts the two accesses, the later first, and their stacks.
 fn put_accesses(
     members: &mut Map<String, Value>,
     alloc: Global,
-    indexed: &Indexed,
     root: &[u8],
-    verdict: &Verdict,
+    first: Access<'_>,
+    second: Access<'_>,
 ) -> Result<(), OutOfMemory>
-    ensures { OnOk result (members_view members.new.entries ≡ access_members indexed.now root.now verdict.now (members_view members.old.entries)) }
+    ensures { OnOk result (members_view members.new.entries
+        ≡ access_members root.now (access_told first.entry) (access_told second.entry) (members_view members.old.entries)) }
 {
-    put_place(members, alloc, indexed, root, "locations", verdict.second)?;
-    put_place(
-        members,
-        alloc,
-        indexed,
-        root,
-        "relatedLocations",
-        verdict.first,
-    )?;
-    let both = stacks_of(alloc, indexed, root, verdict.second, verdict.first)?;
+    put_place(members, alloc, root, "locations", second)?;
+    put_place(members, alloc, root, "relatedLocations", first)?;
+    let both = stacks_of(alloc, root, second, first)?;
     put(members, alloc, "stacks", both)?;
     Ok(())
 }
@@ -111,14 +124,13 @@ fn put_accesses(
 fn put_place(
     members: &mut Map<String, Value>,
     alloc: Global,
-    indexed: &Indexed,
     root: &[u8],
     name: &str,
-    event: u32,
+    access: Access<'_>,
 ) -> Result<(), OutOfMemory>
-    ensures { OnOk result (members_view members.new.entries ≡ place_members indexed.now root.now name.now event (members_view members.old.entries)) }
+    ensures { OnOk result (members_view members.new.entries ≡ place_members root.now name.now (access_told access.entry) (members_view members.old.entries)) }
 {
-    let location = access_of(alloc, indexed, root, event)?;
+    let location = told_of(alloc, root, access)?;
     put_single(members, alloc, name, location)
 }
 
@@ -126,13 +138,14 @@ fn put_place(
 fn put_print(
     members: &mut Map<String, Value>,
     alloc: Global,
-    indexed: &Indexed,
     sources: Sources<'_>,
-    verdict: &Verdict,
+    first: Access<'_>,
+    second: Access<'_>,
 ) -> Result<(), OutOfMemory>
-    ensures { OnOk result (members_view members.new.entries ≡ print_members indexed.now sources.entry verdict.now (members_view members.old.entries)) }
+    ensures { OnOk result (members_view members.new.entries
+        ≡ print_members sources.entry (access_told first.entry) (access_told second.entry) (members_view members.old.entries)) }
 {
-    let made = print_of(alloc, indexed, sources, verdict)?;
+    let made = print_of(alloc, sources, first, second)?;
     put(members, alloc, "partialFingerprints", made)?;
     Ok(())
 }
@@ -164,6 +177,11 @@ fn put_steps(
 ) -> Result<(), OutOfMemory>
     ensures { OnOk result (members_view members.new.entries ≡ step_members indexed.now root.now steps.now (members_view members.old.entries)) }
 {
-    let flow = flow_of(alloc, indexed, root, steps)?;
+    let told = Flow {
+        indexed,
+        root,
+        steps,
+    };
+    let flow = flow_of(alloc, told)?;
     put_single(members, alloc, "codeFlows", flow)
 }

@@ -3,31 +3,25 @@ ghost use Rattle.std.specs.Prelude.{◌≡◌, ◌<◌, ◌++◌, ◌∷◌, [],
 ghost use Rattle.pair_findings.specs.Findings.{IsFinding};
 ghost use Rattle.race_sarif.specs.Flows.{is_race, AreSteps, IsFlowOf};
 
-use event_index::Indexed;
-use must_order::Must;
+use must_order::Analysis;
 use pair_findings::{Finding, find};
 use race_triage::{Outcome, Verdict};
 use rapid_text::OutOfMemory;
-use shb_clocks::Clocks;
 use std::alloc::Global;
 
 /// The steps that show a verdict, if it is a race that is drawn.
 pub(crate) fn steps_of(
     alloc: Global,
-    indexed: &Indexed,
-    clocks: &Clocks,
-    must: &Must,
+    analysis: &Analysis<'_>,
     is_drawn: bool,
     verdict: &Verdict,
 ) -> Result<Option<Vec<u32>>, OutOfMemory>
-    requires clocks { clocks.now ≡ indexed.now }
-    requires must { must.now ≡ indexed.now }
-    ensures { IfOk result (IsFlowOf indexed.now is_drawn verdict.now) }
+    ensures { IfOk result (IsFlowOf analysis.now is_drawn verdict.now) }
 {
     if !is_drawn || !is_race(verdict.outcome) {
         return Ok(None);
     }
-    steps_to(alloc, indexed, clocks, must, verdict.first, verdict.second)
+    steps_to(alloc, analysis, verdict.first, verdict.second)
 }
 
 /// Whether it is a race.
@@ -48,21 +42,18 @@ fn is_race(outcome: Outcome) -> bool
 /// The steps that show a pair.
 fn steps_to(
     alloc: Global,
-    indexed: &Indexed,
-    clocks: &Clocks,
-    must: &Must,
+    analysis: &Analysis<'_>,
     first: u32,
     second: u32,
 ) -> Result<Option<Vec<u32>>, OutOfMemory>
-    requires clocks { clocks.now ≡ indexed.now }
-    requires must { must.now ≡ indexed.now }
-    ensures { IfOk result (AreSteps indexed.now first second) }
+    ensures { IfOk result (AreSteps analysis.now first second) }
 {
+    let indexed = analysis.indexed();
     if first >= indexed.len() || second >= indexed.len() {
         return Ok(None);
     }
-    match find(alloc, indexed, clocks, must, first, second) {
-        Ok(finding) => steps_in(alloc, indexed, &finding, first, second),
+    match find(alloc, analysis, first, second) {
+        Ok(finding) => steps_in(alloc, analysis, &finding, first, second),
         Err(refused) => Err(refused),
     }
 }
@@ -70,13 +61,13 @@ fn steps_to(
 /// The steps of what was found of a pair.
 fn steps_in(
     alloc: Global,
-    indexed: &Indexed,
+    _analysis: &Analysis<'_>,
     finding: &Finding,
     first: u32,
     second: u32,
 ) -> Result<Option<Vec<u32>>, OutOfMemory>
-    requires { IsFinding indexed.now first second finding.now }
-    ensures { IfOk result (AreSteps indexed.now first second) }
+    requires { IsFinding _analysis.now first second finding.now }
+    ensures { IfOk result (AreSteps _analysis.now first second) }
 {
     match finding {
         Finding::Race { how: _, events } => {

@@ -4,14 +4,16 @@ ghost use Rattle.serde_json.specs.Data.{Data, object};
 ghost use Rattle.serde_json.specs.View.{members_view, view};
 ghost use Rattle.source_places.specs.Places.{calls_in};
 ghost use Rattle.source_places.specs.declared.arrows.TheConstants.{MAX_CALLS as MOST};
-ghost use Rattle.race_sarif.specs.Stacks.{access_location, call_frame, caller_words, callers, callers_in, frame, frames, function_in, own_function, said_members, stack, stacks};
+ghost use Rattle.race_sarif.specs.Accesses.{access_told};
+ghost use Rattle.race_sarif.specs.Stacks.{access_location, call_frame, caller_words, callers, callers_in, frame, frames, function_in, own_function, said_members, stack, stacks, told_location};
 
+use crate::accesses::{Access, access_at};
 use crate::locations::{Spot, location_of, put_message};
 use crate::words::append_access;
 use event_index::Indexed;
 use rapid_text::OutOfMemory;
 use serde_json::{Map, Value, put};
-use source_places::{MAX_CALLS, call_of, cut_at_arrow, location_of as location_text, place_of};
+use source_places::{MAX_CALLS, call_of, cut_at_arrow};
 use std::alloc::Global;
 
 /// The function in which a location is; nothing if it does not say that.
@@ -59,7 +61,7 @@ fn callers_in(text: &[u8]) -> Option<&[u8]>
     }
 }
 
-/// The location of an access, with what is said of it.
+/// The location of the access that is the event, with what is said of it.
 pub(crate) fn access_of(
     alloc: Global,
     indexed: &Indexed,
@@ -68,14 +70,22 @@ pub(crate) fn access_of(
 ) -> Result<Value, OutOfMemory>
     ensures { IfOk result (λ made. view made ≡ access_location indexed.now root.now event) }
 {
+    told_of(alloc, root, access_at(indexed, event))
+}
+
+/// The location of an access, with what is said of it.
+pub(crate) fn told_of(alloc: Global, root: &[u8], access: Access<'_>) -> Result<Value, OutOfMemory>
+    ensures { IfOk result (λ made. view made ≡ told_location root.now (access_told access.entry)) }
+{
     let mut words = Vec::new(alloc);
-    append_access(&mut words, indexed, event)?;
+    append_access(&mut words, access)?;
+    let (place, _) = cut_at_arrow(access.location);
     location_of(
         alloc,
         root,
         Spot {
-            place: place_of(indexed, event),
-            function: own_function(location_text(indexed, event)),
+            place,
+            function: own_function(access.location),
             words: words.as_slice(),
         },
     )
@@ -84,16 +94,15 @@ pub(crate) fn access_of(
 /// The stacks of the two accesses.
 pub(crate) fn stacks_of(
     alloc: Global,
-    indexed: &Indexed,
     root: &[u8],
-    one: u32,
-    other: u32,
+    one: Access<'_>,
+    other: Access<'_>,
 ) -> Result<Value, OutOfMemory>
-    ensures { IfOk result (λ made. view made ≡ stacks indexed.now root.now one other) }
+    ensures { IfOk result (λ made. view made ≡ stacks root.now (access_told one.entry) (access_told other.entry)) }
 {
     let mut both = Vec::new(alloc);
-    push_stack(&mut both, alloc, indexed, root, one)?;
-    push_stack(&mut both, alloc, indexed, root, other)?;
+    push_stack(&mut both, alloc, root, one)?;
+    push_stack(&mut both, alloc, root, other)?;
     Ok(Value::Array(both))
 }
 
@@ -101,23 +110,22 @@ pub(crate) fn stacks_of(
 fn push_stack(
     stacks: &mut Vec<Value>,
     alloc: Global,
-    indexed: &Indexed,
     root: &[u8],
-    event: u32,
+    access: Access<'_>,
 ) -> Result<(), OutOfMemory>
-    ensures { OnOk result (map view stacks.new.items ≡ map view stacks.old.items ++ stack indexed.now root.now event ∷ []) }
+    ensures { OnOk result (map view stacks.new.items ≡ map view stacks.old.items ++ stack root.now (access_told access.entry) ∷ []) }
 {
-    let made = stack_of(alloc, indexed, root, event)?;
+    let made = stack_of(alloc, root, access)?;
     stacks.push(made)?;
     Ok(())
 }
 
 /// The stack of an access.
-fn stack_of(alloc: Global, indexed: &Indexed, root: &[u8], event: u32) -> Result<Value, OutOfMemory>
-    ensures { IfOk result (λ made. view made ≡ stack indexed.now root.now event) }
+fn stack_of(alloc: Global, root: &[u8], access: Access<'_>) -> Result<Value, OutOfMemory>
+    ensures { IfOk result (λ made. view made ≡ stack root.now (access_told access.entry)) }
 {
     let mut members = Map::new(alloc);
-    match put_stack(&mut members, alloc, indexed, root, event) {
+    match put_stack(&mut members, alloc, root, access) {
         Ok(()) => Ok(Value::Object(members)),
         Err(refused) => Err(refused),
     }
@@ -127,49 +135,37 @@ fn stack_of(alloc: Global, indexed: &Indexed, root: &[u8], event: u32) -> Result
 fn put_stack(
     members: &mut Map<String, Value>,
     alloc: Global,
-    indexed: &Indexed,
     root: &[u8],
-    event: u32,
+    access: Access<'_>,
 ) -> Result<(), OutOfMemory>
     requires { members.old.entries ≡ [] }
-    ensures { OnOk result (object (members_view members.new.entries) ≡ stack indexed.now root.now event) }
+    ensures { OnOk result (object (members_view members.new.entries) ≡ stack root.now (access_told access.entry)) }
 {
-    let list = frames_of(alloc, indexed, root, event)?;
+    let list = frames_of(alloc, root, access)?;
     put(members, alloc, "frames", list)?;
-    put_said(members, alloc, indexed, event)
+    put_said(members, alloc, access)
 }
 
 /// Puts what is said of an access.
 fn put_said(
     members: &mut Map<String, Value>,
     alloc: Global,
-    indexed: &Indexed,
-    event: u32,
+    access: Access<'_>,
 ) -> Result<(), OutOfMemory>
-    ensures { OnOk result (members_view members.new.entries ≡ said_members indexed.now event (members_view members.old.entries)) }
+    ensures { OnOk result (members_view members.new.entries ≡ said_members (access_told access.entry) (members_view members.old.entries)) }
 {
     let mut words = Vec::new(alloc);
-    append_access(&mut words, indexed, event)?;
+    append_access(&mut words, access)?;
     put_message(members, alloc, words.as_slice())
 }
 
 /// The frames of an access, the innermost first.
-fn frames_of(
-    alloc: Global,
-    indexed: &Indexed,
-    root: &[u8],
-    event: u32,
-) -> Result<Value, OutOfMemory>
-    ensures { IfOk result (λ made. view made ≡ frames indexed.now root.now event) }
+fn frames_of(alloc: Global, root: &[u8], access: Access<'_>) -> Result<Value, OutOfMemory>
+    ensures { IfOk result (λ made. view made ≡ frames root.now (access_told access.entry)) }
 {
     let mut list = Vec::new(alloc);
-    push_own(&mut list, alloc, indexed, root, event)?;
-    push_calls(
-        &mut list,
-        alloc,
-        root,
-        callers(location_text(indexed, event)),
-    )?;
+    push_own(&mut list, alloc, root, access)?;
+    push_calls(&mut list, alloc, root, callers(access.location))?;
     Ok(Value::Array(list))
 }
 
@@ -177,13 +173,12 @@ fn frames_of(
 fn push_own(
     list: &mut Vec<Value>,
     alloc: Global,
-    indexed: &Indexed,
     root: &[u8],
-    event: u32,
+    access: Access<'_>,
 ) -> Result<(), OutOfMemory>
-    ensures { OnOk result (map view list.new.items ≡ map view list.old.items ++ frame (access_location indexed.now root.now event) ∷ []) }
+    ensures { OnOk result (map view list.new.items ≡ map view list.old.items ++ frame (told_location root.now (access_told access.entry)) ∷ []) }
 {
-    let location = access_of(alloc, indexed, root, event)?;
+    let location = told_of(alloc, root, access)?;
     push_frame(list, alloc, location)
 }
 

@@ -1,61 +1,19 @@
-//! What is said of an access, and of a pair.
+//! What is said of an access, and of a pair. A rank is 0 for a race, 1 for what is undecided, 2 for what is apart.
 ghost use Rattle.std.specs.Prelude.{◌≡◌, ◌++◌, OnOk};
-ghost use Rattle.race_sarif.specs.Words.{access_words, both_words, found_words, kind_word, level_word, message_words, more_words, reason_words, rule_number, rule_word, title_words};
+ghost use Rattle.race_lines.specs.Accesses.{spot};
+ghost use Rattle.race_sarif.specs.Accesses.{access_told};
+ghost use Rattle.race_sarif.specs.Words.{access_words, apart_words, both_words, found_words, kind_word, level_word, message_words, more_words, outcome_rank, race_words, reason_words, rule_number, rule_word, title_words, undecided_words};
 
+use crate::accesses::{Access, access_at};
 use event_index::Indexed;
-use race_lines::{spot_of, thread_of, variable_of, verb_of};
 use race_triage::{Outcome, Verdict};
 use rapid_text::OutOfMemory;
 use report::{Piece, append_pieces};
+use source_places::cut_at_arrow;
 
-/// Whether the rule is broken.
-pub(crate) fn kind_word(outcome: Outcome) -> &'static str
-    ensures { result.now ≡ kind_word outcome }
-{
-    match outcome {
-        Outcome::Race {
-            how: _,
-            events: _,
-            threads: _,
-        } => "fail",
-        Outcome::Undecided { tried: _ } => "fail",
-        Outcome::Apart => "pass",
-    }
-}
-
-/// How bad that is.
-pub(crate) fn level_word(outcome: Outcome) -> &'static str
-    ensures { result.now ≡ level_word outcome }
-{
-    match outcome {
-        Outcome::Race {
-            how: _,
-            events: _,
-            threads: _,
-        } => "error",
-        Outcome::Undecided { tried: _ } => "warning",
-        Outcome::Apart => "none",
-    }
-}
-
-/// The name of the rule.
-pub(crate) fn rule_word(outcome: Outcome) -> &'static str
-    ensures { result.now ≡ rule_word outcome }
-{
-    match outcome {
-        Outcome::Race {
-            how: _,
-            events: _,
-            threads: _,
-        } => "data-race",
-        Outcome::Undecided { tried: _ } => "undecided-pair",
-        Outcome::Apart => "apart",
-    }
-}
-
-/// The place of the rule among the rules, the first being 0.
-pub(crate) fn rule_number(outcome: Outcome) -> u64
-    ensures { result ≡ rule_number outcome }
+/// The rank of what was found.
+pub(crate) fn outcome_rank(outcome: Outcome) -> u8
+    ensures { result ≡ outcome_rank outcome }
 {
     match outcome {
         Outcome::Race {
@@ -68,24 +26,72 @@ pub(crate) fn rule_number(outcome: Outcome) -> u64
     }
 }
 
-/// Appends what the event's thread does, and where.
-pub(crate) fn append_access(
-    out: &mut Vec<u8>,
-    indexed: &Indexed,
-    event: u32,
-) -> Result<(), OutOfMemory>
-    ensures { OnOk result (out.new.items ≡ out.old.items ++ access_words indexed.now event) }
+/// Whether the rule is broken.
+pub(crate) fn kind_word(rank: u8) -> &'static str
+    ensures { result.now ≡ kind_word rank }
+{
+    match rank {
+        0 => "fail",
+        1 => "fail",
+        _ => "pass",
+    }
+}
+
+/// How bad that is.
+pub(crate) fn level_word(rank: u8) -> &'static str
+    ensures { result.now ≡ level_word rank }
+{
+    match rank {
+        0 => "error",
+        1 => "warning",
+        _ => "none",
+    }
+}
+
+/// The name of the rule.
+pub(crate) fn rule_word(rank: u8) -> &'static str
+    ensures { result.now ≡ rule_word rank }
+{
+    match rank {
+        0 => "data-race",
+        1 => "undecided-pair",
+        _ => "apart",
+    }
+}
+
+/// The place of the rule among the rules, the first being 0.
+pub(crate) fn rule_number(rank: u8) -> u64
+    ensures { result ≡ rule_number rank }
+{
+    match rank {
+        0 => 0,
+        1 => 1,
+        _ => 2,
+    }
+}
+
+/// The place of a location, or a question mark.
+fn spot(location: &[u8]) -> &[u8]
+    ensures { result.now ≡ spot location.now }
+{
+    let (place, _) = cut_at_arrow(location);
+    if place.is_empty() { b"?" } else { place }
+}
+
+/// Appends what the thread of an access does, and where.
+pub(crate) fn append_access(out: &mut Vec<u8>, access: Access<'_>) -> Result<(), OutOfMemory>
+    ensures { OnOk result (out.new.items ≡ out.old.items ++ access_words (access_told access.entry)) }
 {
     append_pieces(
         out,
         &[
-            Piece::Words(thread_of(indexed, event)),
+            Piece::Words(access.thread),
             Piece::Words(b" "),
-            Piece::Words(verb_of(indexed, event)),
+            Piece::Words(access.verb),
             Piece::Words(b" "),
-            Piece::Words(variable_of(indexed, event)),
+            Piece::Words(access.variable),
             Piece::Words(b" at "),
-            Piece::Words(spot_of(indexed, event)),
+            Piece::Words(spot(access.location)),
         ],
     )
 }
@@ -98,51 +104,57 @@ pub(crate) fn append_message(
 ) -> Result<(), OutOfMemory>
     ensures { OnOk result (out.new.items ≡ out.old.items ++ message_words indexed.now verdict.now) }
 {
-    append_title(out, indexed, verdict)?;
-    append_both(out, indexed, verdict)?;
+    let first = access_at(indexed, verdict.first);
+    let second = access_at(indexed, verdict.second);
+    append_title(out, outcome_rank(verdict.outcome), second)?;
+    append_both(out, first, second)?;
     append_reason(out, verdict.outcome)?;
     append_more(out, verdict)?;
     Ok(())
 }
 
 /// Appends both accesses, the later first.
-fn append_both(out: &mut Vec<u8>, indexed: &Indexed, verdict: &Verdict) -> Result<(), OutOfMemory>
-    ensures { OnOk result (out.new.items ≡ out.old.items ++ both_words indexed.now verdict.now) }
+pub(crate) fn append_both(
+    out: &mut Vec<u8>,
+    first: Access<'_>,
+    second: Access<'_>,
+) -> Result<(), OutOfMemory>
+    ensures { OnOk result (out.new.items ≡ out.old.items ++ both_words (access_told first.entry) (access_told second.entry)) }
 {
-    append_access(out, indexed, verdict.second)?;
+    append_access(out, second)?;
     append_pieces(out, &[Piece::Words(b", and ")])?;
-    append_access(out, indexed, verdict.first)?;
+    append_access(out, first)?;
     append_pieces(out, &[Piece::Words(b"; ")])?;
     Ok(())
 }
 
 /// Appends what was found, and on which variable.
-fn append_title(out: &mut Vec<u8>, indexed: &Indexed, verdict: &Verdict) -> Result<(), OutOfMemory>
-    ensures { OnOk result (out.new.items ≡ out.old.items ++ title_words indexed.now verdict.now) }
+pub(crate) fn append_title(
+    out: &mut Vec<u8>,
+    rank: u8,
+    second: Access<'_>,
+) -> Result<(), OutOfMemory>
+    ensures { OnOk result (out.new.items ≡ out.old.items ++ title_words rank (access_told second.entry)) }
 {
     append_pieces(
         out,
         &[
-            Piece::Words(found_words(verdict.outcome)),
+            Piece::Words(found_words(rank)),
             Piece::Words(b" on "),
-            Piece::Words(variable_of(indexed, verdict.second)),
+            Piece::Words(second.variable),
             Piece::Words(b": "),
         ],
     )
 }
 
 /// What was found.
-fn found_words(outcome: Outcome) -> &'static [u8]
-    ensures { result.now ≡ found_words outcome }
+fn found_words(rank: u8) -> &'static [u8]
+    ensures { result.now ≡ found_words rank }
 {
-    match outcome {
-        Outcome::Race {
-            how: _,
-            events: _,
-            threads: _,
-        } => b"Data race",
-        Outcome::Undecided { tried: _ } => b"Undecided pair",
-        Outcome::Apart => b"No race",
+    match rank {
+        0 => b"Data race",
+        1 => b"Undecided pair",
+        _ => b"No race",
     }
 }
 
@@ -155,29 +167,50 @@ fn append_reason(out: &mut Vec<u8>, outcome: Outcome) -> Result<(), OutOfMemory>
             how: _,
             events,
             threads,
-        } => append_pieces(
-            out,
-            &[
-                Piece::Words(b"a schedule of "),
-                Piece::Number(u64::from(events)),
-                Piece::Words(b" events of "),
-                Piece::Number(u64::from(threads)),
-                Piece::Words(b" threads shows it"),
-            ],
-        ),
-        Outcome::Undecided { tried } => append_pieces(
-            out,
-            &[
-                Piece::Words(b"no schedule was found for "),
-                Piece::Number(u64::from(tried)),
-                Piece::Words(b" pairs of events"),
-            ],
-        ),
-        Outcome::Apart => append_pieces(
-            out,
-            &[Piece::Words(b"every correct reordering of this trace keeps the two apart")],
-        ),
+        } => append_race(out, u64::from(events), u64::from(threads)),
+        Outcome::Undecided { tried } => append_undecided(out, u64::from(tried)),
+        Outcome::Apart => append_apart(out),
     }
+}
+
+/// Appends why a pair is a race.
+pub(crate) fn append_race(out: &mut Vec<u8>, events: u64, threads: u64) -> Result<(), OutOfMemory>
+    ensures { OnOk result (out.new.items ≡ out.old.items ++ race_words events threads) }
+{
+    append_pieces(
+        out,
+        &[
+            Piece::Words(b"a schedule of "),
+            Piece::Number(events),
+            Piece::Words(b" events of "),
+            Piece::Number(threads),
+            Piece::Words(b" threads shows it"),
+        ],
+    )
+}
+
+/// Appends why a pair is undecided.
+pub(crate) fn append_undecided(out: &mut Vec<u8>, tried: u64) -> Result<(), OutOfMemory>
+    ensures { OnOk result (out.new.items ≡ out.old.items ++ undecided_words tried) }
+{
+    append_pieces(
+        out,
+        &[
+            Piece::Words(b"no schedule was found for "),
+            Piece::Number(tried),
+            Piece::Words(b" pairs of events"),
+        ],
+    )
+}
+
+/// Appends why a pair is apart.
+pub(crate) fn append_apart(out: &mut Vec<u8>) -> Result<(), OutOfMemory>
+    ensures { OnOk result (out.new.items ≡ out.old.items ++ apart_words) }
+{
+    append_pieces(
+        out,
+        &[Piece::Words(b"every correct reordering of this trace keeps the two apart")],
+    )
 }
 
 /// Appends how to see more.

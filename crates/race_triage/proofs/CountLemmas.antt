@@ -1,10 +1,10 @@
 -- What is counted by pairs of places is counted of the whole trace.
-use Rattle.std.proofs.Common.{◌≡◌, ◌≢◌, ℕ, ◌+◌, ◌*◌, ◌-◌, ◌^◌, ◌<◌, ◌≤◌, ◌↔◌, ◌||◌, min, Bool, true, false, cond, IsTrue, List, [], ◌∷◌, ◌++◌, All, AllPairs, Any, Contains, length, map, filter, count_by, sum_by, get_or, refl, sym, ap, ◌∙◌, subst, arith, inl, inr}
+use Rattle.std.proofs.Common.{◌≡◌, ◌≢◌, ℕ, ◌+◌, ◌-◌, ◌^◌, ◌<◌, ◌≤◌, ◌↔◌, ◌||◌, min, Bool, true, false, cond, IsTrue, List, [], ◌∷◌, All, length, map, filter, count_by, sum_by, get_or, refl, sym, ap, ◌∙◌, subst, arith}
 use Rattle.std.specs.Prelude.{⊤}
 use Rattle.std.specs.List.{flat_map, list_any}
-use Rattle.std.proofs.lemmas.Bool.{cases_Bool, cond-true, cond-false, false_from_ne_true, true≢false, or_cases}
+use Rattle.std.proofs.lemmas.Bool.{cond-true, cond-false, true≢false}
 use Rattle.std.proofs.lemmas.List.{get_or-map, get_or_default, length-append, length-map}
-use Rattle.std.proofs.lemmas.List.Elements.{All-cons, All-contains, All-contains_itself, All-filter, All-get_or, All-head, All-map, All-nil, All-tail, All-weaker, filter_passes}
+use Rattle.std.proofs.lemmas.List.Elements.{All-cons, All-get_or, All-head, All-map, All-nil, All-tail, All-weaker}
 use Rattle.std.proofs.lemmas.List.Folds.{Any-from_list_any, list_any-from_Any}
 use Rattle.std.proofs.lemmas.Option.{slice_get_within}
 use Rattle.std.proofs.lemmas.List.FromFn.{length-range_with_len}
@@ -13,8 +13,7 @@ use Rattle.rapid_text.specs.Recording.{Recording, IsWellFormed}
 use Rattle.rapid_text.specs.declared.event.Event.{Event}
 use Rattle.trace_rules.specs.Rules.{IsDisciplined}
 use Rattle.event_index.specs.Lookups.{before}
-use Rattle.event_index.specs.Relations.{IsConflicting, is_conflict}
-use Rattle.event_index.proofs.CallerLemmas.{Decides-is_conflict}
+use Rattle.event_index.specs.Relations.{is_conflict}
 use Rattle.shb_clocks.specs.Candidates.{IsCandidatePair}
 use Rattle.must_order.specs.Kinds.{IsKind}
 use Rattle.must_order.specs.MustBefore.{IsForced, IsGuarded, IsSharedBefore}
@@ -22,22 +21,18 @@ use Rattle.must_order.specs.declared.kind.Kind.{Kind}
 use Rattle.must_order.specs.declared.kind.Kind.TheVariants.{Candidate, Open, Guarded, Forced}
 use Rattle.race_groups.specs.Found.{HaveConflict}
 use Rattle.race_groups.specs.Groups.{conflicts, group_of, is_between, pairs_below, IsCountOf}
-use Rattle.race_groups.specs.declared.kinds.Counts.{Counts}
 use Rattle.race_groups.proofs.BuildLemmas.{length-cons}
 use Rattle.race_groups.proofs.RowLemmas.{between_one}
 use Rattle.race_groups.proofs.TellLemmas.{group_pairs, shared_by_none, IsPair as IsGroupPair}
 use Rattle.race_groups.proofs.ThreadLemmas.{All-before}
-use Rattle.least_pairs.specs.Pairs.{IsPair, AreAt}
 use Rattle.race_triage.specs.Chosen.{is_of, is_same, part_of}
 use Rattle.race_triage.specs.Pieces.{capped}
-use Rattle.race_triage.specs.Texts.{all_in, AreTotals}
-use Rattle.race_triage.specs.Totals.{ArePlacesOf, AreTotalsOf, TotalsAreOfTheTrace}
+use Rattle.race_triage.specs.Texts.{all_in}
+use Rattle.race_triage.specs.Totals.{ArePlacesOf, TotalsAreOfTheTrace}
 use Rattle.race_triage.specs.Verdicts.{AreAllTold, AreOnceTold, IsVerdict}
 use Rattle.race_triage.specs.declared.chosen.Part.TheVariants.{Races, Open as OpenPart, Never}
-use Rattle.race_triage.specs.declared.totals.Totals.{Totals}
 use Rattle.race_triage.specs.declared.verdicts.Outcome.{Outcome}
 use Rattle.race_triage.specs.declared.verdicts.Outcome.TheVariants.{Race, Undecided, Apart}
-use Rattle.race_triage.specs.declared.verdicts.TheConstants.{MAX_PLACES}
 use Rattle.race_triage.specs.declared.verdicts.Verdict.{Verdict}
 use Rattle.race_triage.proofs.OnceLemmas.{pairs_head, pairs_tail}
 

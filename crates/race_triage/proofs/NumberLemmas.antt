@@ -1,10 +1,9 @@
 -- Places that are numbered by their first uses have one numbering, and known races are known in each.
-use Rattle.std.proofs.Common.{◌≡◌, ℕ, ◌+◌, ◌<◌, ◌≤◌, ◌==◌, ◌&&◌, ◌||◌, cond, not, is_some, map, Bool, true, false, List, [], ◌∷◌, Vec, Any, Contains, length, filter, count_by, get_or, Option, Some, None, refl, sym, ap, ◌∙◌, subst, arith, inl, inr}
+use Rattle.std.proofs.Common.{◌≡◌, ℕ, ◌+◌, ◌<◌, ◌==◌, ◌&&◌, ◌||◌, cond, not, is_some, Bool, true, false, List, [], ◌∷◌, Vec, Contains, length, count_by, get_or, Option, Some, refl, sym, ap, ◌∙◌, arith}
 use Rattle.std.specs.Prelude.{nat_eq, slice_index}
-use Rattle.std.specs.List.{list_any, position_or_len, slice_get, sum_by}
+use Rattle.std.specs.List.{position_or_len}
 use Rattle.std.specs.Cmp.Lexicographic.{pointwise}
 use Rattle.std.specs.declared.alloc.Global.{Global}
-use Rattle.std.proofs.lemmas.Bool.{cases_Bool, true≢false}
 use Rattle.std.proofs.lemmas.Grind.{same_number_lists}
 use Rattle.std.proofs.lemmas.List.{length-map}
 use Rattle.std.proofs.lemmas.List.Elements.{filter_agree}
@@ -13,11 +12,10 @@ use Rattle.std.proofs.lemmas.List.Sums.{length-filter}
 use Rattle.std.proofs.lemmas.Option.{slice_get-get_or}
 use Rattle.rapid_text.specs.Recording.{Recording, IsWellFormed}
 use Rattle.race_groups.specs.Rows.{same_places}
-use Rattle.race_groups.proofs.RowLemmas.{are_same_places, same_places_are}
 use Rattle.race_triage.specs.Chosen.{AreChosen, in_order, is_hidden, is_kept, is_known, is_known_race, is_of, is_told, told_count}
 use Rattle.race_triage.specs.Known.{AreKnown}
 use Rattle.race_triage.specs.Pieces.{capped}
-use Rattle.race_triage.specs.Places.{AreFirstUses, AreNumbered, IsSpot, texts_of}
+use Rattle.race_triage.specs.Places.{AreNumbered, IsSpot, texts_of}
 use Rattle.race_triage.specs.declared.chosen.Chosen.{Chosen}
 use Rattle.race_triage.specs.declared.chosen.Part.TheVariants.{Races}
 use Rattle.race_triage.specs.declared.verdicts.Verdict.{Verdict}

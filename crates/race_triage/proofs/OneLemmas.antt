@@ -1,18 +1,17 @@
 -- A right verdict on two places is one, whichever call finds it.
-use Rattle.std.proofs.Common.{◌≡◌, ◌≢◌, ℕ, zero, suc, ◌+◌, ◌<◌, ◌≤◌, ◌==◌, ◌⊎◌, ◌↔◌, max, Bool, true, false, cond, IsTrue, List, [], ◌∷◌, ◌++◌, All, AllPairs, Any, Contains, length, take, filter, count_by, get_or, Option, Some, None, refl, sym, ap, ◌∙◌, subst, arith, inl, inr}
+use Rattle.std.proofs.Common.{◌≡◌, ◌≢◌, ℕ, zero, suc, ◌+◌, ◌<◌, ◌≤◌, ◌==◌, ◌⊎◌, Bool, true, false, List, [], ◌∷◌, ◌++◌, All, AllPairs, Any, Contains, length, take, get_or, Option, Some, None, refl, sym, ap, ◌∙◌, subst, arith, inl, inr}
 use Rattle.std.specs.Prelude.{option_map, find}
 use Rattle.std.specs.List.{slice_get}
-use Rattle.std.proofs.lemmas.Bool.{cases_Bool, cases_lt, cases_order, eqb-true, or_cases, true≢false}
-use Rattle.std.proofs.lemmas.List.{get_or-take, get_or_default, length-take, take_all}
+use Rattle.std.proofs.lemmas.Bool.{cases_lt, cases_order, eqb-true, or_cases, true≢false}
+use Rattle.std.proofs.lemmas.List.{get_or_default, take_all}
 use Rattle.std.proofs.lemmas.List.Kept.{AllPairs-cons}
-use Rattle.std.proofs.lemmas.List.Elements.{All-contains, All-cons, All-get_or, All-head, All-nil, All-tail, All-weaker}
-use Rattle.std.proofs.lemmas.List.Sums.{sum_by-cons}
-use Rattle.std.proofs.lemmas.Option.{same_Some, slice_get_within, get_or_from_slice_get}
+use Rattle.std.proofs.lemmas.List.Elements.{All-contains, All-cons, All-weaker}
+use Rattle.std.proofs.lemmas.Option.{same_Some, slice_get_within}
 use Rattle.rapid_text.specs.Recording.{Recording}
 use Rattle.rapid_text.specs.declared.event.Event.{Event}
 use Rattle.rapid_text.specs.declared.event.Op.{Op}
 use Rattle.rapid_text.specs.declared.event.Op.TheVariants.{Read, Write, Acquire, Release, Fork, Join}
-use Rattle.event_index.specs.Events.{passes_by, thread_at}
+use Rattle.event_index.specs.Events.{passes_by}
 use Rattle.event_index.specs.Least.{IsLeastOf as IsLeastNumber}
 use Rattle.event_index.specs.Lookups.{before}
 use Rattle.event_index.proofs.CallerLemmas.{find_cases, find-least}
@@ -22,26 +21,23 @@ use Rattle.witness_search.specs.Greedy.{after_steps, first_shown, IsGreedyAnswer
 use Rattle.witness_search.proofs.CallerLemmas.{IsGreedyAnswer-unique}
 use Rattle.witness_search.proofs.RisingLemmas.{rising-unique}
 use Rattle.in_order.specs.Counting.{IsLeft}
-use Rattle.in_order.specs.InOrder.{AreNeeded, IsInOrder}
+use Rattle.in_order.specs.InOrder.{AreNeeded}
 use Rattle.in_order.specs.Orders.{IsTurned}
 use Rattle.in_order.specs.Refusals.{IsNeverShownInOrder}
 use Rattle.in_order.specs.Sizes.{HasSize}
-use Rattle.must_order.specs.Kinds.{IsKind}
-use Rattle.must_order.specs.declared.kind.Kind.{Kind}
-use Rattle.must_order.specs.declared.kind.Kind.TheVariants.{Candidate as CandidateKind, Open as OpenKind, Guarded as GuardedKind, Forced as ForcedKind}
 use Rattle.explain_report.specs.declared.verdict.How.{How}
 use Rattle.explain_report.specs.declared.verdict.How.TheVariants.{Candidate, Beyond, Turned}
-use Rattle.pair_findings.specs.Findings.{IsFoundAs, IsShownAs, IsShownInOrder}
+use Rattle.pair_findings.specs.Findings.{IsFoundAs, IsShownAs}
 use Rattle.pair_findings.specs.declared.searching.TheConstants.{BUDGET}
-use Rattle.race_groups.specs.Groups.{group_of, IsCountOf}
-use Rattle.race_groups.specs.Kinds.{IsRow, IsRowAt}
+use Rattle.race_groups.specs.Groups.{IsCountOf}
+use Rattle.race_groups.specs.Kinds.{IsRowAt}
 use Rattle.race_groups.specs.declared.kinds.Counts.{Counts}
 use Rattle.race_groups.specs.declared.kinds.Row.{Row}
 use Rattle.race_groups.proofs.BuildLemmas.{length-cons}
 use Rattle.least_notes.specs.Order.{IsAhead, IsUpTo}
 use Rattle.least_notes.specs.declared.tries.Between.{Between}
 use Rattle.least_notes.specs.declared.tries.Try.{Try}
-use Rattle.least_pairs.specs.Pairs.{AreFirstTries, HasPair, IsFit, IsLeastPair, IsOf, IsOpenOf, is_access_at}
+use Rattle.least_pairs.specs.Pairs.{AreFirstTries, HasPair, IsLeastPair, IsOf, IsOpenOf}
 use Rattle.least_pairs.specs.declared.wanted.Wanted.{Wanted}
 use Rattle.least_pairs.specs.declared.wanted.Wanted.TheVariants.{Candidate as CandidatePair, Open as OpenPair, Any as AnyPair}
 use Rattle.race_triage.specs.Verdicts.{AreMissed, AreTriedInVain, HasOpen, IsFirstFound, IsFirstOfTried, IsFoundBy, IsMissed, IsOutcome, IsOutcomeFor, IsPairApart, IsPairFor, IsShownBy, IsVerdict}
@@ -49,8 +45,8 @@ use Rattle.race_triage.specs.declared.verdicts.Outcome.{Outcome}
 use Rattle.race_triage.specs.declared.verdicts.Outcome.TheVariants.{Race, Undecided, Apart}
 use Rattle.race_triage.specs.declared.verdicts.Verdict.{Verdict}
 use Rattle.race_triage.proofs.BudgetLemmas.{IsBudget-unique, IsCountOf-unique, counts_same, row_of}
-use Rattle.race_triage.proofs.ListLemmas.{one_rising, some_or_all, stands_behind, first_or_behind}
-use Rattle.race_triage.proofs.OnceLemmas.{distinct-le, stands_here}
+use Rattle.race_triage.proofs.ListLemmas.{one_rising, some_or_all}
+use Rattle.race_triage.proofs.OnceLemmas.{distinct-le}
 
 pair_same : (p q : ℕ × ℕ) → p.0 ≡ q.0 → p.1 ≡ q.1 → p ≡ q
 pair_same p q one other = ap (λ x. (x, p.1)) one ∙ ap (λ y. (q.0, y)) other

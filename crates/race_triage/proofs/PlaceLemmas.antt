@@ -1,5 +1,5 @@
 -- Locations that are numbered by their first uses.
-use Rattle.std.proofs.Common.{◌≡◌, ℕ, ◌+◌, ◌<◌, List, [], ◌∷◌, ◌++◌, ◌||◌, cond, map, take, Bool, true, false, Vec, length, Some, position, get_or, refl, sym, ap, ◌∙◌, subst, arith, inl, inr}
+use Rattle.std.proofs.Common.{◌≡◌, ℕ, ◌+◌, ◌<◌, List, [], ◌∷◌, ◌++◌, ◌||◌, take, Bool, true, false, Vec, length, Some, position, get_or, refl, sym, ap, ◌∙◌, subst, arith, inl, inr}
 use Rattle.std.specs.Bool.{if◌then◌else◌}
 use Rattle.std.specs.List.{slice_get, list_any, position_or_len}
 use Rattle.std.specs.Prelude.{nat_eq, slice_index}

@@ -1,8 +1,8 @@
 -- Two right lists of verdicts tell the same.
-use Rattle.std.proofs.Common.{◌≡◌, ◌≢◌, ℕ, ◌+◌, ◌<◌, ◌≤◌, ◌⊎◌, ◌==◌, ◌||◌, not, is_some, Bool, true, false, cond, List, [], ◌++◌, All, AllPairs, Any, Contains, length, map, filter, count_by, get_or, Option, refl, sym, ap, ◌∙◌, subst, arith, inl, inr}
+use Rattle.std.proofs.Common.{◌≡◌, ℕ, ◌<◌, ◌≤◌, ◌⊎◌, ◌==◌, ◌||◌, not, is_some, Bool, true, cond, List, [], ◌++◌, AllPairs, Contains, length, filter, count_by, get_or, Option, sym, ap, ◌∙◌, subst, arith, inl, inr}
 use Rattle.std.specs.Prelude.{codes}
 use Rattle.std.proofs.lemmas.Bool.{cases_Bool, cases_order, true≢false}
-use Rattle.std.proofs.lemmas.List.Elements.{All-contains, All-get_or, All-weaker, filter_passes}
+use Rattle.std.proofs.lemmas.List.Elements.{All-contains, All-get_or, filter_passes}
 use Rattle.std.proofs.lemmas.List.Kept.{AllPairs-filter}
 use Rattle.std.proofs.lemmas.List.Sums.{length-filter}
 use Rattle.std.proofs.lemmas.Option.{slice_get_within}
@@ -12,15 +12,15 @@ use Rattle.must_order.specs.Kinds.{IsKind}
 use Rattle.must_order.specs.declared.kind.Kind.{Kind}
 use Rattle.must_order.specs.declared.kind.Kind.TheVariants.{Candidate, Open as OpenKind, Guarded, Forced}
 use Rattle.race_groups.specs.Found.{HaveConflict}
-use Rattle.race_groups.specs.Groups.{conflicts, is_between, IsCountOf}
+use Rattle.race_groups.specs.Groups.{conflicts, IsCountOf}
 use Rattle.race_groups.proofs.RowLemmas.{between_one}
-use Rattle.least_pairs.specs.Pairs.{AreAt, IsPair}
+use Rattle.least_pairs.specs.Pairs.{AreAt}
 use Rattle.race_triage.specs.Chosen.{AreChosen, in_order, is_hidden, is_known_race, is_of, is_same, is_told, part_of, told_count}
 use Rattle.race_triage.specs.Pieces.{capped}
 use Rattle.race_triage.specs.Same.{AreRight, TextsAreOne, VerdictsAreOne}
-use Rattle.race_triage.specs.Texts.{AreTotals, IsTriageText, block_texts, left_out_text, totals_text}
-use Rattle.race_triage.specs.Totals.{ArePlacesOf, AreTotalsOf}
-use Rattle.race_triage.specs.Verdicts.{AreAllTold, AreOnceTold, AreRising, IsNoLater, IsTold, IsVerdict}
+use Rattle.race_triage.specs.Texts.{block_texts, left_out_text, totals_text}
+use Rattle.race_triage.specs.Totals.{ArePlacesOf}
+use Rattle.race_triage.specs.Verdicts.{IsTold, IsVerdict}
 use Rattle.race_triage.specs.declared.chosen.Chosen.{Chosen}
 use Rattle.race_triage.specs.declared.chosen.Part.{Part}
 use Rattle.race_triage.specs.declared.chosen.Part.TheVariants.{Races, Open, Never}

@@ -4,6 +4,7 @@ pub mod Known
 pub mod Pieces
 pub mod Places
 pub mod Same
+pub mod Tables
 pub mod Texts
 pub mod Totals
 pub mod Verdicts

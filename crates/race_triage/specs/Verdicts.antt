@@ -1,6 +1,6 @@
 -- What is said of a pair of places, and of the pair of events that is told of it. `T` is the events of a trace, `r` its recording, `place`
 -- tells the place of each event. All notions here are this project's own.
-use Rattle.std.specs.Prelude.{◌≡◌, ◌≢◌, ◌⊎◌, ℕ, ◌<◌, ◌≤◌, ◌%◌, ◌/◌, ◌==◌, ◌&&◌, nat_lt, max, min, count_by, Bool, true, false, List, [], ◌∷◌, ◌++◌, All, AllPairs, Contains, length, take, slice_get, slice_index_or, Option, Some, None, ⊤}
+use Rattle.std.specs.Prelude.{◌≡◌, ◌≢◌, ◌⊎◌, ℕ, ◌<◌, ◌≤◌, ◌%◌, ◌/◌, ◌==◌, ◌&&◌, nat_lt, max, min, count_by, Bool, true, false, List, [], ◌∷◌, ◌++◌, All, AllPairs, Contains, length, take, slice_get, slice_index, slice_index_or, Option, Some, None, ⊤}
 use Rattle.rapid_text.specs.Recording.{Recording}
 use Rattle.rapid_text.specs.declared.event.Event.{Event}
 use Rattle.event_index.specs.Lookups.{before}
@@ -25,6 +25,7 @@ use Rattle.least_pairs.specs.Pairs.{AreAt, AreFirstTries, AreLeasts, HasPair, Is
 use Rattle.least_notes.specs.declared.least.Least.{Least}
 use Rattle.least_notes.specs.declared.tries.Try.{Try}
 use Rattle.least_pairs.specs.declared.wanted.Wanted.TheVariants.{Candidate as CandidatePair, Open as OpenPair, Any as AnyPair}
+use Rattle.race_triage.specs.Tables.{AreTables}
 use Rattle.race_triage.specs.declared.found.Found.{Found}
 use Rattle.race_triage.specs.declared.verdicts.Outcome.{Outcome}
 use Rattle.race_triage.specs.declared.verdicts.Outcome.TheVariants.{Race, Undecided, Apart}
@@ -188,6 +189,15 @@ pub record IsFound (r : Recording) (place : ℕ → ℕ) (tries : ℕ) (apart : 
   pub firsts : apart ≡ true → (at : ℕ) (row : Row) (first : Option (ℕ × ℕ)) → slice_get found.groups.rows.items at ≡ Some row
       → slice_get found.firsts.items at ≡ Some first → IsLeastPair r place row.places AnyPair first
 
+-- The same by the tables and the effort that it has.
+pub record IsFoundIn (found : Found) : Type 0 where
+  pub tables : AreTables found.tables
+  pub is : IsFound found.tables.indexed.now (slice_index found.tables.places.now) found.effort.tries found.effort.apart found
+
+-- what holds of each verdict that is given by what was found
+abbrev pub IsVerdictOf : Found → Verdict → Type 0
+IsVerdictOf found = IsVerdict found.tables.indexed.now (slice_index found.tables.places.now) found.effort.tries found.effort.apart
+
 -- There is a verdict for the two places of each conflicting pair.
 abbrev pub AreAllTold : List Event → (ℕ → ℕ) → List Verdict → Type 0
 AreAllTold T place vs =
@@ -235,6 +245,19 @@ pub record AreWhole (r : Recording) (place : ℕ → ℕ) (tries : ℕ) (apart :
   pub verdicts : All (IsVerdict r place tries apart) vs
   pub answered : (at : ℕ) (d : Row) → at < length rows → IsAnswered vs (slice_index_or rows at d)
   pub on : AreOn rows (λ at. ⊤) vs
+
+-- The same by what was found: a verdict more, a part, and all.
+abbrev pub IsAddedBy : Found → Row → List Verdict → List Verdict → Type 0
+IsAddedBy found =
+    IsAdded found.tables.indexed.now (slice_index found.tables.places.now) found.effort.tries found.effort.apart
+
+abbrev pub ArePartOf : Found → ℕ → ℕ → List Verdict → Type 0
+ArePartOf found =
+    ArePart found.tables.indexed.now (slice_index found.tables.places.now) found.effort.tries found.effort.apart found.groups.rows.items
+
+abbrev pub AreWholeOf : Found → List Verdict → Type 0
+AreWholeOf found =
+    AreWhole found.tables.indexed.now (slice_index found.tables.places.now) found.effort.tries found.effort.apart found.groups.rows.items
 
 -- v does not stand behind w: by the later event, and then by the earlier
 abbrev pub IsNoLater : Verdict → Verdict → Type 0

@@ -3,22 +3,27 @@ ghost use Rattle.std.specs.Prelude.{◌≡◌, ◌<◌, ◌≤◌, All, Err, cou
 ghost use Rattle.race_groups.specs.Classes.{AreClasses, AreLocks, AreMembers};
 ghost use Rattle.race_groups.specs.Found.{AreComplete, AreOnce, AreTooMany, HaveConflict};
 ghost use Rattle.race_groups.specs.Kinds.{IsRow};
-ghost use Rattle.race_triage.specs.Verdicts.{IsFound, budget_for, has_tries};
+ghost use Rattle.race_triage.specs.Tables.{AreTables};
+ghost use Rattle.race_triage.specs.Verdicts.{IsFoundIn, budget_for, has_tries};
 
 use crate::tables::Tables;
-use crate::verdicts::{MAX_PLACES, TriageRefusal};
+use crate::verdicts::{Effort, MAX_PLACES, TriageRefusal};
 use least_notes::{Least, Pair};
 use least_pairs::{firsts_of, leasts_of};
 use pair_findings::BUDGET;
-use race_groups::{Classes, Groups, Row, RowsRefusal, groups_of};
+use race_groups::{Classes, Groups, Row, RowsRefusal, groups_by_workers, groups_of};
+use rapid_text::OutOfMemory;
 use std::alloc::Global;
+use std::thread::Threads;
 
 // How many steps all searches for open pairs may take, if there are more of them than `BUDGET` allows for.
 const STEPS: u64 = 4_294_967_296;
 
 /// The rows of all pairs of places, and what was found of each.
 #[derive(Drop)]
-pub(crate) struct Found {
+pub(crate) struct Found<'a> {
+    pub(crate) tables: Tables<'a>,
+    pub(crate) effort: Effort,
     pub(crate) groups: Groups,
     pub(crate) leasts: Vec<Least>,
     // How many steps the tries of one row share.
@@ -27,7 +32,7 @@ pub(crate) struct Found {
     firsts: Vec<Option<Pair>>,
 }
 
-impl Found {
+impl Found<'_> {
     /// The least conflicting pair of the row at a place, where it was asked for.
     pub(crate) fn first(&self, at: usize) -> Option<Pair>
         ensures { at < length self.now.firsts.items → slice_get self.now.firsts.items at ≡ Some result }
@@ -41,52 +46,70 @@ impl Found {
 }
 
 /// The rows, their least pairs, and where `apart` is true their least conflicting pairs.
-pub(crate) fn found_of(
-    alloc: Global,
-    tables: Tables<'_>,
-    tries: u32,
-    apart: bool,
-) -> Result<Found, TriageRefusal>
-    requires clocks { tables.clocks.now ≡ tables.indexed.now }
-    requires must { tables.must.now ≡ tables.indexed.now }
-    requires places { length tables.places.now ≡ length tables.indexed.now.events }
-    ensures found { IfOk result (IsFound tables.entry.indexed.now (slice_index tables.entry.places.now) tries apart) }
+pub(crate) fn found_of<'a>(tables: Tables<'a>, effort: Effort) -> Result<Found<'a>, TriageRefusal>
+    requires tables { AreTables tables }
+    ensures found { IfOk result IsFoundIn }
+    ensures tables { IfOk result (λ found. found.tables ≡ tables.entry) }
+    ensures effort { IfOk result (λ found. found.effort ≡ effort) }
     ensures complete { IfOk result (λ found. AreComplete tables.entry.indexed.now.events (slice_index tables.entry.places.now) found.groups.rows.items) }
     ensures few { IfOk result (λ found. length found.groups.rows.items ≤ MAX_PLACES) }
     ensures too_many { result ≡ Err TriageRefusal.TooMany
         → AreTooMany tables.entry.indexed.now.events (slice_index tables.entry.places.now) MAX_PLACES }
 {
-    let classes = Classes::of(alloc, tables.indexed, tables.places)?;
-    found_by(alloc, tables, &classes, tries, apart)
+    let classes = Classes::of(tables.alloc, tables.indexed, tables.places)?;
+    let groups = counted(tables, &classes)?;
+    Ok(found_in(tables, &classes, groups, effort)?)
 }
 
-// The same by the classes of the trace's events.
-fn found_by(
-    alloc: Global,
-    tables: Tables<'_>,
-    classes: &Classes,
-    tries: u32,
-    apart: bool,
-) -> Result<Found, TriageRefusal>
-    requires clocks { tables.clocks.now ≡ tables.indexed.now }
-    requires must { tables.must.now ≡ tables.indexed.now }
-    requires places { length tables.places.now ≡ length tables.indexed.now.events }
-    requires classes { AreClasses tables.indexed.now.events (slice_index tables.places.now) classes.now.numbers.items classes.now.infos.items }
-    requires few { length classes.now.infos.items ≤ 1048576 }
-    requires members { AreMembers classes.now.infos.items classes.now.members.items }
-    requires locks { AreLocks tables.indexed.now.events classes.now.lists.keys classes.now.numbers.items classes.now.infos.items }
-    ensures found { IfOk result (IsFound tables.entry.indexed.now (slice_index tables.entry.places.now) tries apart) }
+/// The same by so many workers, which share the counting; by this thread where there are fewer than two.
+pub(crate) fn found_by_workers<'a, R: Threads + Sync>(
+    rt: &R,
+    tables: Tables<'a>,
+    effort: Effort,
+) -> Result<Found<'a>, TriageRefusal>
+    requires tables { AreTables tables }
+    ensures found { IfOk result IsFoundIn }
+    ensures tables { IfOk result (λ found. found.tables ≡ tables.entry) }
+    ensures effort { IfOk result (λ found. found.effort ≡ effort) }
     ensures complete { IfOk result (λ found. AreComplete tables.entry.indexed.now.events (slice_index tables.entry.places.now) found.groups.rows.items) }
     ensures few { IfOk result (λ found. length found.groups.rows.items ≤ MAX_PLACES) }
     ensures too_many { result ≡ Err TriageRefusal.TooMany
         → AreTooMany tables.entry.indexed.now.events (slice_index tables.entry.places.now) MAX_PLACES }
 {
-    let groups = counted(alloc, tables, classes)?;
+    if effort.workers < 2 {
+        return found_of(tables, effort);
+    }
+    let classes = Classes::of(tables.alloc, tables.indexed, tables.places)?;
+    let groups = counted_by_workers(rt, tables, &classes, effort.workers)?;
+    Ok(found_in(tables, &classes, groups, effort)?)
+}
+
+// The same, once all pairs are counted.
+fn found_in<'a>(
+    tables: Tables<'a>,
+    classes: &Classes,
+    groups: Groups,
+    effort: Effort,
+) -> Result<Found<'a>, OutOfMemory>
+    requires tables { AreTables tables }
+    requires classes { AreClasses tables.indexed.now.events (slice_index tables.places.now) classes.now.numbers.items classes.now.infos.items }
+    requires locks { AreLocks tables.indexed.now.events classes.now.lists.keys classes.now.numbers.items classes.now.infos.items }
+    requires rows { All (IsRow tables.indexed.now (slice_index tables.places.now)) groups.rows.items }
+    requires complete { AreComplete tables.indexed.now.events (slice_index tables.places.now) groups.rows.items }
+    requires there { All (λ row. HaveConflict tables.indexed.now.events (slice_index tables.places.now) row.places) groups.rows.items }
+    requires once { AreOnce groups.rows.items }
+    requires few { length groups.rows.items ≤ MAX_PLACES }
+    ensures found { IfOk result IsFoundIn }
+    ensures tables { IfOk result (λ found. found.tables ≡ tables.entry) }
+    ensures effort { IfOk result (λ found. found.effort ≡ effort) }
+    ensures complete { IfOk result (λ found. AreComplete tables.entry.indexed.now.events (slice_index tables.entry.places.now) found.groups.rows.items) }
+    ensures few { IfOk result (λ found. length found.groups.rows.items ≤ MAX_PLACES) }
+{
     let budget = budget_of(groups.rows.as_slice());
     // One at least, so that the least open pair is among them.
-    let most = tries.max(1) as usize;
+    let most = effort.tries.max(1) as usize;
     let leasts = leasts_of(
-        alloc,
+        tables.alloc,
         tables.indexed,
         tables.places,
         tables.clocks,
@@ -95,12 +118,20 @@ fn found_by(
         &groups,
         most,
     )?;
-    let firsts = if apart {
-        firsts_of(alloc, tables.indexed, tables.places, classes, &groups)?
+    let firsts = if effort.apart {
+        firsts_of(
+            tables.alloc,
+            tables.indexed,
+            tables.places,
+            classes,
+            &groups,
+        )?
     } else {
-        Vec::new(alloc)
+        Vec::new(tables.alloc)
     };
     Ok(Found {
+        tables,
+        effort,
         groups,
         leasts,
         budget,
@@ -137,9 +168,8 @@ fn budget_for(count: u64) -> u32
 }
 
 // The rows; refused where there are too many.
-fn counted(alloc: Global, tables: Tables<'_>, classes: &Classes) -> Result<Groups, TriageRefusal>
-    requires clocks { tables.clocks.now ≡ tables.indexed.now }
-    requires must { tables.must.now ≡ tables.indexed.now }
+fn counted(tables: Tables<'_>, classes: &Classes) -> Result<Groups, TriageRefusal>
+    requires tables { AreTables tables }
     requires classes { AreClasses tables.indexed.now.events (slice_index tables.places.now) classes.now.numbers.items classes.now.infos.items }
     requires few { length classes.now.infos.items ≤ 1048576 }
     requires members { AreMembers classes.now.infos.items classes.now.members.items }
@@ -154,13 +184,53 @@ fn counted(alloc: Global, tables: Tables<'_>, classes: &Classes) -> Result<Group
         → AreTooMany tables.entry.indexed.now.events (slice_index tables.entry.places.now) MAX_PLACES }
 {
     match groups_of(
-        alloc,
+        tables.alloc,
         tables.indexed,
         tables.places,
         tables.clocks,
         tables.must,
         classes,
         MAX_PLACES,
+    ) {
+        Ok(groups) => Ok(groups),
+        Err(RowsRefusal::TooMany) => Err(TriageRefusal::TooMany),
+        Err(RowsRefusal::OutOfMemory) => Err(TriageRefusal::OutOfMemory),
+    }
+}
+
+// The same by so many workers.
+fn counted_by_workers<R: Threads + Sync>(
+    rt: &R,
+    tables: Tables<'_>,
+    classes: &Classes,
+    workers: u32,
+) -> Result<Groups, TriageRefusal>
+    requires tables { AreTables tables }
+    requires classes { AreClasses tables.indexed.now.events (slice_index tables.places.now) classes.now.numbers.items classes.now.infos.items }
+    requires few { length classes.now.infos.items ≤ 1048576 }
+    requires members { AreMembers classes.now.infos.items classes.now.members.items }
+    requires workers { 0 < workers }
+    requires locks { AreLocks tables.indexed.now.events classes.now.lists.keys classes.now.numbers.items classes.now.infos.items }
+    ensures rows { IfOk result (λ groups. All (IsRow tables.entry.indexed.now (slice_index tables.entry.places.now)) groups.rows.items) }
+    ensures complete { IfOk result (λ groups. AreComplete tables.entry.indexed.now.events (slice_index tables.entry.places.now) groups.rows.items) }
+    ensures there { IfOk result (λ groups. All
+        (λ row. HaveConflict tables.entry.indexed.now.events (slice_index tables.entry.places.now) row.places) groups.rows.items) }
+    ensures once { IfOk result (λ groups. AreOnce groups.rows.items) }
+    ensures few { IfOk result (λ groups. length groups.rows.items ≤ MAX_PLACES) }
+    ensures too_many { result ≡ Err TriageRefusal.TooMany
+        → AreTooMany tables.entry.indexed.now.events (slice_index tables.entry.places.now) MAX_PLACES }
+{
+    let limit = MAX_PLACES;
+    match groups_by_workers(
+        rt,
+        tables.alloc,
+        tables.indexed,
+        tables.places,
+        tables.clocks,
+        tables.must,
+        classes,
+        limit,
+        workers as usize,
     ) {
         Ok(groups) => Ok(groups),
         Err(RowsRefusal::TooMany) => Err(TriageRefusal::TooMany),

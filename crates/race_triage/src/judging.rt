@@ -1,107 +1,111 @@
 //! The verdict on a row.
-ghost use Rattle.std.specs.Prelude.{◌≡◌, ◌<◌, ◌≤◌, ℕ, IfOk, IfSome, None, length, max, slice_index, take, true};
+ghost use Rattle.std.specs.Prelude.{◌≡◌, ◌<◌, ◌≤◌, ℕ, IfOk, IfSome, None, Some, length, max, slice_get, slice_index, take, true};
 ghost use Rattle.race_groups.specs.Found.{HaveConflict};
 ghost use Rattle.race_groups.specs.Kinds.{IsNeverShownBetween, IsRow};
 ghost use Rattle.least_pairs.specs.Pairs.{AreLeasts, IsLeastPair};
 ghost use Rattle.least_pairs.specs.declared.wanted.Wanted.TheVariants.{Any as AnyPair};
 ghost use Rattle.pair_findings.specs.declared.searching.TheConstants.{BUDGET};
-ghost use Rattle.race_triage.specs.Verdicts.{AreMissed, AreOpenPairs, IsBudget, IsShownFirst, IsVerdictOn};
+ghost use Rattle.race_triage.specs.Tables.{AreTables};
+ghost use Rattle.race_triage.specs.Verdicts.{AreMissed, AreOpenPairs, IsBudget, IsFoundIn, IsShownFirst, IsVerdictOf, IsVerdictOn};
 
+use crate::found::Found;
 use crate::places::small;
 use crate::tables::Tables;
-use crate::verdicts::{Outcome, Verdict};
+use crate::verdicts::{Effort, Outcome, Verdict};
 use least_notes::{Least, Pair, Try};
 use race_groups::{Row, is_apart};
 use rapid_text::OutOfMemory;
-use std::alloc::Global;
+
+impl Found<'_> {
+    /// The verdict on the row at a place.
+    pub(crate) fn verdict(&self, at: usize) -> Result<Verdict, OutOfMemory>
+        requires found { IsFoundIn self.now }
+        requires at { at < length self.now.groups.rows.items }
+        ensures verdict { IfOk result (IsVerdictOf self.now) }
+        ensures row { IfOk result (λ v. slice_get self.now.groups.rows.items at ≡ Some v.row) }
+    {
+        let row = self.groups.rows[at];
+        let first = self.first(at);
+        let least = &self.leasts[at];
+        let verdict = self
+            .tables
+            .verdict(row, least, first, self.effort, self.budget)?;
+        Ok(verdict)
+    }
+}
 
 impl Tables<'_> {
-    /// The verdict on a row, of which these are the least pairs; `first` is its least conflicting pair, where `apart` is true: then the pair of events
-    /// of what is apart is told. The first `tries` open pairs are tried, by `budget` steps together.
+    /// The verdict on a row, of which these are the least pairs; `first` is its least conflicting pair, where
+    /// that of what is apart is told. The open pairs are tried by `budget` steps together.
     pub(crate) fn verdict(
         &self,
-        alloc: Global,
         row: Row,
         least: &Least,
         first: Option<Pair>,
-        tries: u32,
-        apart: bool,
+        effort: Effort,
         budget: u32,
     ) -> Result<Verdict, OutOfMemory>
-        requires clocks { self.now.clocks.now ≡ self.now.indexed.now }
-        requires must { self.now.must.now ≡ self.now.indexed.now }
-        requires acquires { self.now.acquires.now ≡ self.now.indexed.now }
-        requires places { length self.now.places.now ≡ length self.now.indexed.now.events }
+        requires tables { AreTables self.now }
         requires row { IsRow self.now.indexed.now (slice_index self.now.places.now) row }
         requires there { HaveConflict self.now.indexed.now.events (slice_index self.now.places.now) row.places }
-        requires least { AreLeasts self.now.indexed.now (slice_index self.now.places.now) row.places (max tries 1) least.now }
-        requires first { apart ≡ true → IsLeastPair self.now.indexed.now (slice_index self.now.places.now) row.places AnyPair first }
+        requires least { AreLeasts self.now.indexed.now (slice_index self.now.places.now) row.places (max effort.tries 1) least.now }
+        requires first { effort.apart ≡ true → IsLeastPair self.now.indexed.now (slice_index self.now.places.now) row.places AnyPair first }
         requires shared { IsBudget self.now.indexed.now (slice_index self.now.places.now) budget }
-        ensures { IfOk result (IsVerdictOn self.now.indexed.now (slice_index self.now.places.now) tries apart row) }
+        ensures { IfOk result (IsVerdictOn self.now.indexed.now (slice_index self.now.places.now) effort.tries effort.apart row) }
     {
         if is_apart(self.indexed, self.places, row) {
-            return Ok(self.apart_row(row, least, first, tries, apart));
+            return Ok(self.apart_row(row, least, first, effort));
         }
         if row.counts.candidates > 0 {
-            return self.candidate_row(alloc, row, least, tries, apart);
+            return self.candidate_row(row, least, effort);
         }
-        self.open_row(alloc, row, least, tries, apart, budget)
+        self.open_row(row, least, effort, budget)
     }
 
     // The verdict on a row with candidates.
     fn candidate_row(
         &self,
-        alloc: Global,
         row: Row,
         least: &Least,
-        _tries: u32,
-        _apart: bool,
+        _effort: Effort,
     ) -> Result<Verdict, OutOfMemory>
-        requires clocks { self.now.clocks.now ≡ self.now.indexed.now }
-        requires must { self.now.must.now ≡ self.now.indexed.now }
-        requires acquires { self.now.acquires.now ≡ self.now.indexed.now }
-        requires places { length self.now.places.now ≡ length self.now.indexed.now.events }
+        requires tables { AreTables self.now }
         requires row { IsRow self.now.indexed.now (slice_index self.now.places.now) row }
         requires there { HaveConflict self.now.indexed.now.events (slice_index self.now.places.now) row.places }
-        requires least { AreLeasts self.now.indexed.now (slice_index self.now.places.now) row.places (max _tries 1) least.now }
+        requires least { AreLeasts self.now.indexed.now (slice_index self.now.places.now) row.places (max _effort.tries 1) least.now }
         requires candidates { 0 < row.counts.candidates }
-        ensures { IfOk result (IsVerdictOn self.now.indexed.now (slice_index self.now.places.now) _tries _apart row) }
+        ensures { IfOk result (IsVerdictOn self.now.indexed.now (slice_index self.now.places.now) _effort.tries _effort.apart row) }
     {
         let Some(pair) = least.candidate else {
             unreachable!()
         };
-        let outcome = self.race_of_candidate(alloc, pair.1, pair.0)?;
+        let outcome = self.race_of_candidate(pair.1, pair.0)?;
         Ok(of_pair(row, least.variables, pair, outcome))
     }
 
     // The verdict on a row without candidates that has open pairs.
     fn open_row(
         &self,
-        alloc: Global,
         row: Row,
         least: &Least,
-        tries: u32,
-        _apart: bool,
+        effort: Effort,
         budget: u32,
     ) -> Result<Verdict, OutOfMemory>
-        requires clocks { self.now.clocks.now ≡ self.now.indexed.now }
-        requires must { self.now.must.now ≡ self.now.indexed.now }
-        requires acquires { self.now.acquires.now ≡ self.now.indexed.now }
-        requires places { length self.now.places.now ≡ length self.now.indexed.now.events }
+        requires tables { AreTables self.now }
         requires row { IsRow self.now.indexed.now (slice_index self.now.places.now) row }
         requires there { HaveConflict self.now.indexed.now.events (slice_index self.now.places.now) row.places }
-        requires least { AreLeasts self.now.indexed.now (slice_index self.now.places.now) row.places (max tries 1) least.now }
+        requires least { AreLeasts self.now.indexed.now (slice_index self.now.places.now) row.places (max effort.tries 1) least.now }
         requires candidates { row.counts.candidates ≡ 0 }
         requires open_pairs { 0 < row.counts.open_pairs }
         requires shared { IsBudget self.now.indexed.now (slice_index self.now.places.now) budget }
-        ensures { IfOk result (IsVerdictOn self.now.indexed.now (slice_index self.now.places.now) tries _apart row) }
+        ensures { IfOk result (IsVerdictOn self.now.indexed.now (slice_index self.now.places.now) effort.tries effort.apart row) }
     {
         let all = least.tries.as_slice();
         if all.is_empty() {
             unreachable!()
         }
-        let tried = beginning(all, tries as usize);
-        match self.first_shown(alloc, tried, budget)? {
+        let tried = beginning(all, effort.tries as usize);
+        match self.first_shown(tried, budget)? {
             Some((pair, outcome)) => Ok(of_pair(row, least.variables, pair, outcome)),
             None => {
                 let pair = all[0].pair;
@@ -114,12 +118,10 @@ impl Tables<'_> {
     // The first of the open pairs that a schedule is found of, by so many steps for all of them.
     fn first_shown(
         &self,
-        alloc: Global,
         tried: &[Try],
         budget: u32,
     ) -> Result<Option<(Pair, Outcome)>, OutOfMemory>
-        requires must { self.now.must.now ≡ self.now.indexed.now }
-        requires acquires { self.now.acquires.now ≡ self.now.indexed.now }
+        requires tables { AreTables self.now }
         requires opens { AreOpenPairs self.now.indexed.now tried.now }
         requires few { budget ≤ BUDGET }
         ensures shown { IfOk result (λ found. IfSome found (λ shown. IsShownFirst self.now.indexed.now budget tried.now shown.0 shown.1)) }
@@ -128,7 +130,7 @@ impl Tables<'_> {
         let mut left = budget;
         for at in 0..tried.len() {
             let pair = tried[at].pair;
-            if let Some(outcome) = self.race_of_open(alloc, pair.1, pair.0, &mut left)? {
+            if let Some(outcome) = self.race_of_open(pair.1, pair.0, &mut left)? {
                 return Ok(Some((pair, outcome)));
             }
         }
@@ -136,24 +138,17 @@ impl Tables<'_> {
     }
 
     // The verdict on a row all of whose pairs are forced or guarded.
-    fn apart_row(
-        &self,
-        row: Row,
-        least: &Least,
-        first: Option<Pair>,
-        _tries: u32,
-        apart: bool,
-    ) -> Verdict
+    fn apart_row(&self, row: Row, least: &Least, first: Option<Pair>, effort: Effort) -> Verdict
         requires row { IsRow self.now.indexed.now (slice_index self.now.places.now) row }
         requires there { HaveConflict self.now.indexed.now.events (slice_index self.now.places.now) row.places }
-        requires least { AreLeasts self.now.indexed.now (slice_index self.now.places.now) row.places (max _tries 1) least.now }
-        requires first { apart ≡ true → IsLeastPair self.now.indexed.now (slice_index self.now.places.now) row.places AnyPair first }
+        requires least { AreLeasts self.now.indexed.now (slice_index self.now.places.now) row.places (max effort.tries 1) least.now }
+        requires first { effort.apart ≡ true → IsLeastPair self.now.indexed.now (slice_index self.now.places.now) row.places AnyPair first }
         requires candidates { row.counts.candidates ≡ 0 }
         requires open_pairs { row.counts.open_pairs ≡ 0 }
         requires never { IsNeverShownBetween self.now.indexed.now.events (slice_index self.now.places.now) row.places.0 row.places.1 }
-        ensures { IsVerdictOn self.now.indexed.now (slice_index self.now.places.now) _tries apart row result }
+        ensures { IsVerdictOn self.now.indexed.now (slice_index self.now.places.now) effort.tries effort.apart row result }
     {
-        if !apart {
+        if !effort.apart {
             return of_pair(row, least.variables, (0, 0), Outcome::Apart);
         }
         match first {

@@ -30,5 +30,7 @@ pub use places::Places;
 pub use race_groups::{Counts, Row};
 pub use text::triage_text;
 pub use totals::Totals;
-pub use verdicts::{MAX_PLACES, MAX_TRIES, Outcome, TriageRefusal, Verdict, Verdicts, triage};
+pub use verdicts::{
+    Effort, MAX_PLACES, MAX_TRIES, Outcome, TriageRefusal, Verdict, Verdicts, triage,
+};
 pub use watch::{Silent, Watch};

@@ -9,6 +9,7 @@ ghost use Rattle.in_order.specs.Sizes.{IsSizeInOrder};
 ghost use Rattle.in_order.specs.declared.refusal.InOrderRefusal.TheVariants.{OutOfMemory as NoMemory};
 ghost use Rattle.explain_report.specs.declared.verdict.How.TheVariants.{Candidate, Turned};
 ghost use Rattle.pair_findings.specs.declared.searching.TheConstants.{BUDGET};
+ghost use Rattle.race_triage.specs.Tables.{AreTables};
 ghost use Rattle.race_triage.specs.Verdicts.{IsFoundBy, IsMissed, IsOpenRace, IsRaceOf};
 ghost use Rattle.race_triage.specs.declared.verdicts.Outcome.TheVariants.{Race};
 
@@ -20,18 +21,11 @@ use in_order::{
     InOrderRefusal, candidates_are_in_order, in_order_is_sound, in_order_size, turned_size,
 };
 use rapid_text::OutOfMemory;
-use std::alloc::Global;
 
 impl Tables<'_> {
     /// The race of a candidate, which the least list in the order of the trace always shows.
-    pub(crate) fn race_of_candidate(
-        &self,
-        alloc: Global,
-        first: u32,
-        second: u32,
-    ) -> Result<Outcome, OutOfMemory>
-        requires must { self.now.must.now ≡ self.now.indexed.now }
-        requires acquires { self.now.acquires.now ≡ self.now.indexed.now }
+    pub(crate) fn race_of_candidate(&self, first: u32, second: u32) -> Result<Outcome, OutOfMemory>
+        requires tables { AreTables self.now }
         requires first { first < length self.now.indexed.now.events }
         requires second { second < length self.now.indexed.now.events }
         requires kind { IsKind self.now.indexed.now first second CandidateKind }
@@ -40,7 +34,7 @@ impl Tables<'_> {
         candidates_are_in_order();
         in_order_is_sound();
         let _len = self.indexed.len();
-        match self.size_in_order(alloc, first, second)? {
+        match self.size_in_order(first, second)? {
             Some(size) => Ok(race(How::Candidate, size)),
             None => unreachable!(),
         }
@@ -50,13 +44,11 @@ impl Tables<'_> {
     /// search from there finds by the steps that are left. Where none is found, the steps that it took are left no longer.
     pub(crate) fn race_of_open(
         &self,
-        alloc: Global,
         first: u32,
         second: u32,
         left: &mut u32,
     ) -> Result<Option<Outcome>, OutOfMemory>
-        requires must { self.now.must.now ≡ self.now.indexed.now }
-        requires acquires { self.now.acquires.now ≡ self.now.indexed.now }
+        requires tables { AreTables self.now }
         requires first { first < length self.now.indexed.now.events }
         requires second { second < length self.now.indexed.now.events }
         requires conflict { IsConflicting self.now.indexed.now.events first second }
@@ -69,22 +61,20 @@ impl Tables<'_> {
     {
         in_order_is_sound();
         let _len = self.indexed.len();
-        match self.size_in_order(alloc, first, second)? {
+        match self.size_in_order(first, second)? {
             Some(size) => Ok(Some(race(How::Beyond, size))),
-            None => self.race_turned(alloc, first, second, left),
+            None => self.race_turned(first, second, left),
         }
     }
 
     // The race of an open pair that no list in the order of the trace shows, where the search finds a schedule.
     fn race_turned(
         &self,
-        alloc: Global,
         first: u32,
         second: u32,
         left: &mut u32,
     ) -> Result<Option<Outcome>, OutOfMemory>
-        requires must { self.now.must.now ≡ self.now.indexed.now }
-        requires acquires { self.now.acquires.now ≡ self.now.indexed.now }
+        requires tables { AreTables self.now }
         requires conflict { IsConflicting self.now.indexed.now.events first second }
         requires few { left.old ≤ BUDGET }
         requires kind { IsKind self.now.indexed.now first second OpenKind }
@@ -95,27 +85,35 @@ impl Tables<'_> {
         ensures fewer { left.new ≤ left.old }
     {
         let pair = (first, second);
-        match turned_size(alloc, self.indexed, self.must, self.acquires, pair, left)? {
+        match turned_size(
+            self.alloc,
+            self.indexed,
+            self.must,
+            self.acquires,
+            pair,
+            left,
+        )? {
             Some(size) => Ok(Some(race(How::Turned, size))),
             None => Ok(None),
         }
     }
 
     // How many events the least list in the order of the trace has that shows the pair, and of how many threads. None where there is no such list.
-    fn size_in_order(
-        &self,
-        alloc: Global,
-        first: u32,
-        second: u32,
-    ) -> Result<Option<(u32, u32)>, OutOfMemory>
-        requires must { self.now.must.now ≡ self.now.indexed.now }
-        requires acquires { self.now.acquires.now ≡ self.now.indexed.now }
+    fn size_in_order(&self, first: u32, second: u32) -> Result<Option<(u32, u32)>, OutOfMemory>
+        requires tables { AreTables self.now }
         ensures size { IfOk result (λ found. IfSome found (IsSizeInOrder self.now.indexed.now.events first second)) }
         ensures there { IfOk result (λ found. IfSome found (λ size. HasListInOrder self.now.indexed.now.events first second)) }
         ensures never { IfOk result (λ found. found ≡ None → IsNeverShownInOrder self.now.indexed.now.events first second) }
         ensures none { IfOk result (λ found. found ≡ None → ¬ HasListInOrder self.now.indexed.now.events first second) }
     {
-        match in_order_size(alloc, self.indexed, self.must, self.acquires, first, second) {
+        match in_order_size(
+            self.alloc,
+            self.indexed,
+            self.must,
+            self.acquires,
+            first,
+            second,
+        ) {
             Ok(size) => Ok(Some(size)),
             Err(refusal) => {
                 if wants_memory(refusal) {

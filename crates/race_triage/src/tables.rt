@@ -3,10 +3,12 @@ use event_index::Indexed;
 use in_order::Acquires;
 use must_order::Must;
 use shb_clocks::Clocks;
+use std::alloc::Global;
 
-/// The tables of a trace, and for each event the number of its place.
+/// The tables of a trace, for each event the number of its place, and where memory comes from.
 #[derive(Clone, Copy)]
 pub(crate) struct Tables<'a> {
+    pub(crate) alloc: Global,
     pub(crate) indexed: &'a Indexed,
     pub(crate) clocks: &'a Clocks,
     pub(crate) must: &'a Must,

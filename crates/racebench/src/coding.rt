@@ -2,10 +2,13 @@
 ghost use Rattle.std.specs.Prelude.{◌≤◌, length};
 
 use crate::lines::first_line;
+use crate::notes::{append_named, are_wanted};
+use crate::telling::say;
 use client_scripts::{FromRead, ReadCause, ReadFault, ReplayFault, read_all};
 use event_index::Indexed;
+use race_parts::Cell;
 use rapid_text::{OutOfMemory, trim};
-use source_places::{is_line, place_of};
+use source_places::{cut_at_arrow, is_line, place_of};
 use std::alloc::Global;
 use std::fs::{File, metadata};
 use std::io;
@@ -34,6 +37,21 @@ pub(crate) fn is_folder(rt: &HostRuntime, path: &str) -> bool {
     }
 }
 
+/// Says in a note that the folder of code at this path has no file of those that were read, if notes are wanted.
+pub(crate) fn tell_codeless(rt: &HostRuntime, path: &str) -> Result<(), OutOfMemory> {
+    if !are_wanted(rt) {
+        return Ok(());
+    }
+    let mut line = Vec::new(rt.alloc());
+    append_named(
+        &mut line,
+        path,
+        b" has none of the files that the accesses name",
+    )?;
+    say(rt, &line);
+    Ok(())
+}
+
 /// The path of a folder, with a slash at its end.
 pub(crate) fn root_of(alloc: Global, folder: &str) -> Result<Vec<u8>, OutOfMemory> {
     let mut root = Vec::new(alloc);
@@ -52,6 +70,36 @@ pub(crate) fn lines_of(
 ) -> Result<Vec<SourceLine>, ReplayFault> {
     let places = places_in(rt.alloc(), indexed)?;
     lines_at(rt, root, places.as_slice())
+}
+
+/// The lines at the places of these cells, as far as they can be read.
+pub(crate) fn lines_of_cells(
+    rt: &HostRuntime,
+    cells: &[Cell<'_>],
+    root: &[u8],
+) -> Result<Vec<SourceLine>, ReplayFault> {
+    let places = places_of_cells(rt.alloc(), cells)?;
+    lines_at(rt, root, places.as_slice())
+}
+
+/// The places of these cells that have a file and a line, those of one file side by side.
+fn places_of_cells<'a>(alloc: Global, cells: &[Cell<'a>]) -> Result<Vec<&'a [u8]>, OutOfMemory> {
+    let mut places = Vec::new(alloc);
+    for cell in cells {
+        add_place(&mut places, cell.first)?;
+        add_place(&mut places, cell.second)?;
+    }
+    places.sort_unstable();
+    Ok(places)
+}
+
+/// Adds the place of a location, if it has a file and a line.
+fn add_place<'a>(places: &mut Vec<&'a [u8]>, location: &'a [u8]) -> Result<(), OutOfMemory> {
+    let (place, _) = cut_at_arrow(location);
+    if is_line(place) {
+        places.push(place)?;
+    }
+    Ok(())
 }
 
 /// The places of the trace that have a file and a line, those of one file side by side.

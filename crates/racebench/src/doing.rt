@@ -3,12 +3,13 @@ ghost use Rattle.std.specs.Prelude.{◌≡◌, ◌<◌, ◌≤◌, All, false, v
 
 use crate::input::{Input, Watched, input_at, inputs_at};
 use crate::notes::are_wanted;
-use crate::telling::{say, tell_files, tell_joint, tell_pair, tell_replay, tell_window};
-use client_scripts::{FromWrite, ReplayFault, replay, replay_joint};
-use cut_calls::cut_window;
+use crate::telling::{say, tell_files, tell_joint, tell_pair, tell_replay};
+use calls::{
+    BEST_ROOM, BenchFault, MAX_SCRIPTS, Running, info, replay, replay_joint, threads_with_room,
+};
+use client_scripts::{FromWrite, ReplayFault};
 use pair_calls::{Form, Name, explain, witness};
-use program_calls::{BEST_ROOM, BenchFault, MAX_SCRIPTS, info, threads_with_room};
-use program_words::{CutTask, Named, PairTask, ScheduleForm, ThreadsTask};
+use program_words::{Named, PairTask, ScheduleForm, ThreadsTask};
 use std::io;
 use std::process::ExitCode;
 use std::sync::Wait;
@@ -104,18 +105,6 @@ pub(crate) fn witness_in_file(
     }
 }
 
-/// Prints a window of the trace in a file.
-pub(crate) fn cut_of_file(rt: &HostRuntime, task: &CutTask<'_>) -> ExitCode
-    requires { 0 < task.now.most }
-{
-    let mut writer = FromWrite::new(io::writer(rt));
-    let mut input = input_at(rt, task.trace);
-    match cut_window(rt.alloc(), &mut input, task.from, task.most, &mut writer) {
-        Ok(()) => finish(rt, &mut writer),
-        Err(fault) => tell_window(rt, fault, task.trace),
-    }
-}
-
 /// Replays the script in one file on the trace in another.
 pub(crate) fn replay_files(rt: &HostRuntime, trace: &str, script: &str) -> ExitCode {
     let mut writer = FromWrite::new(io::writer(rt));
@@ -141,17 +130,11 @@ fn run_scripts<R: Threads + Wait + Sync + Clone + Send + Drop + 'static>(
     requires workers { task.now.workers ≤ 16 }
 {
     let mut writer = FromWrite::new(io::writer(rt));
-    let room = task.room.unwrap_or(BEST_ROOM);
-    let workers = task.workers;
-    match threads_with_room(
-        starts,
-        rt.alloc(),
-        trace,
-        scripts,
-        workers,
-        room,
-        &mut writer,
-    ) {
+    let running = Running {
+        workers: task.workers,
+        room: task.room.unwrap_or(BEST_ROOM),
+    };
+    match threads_with_room(starts, rt.alloc(), trace, scripts, running, &mut writer) {
         Ok(()) => finish(rt, &mut writer),
         Err(fault) => tell_files(rt, fault, &task.paths),
     }

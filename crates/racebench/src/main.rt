@@ -5,14 +5,21 @@
 ghost use Rattle.program_words.specs.Tasks.{IsWithin};
 
 mod coding;
+mod cutting;
 mod doing;
+mod front;
 mod input;
+mod kept;
 mod likeness;
 mod lines;
+mod listing;
+mod logging;
 mod merging;
 mod notes;
+mod numbering;
 mod output;
 mod pair_notes;
+mod pieces;
 mod place_notes;
 mod progress;
 mod quoted;
@@ -21,16 +28,19 @@ mod sessions;
 mod telling;
 mod today;
 mod triaging;
+mod triaging_windows;
+mod windows;
 
+use crate::cutting::cut_of_file;
 use crate::doing::{
-    cut_of_file, explain_in_file, info_of_file, replay_files, replay_input, threads_on_files,
-    witness_in_file,
+    explain_in_file, info_of_file, replay_files, replay_input, threads_on_files, witness_in_file,
 };
 use crate::merging::merge_files;
 use crate::sessions::{log_of_file, session_on_files};
 use crate::telling::tell_words;
 use crate::triaging::triage_file;
-use program_calls::{MAX_SCRIPTS, MAX_WORKERS};
+use crate::triaging_windows::triage_windows;
+use calls::{MAX_SCRIPTS, MAX_WORKERS};
 use program_words::{Limits, Task, Told, no_text, task_of};
 use rapid_text::MAX_EVENTS;
 use std::io;
@@ -76,7 +86,10 @@ fn work<R: Threads + Wait + Sync + Clone + Send + Drop + 'static>(
         Task::Session(task) => session_on_files(rt, task.trace, task.log, task.client),
         Task::Log(log) => log_of_file(rt, log),
         Task::Threads(task) => threads_on_files(rt, starts, task),
-        Task::Triage(task) => triage_file(rt, starts, task),
+        Task::Triage(task) => match task.windows {
+            Some(most) => triage_windows(rt, starts, task, most),
+            None => triage_file(rt, starts, task),
+        },
         Task::Explain(pair, all) => explain_in_file(rt, pair, *all),
         Task::Witness(pair, form) => witness_in_file(rt, pair, *form),
         Task::Cut(task) => cut_of_file(rt, task),

@@ -1,15 +1,17 @@
 //! What the program does at `merge`.
 
+use crate::coding::is_folder;
 use crate::input::input_at;
+use crate::logging::print_log;
 use crate::quoted::{append_name, append_number};
-use crate::telling::{say, tell_files, tell_replay};
+use crate::telling::{say, tell_files, tell_folder, tell_replay, tell_triage};
+use calls::{BenchFault, MergeFault, Parts, read_part, write_merged, write_merged_json};
 use client_scripts::{FromWrite, ReplayFault};
-use merge_calls::{MergeFault, Parts, read_part, write_merged, write_merged_json};
-use program_calls::BenchFault;
-use program_words::MergeTask;
+use program_words::{MergeTask, RacesForm};
 use rapid_text::OutOfMemory;
 use std::io;
 use std::process::ExitCode;
+use triage_calls::write_merged_page;
 
 /// The status if a race is printed, for `--fail`.
 const RACES: u8 = 3;
@@ -84,7 +86,7 @@ fn read_parts(rt: &HostRuntime, paths: &[&str]) -> Result<Parts, (MergeFault, u3
 }
 
 /// The status after so many races were printed.
-fn status_at(races: u64, fail: bool) -> ExitCode {
+pub(crate) fn status_at(races: u64, fail: bool) -> ExitCode {
     if fail && races > 0 {
         ExitCode::from(RACES)
     } else {
@@ -94,11 +96,31 @@ fn status_at(races: u64, fail: bool) -> ExitCode {
 
 /// Prints what is told of the parts.
 fn print_merged(rt: &HostRuntime, parts: &Parts, task: &MergeTask<'_>) -> ExitCode {
+    match task.form {
+        RacesForm::Sarif => print_log(rt, parts, task),
+        RacesForm::Page => print_page(rt, parts, task),
+        form => print_lines(rt, parts, task, form),
+    }
+}
+
+/// Prints it as a page.
+fn print_page(rt: &HostRuntime, parts: &Parts, task: &MergeTask<'_>) -> ExitCode {
     let mut writer = FromWrite::new(io::writer(rt));
-    let written = if task.json {
-        write_merged_json(rt.alloc(), parts, &mut writer)
-    } else {
-        write_merged(rt.alloc(), parts, task.apart, &mut writer)
+    match write_merged_page(rt.alloc(), parts, task.apart, &mut writer) {
+        Ok(races) => match writer.flush() {
+            Ok(()) => status_at(races, task.fail),
+            Err(_) => tell_replay(rt, ReplayFault::Write),
+        },
+        Err(fault) => tell_triage(rt, fault, &[]),
+    }
+}
+
+/// Prints it as text or as JSON.
+fn print_lines(rt: &HostRuntime, parts: &Parts, task: &MergeTask<'_>, form: RacesForm) -> ExitCode {
+    let mut writer = FromWrite::new(io::writer(rt));
+    let written = match form {
+        RacesForm::Json => write_merged_json(rt.alloc(), parts, &mut writer),
+        _ => write_merged(rt.alloc(), parts, task.apart, &mut writer),
     };
     match written {
         Ok(races) => match writer.flush() {
@@ -109,8 +131,16 @@ fn print_merged(rt: &HostRuntime, parts: &Parts, task: &MergeTask<'_>) -> ExitCo
     }
 }
 
-/// Merges the reports in files into one.
+/// Merges the reports in files into one, if the folder of the code is there.
 pub(crate) fn merge_files(rt: &HostRuntime, task: &MergeTask<'_>) -> ExitCode {
+    match task.source {
+        Some(folder) if !is_folder(rt, folder) => tell_folder(rt, folder),
+        _ => merge_read(rt, task),
+    }
+}
+
+/// Merges the reports in files into one.
+fn merge_read(rt: &HostRuntime, task: &MergeTask<'_>) -> ExitCode {
     match read_parts(rt, &task.parts) {
         Ok(parts) => print_merged(rt, &parts, task),
         Err((fault, file)) => tell_merge(rt, fault, file, &task.parts),

@@ -6,8 +6,8 @@ use crate::lines::{
     line_of,
 };
 use crate::quoted::{append_name, append_quote, append_shown};
+use calls::BenchFault;
 use client_scripts::{FromRead, ReadCause, ReplayFault, ScriptCause, ScriptRefusal, read_all};
-use program_calls::BenchFault;
 use program_words::{LISTED_BEHIND, overview};
 use rapid_text::{OutOfMemory, trim};
 use std::env;
@@ -54,7 +54,7 @@ fn usage_of(command: &[u8]) -> Option<&'static [u8]> {
 }
 
 /// Appends a note of these words on an input.
-fn append_named(out: &mut Vec<u8>, name: &str, words: &[u8]) -> Result<(), OutOfMemory> {
+pub(crate) fn append_named(out: &mut Vec<u8>, name: &str, words: &[u8]) -> Result<(), OutOfMemory> {
     out.extend_from_slice(b"note: ")?;
     append_name(out, name)?;
     out.extend_from_slice(words)?;

@@ -15,6 +15,7 @@ pub(crate) struct Seen<'a, W: Watch> {
     watch: &'a W,
     events: AtomicU64,
     blockless: AtomicU64,
+    codeless: AtomicU64,
     marks: &'a [AtomicU64],
 }
 
@@ -25,6 +26,7 @@ impl<'a, W: Watch> Seen<'a, W> {
             watch,
             events: AtomicU64::new(0),
             blockless: AtomicU64::new(0),
+            codeless: AtomicU64::new(0),
             marks,
         }
     }
@@ -37,6 +39,16 @@ impl<'a, W: Watch> Seen<'a, W> {
     /// Whether a text of known races was read in which no block `race` stands.
     pub(crate) fn lacks_blocks(&self) -> bool {
         self.blockless.load(Ordering::SeqCst) != 0
+    }
+
+    /// The folder of the code was read, and whether it has a file that the trace names.
+    pub(crate) fn coded(&self, has_files: bool) {
+        self.codeless.store(u64::from(!has_files), Ordering::SeqCst);
+    }
+
+    /// Whether a folder of code was read that has no file that the trace names.
+    pub(crate) fn lacks_code(&self) -> bool {
+        self.codeless.load(Ordering::SeqCst) != 0
     }
 }
 

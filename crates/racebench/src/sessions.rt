@@ -246,6 +246,33 @@ fn answer_input<K: Sink>(
     }
 }
 
+/// A folder that stays open. It takes the place of a standard stream that is closed, if there is one: reads and writes of it fail.
+fn held(rt: &HostRuntime) -> Result<File, SessionFault> {
+    match File::open(rt, "/") {
+        Ok(file) => Ok(file),
+        Err(_) => Err(SessionFault::Replay(ReplayFault::Read {
+            input: 3,
+            why: ReadCause::Device,
+        })),
+    }
+}
+
+/// The same with the place of each standard stream taken. Else the log could be opened in such a place, and answers be written into it.
+fn answer_apart<K: Sink>(
+    rt: &HostRuntime,
+    trace: &str,
+    log: &str,
+    client: Option<u32>,
+    writer: &mut K,
+) -> Result<(), SessionFault>
+    requires { K.has_failed writer.old ≡ false }
+{
+    let _input = held(rt)?;
+    let _output = held(rt)?;
+    let _errors = held(rt)?;
+    answer_input(rt, trace, log, client, writer)
+}
+
 /// Answers the lines on standard input, as they come. A failed write is told of standard output or of the log.
 pub(crate) fn session_on_files(
     rt: &HostRuntime,
@@ -254,7 +281,7 @@ pub(crate) fn session_on_files(
     client: Option<u32>,
 ) -> ExitCode {
     let mut writer = Output::new(FromWrite::new(io::writer(rt)));
-    match answer_input(rt, trace, log, client, &mut writer) {
+    match answer_apart(rt, trace, log, client, &mut writer) {
         Ok(()) => ExitCode::SUCCESS,
         Err(fault) => tell_session(rt, fault, trace, log, writer.unwritten(log)),
     }

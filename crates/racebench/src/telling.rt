@@ -7,11 +7,10 @@ use crate::notes::{
 use crate::pair_notes::append_pair_note;
 use crate::quoted::append_name;
 use crate::seen::{BACK, UNMET};
+use calls::{BenchFault, bench_fault_text};
 use client_scripts::{FromWrite, ReplayFault, write_all};
-use cut_calls::{WindowFault, window_fault_text};
 use kept_session::{SessionFault, session_fault_text};
 use pair_calls::{PairFault, pair_fault_text};
-use program_calls::{BenchFault, bench_fault_text};
 use program_words::{PairTask, Told, TriageTask};
 use rapid_text::OutOfMemory;
 use report::{Piece, append_pieces};
@@ -41,7 +40,6 @@ enum Fault {
     Triage(TriageFault),
     Confirmed(ConfirmedFault),
     Triaged(TriagedFault),
-    Window(WindowFault),
 }
 
 /// Appends the text of a fault.
@@ -53,7 +51,6 @@ fn append_text(out: &mut Vec<u8>, fault: &Fault) -> Result<(), OutOfMemory> {
         Fault::Triage(fault) => triage_fault_text(fault, out),
         Fault::Confirmed(fault) => confirmed_fault_text(fault, out),
         Fault::Triaged(fault) => triaged_fault_text(fault, out),
-        Fault::Window(fault) => window_fault_text(fault, out),
     }
 }
 
@@ -188,7 +185,7 @@ fn append_unwritten(rt: &HostRuntime, out: &mut Vec<u8>, name: &str) -> Result<(
 }
 
 /// Tells that what has this name was not written.
-fn tell_unwritten(rt: &HostRuntime, name: &str) -> ExitCode {
+pub(crate) fn tell_unwritten(rt: &HostRuntime, name: &str) -> ExitCode {
     let mut lines = Vec::new(rt.alloc());
     let made = append_unwritten(rt, &mut lines, name);
     end(rt, &lines, made, ExitCode::FAILURE)
@@ -340,14 +337,6 @@ fn append_mark(out: &mut Vec<u8>, path: &str, at: u64, words: &[u8]) -> Result<(
     )
 }
 
-/// Tells a fault of `cut` on the trace at this path.
-pub(crate) fn tell_window(rt: &HostRuntime, fault: WindowFault, trace: &str) -> ExitCode {
-    match fault {
-        WindowFault::Replay(fault) => tell_files(rt, BenchFault::from(fault), &[trace]),
-        fault => tell(rt, Fault::Window(fault)),
-    }
-}
-
 /// Appends the line that tells that a folder is not there.
 fn append_no_folder(out: &mut Vec<u8>, path: &str) -> Result<(), OutOfMemory> {
     out.extend_from_slice(b"racebench: no such folder: ")?;
@@ -360,6 +349,21 @@ fn append_no_folder(out: &mut Vec<u8>, path: &str) -> Result<(), OutOfMemory> {
 pub(crate) fn tell_folder(rt: &HostRuntime, path: &str) -> ExitCode {
     let mut lines = Vec::new(rt.alloc());
     let made = append_no_folder(&mut lines, path);
+    end(rt, &lines, made, ExitCode::FAILURE)
+}
+
+/// Appends the line that tells that a folder is not empty.
+fn append_full(out: &mut Vec<u8>, path: &str) -> Result<(), OutOfMemory> {
+    out.extend_from_slice(b"racebench: the folder has files: ")?;
+    append_name(out, path)?;
+    out.extend_from_slice(b"\n")?;
+    Ok(())
+}
+
+/// 105: tells that the folder at this path, into which windows are to be written, is not empty.
+pub(crate) fn tell_full(rt: &HostRuntime, path: &str) -> ExitCode {
+    let mut lines = Vec::new(rt.alloc());
+    let made = append_full(&mut lines, path);
     end(rt, &lines, made, ExitCode::FAILURE)
 }
 

@@ -1,8 +1,8 @@
 //! What the program does at `triage`.
-ghost use Rattle.std.specs.Prelude.{◌≡◌, IfSome, false};
 
-use crate::coding::{is_folder, lines_of, root_of};
-use crate::input::{Input, input_at};
+use crate::coding::{is_folder, tell_codeless};
+use crate::input::input_at;
+use crate::listing::{Listing, list_to};
 use crate::progress::Progress;
 use crate::seen::Seen;
 use crate::telling::{
@@ -10,9 +10,8 @@ use crate::telling::{
     tell_triage, tell_triaged,
 };
 use crate::today::today_of;
-use client_scripts::{FromWrite, ReplayFault, Sink, read_trace};
-use event_index::Indexed;
-use program_words::{RacesForm, TriageTask};
+use client_scripts::{FromWrite, ReplayFault};
+use program_words::TriageTask;
 use std::alloc::AllocError;
 use std::io::IsTerminal;
 use std::process::ExitCode;
@@ -22,8 +21,7 @@ use std::thread::Threads;
 use std::{io, thread};
 use toml::Value;
 use triage_calls::{
-    About, Asked, ConfirmedFault, Filters, Followed, Form, Hears, Silent, SourceLine, Sources,
-    TriageFault, Watch, entries_of, read_confirmed, read_triaged, triage, triage_on,
+    About, ConfirmedFault, Crew, Followed, Silent, Watch, entries_of, read_confirmed, read_triaged,
 };
 
 /// The status if a race is printed, for `--fail`.
@@ -31,54 +29,6 @@ const RACES: u8 = 3;
 
 /// The status if the trace has no events, for `--fail`.
 const UNJUDGED: u8 = 4;
-
-/// What goes with the trace: how its races came out when they were followed, and the entries of a triage file.
-#[derive(Clone, Copy)]
-struct Beside<'a> {
-    about: About<'a>,
-    triage: Option<&'a [Value]>,
-}
-
-/// What is asked for, as the call takes it.
-fn asked_of<'a>(
-    task: &'a TriageTask<'_>,
-    beside: Beside<'a>,
-    root: &'a [u8],
-    lines: &'a [SourceLine],
-) -> Asked<'a> {
-    Asked {
-        filters: Filters {
-            only: task.only.as_slice(),
-            hide: task.hide.as_slice(),
-        },
-        apart: task.apart,
-        tries: task.tries,
-        workers: task.workers,
-        form: match task.form {
-            RacesForm::Text => Form::Text,
-            RacesForm::Json => Form::Json,
-            RacesForm::Lines => Form::Lines,
-            RacesForm::Entries => Form::Entries,
-            RacesForm::Page => Form::Page {
-                about: beside.about,
-            },
-            RacesForm::Sarif => Form::Sarif {
-                sources: Sources { root, lines },
-            },
-        },
-        triage: beside.triage,
-    }
-}
-
-/// The file of known races, where one is named.
-fn known_at(rt: &HostRuntime, path: Option<&str>) -> Option<Input>
-    ensures { IfSome result (λ input. input.failed ≡ false) }
-{
-    match path {
-        Some(path) => Some(input_at(rt, path)),
-        None => None,
-    }
-}
 
 /// How races came out when they were followed, by the file at this path, if one is named.
 fn confirmed_at(
@@ -110,7 +60,7 @@ fn status_at(rt: &HostRuntime, races: u64, has_events: bool, fail: bool) -> Exit
     }
 }
 
-/// The status after all was printed. A text of known races without a block is told.
+/// The status after all was printed. A text of known races without a block is told, and a folder of code without a file of the trace.
 fn status_of<W: Watch>(
     rt: &HostRuntime,
     task: &TriageTask<'_>,
@@ -120,165 +70,21 @@ fn status_of<W: Watch>(
     if seen.lacks_blocks() && tell_blockless(rt, task.known.unwrap_or("")).is_err() {
         return tell_replay(rt, ReplayFault::OutOfMemory);
     }
+    if seen.lacks_code() && tell_codeless(rt, task.source.unwrap_or("")).is_err() {
+        return tell_replay(rt, ReplayFault::OutOfMemory);
+    }
     status_at(rt, races, seen.has_events(), task.fail)
 }
 
-/// Lists the races of the trace in a file. Who watches is told how far that is, and of the end before anything is written.
-fn list_to<R: Threads + Sync, K: Sink, W: Watch + Hears + Sync>(
-    rt: &HostRuntime,
-    starts: &R,
-    task: &TriageTask<'_>,
-    beside: Beside<'_>,
-    writer: &mut K,
-    watch: &W,
-) -> Result<u64, TriageFault>
-    requires { K.has_failed writer.old ≡ false }
-{
-    match task.source {
-        Some(folder) => list_in(rt, starts, task, folder, beside, writer, watch),
-        None => {
-            let none = Vec::new(rt.alloc());
-            list_plain(rt, starts, task, none.as_slice(), beside, writer, watch)
-        }
-    }
-}
-
-/// The same without the lines of the code.
-fn list_plain<R: Threads + Sync, K: Sink, W: Watch + Hears + Sync>(
-    rt: &HostRuntime,
-    starts: &R,
-    task: &TriageTask<'_>,
-    none: &[SourceLine],
-    beside: Beside<'_>,
-    writer: &mut K,
-    watch: &W,
-) -> Result<u64, TriageFault>
-    requires { K.has_failed writer.old ≡ false }
-{
-    let mut reader = input_at(rt, task.trace);
-    let known = known_at(rt, task.known);
-    triage(
-        starts,
-        rt.alloc(),
-        &mut reader,
-        known,
-        asked_of(task, beside, b"", none),
-        writer,
-        watch,
-    )
-}
-
-/// The same with the code in this folder.
-fn list_in<R: Threads + Sync, K: Sink, W: Watch + Hears + Sync>(
-    rt: &HostRuntime,
-    starts: &R,
-    task: &TriageTask<'_>,
-    folder: &str,
-    beside: Beside<'_>,
-    writer: &mut K,
-    watch: &W,
-) -> Result<u64, TriageFault>
-    requires { K.has_failed writer.old ≡ false }
-{
-    let mut reader = input_at(rt, task.trace);
-    match read_trace(rt.alloc(), &mut reader) {
-        Ok(indexed) => {
-            watch.read(indexed.len());
-            list_code(rt, starts, task, &indexed, folder, beside, writer, watch)
-        }
-        Err(fault) => Err(TriageFault::Replay(fault)),
-    }
-}
-
-/// The same of a trace that was read, with the code in this folder.
-fn list_code<R: Threads + Sync, K: Sink, W: Watch + Hears + Sync>(
-    rt: &HostRuntime,
-    starts: &R,
-    task: &TriageTask<'_>,
-    indexed: &Indexed,
-    folder: &str,
-    beside: Beside<'_>,
-    writer: &mut K,
-    watch: &W,
-) -> Result<u64, TriageFault>
-    requires { K.has_failed writer.old ≡ false }
-{
-    let root = root_of(rt.alloc(), folder)?;
-    list_lines(
-        rt,
-        starts,
-        task,
-        indexed,
-        root.as_slice(),
-        beside,
-        writer,
-        watch,
-    )
-}
-
-/// The same, with the lines of the code.
-fn list_lines<R: Threads + Sync, K: Sink, W: Watch + Hears + Sync>(
-    rt: &HostRuntime,
-    starts: &R,
-    task: &TriageTask<'_>,
-    indexed: &Indexed,
-    root: &[u8],
-    beside: Beside<'_>,
-    writer: &mut K,
-    watch: &W,
-) -> Result<u64, TriageFault>
-    requires { K.has_failed writer.old ≡ false }
-{
-    let lines = lines_of(rt, indexed, root)?;
-    list_with(
-        rt,
-        starts,
-        task,
-        indexed,
-        root,
-        lines.as_slice(),
-        beside,
-        writer,
-        watch,
-    )
-}
-
-/// The same, with these lines.
-fn list_with<R: Threads + Sync, K: Sink, W: Watch + Hears + Sync>(
-    rt: &HostRuntime,
-    starts: &R,
-    task: &TriageTask<'_>,
-    indexed: &Indexed,
-    root: &[u8],
-    lines: &[SourceLine],
-    beside: Beside<'_>,
-    writer: &mut K,
-    watch: &W,
-) -> Result<u64, TriageFault>
-    requires { K.has_failed writer.old ≡ false }
-{
-    let known = known_at(rt, task.known);
-    triage_on(
-        starts,
-        rt.alloc(),
-        indexed,
-        known,
-        asked_of(task, beside, root, lines),
-        writer,
-        watch,
-    )
-}
-
-/// The same on standard output; says how it went.
+/// Lists the races on standard output; says how it went.
 fn list_races<R: Threads + Sync, W: Watch + Sync>(
     rt: &HostRuntime,
     starts: &R,
-    task: &TriageTask<'_>,
-    beside: Beside<'_>,
+    listing: Listing<'_>,
     watch: &W,
 ) -> ExitCode {
-    match marks_of(rt, beside.triage) {
-        Ok(marks) => list_marked(rt, starts, task, beside, watch, marks.as_slice()),
+    match marks_of(rt, listing.triage) {
+        Ok(marks) => list_marked(rt, starts, listing, watch, marks.as_slice()),
         Err(_) => tell_replay(rt, ReplayFault::OutOfMemory),
     }
 }
@@ -298,14 +104,18 @@ fn marks_of(rt: &HostRuntime, triage: Option<&[Value]>) -> Result<Vec<AtomicU64>
 fn list_marked<R: Threads + Sync, W: Watch + Sync>(
     rt: &HostRuntime,
     starts: &R,
-    task: &TriageTask<'_>,
-    beside: Beside<'_>,
+    listing: Listing<'_>,
     watch: &W,
     marks: &[AtomicU64],
 ) -> ExitCode {
+    let task = listing.task;
     let mut writer = FromWrite::new(io::writer(rt));
     let seen = Seen::new(watch, marks);
-    let listed = list_to(rt, starts, task, beside, &mut writer, &seen);
+    let crew = Crew {
+        threads: starts,
+        watch: &seen,
+    };
+    let listed = list_to(rt, &crew, listing, &mut writer);
     watch.end();
     match listed {
         Ok(races) => match writer.flush() {
@@ -325,14 +135,13 @@ fn list_marked<R: Threads + Sync, W: Watch + Sync>(
 fn list_shown<R: Threads + Wait + Sync>(
     rt: &HostRuntime,
     starts: &R,
-    task: &TriageTask<'_>,
-    beside: Beside<'_>,
+    listing: Listing<'_>,
 ) -> ExitCode {
     let progress = Progress::new(rt, starts, rt.stderr().is_terminal());
     let (_, status) = thread::join(
         starts,
         || progress.show(),
-        || list_races(rt, starts, task, beside, &progress),
+        || list_races(rt, starts, listing, &progress),
     );
     status
 }
@@ -341,13 +150,12 @@ fn list_shown<R: Threads + Wait + Sync>(
 fn list_about<R: Threads + Wait + Sync>(
     rt: &HostRuntime,
     starts: &R,
-    task: &TriageTask<'_>,
-    beside: Beside<'_>,
+    listing: Listing<'_>,
 ) -> ExitCode {
-    if task.progress || rt.stderr().is_terminal() {
-        list_shown(rt, starts, task, beside)
+    if listing.task.progress || rt.stderr().is_terminal() {
+        list_shown(rt, starts, listing)
     } else {
-        list_races(rt, starts, task, beside, &Silent)
+        list_races(rt, starts, listing, &Silent)
     }
 }
 
@@ -361,7 +169,12 @@ fn list_followed<R: Threads + Wait + Sync>(
 ) -> ExitCode {
     let name = task.trace.as_bytes();
     let about = About { name, followed };
-    list_about(rt, starts, task, Beside { about, triage })
+    let listing = Listing {
+        task,
+        about,
+        triage,
+    };
+    list_about(rt, starts, listing)
 }
 
 /// The same, after the triage file was read, if one is named.

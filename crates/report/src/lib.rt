@@ -16,5 +16,5 @@ pub use info_lines::info;
 pub use log_lines::{entry, log};
 pub use pieces::{Piece, append_pieces};
 pub use refusals::refusal;
-pub use replies::reply;
+pub use replies::{reply, shown};
 pub use seats::seat_refusal;

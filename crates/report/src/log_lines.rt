@@ -120,7 +120,7 @@ fn append_entry_words(out: &mut Vec<u8>, entry: &Entry) -> Result<(), OutOfMemor
     ensures err { OnErr result (out.new.items ≡ out.old.items) }
 {
     match entry {
-        Entry::Did { client: _, command } => append_command(out, command),
+        Entry::Did { client: _, command } => append_command(out, &command.command()),
         Entry::Batch {
             client: _,
             commands,

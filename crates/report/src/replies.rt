@@ -54,6 +54,14 @@ fn append_list<'a>(out: &mut Vec<u8>, word: &'a [u8], list: Piece<'a>) -> Result
     Ok(())
 }
 
+/// Appends the line of the reply that shows these events. Where memory is refused `out` stays as it was.
+pub fn shown(events: &[u32], out: &mut Vec<u8>) -> Result<(), OutOfMemory>
+    ensures ok { OnOk result (out.new.items ≡ out.old.items ++ reply_text (Reply.Shown events.now)) }
+    ensures err { OnErr result (out.new.items ≡ out.old.items) }
+{
+    append_list(out, b"shown", Piece::Numbers(events))
+}
+
 /// Appends the line of a reply. Where memory is refused `out` stays as it was.
 pub fn reply(reply: &Reply, out: &mut Vec<u8>) -> Result<(), OutOfMemory>
     ensures ok { OnOk result (out.new.items ≡ out.old.items ++ reply_text reply.now) }
@@ -65,7 +73,7 @@ pub fn reply(reply: &Reply, out: &mut Vec<u8>) -> Result<(), OutOfMemory>
         Reply::Proposed { number, proposal } => {
             append_numbered(out, *number, b": proposed ", *proposal)
         }
-        Reply::Shown(events) => append_list(out, b"shown", Piece::Numbers(events.items())),
+        Reply::Shown(events) => shown(events.items(), out),
         Reply::Listing(names) => append_list(out, b"names", Piece::Names(names.items())),
         Reply::Shows(pairs) => append_list(out, b"pairs", Piece::Pairs(pairs.items())),
     }

@@ -2,8 +2,8 @@
 
 ghost use Rattle.std.specs.Prelude.{◌≤◌};
 
+use calls::{BenchFault, bench_fault_text, info, threads};
 use client_scripts::{FromRead, FromWrite, ReadCause, ReplayFault, ScriptCause, ScriptRefusal};
-use program_calls::{BenchFault, bench_fault_text, info, threads};
 use rapid_text::{TextCause, TextRefusal};
 use std::alloc::Global;
 use std::sync::Wait;

@@ -1,5 +1,5 @@
-//! Tests of trace texts, of the index, of the order SHB, of schedules, of the search for witnesses, of the pool that searches and of what is
-//! known of a pair of events, in a crate over theirs: with tests in it a crate would be proved twice, and the tests with its types seen from inside.
+//! Tests of trace texts, of the index, of the order SHB, of schedules, of the search for witnesses, of the pool that searches, of windows and
+//! of what is known of a pair of events, in a crate over theirs: with tests in it a crate would be proved twice, and the tests with its types seen from inside.
 #![tactic(auto)]
 
 #[cfg(test)]
@@ -20,3 +20,5 @@ mod questions;
 mod schedule_tests;
 #[cfg(test)]
 mod text_tests;
+#[cfg(test)]
+mod window_tests;

@@ -14,7 +14,7 @@ use Rattle.client_scripts.specs.Loading.{IsTraceOf}
 use Rattle.triage_calls.specs.Answers.{given_text, IsKnownFault, IsKnownRead, IsKnownUnread, IsTriaged, IsWritten}
 use Rattle.triage_calls.specs.declared.fault.TriageFault.{TriageFault}
 use Rattle.triage_calls.specs.declared.fault.TriageFault.TheVariants.{Replay, TooMany}
-use Rattle.triage_calls.specs.declared.listing.Asked.{Asked}
+use Rattle.triage_calls.specs.declared.asked.Asked.{Asked}
 
 -- bytes that a reader tells, where it tells them
 pub told_bytes : (rest : Option (List ℕ)) → (bytes : List ℕ) × IfSome rest (λ told. bytes ≡ told)

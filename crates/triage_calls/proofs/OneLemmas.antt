@@ -17,11 +17,11 @@ use Rattle.race_triage.specs.declared.totals.Totals.{Totals}
 use Rattle.race_triage.specs.declared.verdicts.Verdict.{Verdict}
 use Rattle.race_triage.proofs.NumberLemmas.{known_same, numbers_unique, AreChosen-known}
 use Rattle.race_triage.proofs.SameLemmas.{chosen_same, one_law, texts_law, IsSameChoice}
-use Rattle.triage_calls.specs.Answers.{entries_of, hide_of, only_of, AreGiven, AreVerdicts, IsGiven, IsToldIn}
+use Rattle.triage_calls.specs.Answers.{entries_of, hide_of, only_of, AreGiven, AreVerdicts, IsGiven, IsTextOf, IsToldIn}
 use Rattle.triage_calls.specs.Laws.{IsLines, ListingsAreOne}
-use Rattle.triage_calls.specs.declared.listing.Asked.{Asked}
-use Rattle.triage_calls.specs.declared.listing.Form.{Form}
-use Rattle.triage_calls.specs.declared.listing.Form.TheVariants.{Text, Json, Lines, Entries, Sarif, Page}
+use Rattle.triage_calls.specs.declared.asked.Asked.{Asked}
+use Rattle.triage_calls.specs.declared.asked.Form.{Form}
+use Rattle.triage_calls.specs.declared.asked.Form.TheVariants.{Text, Json, Lines, Entries, Sarif, Page}
 
 -- what is printed as JSON, from what is printed of it
 abbrev json_printed : Recording → Totals → List Verdict → Option ℕ → Option ℕ → List ℕ
@@ -86,25 +86,21 @@ module _ (r : Recording) (numbers : List ℕ) (legal : IsLegal r) (asked : Asked
   races_same c d chosen also mine its =
       mine ∙ (same_choice r (slice_index numbers) asked.tries asked.apart legal vs ws one two known (only_of asked) (hide_of asked) c d chosen (chosen_by d also)).races ∙ sym its
 
-  told_same : (form : Form) → IsLines form → IsToldIn form r numbers known asked vs races text → IsToldIn form r numbers other (record asked { workers = workers }) ws others words → (text ≡ words) × (races ≡ others)
-  told_same Text lines (c, chosen, told, mine) (d, also, another, its) = (
-    text_same r (slice_index numbers) asked.tries asked.apart legal vs ws one two known (only_of asked) (hide_of asked) c d chosen (chosen_by d also) text words told another,
+  text_same_in : (form : Form) → IsLines form
+      → (c d : Chosen) → AreChosen r known (only_of asked) (hide_of asked) asked.apart vs c → AreChosen r other (only_of asked) (hide_of asked) asked.apart ws d
+      → IsTextOf form r numbers asked.apart vs c text → IsTextOf form r numbers asked.apart ws d words → text ≡ words
+  text_same_in Text lines c d chosen also told another = text_same r (slice_index numbers) asked.tries asked.apart legal vs ws one two known (only_of asked) (hide_of asked) c d chosen (chosen_by d also) text words told another
+  text_same_in Json lines c d chosen also told another = json_same r (slice_index numbers) asked.tries asked.apart legal vs ws one two known (only_of asked) (hide_of asked) c d chosen (chosen_by d also) text words told another
+  text_same_in Lines lines c d chosen also told another = lines_same r (slice_index numbers) asked.tries asked.apart legal vs ws one two known (only_of asked) (hide_of asked) c d chosen (chosen_by d also) text words told another
+  text_same_in Entries lines c d chosen also told another = entries_same r (slice_index numbers) asked.tries asked.apart legal vs ws one two known (only_of asked) (hide_of asked) c d chosen (chosen_by d also) numbers text words told another
+  text_same_in (Sarif sources) lines c d chosen also told another = absurd lines
+  text_same_in (Page about) lines c d chosen also told another = absurd lines
+
+  told_same : IsLines asked.form → IsToldIn r numbers known asked vs races text → IsToldIn r numbers other (record asked { workers = workers }) ws others words → (text ≡ words) × (races ≡ others)
+  told_same lines (c, chosen, told, mine) (d, also, another, its) = (
+    text_same_in asked.form lines c d chosen also told another,
     races_same c d chosen also mine its,
   )
-  told_same Json lines (c, chosen, told, mine) (d, also, another, its) = (
-    json_same r (slice_index numbers) asked.tries asked.apart legal vs ws one two known (only_of asked) (hide_of asked) c d chosen (chosen_by d also) text words told another,
-    races_same c d chosen also mine its,
-  )
-  told_same Lines lines (c, chosen, told, mine) (d, also, another, its) = (
-    lines_same r (slice_index numbers) asked.tries asked.apart legal vs ws one two known (only_of asked) (hide_of asked) c d chosen (chosen_by d also) text words told another,
-    races_same c d chosen also mine its,
-  )
-  told_same Entries lines (c, chosen, told, mine) (d, also, another, its) = (
-    entries_same r (slice_index numbers) asked.tries asked.apart legal vs ws one two known (only_of asked) (hide_of asked) c d chosen (chosen_by d also) numbers text words told another,
-    races_same c d chosen also mine its,
-  )
-  told_same (Sarif sources) lines told another = absurd lines
-  told_same (Page about) lines told another = absurd lines
 
 pub listings_law : ListingsAreOne
 listings_law r given asked workers races others text words legal lines bare one two =
@@ -113,5 +109,5 @@ listings_law r given asked workers races others text words legal lines bare one 
     let mine = right_of r one.numbers asked.tries asked.apart one.verdicts one.found in
     let its = subst (λ (ns : List ℕ). AreRight r (slice_index ns) asked.tries asked.apart two.verdicts) (sym numbers) (right_of r two.numbers asked.tries asked.apart two.verdicts two.found) in
     let known = known_as_listed r one.keys two.keys one.numbers two.numbers same given (entries_of asked) (ap (λ t. option_map (λ es. es.now) t) bare) one.verdicts two.verdicts one.known two.known one.known_is two.known_is in
-    let told = subst (λ (ns : List ℕ). IsToldIn asked.form r ns two.known (record asked { workers = workers }) two.verdicts others words) (sym numbers) two.told in
-    told_same r one.numbers legal asked workers one.known two.known known.0 known.1 one.verdicts two.verdicts mine its races others text words asked.form lines one.told told
+    let told = subst (λ (ns : List ℕ). IsToldIn r ns two.known (record asked { workers = workers }) two.verdicts others words) (sym numbers) two.told in
+    told_same r one.numbers legal asked workers one.known two.known known.0 known.1 one.verdicts two.verdicts mine its races others text words lines one.told told

@@ -29,9 +29,9 @@ use Rattle.client_scripts.specs.Steps.{IsInput}
 use Rattle.client_scripts.specs.Loading.{IsTraceOf}
 use Rattle.triage_calls.specs.declared.fault.TriageFault.{TriageFault}
 use Rattle.triage_calls.specs.declared.fault.TriageFault.TheVariants.{Replay, TooMany}
-use Rattle.triage_calls.specs.declared.listing.Asked.{Asked}
-use Rattle.triage_calls.specs.declared.listing.Form.{Form}
-use Rattle.triage_calls.specs.declared.listing.Form.TheVariants.{Text, Json, Lines, Entries, Sarif, Page}
+use Rattle.triage_calls.specs.declared.asked.Asked.{Asked}
+use Rattle.triage_calls.specs.declared.asked.Form.{Form}
+use Rattle.triage_calls.specs.declared.asked.Form.TheVariants.{Text, Json, Lines, Entries, Sarif, Page}
 
 -- The verdicts on a trace, whose events have these numbers of places, where so many open pairs of two places are tried: one for each two places of
 -- a conflicting pair. What is counted of them is counted of the trace.
@@ -51,21 +51,21 @@ only_of asked = map (λ t. t.now) asked.filters.only.now
 abbrev pub hide_of : Asked → List (List ℕ)
 hide_of asked = map (λ t. t.now) asked.filters.hide.now
 
--- so many races are told of in this form, of the same choice in each
-abbrev pub IsToldIn : Form → Recording → List ℕ → Option (List (ℕ × ℕ)) → Asked → List Verdict → ℕ → List ℕ → Type 0
-IsToldIn Text r numbers known asked vs races text =
-    (c : Chosen) × AreChosen r known (only_of asked) (hide_of asked) asked.apart vs c × IsTriageText r vs c text × (races ≡ c.races)
-IsToldIn Json r numbers known asked vs races text =
-    (c : Chosen) × AreChosen r known (only_of asked) (hide_of asked) asked.apart vs c × IsTriageJson r vs c text × (races ≡ c.races)
-IsToldIn Lines r numbers known asked vs races text =
-    (c : Chosen) × AreChosen r known (only_of asked) (hide_of asked) asked.apart vs c × IsLinesText r c text × (races ≡ c.races)
-IsToldIn Entries r numbers known asked vs races text =
-    (c : Chosen) × AreChosen r known (only_of asked) (hide_of asked) asked.apart vs c × IsTriageFile r numbers c text × (races ≡ c.races)
-IsToldIn (Sarif sources) r numbers known asked vs races text =
-    (c : Chosen) × AreChosen r known (only_of asked) (hide_of asked) asked.apart vs c × IsSarif r sources c text × (races ≡ c.races)
-IsToldIn (Page about) r numbers known asked vs races text =
+-- the text tells of the chosen verdicts in this form; `vs` are all verdicts
+abbrev pub IsTextOf : Form → Recording → List ℕ → Bool → List Verdict → Chosen → List ℕ → Type 0
+IsTextOf Text r numbers apart vs c text = IsTriageText r vs c text
+IsTextOf Json r numbers apart vs c text = IsTriageJson r vs c text
+IsTextOf Lines r numbers apart vs c text = IsLinesText r c text
+IsTextOf Entries r numbers apart vs c text = IsTriageFile r numbers c text
+IsTextOf (Sarif sources) r numbers apart vs c text = IsSarif r sources c text
+IsTextOf (Page about) r numbers apart vs c text =
+    IsPage r vs c.races about.name.now text (all_rows r (followed_in about) apart c.verdicts.items)
+
+-- so many races are told of in the form that is asked for, of the same choice in each
+abbrev pub IsToldIn : Recording → List ℕ → Option (List (ℕ × ℕ)) → Asked → List Verdict → ℕ → List ℕ → Type 0
+IsToldIn r numbers known asked vs races text =
     (c : Chosen) × AreChosen r known (only_of asked) (hide_of asked) asked.apart vs c
-    × IsPage r vs c.races about.name.now text (all_rows r (followed_in about) asked.apart c.verdicts.items) × (races ≡ c.races)
+    × IsTextOf asked.form r numbers asked.apart vs c text × (races ≡ c.races)
 
 -- Which pairs of places are known: those whose two locations the text names, where one is given. `keys` are the locations by their numbers.
 abbrev pub IsGiven : List (Vec ℕ Global) → Option (List ℕ) → Option (List (ℕ × ℕ)) → Type 0
@@ -98,7 +98,7 @@ pub record IsListing (r : Recording) (given : Option (List ℕ)) (asked : Asked)
   pub verdicts : List Verdict
   pub known_is : AreGiven r keys numbers given (entries_of asked) verdicts known
   pub found : AreVerdicts r numbers asked.tries asked.apart verdicts
-  pub told : IsToldIn asked.form r numbers known asked verdicts races text
+  pub told : IsToldIn r numbers known asked verdicts races text
 
 -- more pairs of places than there may be have a conflicting pair of events
 abbrev pub IsCrowded : Recording → Type 0

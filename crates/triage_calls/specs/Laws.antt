@@ -3,9 +3,9 @@ use Rattle.std.specs.Prelude.{◌≡◌, ℕ, List, Option, None, ⊤}
 use Rattle.rapid_text.specs.Recording.{Recording}
 use Rattle.race_triage.specs.Same.{IsLegal}
 use Rattle.triage_calls.specs.Answers.{IsListing}
-use Rattle.triage_calls.specs.declared.listing.Asked.{Asked}
-use Rattle.triage_calls.specs.declared.listing.Form.{Form}
-use Rattle.triage_calls.specs.declared.listing.Form.TheVariants.{Text, Json, Lines, Entries, Sarif, Page}
+use Rattle.triage_calls.specs.declared.asked.Asked.{Asked}
+use Rattle.triage_calls.specs.declared.asked.Form.{Form}
+use Rattle.triage_calls.specs.declared.asked.Form.TheVariants.{Text, Json, Lines, Entries, Sarif, Page}
 
 -- lines, of text, of JSON, for editors or of a triage file, and no page and no log, which have schedules
 abbrev pub IsLines : Form → Type 0

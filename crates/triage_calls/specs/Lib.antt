@@ -2,4 +2,5 @@ pub mod Answers
 pub mod Confirmed
 pub mod TriageFaults
 pub mod Laws
+pub mod Merging
 pub mod Triaged

@@ -101,7 +101,7 @@ middle_of k m n = decimal k ++ (codes " TO " ++ (decimal m ++ (codes " PROLOGUE 
 abbrev pub head_line : ℕ → ℕ → ℕ → List ℕ
 head_line k m n = first_line (middle_of k m n)
 
-module _ (k m n : ℕ) (small_k : k < 1000000000) (small_m : m < 1000000000) (small_n : n < 1000000000) where
+module _ (k m n : ℕ) (small_k : k < 10000000000000000000) (small_m : m < 10000000000000000000) (small_n : n < 10000000000000000000) where
   abbrev middle : List ℕ
   middle = middle_of k m n
 
@@ -119,9 +119,9 @@ module _ (k m n : ℕ) (small_k : k < 1000000000) (small_m : m < 1000000000) (sm
         arith,
         length-append (decimal k) (codes " TO " ++ (decimal m ++ (codes " PROLOGUE " ++ decimal n))),
         length-append (decimal m) (codes " PROLOGUE " ++ decimal n),
-        length-decimal-le 9 k (omega arith) (omega (arith, small_k)) (omega (arith, small_k)),
-        length-decimal-le 9 m (omega arith) (omega (arith, small_m)) (omega (arith, small_m)),
-        length-decimal-le 9 n (omega arith) (omega (arith, small_n)) (omega (arith, small_n)),
+        length-decimal-le 19 k (omega arith) (omega (arith, small_k)) (omega (arith, small_k)),
+        length-decimal-le 19 m (omega arith) (omega (arith, small_m)) (omega (arith, small_m)),
+        length-decimal-le 19 n (omega arith) (omega (arith, small_n)) (omega (arith, small_n)),
       )
 
   pub head_skipped : line_reading (head_line k m n) ≡ Skipped

@@ -1,14 +1,15 @@
 -- What is cut from a trace that was read reads as its window.
 use Rattle.std.proofs.Common.{◌≡◌, ℕ, zero, suc, ◌+◌, ◌-◌, ◌<◌, ◌≤◌, false, cond, List, [], ◌∷◌, ◌++◌, length, map, take, drop, replicate, All, Ok, bytes_eq, Some, slice_get, refl, sym, ap, ap₂, ◌∙◌, subst, arith, append_assoc, inl, inr}
-use Rattle.std.specs.List.{IsDistinct}
+use Rattle.std.specs.List.{IsDistinct, slice_split}
 use Rattle.std.proofs.lemmas.Bool.{cases_lt, or_parts, lt-ltb, le-ltb}
 use Rattle.std.proofs.lemmas.Grind.{flat_map-append}
+use Rattle.std.proofs.Math.Seq.{drop-append_seam}
 use Rattle.std.proofs.lemmas.List.{length-append, take-map, length_push}
 use Rattle.std.proofs.lemmas.List.Elements.{All-nil, All-append, All-take, All-drop, All-weaker}
 use Rattle.std.proofs.lemmas.Option.{slice_get_within, get_or_from_slice_get}
 use Rattle.rapid_text.specs.Limits.{event_limit, name_limit}
 use Rattle.rapid_text.specs.Canonical.{events_text}
-use Rattle.rapid_text.specs.Reading.{NamedEvent, reading_of, recording_of, numbered, thread_uses, variable_uses, lock_uses}
+use Rattle.rapid_text.specs.Reading.{NamedEvent, is_line_feed, named_events, reading_of, recording_of, numbered, thread_uses, variable_uses, lock_uses}
 use Rattle.rapid_text.specs.Recording.{Recording, IsWellFormed, IsNamed, IsNamedOp}
 use Rattle.rapid_text.specs.declared.event.Event.{Event}
 use Rattle.rapid_text.specs.declared.event.Op.{Op}
@@ -18,8 +19,9 @@ use Rattle.rapid_text.proofs.NameNumbers.{has}
 use Rattle.rapid_text.proofs.PrintedLines.{IsName, IsPrintable, line_of}
 use Rattle.rapid_text.proofs.Turns.{Follow}
 use Rattle.trace_rules.specs.Rules.{IsDisciplined}
-use Rattle.window.specs.CutLaws.{CutReadsAsWindow, CutIsSound, IsWindowText}
-use Rattle.window.specs.Cuts.{IsNewName, Fits, last_end, prologue_of, prologue_size, window_text, with_name}
+use Rattle.window.specs.CutLaws.{CutAtReadsAsWindow, CutReadsAsWindow, CutIsSound, IsWindowText}
+use Rattle.window.specs.Cuts.{IsCutAt, IsNewName, Fits, last_end, prologue_of, prologue_size, begin_line, window_text, window_text_at, with_name}
+use Rattle.window.specs.Streams.{said_in}
 use Rattle.window.specs.Made.{IsUnused, chain_length, part_of}
 use Rattle.window.specs.Renamed.{renamed}
 use Rattle.window.specs.Window.{IsWindow}
@@ -28,10 +30,10 @@ use Rattle.window.proofs.DisciplineLemmas.{window-disciplined}
 use Rattle.window.proofs.HoldsLemmas.{of_law, long_part}
 use Rattle.window.proofs.NameLemmas.{distinct_first_uses, distinct_push}
 use Rattle.window.proofs.PrologueLemmas.{bounded_of, prologue_long, prologue_named}
-use Rattle.window.proofs.ReadLemmas.{reads_after, follow_up, all_known, long_said, to_own, to_own_apart, own_events}
+use Rattle.window.proofs.ReadLemmas.{reads_after, said_after, follow_up, all_known, long_said, to_own, to_own_apart, own_events}
 use Rattle.window.proofs.RenamedLemmas.{renamed_law}
 use Rattle.window.proofs.SoundLemmas.{sound_law}
-use Rattle.window.proofs.TextLemmas.{HasNames, IsKnown, said, said_names, known_said, new_is_name, all_said, lines_said, all_again, all_printable}
+use Rattle.window.proofs.TextLemmas.{HasNames, IsKnown, printable_lines, read_as, said_names, known_said, new_is_name, all_said, lines_said, all_again, all_printable}
 
 drop_map : {X Y : Type 0} (f : X → Y) (n : ℕ) (xs : List X) → drop n (map f xs) ≡ map f (drop n xs)
 drop_map f zero xs = refl
@@ -69,13 +71,13 @@ module _ (bytes : List ℕ) (r : Recording) (k m : ℕ) (own : List ℕ) (reads 
 
   -- what the bytes say
   abbrev events : List NamedEvent
-  events = (said bytes r reads).0
+  events = named_events (slice_split is_line_feed bytes)
 
   is_said : r ≡ recording_of events
-  is_said = (said bytes r reads).1
+  is_said = read_as bytes r reads
 
   said_well : All IsPrintable events
-  said_well = (said bytes r reads).2
+  said_well = printable_lines bytes
 
   names : HasNames r
   names = subst HasNames (sym is_said) (said_names events said_well)
@@ -156,31 +158,49 @@ module _ (bytes : List ℕ) (r : Recording) (k m : ℕ) (own : List ℕ) (reads 
   follow : Follow [] X
   follow = follow_up R [] X (omega (arith, long_X)) formed.threads (All-nil (IsKnown R)) X_known
 
-  small_k : k < 1000000000
+  small_k : k < 10000000000000000000
   small_k = omega (arith, begins, within, formed.events)
 
-  small_m : m < 1000000000
+  small_m : m < 10000000000000000000
   small_m = omega (arith, within, formed.events)
 
-  small_n : n < 1000000000
+  small_n : n < 10000000000000000000
   small_n = omega (arith, fits)
 
-  text_is : window_text r own k m ≡ head_line k m n ++ 10 ∷ lines_text X
-  unfolding window_text
-  text_is =
-      let both : events_text R P [] ++ events_text R L ls ≡ lines_text X =
+  -- the text after the first line
+  abbrev body : List ℕ
+  body = events_text R P [] ++ events_text R L ls
+
+  body_is : body ≡ lines_text X
+  body_is =
       ap₂ (λ (a b : List ℕ). a ++ b) (lines_said R P []) (lines_said R L ls)
-      ∙ sym (flat_map-append (λ e. line_of e ++ 10 ∷ []) (all_said R P []) (all_said R L ls)) in
-      ap₂ (λ (a b : List ℕ). a ++ b) (begin_is k m n) both
-      ∙ append_assoc (head_line k m n) (10 ∷ []) (lines_text X)
+      ∙ sym (flat_map-append (λ e. line_of e ++ 10 ∷ []) (all_said R P []) (all_said R L ls))
+
+  text_is : (q q' : ℕ) → begin_line q q' n ++ body ≡ head_line q q' n ++ 10 ∷ lines_text X
+  text_is q q' = ap₂ (λ (a b : List ℕ). a ++ b) (begin_is q q' n) body_is ∙ append_assoc (head_line q q' n) (10 ∷ []) (lines_text X)
 
   abbrev V : Recording
   V = recording_of X
 
-  reads_V : reading_of (window_text r own k m) ≡ Ok V
-  reads_V =
-      ap reading_of text_is
-      ∙ reads_after (head_line k m n) X (head_skipped k m n small_k small_m small_n) (head_unbroken k m n small_k small_m small_n) X_printable follow
+  reads_V : (q q' : ℕ) → q < 10000000000000000000 → q' < 10000000000000000000 → reading_of (begin_line q q' n ++ body) ≡ Ok V
+  reads_V q q' small small' =
+      ap reading_of (text_is q q')
+      ∙ reads_after (head_line q q' n) X (head_skipped q q' n small small' small_n) (head_unbroken q q' n small small' small_n) X_printable follow
+
+  -- its events by name: those of the prologue, and then the part as it was
+  said_V : (q q' : ℕ) → q < 10000000000000000000 → q' < 10000000000000000000 → said_in (begin_line q q' n ++ body) ≡ X
+  said_V q q' small small' =
+      ap said_in (text_is q q')
+      ∙ said_after (head_line q q' n) X (head_skipped q q' n small small' small_n) (head_unbroken q q' n small small' small_n) X_printable
+
+  part_V : (q q' : ℕ) → q < 10000000000000000000 → q' < 10000000000000000000 → drop n (said_in (begin_line q q' n ++ body)) ≡ take (m - k) (drop k events)
+  part_V q q' small small' =
+      let front : List NamedEvent = all_said R P [] in
+      let long : length front ≡ n = long_said R P [] ∙ prologue_long r k m in
+      ap (drop n) (said_V q q' small small')
+      ∙ ap (λ (i : ℕ). drop i X) (sym long)
+      ∙ drop-append_seam front (all_said R L ls)
+      ∙ part_said
 
   free : (has r.variables own ≡ false) × (has r.locks own ≡ false)
   free = or_parts (has r.variables own) (has r.locks own) new.new
@@ -217,8 +237,8 @@ module _ (bytes : List ℕ) (r : Recording) (k m : ℕ) (own : List ℕ) (reads 
   W_is : IsWindow T W k m n (length r.variables) (length r.locks) (chain_length T k m (length r.threads) (length r.locks))
   W_is = of_law T k m (length r.variables) (length r.locks) (length r.threads) (length r.locks) rules begins within (bounded_of r formed) unused
 
-  pub read_back : IsWindowText r k m (window_text r own k m)
-  read_back =
+  read_back : (q q' : ℕ) → q < 10000000000000000000 → q' < 10000000000000000000 → IsWindowText r k m (begin_line q q' n ++ body)
+  read_back q q' small small' =
       let f = to_own R X X_known each_thread each_variable each_lock in
       let apart = to_own_apart R X X_known each_thread each_variable each_lock in
       let x = length r.variables in
@@ -226,7 +246,7 @@ module _ (bytes : List ℕ) (r : Recording) (k m : ℕ) (own : List ℕ) (reads 
       let c = chain_length T k m (length r.threads) (length r.locks) in
       record {
         inner = V;
-        reads = reads_V;
+        reads = reads_V q q' small small';
         names = f;
         apart = apart;
         variable = x;
@@ -236,18 +256,44 @@ module _ (bytes : List ℕ) (r : Recording) (k m : ℕ) (own : List ℕ) (reads 
         keeps = renamed_law.disciplined f V.events apart (subst IsDisciplined (sym V_is) (window-disciplined T W k m n x lock c rules W_is));
       }
 
+  pub read_back_own : IsWindowText r k m (window_text r own k m)
+  unfolding window_text
+  read_back_own = read_back k m small_k small_m
+
+  pub read_back_at : (q : ℕ) → q < 1000000000000000000 → IsWindowText r k m (window_text_at r own q k m)
+  unfolding window_text_at
+  read_back_at q small = read_back q (q + (m - k)) (omega (arith, small)) (omega (arith, small, within, formed.events))
+
+  pub part_back_at : (q : ℕ) → q < 1000000000000000000 → drop n (said_in (window_text_at r own q k m)) ≡ take (m - k) (drop k events)
+  unfolding window_text_at
+  part_back_at q small = part_V q (q + (m - k)) (omega (arith, small)) (omega (arith, small, within, formed.events))
+
+last_within : (r : Recording) (k most m : ℕ) → m ≤ last_end r k most → m ≤ length r.events
+last_within r k most m le =
+    elim (cases_lt (length r.events) (k + most)) [
+      | inl lt ↦ omega (arith, le, ap (λ b. cond b (length r.events) (k + most)) (lt-ltb (length r.events) (k + most) lt))
+      | inr high ↦ omega (arith, le, high, ap (λ b. cond b (length r.events) (k + most)) (le-ltb (length r.events) (k + most) high))
+    ]
+
 pub cut_law : CutReadsAsWindow
 cut_law bytes r k most text reads formed rules cut =
     let ends = cut.ends in
     subst (IsWindowText r k cut.end) (sym cut.is)
-    (read_back bytes r k cut.end cut.name reads formed rules cut.named (omega (arith, ends.some)) (last_within r k most cut.end ends.within) ends.fits)
-  where
-    last_within : (r : Recording) (k most m : ℕ) → m ≤ last_end r k most → m ≤ length r.events
-    last_within r k most m le =
-        elim (cases_lt (length r.events) (k + most)) [
-          | inl lt ↦ omega (arith, le, ap (λ b. cond b (length r.events) (k + most)) (lt-ltb (length r.events) (k + most) lt))
-          | inr high ↦ omega (arith, le, high, ap (λ b. cond b (length r.events) (k + most)) (le-ltb (length r.events) (k + most) high))
-        ]
+    (read_back_own bytes r k cut.end cut.name reads formed rules cut.named (omega (arith, ends.some)) (last_within r k most cut.end ends.within) ends.fits)
+
+pub cut_at_law : CutAtReadsAsWindow
+cut_at_law bytes r q k most text reads formed rules small cut =
+    let ends = cut.ends in
+    subst (IsWindowText r k cut.end) (sym cut.is)
+    (read_back_at bytes r k cut.end cut.name reads formed rules cut.named (omega (arith, ends.some)) (last_within r k most cut.end ends.within) ends.fits q small)
+
+-- behind the prologue the text has the events of the trace, by name and with their locations
+pub cut_part : (bytes : List ℕ) (r : Recording) (q k most : ℕ) (text : List ℕ) → reading_of bytes ≡ Ok r → IsWellFormed r → IsDisciplined r.events → q < 1000000000000000000
+    → (cut : IsCutAt r q k most text) → drop (prologue_size r k cut.end) (said_in text) ≡ take (cut.end - k) (drop k (said_in bytes))
+cut_part bytes r q k most text reads formed rules small cut =
+    let ends = cut.ends in
+    ap (λ (t : List ℕ). drop (prologue_size r k cut.end) (said_in t)) cut.is
+    ∙ part_back_at bytes r k cut.end cut.name reads formed rules cut.named (omega (arith, ends.some)) (last_within r k most cut.end ends.within) ends.fits q small
 
 pub cut_sound_law : CutIsSound
 cut_sound_law r k m a b text P rules window correct first second shows =

@@ -7,7 +7,7 @@ use Rattle.rapid_text.specs.Recording.{Recording}
 use Rattle.rapid_text.specs.declared.event.Event.{Event}
 use Rattle.rapid_text.proofs.Appended.{events_text-next}
 use Rattle.std.specs.Fmt.{decimal}
-use Rattle.window.specs.Cuts.{begin_line, with_name, prologue_of, prologue_size, window_text}
+use Rattle.window.specs.Cuts.{begin_line, with_name, prologue_of, prologue_size, window_text, window_text_at}
 use Rattle.window.specs.Made.{part_of}
 use Rattle.window.proofs.PlaceLemmas.{get_drop}
 
@@ -59,15 +59,29 @@ begun old one two three new b c j k m e1 e2 e3 e4 first second =
     let level : new ≡ old ++ begin_line j b c = whole ∙ flat old x y z (codes ")|\n") in
     level ∙ ap (λ n. old ++ begin_line n b c) first ∙ ap (λ n. old ++ begin_line k n c) second
 
--- a window's text, of its pieces
-pub window_is : (r : Recording) (own : List ℕ) (k m n : ℕ) (none one two new : List ℕ) (events : List Event) → none ≡ [] → one ≡ none ++ begin_line k m n
+-- a window's text, of its pieces; its first event has the number q
+pub pieces_are : (r : Recording) (own : List ℕ) (q q' k m n : ℕ) (none one two new : List ℕ) (events : List Event) → none ≡ [] → one ≡ none ++ begin_line q q' n
     → two ≡ one ++ events_text (with_name r own) events [] → new ≡ two ++ events_text (with_name r own) (part_of r.events k m) (take (m - k) (drop k r.locations))
-    → n ≡ prologue_size r k m → events ≡ prologue_of r k m → new ≡ window_text r own k m
-unfolding window_text
-window_is r own k m n none one two new events e0 e1 e2 e3 size is =
+    → n ≡ prologue_size r k m → events ≡ prologue_of r k m
+    → new ≡ begin_line q q' (prologue_size r k m) ++ (events_text (with_name r own) (prologue_of r k m) [] ++ events_text (with_name r own) (part_of r.events k m) (take (m - k) (drop k r.locations)))
+pieces_are r own q q' k m n none one two new events e0 e1 e2 e3 size is =
     let s : Recording = with_name r own in
     let last : List ℕ = events_text s (part_of r.events k m) (take (m - k) (drop k r.locations)) in
-    let first : one ≡ begin_line k m (prologue_size r k m) = e1 ∙ ap (λ l. l ++ begin_line k m n) e0 ∙ ap (begin_line k m) size in
-    let then : two ≡ begin_line k m (prologue_size r k m) ++ events_text s (prologue_of r k m) [] =
-    e2 ∙ ap (λ l. l ++ events_text s events []) first ∙ ap (λ es. begin_line k m (prologue_size r k m) ++ events_text s es []) is in
-    e3 ∙ ap (λ l. l ++ last) then ∙ append_assoc (begin_line k m (prologue_size r k m)) (events_text s (prologue_of r k m) []) last
+    let first : one ≡ begin_line q q' (prologue_size r k m) = e1 ∙ ap (λ l. l ++ begin_line q q' n) e0 ∙ ap (begin_line q q') size in
+    let then : two ≡ begin_line q q' (prologue_size r k m) ++ events_text s (prologue_of r k m) [] =
+    e2 ∙ ap (λ l. l ++ events_text s events []) first ∙ ap (λ es. begin_line q q' (prologue_size r k m) ++ events_text s es []) is in
+    e3 ∙ ap (λ l. l ++ last) then ∙ append_assoc (begin_line q q' (prologue_size r k m)) (events_text s (prologue_of r k m) []) last
+
+pub window_is : (r : Recording) (own : List ℕ) (j j' k m n : ℕ) (none one two new : List ℕ) (events : List Event) → none ≡ [] → one ≡ none ++ begin_line j j' n
+    → two ≡ one ++ events_text (with_name r own) events [] → new ≡ two ++ events_text (with_name r own) (part_of r.events k m) (take (m - k) (drop k r.locations))
+    → n ≡ prologue_size r k m → events ≡ prologue_of r k m → j ≡ k → j' ≡ m → new ≡ window_text r own k m
+unfolding window_text
+window_is r own j j' k m n none one two new events e0 e1 e2 e3 size is from to =
+    pieces_are r own k m k m n none one two new events e0 (e1 ∙ ap (λ a. none ++ begin_line a j' n) from ∙ ap (λ a. none ++ begin_line k a n) to) e2 e3 size is
+
+pub window_at_is : (r : Recording) (own : List ℕ) (q d k m n : ℕ) (none one two new : List ℕ) (events : List Event) → none ≡ [] → one ≡ none ++ begin_line q (q + d) n
+    → two ≡ one ++ events_text (with_name r own) events [] → new ≡ two ++ events_text (with_name r own) (part_of r.events k m) (take (m - k) (drop k r.locations))
+    → n ≡ prologue_size r k m → events ≡ prologue_of r k m → d ≡ m - k → new ≡ window_text_at r own q k m
+unfolding window_text_at
+window_at_is r own q d k m n none one two new events e0 e1 e2 e3 size is long =
+    pieces_are r own q (q + (m - k)) k m n none one two new events e0 (e1 ∙ ap (λ a. none ++ begin_line q (q + a) n) long) e2 e3 size is

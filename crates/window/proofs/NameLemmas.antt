@@ -103,7 +103,7 @@ module _ (A B : List (List ℕ)) where
   translated i = cond (nat_lt i (length A)) (number_of B (name_at A i)) (length B + i)
 
   module _ (each : IsDistinct bytes_eq A) (among : (name : List ℕ) → has A name ≡ true → has B name ≡ true) where
-    low_is : (i : ℕ) → i < length A → translated i ≡ number_of B (name_at A i)
+    pub low_is : (i : ℕ) → i < length A → translated i ≡ number_of B (name_at A i)
     low_is i lt = ap (λ b. cond b (number_of B (name_at A i)) (length B + i)) (lt-ltb i (length A) lt)
 
     high_is : (i : ℕ) → length A ≤ i → translated i ≡ length B + i

@@ -55,6 +55,17 @@ reads_after line events skips unbroken printable follow =
     (refusals_of-clean (line ∷ lines) (still_clean line skips lines (AreClean-lines [] events read follow)))
     (same_events line skips lines ∙ named_events-lines events read)
 
+-- and what they say
+pub said_after : (line : List ℕ) (events : List NamedEvent) → line_reading line ≡ Skipped → All (Fails is_line_feed) line → All IsPrintable events
+    → named_events (slice_split is_line_feed (line ++ 10 ∷ lines_text events)) ≡ events
+said_after line events skips unbroken printable =
+    let lines : List (List ℕ) = map line_of events ++ [] ∷ [] in
+    let read : All ReadsBack events = All-weaker IsPrintable ReadsBack line_reading-line_of events printable in
+    let clear : All (λ e. All (Fails is_line_feed) (line_of e)) events = All-weaker IsPrintable (λ e. All (Fails is_line_feed) (line_of e)) no_feed-line_of events printable in
+    let split : slice_split is_line_feed (line ++ 10 ∷ lines_text events) ≡ line ∷ lines =
+    slice_split_at is_line_feed line 10 (lines_text events) unbroken refl ∙ ap (λ (ls : List (List ℕ)). line ∷ ls) (slice_split-lines_text events clear) in
+    ap named_events split ∙ same_events line skips lines ∙ named_events-lines events read
+
 where_in : (b : Bool) (n name : List ℕ) → has (cond b (n ∷ []) []) name ≡ true → (b ≡ true) × (name ≡ n)
 where_in true n name here =
     elim (cases_Bool (bytes_eq name n)) [
@@ -174,13 +185,13 @@ module _ (R : Recording) where
       lock = translated V.locks R.locks;
     }
 
-    in_threads : (name : List ℕ) → has V.threads name ≡ true → has R.threads name ≡ true
+    pub in_threads : (name : List ℕ) → has V.threads name ≡ true → has R.threads name ≡ true
     in_threads name here = threads_among X known name (has_use (thread_uses X) name here)
 
-    in_variables : (name : List ℕ) → has V.variables name ≡ true → has R.variables name ≡ true
+    pub in_variables : (name : List ℕ) → has V.variables name ≡ true → has R.variables name ≡ true
     in_variables name here = variables_among X known name (has_use (variable_uses X) name here)
 
-    in_locks : (name : List ℕ) → has V.locks name ≡ true → has R.locks name ≡ true
+    pub in_locks : (name : List ℕ) → has V.locks name ≡ true → has R.locks name ≡ true
     in_locks name here = locks_among X known name (has_use (lock_uses X) name here)
 
     pub to_own_apart : AreApart to_own

@@ -57,7 +57,7 @@ events-printable (line ∷ lines) clear =
     let later = events-printable lines (All-tail HasNoFeed line lines clear) in
     cons_option-printable line (line_reading line) (named_events lines) (All-head HasNoFeed line lines clear) refl later
 
-reading_by-Ok : (lines : List (List ℕ)) (refusals : List TextRefusal) (r : Recording) → reading_by lines refusals ≡ Ok r → r ≡ recording_of (named_events lines)
+pub reading_by-Ok : (lines : List (List ℕ)) (refusals : List TextRefusal) (r : Recording) → reading_by lines refusals ≡ Ok r → r ≡ recording_of (named_events lines)
 reading_by-Ok lines [] r is = (cc is)
 reading_by-Ok lines (refusal ∷ later) r is = absurd (cc is)
 
@@ -66,6 +66,15 @@ unfolding reading_of
 said text r is =
     let lines = slice_split is_line_feed text in
     (named_events lines, reading_by-Ok lines (refusals_of lines) r is, events-printable lines (lines-no_feed text))
+
+-- each of what the lines of a text say can be printed
+pub printable_lines : (text : List ℕ) → All IsPrintable (named_events (slice_split is_line_feed text))
+printable_lines text = events-printable (slice_split is_line_feed text) (lines-no_feed text)
+
+-- what is read is what the lines say
+pub read_as : (text : List ℕ) (r : Recording) → reading_of text ≡ Ok r → r ≡ recording_of (named_events (slice_split is_line_feed text))
+unfolding reading_of
+read_as text r is = let lines = slice_split is_line_feed text in reading_by-Ok lines (refusals_of lines) r is
 
 -- the names of printable events are names
 use_name : (uses : NamedEvent → List (List ℕ)) → ((e : NamedEvent) (name : List ℕ) → IsPrintable e → has (uses e) name ≡ true → IsName name)
@@ -203,7 +212,7 @@ known_said events k d lt =
     }
 
 -- a name among the others leads back to itself, with one more name too
-with_last : (names : List (List ℕ)) (own name : List ℕ) → has names name ≡ true → name_at (names ++ own ∷ []) (number_of names name) ≡ name
+pub with_last : (names : List (List ℕ)) (own name : List ℕ) → has names name ≡ true → name_at (names ++ own ∷ []) (number_of names name) ≡ name
 with_last names own name here =
     get_or_append_left names (own ∷ []) [] (number_of names name) (number_within names name here) ∙ name_at-number_of names name here
 

@@ -5,16 +5,16 @@ use Rattle.std.proofs.lemmas.Bool.{ne_eqb}
 use Rattle.std.proofs.lemmas.List.{take_more, length-drop}
 use Rattle.std.proofs.lemmas.List.Sums.{sum_by_push, count_by-le-length}
 use Rattle.std.proofs.lemmas.Option.{slice_get_within, get_or_from_slice_get}
-use Rattle.rapid_text.specs.Operations.{is_acquire, is_release, is_fork}
+use Rattle.rapid_text.specs.Operations.{is_acquire, is_release, is_fork, is_join}
 use Rattle.rapid_text.specs.declared.event.Event.{Event}
 use Rattle.rapid_text.specs.declared.event.Op.{Op}
-use Rattle.rapid_text.specs.declared.event.Op.TheVariants.{Acquire, Release, Fork}
+use Rattle.rapid_text.specs.declared.event.Op.TheVariants.{Acquire, Release, Fork, Join}
 use Rattle.trace_rules.proofs.Counts.{list_any_push}
 use Rattle.trace_rules.proofs.TableLemmas.{IsApartFrom}
 use Rattle.event_index.specs.Layout.{IsTable}
 use Rattle.event_index.proofs.TableLemmas.{IsTable-set, IsTable-like}
 use Rattle.window.specs.Made.{part_of, is_on, touch_count}
-use Rattle.window.specs.Tables.{has_thread, has_fork}
+use Rattle.window.specs.Tables.{has_thread, has_fork, has_join}
 use Rattle.window.proofs.PlaceLemmas.{get_drop}
 use Rattle.window.proofs.HoldsLemmas.{long_part}
 
@@ -107,3 +107,19 @@ module _ (T : List Event) (k j : ℕ) (v : Event) (low : k ≤ j) (at : slice_ge
       no_fork : (t : ℕ) (op : Op) → ((u : ℕ) → op ≢ Fork u) → is_fork t op ≡ false
       no_fork t (Fork w) none = absurd (none w refl)
       no_fork t op none = refl
+
+  pub joins_on : (threads u : ℕ) (xs : List Bool) → v.op ≡ Join u → IsTable (has_join T k j) threads xs → IsTable (has_join T k (j + 1)) threads (set xs u true)
+  joins_on threads u xs joins table =
+      IsTable-set (has_join T k j) (has_join T k (j + 1)) threads xs u true table
+      (sym (any_more (λ w. is_join u w.op) ∙ or_same (has_join T k j u) (is_join u v.op) (ap (is_join u) joins ∙ eq-eqb u u refl)))
+      (λ t within other.
+      sym (any_more (λ w. is_join t w.op) ∙ or_none (has_join T k j t) (is_join t v.op) (ap (is_join t) joins ∙ ne_eqb u t (λ same. other (sym same)))))
+
+  pub joins_off : (threads : ℕ) (xs : List Bool) → ((u : ℕ) → v.op ≢ Join u) → IsTable (has_join T k j) threads xs → IsTable (has_join T k (j + 1)) threads xs
+  joins_off threads xs off table =
+      IsTable-like (has_join T k j) (has_join T k (j + 1)) threads xs table
+      (λ t within. sym (any_more (λ w. is_join t w.op) ∙ or_none (has_join T k j t) (is_join t v.op) (no_join t v.op off)))
+    where
+      no_join : (t : ℕ) (op : Op) → ((u : ℕ) → op ≢ Join u) → is_join t op ≡ false
+      no_join t (Join w) none = absurd (none w refl)
+      no_join t op none = refl

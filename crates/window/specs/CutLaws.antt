@@ -1,11 +1,11 @@
 -- What the text of a window tells of its trace.
-use Rattle.std.specs.Prelude.{◌≡◌, ℕ, ◌≤◌, List, Ok}
+use Rattle.std.specs.Prelude.{◌≡◌, ℕ, ◌<◌, ◌≤◌, List, Ok}
 use Rattle.rapid_text.specs.Reading.{reading_of}
 use Rattle.rapid_text.specs.Recording.{Recording, IsWellFormed}
 use Rattle.trace_rules.specs.Rules.{IsDisciplined}
 use Rattle.schedule.specs.Reordering.{IsCorrectReordering}
 use Rattle.schedule.specs.Shows.{Shows}
-use Rattle.window.specs.Cuts.{IsCut, prologue_size}
+use Rattle.window.specs.Cuts.{IsCut, IsCutAt, prologue_size}
 use Rattle.window.specs.Renamed.{Names, AreApart, renamed}
 use Rattle.window.specs.Window.{IsWindow, back, resumed}
 
@@ -30,6 +30,17 @@ CutReadsAsWindow =
     → IsWellFormed r
     → IsDisciplined r.events
     → (cut : IsCut r k most text)
+    → IsWindowText r k cut.end text
+
+-- and so does what is cut where events have other numbers
+abbrev pub CutAtReadsAsWindow : Type 0
+CutAtReadsAsWindow =
+    (bytes : List ℕ) (r : Recording) (q k most : ℕ) (text : List ℕ)
+    → reading_of bytes ≡ Ok r
+    → IsWellFormed r
+    → IsDisciplined r.events
+    → q < 1000000000000000000
+    → (cut : IsCutAt r q k most text)
     → IsWindowText r k cut.end text
 
 -- and a race of it is a race of the trace: what a correct reordering of it shows, the events before k as recorded, followed by

@@ -6,6 +6,7 @@ use Rattle.rapid_text.specs.declared.event.Event.{Event}
 use Rattle.rapid_text.specs.Canonical.{events_text}
 use Rattle.rapid_text.specs.Limits.{event_limit, name_limit}
 use Rattle.rapid_text.specs.Recording.{Recording}
+use Rattle.window.specs.declared.cutting.Window.{Window}
 use Rattle.window.specs.Made.{chain_of, reads_of, part_of, holds_at, readers_at, prologue_length}
 
 -- `window` with so many underscores after it
@@ -57,6 +58,13 @@ window_text r name k m =
     ++ (events_text (with_name r name) (prologue_of r k m) []
     ++ events_text (with_name r name) (part_of r.events k m) (take (m - k) (drop k r.locations)))
 
+-- the same, where event k has the number q in a longer trace
+unfoldable pub window_text_at : Recording → List ℕ → ℕ → ℕ → ℕ → List ℕ
+window_text_at r name q k m =
+    begin_line q (q + (m - k)) (prologue_size r k m)
+    ++ (events_text (with_name r name) (prologue_of r k m) []
+    ++ events_text (with_name r name) (part_of r.events k m) (take (m - k) (drop k r.locations)))
+
 -- the window at k to m is no longer than a trace may be
 abbrev pub Fits : Recording → ℕ → ℕ → Type 0
 Fits r k m = prologue_size r k m + (m - k) ≤ event_limit
@@ -80,3 +88,18 @@ pub record IsCut (r : Recording) (k most : ℕ) (text : List ℕ) : Type 0 where
   pub named : IsNewName r name
   pub ends : IsEnd r k most end
   pub is : text ≡ window_text r name k end
+
+-- The same, where event k has the number q in a longer trace.
+pub record IsCutAt (r : Recording) (q k most : ℕ) (text : List ℕ) : Type 0 where
+  pub name : List ℕ
+  pub end : ℕ
+  pub named : IsNewName r name
+  pub ends : IsEnd r k most end
+  pub is : text ≡ window_text_at r name q k end
+
+-- The window has such a text, and says where it lies in the longer trace and how many events its prologue has.
+pub record IsCutAs (r : Recording) (q k most : ℕ) (w : Window) : Type 0 where
+  pub cut : IsCutAt r q k most w.text.items
+  pub from_is : w.from ≡ q
+  pub to_is : w.to ≡ q + (cut.end - k)
+  pub prologue_is : w.prologue ≡ prologue_size r k cut.end

@@ -1,7 +1,10 @@
 pub mod CutLaws
 pub mod Cuts
+pub mod Fronts
 pub mod Laws
 pub mod Made
 pub mod Renamed
+pub mod StreamLaws
+pub mod Streams
 pub mod Tables
 pub mod Window

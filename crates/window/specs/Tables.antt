@@ -1,10 +1,12 @@
--- The tables from which a prologue is made. No public clause cites this module.
-use Rattle.std.specs.Prelude.{◌≡◌, ℕ, ◌==◌, Bool, if◌then◌else◌, List, length, take, slice_get, Some}
+-- The tables from which a prologue and a summary are made. No public clause cites this module.
+use Rattle.std.specs.Prelude.{◌≡◌, ℕ, ◌==◌, Bool, if◌then◌else◌, List, [], ◌∷◌, flat_map, length, replicate, slice_index_or, take, slice_get, Some}
 use Rattle.std.specs.List.{list_any}
-use Rattle.rapid_text.specs.Operations.{is_fork}
+use Rattle.rapid_text.specs.Operations.{is_fork, is_join}
 use Rattle.rapid_text.specs.declared.event.Event.{Event}
+use Rattle.rapid_text.specs.declared.event.Op.TheVariants.{Acquire}
 use Rattle.trace_rules.specs.Rules.{hold_count}
-use Rattle.window.specs.Made.{part_of}
+use Rattle.event_index.specs.Lookups.{before}
+use Rattle.window.specs.Made.{does, part_of}
 use Rattle.window.specs.declared.holding.Held.{Held}
 
 -- after these events the thread of h holds the lock so often, and no other thread holds it
@@ -22,3 +24,18 @@ has_thread T k m t = list_any (λ v. v.thread == t) (part_of T k m)
 
 abbrev pub has_fork : List Event → ℕ → ℕ → ℕ → Bool
 has_fork T k m t = list_any (λ v. is_fork t v.op) (part_of T k m)
+
+abbrev pub has_join : List Event → ℕ → ℕ → ℕ → Bool
+has_join T k m t = list_any (λ v. is_join t v.op) (part_of T k m)
+
+-- an event for each number below n that passes
+abbrev pub each_event : (ℕ → Bool) → (ℕ → Event) → ℕ → List Event
+each_event test make n = flat_map (λ i. if test i then make i ∷ [] else []) (before n)
+
+-- an acquire of the lock for each hold
+abbrev pub takes_of : Held → ℕ → List Event
+takes_of h l = replicate h.depth (does h.thread (Acquire l))
+
+-- those of all locks
+abbrev pub all_takes : List Held → ℕ → List Event
+all_takes held n = flat_map (λ l. takes_of (slice_index_or held l (record { thread = 0; depth = 0 })) l) (before n)

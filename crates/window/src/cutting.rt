@@ -1,7 +1,7 @@
 //! Cuts a window from a trace.
 ghost use Rattle.std.specs.Prelude.{◌≡◌, ◌⊎◌, ◌+◌, ◌-◌, ◌<◌, ◌≤◌, ℕ, All, List, length, IfErr, IfOk};
 ghost use Rattle.rapid_text.specs.Recording.{IsNamed};
-ghost use Rattle.window.specs.Cuts.{HasNoNewName, IsCut, IsEnd, last_end, prologue_of, prologue_size, window_text, with_name};
+ghost use Rattle.window.specs.Cuts.{HasNoNewName, IsCut, IsCutAs, IsEnd, last_end, prologue_of, prologue_size, window_text, window_text_at, with_name};
 ghost use Rattle.window.specs.declared.fault.CutFault.TheVariants.{NoName, NoSuchEvent, OutOfMemory as NoMemory};
 
 use crate::fault::CutFault;
@@ -11,6 +11,19 @@ use crate::prologue::prologue_in;
 use rapid_text::{Event, MAX_EVENTS, OutOfMemory, RawTrace};
 use std::alloc::Global;
 use trace_rules::Trace;
+
+/// A window of a trace.
+#[derive(Drop)]
+pub struct Window {
+    /// A trace of its own.
+    pub text: Vec<u8>,
+    /// The number of its first event in the trace.
+    pub from: u64,
+    /// That of the first event after it.
+    pub to: u64,
+    /// How many events come before its own.
+    pub prologue: u64,
+}
 
 // The end of the window at `from` with at most so many events, and the events of its prologue.
 fn end_of(
@@ -55,7 +68,37 @@ fn text_of(
     ensures { IfOk result (λ text. text.items ≡ window_text trace.now own.now from to) }
 {
     let mut text = Vec::new(alloc);
-    append_begin(&mut text, from, to, events.len())?;
+    append_begin(&mut text, u64::from(from), u64::from(to), events.len())?;
+    append_prologue(&mut text, trace, own, events)?;
+    append_part(&mut text, trace, own, from, to)?;
+    Ok(text)
+}
+
+// The same, where the first event of the part has this number in a longer trace.
+fn text_at(
+    alloc: Global,
+    trace: &RawTrace,
+    own: &[u8],
+    number: u64,
+    from: u32,
+    to: u32,
+    events: &[Event],
+) -> Result<Vec<u8>, OutOfMemory>
+    requires number { number < 1000000000000000000 }
+    requires from { from ≤ to }
+    requires to { to ≤ length trace.now.events }
+    requires events { events.now ≡ prologue_of trace.now from to }
+    requires size { length events.now ≡ prologue_size trace.now from to }
+    requires named { All (IsNamed (with_name trace.now own.now)) events.now }
+    ensures { IfOk result (λ text. text.items ≡ window_text_at trace.now own.now number from to) }
+{
+    let mut text = Vec::new(alloc);
+    append_begin(
+        &mut text,
+        number,
+        number + u64::from(to - from),
+        events.len(),
+    )?;
     append_prologue(&mut text, trace, own, events)?;
     append_part(&mut text, trace, own, from, to)?;
     Ok(text)
@@ -84,4 +127,41 @@ pub fn cut(alloc: Global, trace: &Trace, from: u32, most: u32) -> Result<Vec<u8>
         events.as_slice(),
     )?;
     Ok(text)
+}
+
+/// The same of a trace that stands in the place of a longer one, where this event has this number.
+pub fn cut_at(
+    alloc: Global,
+    trace: &Trace,
+    number: u64,
+    from: u32,
+    most: u32,
+) -> Result<Window, CutFault>
+    requires number { number < 1000000000000000000 }
+    requires most { 0 < most }
+    ensures ok { IfOk result (λ window. (from < length trace.now.events) × IsCutAs trace.now number from most window) }
+    ensures err { IfErr result
+        (λ fault. (fault ≡ NoMemory)
+        ⊎ (((fault ≡ NoSuchEvent) × (length trace.now.events ≤ from)) ⊎ ((fault ≡ NoName) × HasNoNewName trace.now))) }
+{
+    if from >= trace.raw().len() {
+        return Err(CutFault::NoSuchEvent);
+    }
+    let own = new_name(alloc, trace.raw())?;
+    let (to, events) = end_of(alloc, trace, from, most)?;
+    let text = text_at(
+        alloc,
+        trace.raw(),
+        own.as_slice(),
+        number,
+        from,
+        to,
+        events.as_slice(),
+    )?;
+    Ok(Window {
+        text,
+        from: number,
+        to: number + u64::from(to - from),
+        prologue: events.len() as u64,
+    })
 }

@@ -1,6 +1,7 @@
 //! What a window of a trace tells of the trace. Each function here does nothing: its contract is a law of the
 //! definitions, and the laws' words stand in `specs/Laws.antt`.
-ghost use Rattle.window.specs.CutLaws.{CutIsSound, CutReadsAsWindow};
+ghost use Rattle.window.specs.CutLaws.{CutAtReadsAsWindow, CutIsSound, CutReadsAsWindow};
+ghost use Rattle.window.specs.StreamLaws.{StreamBegins, StreamBreaks, StreamGoesOn, StreamIsSound, StreamKeepsRules, StreamReads, StreamRefuses};
 ghost use Rattle.window.specs.Laws.{ApartInWindow, ProloguesAreShort, PrologueIsApart, RenamingKeepsReorderings, WindowIsComplete, WindowIsDisciplined, WindowIsMade, WindowIsSound, WindowOfABeginning, WindowOfIsWindow};
 
 /// A window of a trace that keeps the rules keeps them.
@@ -58,7 +59,48 @@ pub fn cut_reads_as_window()
     ensures { CutReadsAsWindow }
 {}
 
+/// And so does what is cut where events have other numbers.
+pub fn cut_at_reads_as_window()
+    ensures { CutAtReadsAsWindow }
+{}
+
 /// A race of what is cut is a race of the trace.
 pub fn cut_is_sound()
     ensures { CutIsSound }
+{}
+
+/// Before the first event nothing is left behind.
+pub fn stream_begins()
+    ensures { StreamBegins }
+{}
+
+/// What was read and the piece after it keep the rules if the piece keeps them after a text that leaves the same behind.
+pub fn stream_keeps_rules()
+    ensures { StreamKeepsRules }
+{}
+
+/// A text that leaves the same behind stands in the place of all that was read.
+pub fn stream_goes_on()
+    ensures { StreamGoesOn }
+{}
+
+/// The first event that breaks a rule after such a text is the first in all that was read.
+pub fn stream_breaks()
+    ensures { StreamBreaks }
+{}
+
+/// If no line is refused after such a text, none is in all that was read.
+pub fn stream_reads()
+    ensures { StreamReads }
+{}
+
+/// The first line that is refused after such a text is the first in all that was read.
+pub fn stream_refuses()
+    ensures { StreamRefuses }
+{}
+
+/// A window after such a text is a part of the whole trace: a race of it is one of the trace, and what it never shows, the trace never shows
+/// by a list that begins as recorded.
+pub fn stream_is_sound()
+    ensures { StreamIsSound }
 {}

@@ -139,14 +139,14 @@ fn append_number(text: &mut Vec<u8>, front: &[u8], number: u64) -> Result<(), Ou
 /// Appends the line that says where the window lies.
 pub(crate) fn append_begin(
     text: &mut Vec<u8>,
-    from: u32,
-    to: u32,
+    from: u64,
+    to: u64,
     size: usize,
 ) -> Result<(), OutOfMemory>
     ensures { OnOk result (text.new.items ≡ text.old.items ++ begin_line from to size) }
 {
-    append_number(text, b"window|begin(FROM ", u64::from(from))?;
-    append_number(text, b" TO ", u64::from(to))?;
+    append_number(text, b"window|begin(FROM ", from)?;
+    append_number(text, b" TO ", to)?;
     append_number(text, b" PROLOGUE ", size as u64)?;
     text.extend_from_slice(b")|\n")?;
     Ok(())

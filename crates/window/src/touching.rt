@@ -2,7 +2,7 @@
 ghost use Rattle.std.specs.Prelude.{◌≡◌, ◌+◌, ◌<◌, ◌≤◌, length, IfOk};
 ghost use Rattle.event_index.specs.Tables.{IsTable};
 ghost use Rattle.window.specs.Made.{touch_count};
-ghost use Rattle.window.specs.Tables.{has_fork, has_thread};
+ghost use Rattle.window.specs.Tables.{has_fork, has_join, has_thread};
 
 use rapid_text::{Op, OutOfMemory};
 use std::alloc::Global;
@@ -97,6 +97,37 @@ fn note_fork(found: &mut Vec<bool>, trace: &Trace, from: u32, at: u32)
     ensures { IsTable (has_fork trace.now.events from (at + 1)) (length trace.now.threads) found.new.items }
 {
     if let Op::Fork(thread) = trace.raw().event(at).op {
+        found[thread as usize] = true;
+    }
+}
+
+/// For each thread whether an event from `from` to `to` joins it.
+pub(crate) fn joins_in(
+    alloc: Global,
+    trace: &Trace,
+    from: u32,
+    to: u32,
+) -> Result<Vec<bool>, OutOfMemory>
+    requires from { from ≤ to }
+    requires to { to ≤ length trace.now.events }
+    ensures { IfOk result
+        (λ found. IsTable (has_join trace.now.events from to) (length trace.now.threads) found.items) }
+{
+    let mut found = vec![in alloc; false; trace.raw().threads() as usize]?;
+    for event in from..to {
+        note_join(&mut found, trace, from, event);
+    }
+    Ok(found)
+}
+
+// Takes the event into what was found of the events before it.
+fn note_join(found: &mut Vec<bool>, trace: &Trace, from: u32, at: u32)
+    requires from { from ≤ at }
+    requires event { at < length trace.now.events }
+    requires table { IsTable (has_join trace.now.events from at) (length trace.now.threads) found.old.items }
+    ensures { IsTable (has_join trace.now.events from (at + 1)) (length trace.now.threads) found.new.items }
+{
+    if let Op::Join(thread) = trace.raw().event(at).op {
         found[thread as usize] = true;
     }
 }

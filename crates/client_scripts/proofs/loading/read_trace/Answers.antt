@@ -11,18 +11,18 @@ returns-in-Err-clause-unread g c =
 pub returns-in-Ok-clause-read : goal.returns-in-Ok-clause-read
 returns-in-Ok-clause-read g c =
     let input = c.in-Ok.ensures.input in
-    loads _ c.in-Ok.text.items c.deref.result.now c.deref.ensures.value input.0 input.1 c.load.result c.load.ensures
+    loads _ c.in-Ok.text.items c.in-Ok.text.items refl input.0 input.1 c.load_owned.result c.load_owned.ensures
 
 pub returns-in-Ok-clause-unread : goal.returns-in-Ok-clause-unread
 returns-in-Ok-clause-unread g c =
     let input = c.in-Ok.ensures.input in
-    unloads _ c.in-Ok.text.items c.deref.result.now c.deref.ensures.value input.0 input.1 c.load.result c.load.ensures
+    unloads _ c.in-Ok.text.items c.in-Ok.text.items refl input.0 input.1 c.load_owned.result c.load_owned.ensures
 
 pub returns-in-Ok-clause-input : goal.returns-in-Ok-clause-input
-returns-in-Ok-clause-input g c why = loads-not_read c.deref.result.now c.load.result c.load.ensures 2 why
+returns-in-Ok-clause-input g c why = loads-not_read c.in-Ok.text.items c.load_owned.result c.load_owned.ensures 2 why
 
 pub returns-in-Ok-clause-no_script : goal.returns-in-Ok-clause-no_script
-returns-in-Ok-clause-no_script g c = loads-not_script c.deref.result.now c.load.result c.load.ensures
+returns-in-Ok-clause-no_script g c = loads-not_script c.in-Ok.text.items c.load_owned.result c.load_owned.ensures
 
 pub returns-in-Ok-clause-unwritten : goal.returns-in-Ok-clause-unwritten
-returns-in-Ok-clause-unwritten g c = loads-not_write c.deref.result.now c.load.result c.load.ensures
+returns-in-Ok-clause-unwritten g c = loads-not_write c.in-Ok.text.items c.load_owned.result c.load_owned.ensures

@@ -8,5 +8,5 @@ returns c =
     let two = c.in_ok-append_section-2.ensures in (
       _,
       (one.0, two.0, one.1, two.1, refl),
-      four_pieces c.args.out.now.items _ _ _ _ _ c.in_ok-append_guarded_head.ensures c.in_ok-append_pair.ensures _ _ _ one.2 two.2,
+      four_pieces c.args.out.now.items _ _ _ _ _ (simp c.indexed.ensures at c.in_ok-append_guarded_head.ensures) c.in_ok-append_pair.ensures _ _ _ one.2 two.2,
     )

@@ -10,7 +10,7 @@ pub returns : goal.returns
 returns c =
     let below = c.in_ok-append_causes.ensures in
     let chain = c.in-Some.chain.now in
-    let first = chain_text c.args.indexed.now 0 chain in (
+    let first = chain_text c.args.analysis.now 0 chain in (
       first ++ below.0,
       below.1 first (AreTold.first chain (sym c.first.ensures.value ∙ ap option_copied c.in-Some.is)),
       below.2 ∙ ap (λ (t : List ℕ). t ++ below.0) c.in_ok-append_chain.ensures ∙ append_assoc _ first below.0,

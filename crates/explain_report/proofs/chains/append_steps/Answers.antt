@@ -7,8 +7,8 @@ use Rattle.explain_report.proofs.chains.append_steps.Goals as goal
 
 pub returns : goal.returns
 returns c =
-    c.in_ok-append_later.ensures
-    ∙ ap (λ (t : List ℕ). c.loop-step.out.items ++ t) (steps_end c.args.indexed.now c.args.depth c.loop-step.later)
-    ∙ ap (λ (ss : List Step). c.loop-step.out.items ++ steps_text c.args.indexed.now c.args.depth c.loop-step.later ss)
+    (simp c.indexed.ensures at c.in_ok-append_later.ensures)
+    ∙ ap (λ (t : List ℕ). c.loop-step.out.items ++ t) (steps_end c.args.analysis.now c.args.depth c.loop-step.later)
+    ∙ ap (λ (ss : List Step). c.loop-step.out.items ++ steps_text c.args.analysis.now c.args.depth c.loop-step.later ss)
     (sym (drop_all c.loop-step.step-index c.args.steps.now (omega arith)))
     ∙ c.loop-step.invariant

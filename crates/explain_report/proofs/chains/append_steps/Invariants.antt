@@ -5,4 +5,4 @@ use Rattle.explain_report.proofs.chains.append_steps.Given as goal
 
 abbrev pub invariant-loop-step : goal.invariant-loop-step
 invariant-loop-step l =
-    l.out.items ++ steps_text l.indexed l.depth l.later (drop l.step-index l.steps) ≡ l.fn.out.items ++ steps_text l.indexed l.depth None l.steps
+    l.out.items ++ steps_text l.analysis l.depth l.later (drop l.step-index l.steps) ≡ l.fn.out.items ++ steps_text l.analysis l.depth None l.steps

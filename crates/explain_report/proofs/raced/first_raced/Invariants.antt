@@ -4,4 +4,4 @@ use Rattle.explain_report.specs.Chains.{raced_step}
 use Rattle.explain_report.proofs.raced.first_raced.Given as goal
 
 abbrev pub invariant-loop-chain : goal.invariant-loop-chain
-invariant-loop-chain l = raced_step l.indexed.events (take l.chain-index l.chains) ≡ None
+invariant-loop-chain l = raced_step l.analysis.events (take l.chain-index l.chains) ≡ None

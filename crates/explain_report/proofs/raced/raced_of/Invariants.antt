@@ -4,4 +4,4 @@ use Rattle.explain_report.specs.Chains.{is_raced}
 use Rattle.explain_report.proofs.raced.raced_of.Given as goal
 
 abbrev pub invariant-loop-step : goal.invariant-loop-step
-invariant-loop-step l = find (is_raced l.indexed.events) (take l.step-index l.steps) ≡ None
+invariant-loop-step l = find (is_raced l.analysis.events) (take l.step-index l.steps) ≡ None

@@ -7,7 +7,7 @@ use Rattle.race_json.proofs.lines.append_all.Goals as goal
 
 pub returns : goal.returns
 returns c =
-    let r = c.args.indexed.now in
+    let r = c.args.analysis.now in
     let told = c.args.chosen.now in
     let counted = c.append_counts.new.out.items in
     let listed : c.append_verdicts.new.out.items ≡ counted ++ verdict_lines r told.verdicts.items =

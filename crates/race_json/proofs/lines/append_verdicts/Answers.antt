@@ -6,4 +6,4 @@ use Rattle.race_json.proofs.lines.append_verdicts.Goals as goal
 pub returns : goal.returns
 returns c =
     c.loop-verdict.invariant
-    ∙ ap (λ (listed : List Verdict). c.args.out.now.items ++ verdict_lines c.args.indexed.now listed) (take_all c.loop-verdict.verdict-index c.args.verdicts.now (omega arith))
+    ∙ ap (λ (listed : List Verdict). c.args.out.now.items ++ verdict_lines c.args.analysis.now listed) (take_all c.loop-verdict.verdict-index c.args.verdicts.now (omega arith))

@@ -4,4 +4,4 @@ use Rattle.race_json.specs.Lines.{verdict_lines}
 use Rattle.race_json.proofs.lines.append_verdicts.Given as goal
 
 abbrev pub invariant-loop-verdict : goal.invariant-loop-verdict
-invariant-loop-verdict l = l.out.items ≡ l.fn.out.items ++ verdict_lines l.indexed (take l.verdict-index l.verdicts)
+invariant-loop-verdict l = l.out.items ≡ l.fn.out.items ++ verdict_lines l.analysis (take l.verdict-index l.verdicts)

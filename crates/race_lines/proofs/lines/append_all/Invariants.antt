@@ -4,4 +4,4 @@ use Rattle.race_lines.specs.Lines.{all_lines}
 use Rattle.race_lines.proofs.lines.append_all.Given as goal
 
 abbrev pub invariant-loop-verdict : goal.invariant-loop-verdict
-invariant-loop-verdict l = l.out.items ≡ l.fn.out.items ++ all_lines l.indexed (take l.verdict-index l.verdicts)
+invariant-loop-verdict l = l.out.items ≡ l.fn.out.items ++ all_lines l.analysis (take l.verdict-index l.verdicts)

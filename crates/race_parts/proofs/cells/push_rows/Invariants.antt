@@ -1,6 +1,10 @@
-use Rattle.std.proofs.Common.{◌≡◌, ◌++◌, map, take}
-use Rattle.race_parts.specs.Cells.{row_said}
+use Rattle.std.proofs.Common.{◌≡◌, ◌++◌, length, map}
+use Rattle.race_parts.specs.Cells.{row_said, said_in}
+use Rattle.race_parts.specs.Lines.{lines_of}
 use Rattle.race_parts.proofs.cells.push_rows.Given as goal
 
-abbrev pub invariant-loop-value : goal.invariant-loop-value
-invariant-loop-value l = map row_said l.rows.items ≡ map row_said l.fn.rows.items ++ map (λ v. (l.name, v)) (take l.value-index l.values)
+abbrev pub invariant-lines : goal.invariant-lines
+invariant-lines l = map row_said l.rows.items ++ map (said_in l.name) (lines_of l.rest) ≡ map row_said l.fn.rows.items ++ map (said_in l.name) (lines_of l.text)
+
+abbrev pub decreases-lines : goal.decreases-lines
+decreases-lines l = length l.rest

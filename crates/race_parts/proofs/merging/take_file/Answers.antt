@@ -1,17 +1,23 @@
 use Rattle.std.proofs.Common.{[], ◌∷◌, inl, inr, refl, rules}
-use Rattle.race_parts.specs.Merging.{told_parts}
-use Rattle.race_parts.proofs.MergingLemmas.{on_ok-map}
+use Rattle.serde_json.specs.View.{view}
+use Rattle.race_parts.proofs.MergingLemmas.{empty_file, if_err-map, on_ok-map, part_refused, report_refused}
 use Rattle.race_parts.proofs.merging.take_file.Goals as goal
 
+pub returns-then-is_empty-clause-err : goal.returns-then-is_empty-clause-err
+returns-then-is_empty-clause-err c = empty_file c.args.text.now c.if-is_empty.ensures
+
 pub returns-then-is_merged-clause-ok : goal.returns-then-is_merged-clause-ok
-returns-then-is_merged-clause-ok c =
-    let lines = c.deref-then-is_merged.result.now in
-    on_ok-map c.take_merged.result
-    (λ p. (told_parts lines, (lines, search rules, search rules, inr (search rules, p.0, refl, p.1)), p.2))
-    c.take_merged.ensures.ok
+returns-then-is_merged-clause-ok c = on_ok-map c.take_report.result (λ p. (p.0, inr p.1, p.2)) c.take_report.ensures.ok
+
+pub returns-then-is_merged-clause-err : goal.returns-then-is_merged-clause-err
+returns-then-is_merged-clause-err c = if_err-map c.take_report.result (report_refused c.args.text.now) c.take_report.ensures.err
 
 pub returns-else-is_merged-clause-ok : goal.returns-else-is_merged-clause-ok
 returns-else-is_merged-clause-ok c =
     on_ok-map c.take_part.result
-    (λ p. ((c.args.name.now, c.args.text.now) ∷ [], (c.in_ok-lines.lines.items, search rules, search rules, inl (search rules, p.0, refl)), p.1))
+    (λ p. ((c.args.name.now, c.args.text.now) ∷ [], inl (view c.in_ok-begun.begun.head, p.0, search rules, refl), p.1))
     c.take_part.ensures.ok
+
+pub returns-else-is_merged-clause-err : goal.returns-else-is_merged-clause-err
+returns-else-is_merged-clause-err c =
+    if_err-map c.take_part.result (λ why. part_refused c.args.text.now (view c.in_ok-begun.begun.head) why (search rules)) c.take_part.ensures.err

@@ -5,4 +5,4 @@ use Rattle.race_sarif.specs.Flows.{flows_below}
 use Rattle.race_sarif.proofs.flows.threads_of.Given as goal
 
 abbrev pub invariant-loop-thread : goal.invariant-loop-thread
-invariant-loop-thread l = map view l.flows.items ≡ flows_below l.indexed l.root l.steps l.thread
+invariant-loop-thread l = map view l.flows.items ≡ flows_below l.flow.indexed.now l.flow.root.now l.flow.steps.now l.thread

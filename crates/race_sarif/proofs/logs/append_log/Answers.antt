@@ -13,7 +13,7 @@ returns c =
       HEAD.now ++ joined made.0 ++ rest,
       record {
         results = made.0;
-        are_results = subst (λ (vs : List Verdict). AreResults c.args.indexed.now c.args.sources vs made.0) c.as_slice.ensures.value made.1;
+        are_results = subst (λ (vs : List Verdict). AreResults c.args.analysis.now c.args.sources vs made.0) c.as_slice.ensures.value made.1;
         printed = refl;
       },
       three_pieces c.args.out.now.items c.extend_from_slice.new.self.items c.append_results.new.out.items c.append_rest.new.out.items HEAD.now (joined made.0) rest

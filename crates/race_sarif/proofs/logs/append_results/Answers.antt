@@ -5,11 +5,11 @@ use Rattle.race_sarif.proofs.LogLemmas.{appended-more, results_begin, AreAppende
 use Rattle.race_sarif.proofs.logs.append_results.Goals as goal
 
 pub loop-at-init : goal.loop-at-init
-loop-at-init c = results_begin c.args.indexed.now c.args.sources c.args.out.now.items c.args.verdicts.now
+loop-at-init c = results_begin c.args.analysis.now c.args.sources c.args.out.now.items c.args.verdicts.now
 
 pub loop-at-preserved : goal.loop-at-preserved
 loop-at-preserved c =
-    let r = c.args.indexed.now in
+    let r = c.args.analysis.now in
     let s = c.args.sources in
     let at = c.loop-at.at in
     let vs = c.args.verdicts.now in
@@ -21,5 +21,5 @@ loop-at-preserved c =
 
 pub returns : goal.returns
 returns c =
-    subst (λ (vs : List Verdict). AreAppended c.args.indexed.now c.args.sources c.args.out.now.items vs c.loop-at.out.items)
+    subst (λ (vs : List Verdict). AreAppended c.args.analysis.now c.args.sources c.args.out.now.items vs c.loop-at.out.items)
     (take_all c.loop-at.at c.args.verdicts.now (omega (arith, c.loop-at-test.false))) c.loop-at.invariant

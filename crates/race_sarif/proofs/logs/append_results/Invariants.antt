@@ -5,4 +5,4 @@ use Rattle.race_sarif.specs.Logs.{joined, AreResults}
 use Rattle.race_sarif.proofs.logs.append_results.Given as goal
 
 abbrev pub invariant-loop-at : goal.invariant-loop-at
-invariant-loop-at l = (ds : List Data) × AreResults l.indexed l.sources (take l.at l.verdicts) ds × (l.out.items ≡ l.fn.out.items ++ joined ds)
+invariant-loop-at l = (ds : List Data) × AreResults l.analysis l.sources (take l.at l.verdicts) ds × (l.out.items ≡ l.fn.out.items ++ joined ds)

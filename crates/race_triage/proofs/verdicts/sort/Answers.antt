@@ -8,7 +8,7 @@ use Rattle.race_triage.proofs.verdicts.sort.Goals as goal
 
 pub returns-clause-verdicts : goal.returns-clause-verdicts
 returns-clause-verdicts c =
-    All-permutation (IsVerdict c.args.tables.indexed.now (slice_index c.args.tables.places.now) c.args._tries c.args._apart)
+    All-permutation (IsVerdict c.args._found.now.tables.indexed.now (slice_index c.args._found.now.tables.places.now) c.args._found.now.effort.tries c.args._found.now.effort.apart)
     c.args.verdicts.now.items c.sort_unstable_by_key.new.self.items c.sort_unstable_by_key.ensures.permutation c.requires.verdicts
 
 pub returns-clause-complete : goal.returns-clause-complete
@@ -22,8 +22,8 @@ returns-clause-complete c =
 
 pub returns-clause-rising : goal.returns-clause-rising
 returns-clause-rising c =
-    let r = c.args.tables.indexed.now in
-    let P = IsVerdict r (slice_index c.args.tables.places.now) c.args._tries c.args._apart in
+    let r = c.args._found.now.tables.indexed.now in
+    let P = IsVerdict r (slice_index c.args._found.now.tables.places.now) c.args._found.now.effort.tries c.args._found.now.effort.apart in
     let vs = c.sort_unstable_by_key.new.self.items in
     let all = All-permutation P c.args.verdicts.now.items vs c.sort_unstable_by_key.ensures.permutation c.requires.verdicts in
     AreRising-from vs

@@ -3,8 +3,8 @@ use Rattle.std.proofs.Common.{◌≡◌, ◌%◌, arith}
 use Rattle.race_triage.proofs.OnceLemmas.{AreOn-weaker}
 use Rattle.race_triage.proofs.workers.all_verdicts.Goals as goal
 
-pub returns-then-workers-eq0 : goal.returns-then-workers-eq0
-returns-then-workers-eq0 g c =
+pub returns-then-found-eq0 : goal.returns-then-found-eq0
+returns-then-found-eq0 g c =
     let part = c.in_ok-part.ensures in
     record {
       verdicts = part.verdicts;

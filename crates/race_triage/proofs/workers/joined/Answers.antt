@@ -9,8 +9,8 @@ use Rattle.race_triage.proofs.workers.joined.Goals as goal
 
 pub loop-at-preserved : goal.loop-at-preserved
 loop-at-preserved c =
-    let r = c.args.tables.indexed.now in
-    let place = slice_index c.args.tables.places.now in
+    let r = c.args.found.now.tables.indexed.now in
+    let place = slice_index c.args.found.now.tables.places.now in
     let rows = c.args.found.now.groups.rows.items in (
       c.in_ok-add_part.ensures.all,
       λ k d lt below. elim (cases_lt (k % c.args.every) c.loop-at.at) [

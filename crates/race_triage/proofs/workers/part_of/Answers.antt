@@ -1,14 +1,14 @@
 use Rattle.std.proofs.Common.{◌≡◌, ℕ, ◌%◌, slice_index, slice_index_or, subst, sym, arith, inl, inr}
 use Rattle.std.proofs.lemmas.Bool.{cases_lt}
 use Rattle.race_triage.proofs.WorkerLemmas.{IsAnswered-weaker}
-use Rattle.race_triage.proofs.OnceLemmas.{AreOn-none, AreOn-weaker}
+use Rattle.race_triage.proofs.OnceLemmas.{AreOn-weaker}
 use Rattle.race_triage.specs.Verdicts.{IsAnswered, IsOwn}
 use Rattle.race_triage.proofs.workers.part_of.Goals as goal
 
 pub loop-at-preserved : goal.loop-at-preserved
 loop-at-preserved g c =
-    let r = c.args.tables.indexed.now in
-    let place = slice_index c.args.tables.places.now in
+    let r = c.args.found.now.tables.indexed.now in
+    let place = slice_index c.args.found.now.tables.places.now in
     let rows = c.args.found.now.groups.rows.items in
     let new = c.add_own.new.verdicts.items in (
       c.in_ok-add_own.ensures.verdicts,

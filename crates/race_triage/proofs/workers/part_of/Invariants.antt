@@ -5,7 +5,7 @@ use Rattle.race_triage.proofs.workers.part_of.Given as goal
 
 abbrev pub invariant-loop-at : goal.invariant-loop-at
 invariant-loop-at g l =
-    All (IsVerdict l.tables.indexed.now (slice_index l.tables.places.now) l.fn.tries l.fn.apart) l.verdicts.items
+    All (IsVerdict l.found.tables.indexed.now (slice_index l.found.tables.places.now) l.found.effort.tries l.found.effort.apart) l.verdicts.items
     × ((k : ℕ) (d : Row) → k < l.at → k < length l.found.groups.rows.items → k % l.every ≡ l.from
     → IsAnswered l.verdicts.items (slice_index_or l.found.groups.rows.items k d))
     × AreOn l.found.groups.rows.items (IsOwn l.from l.every l.at) l.verdicts.items

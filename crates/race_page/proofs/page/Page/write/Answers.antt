@@ -2,8 +2,5 @@ use Rattle.race_page.proofs.PieceLemmas.{with_piece}
 use Rattle.race_page.proofs.page.Page.write.Goals as goal
 
 pub invariant_of-self-2 : goal.invariant_of-self-2
-invariant_of-self-2 c = (
-  with_piece _ _ _ _ _ c.self.invariant.0 c.in_ok-extend_from_slice.ensures.items _ c.bytes.ensures.piece c.bytes.ensures.text,
-  c.self.invariant.1,
-  c.self.invariant.2,
-)
+invariant_of-self-2 c =
+    with_piece _ _ _ _ _ c.self.invariant c.in_ok-extend_from_slice.ensures.items _ c.bytes.ensures.piece c.bytes.ensures.text

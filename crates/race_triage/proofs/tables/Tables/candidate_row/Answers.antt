@@ -26,7 +26,7 @@ returns c =
     let fit : IsFit r place row.places Candidate pair.1 pair.0 = least.0 in
     let race : IsRaceOf r pair.1 pair.0 CandidateHow o = c.in_ok-outcome.ensures in
     let v = c.of_pair.ensures in
-    IsVerdict-made r place c.args._tries c.args._apart row pair.1 pair.0 c.args.least.now.variables o c.of_pair.result v.first v.second v.row v.variables v.outcome
+    IsVerdict-made r place c.args._effort.tries c.args._effort.apart row pair.1 pair.0 c.args.least.now.variables o c.of_pair.result v.first v.second v.row v.variables v.outcome
     (omega (arith, fit.pair.earlier, fit.pair.within)) fit.pair.within c.requires.row c.requires.there (λ _. (fit.pair, fit.at)) (race_outcome r pair.1 pair.0 row.counts CandidateHow o race)
     (candidate_counts r pair.1 pair.0 row.counts o race c.requires.candidates) (λ same. absurd (race_is_not_apart r pair.1 pair.0 row.counts CandidateHow o race same))
-    c.requires.least.variables (candidate_pair r pair.1 pair.0 row.counts place c.args._tries c.args._apart row.places o race least)
+    c.requires.least.variables (candidate_pair r pair.1 pair.0 row.counts place c.args._effort.tries c.args._effort.apart row.places o race least)

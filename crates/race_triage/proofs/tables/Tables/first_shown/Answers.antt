@@ -1,4 +1,4 @@
-use Rattle.std.proofs.Common.{◌++◌, ◌∷◌, [], List, Option, IfSome, get_or, refl, sym, subst, take, arith}
+use Rattle.std.proofs.Common.{List, Option, IfSome, get_or, refl, sym, subst, take, arith}
 use Rattle.std.proofs.lemmas.List.{take_all, take_more}
 use Rattle.std.proofs.lemmas.Option.{slice_get-get_or}
 use Rattle.least_notes.specs.declared.tries.Try.{Try}

@@ -19,14 +19,14 @@ unreachable-requires c =
     let l = c.args.least.now in
     let size : length c.as_slice-all.result.now ≡ length l.tries.items = ap (λ (ts : List Try). length ts) c.as_slice-all.ensures.value in
     let empty : length c.as_slice-all.result.now ≡ 0 = eqb-true (length c.as_slice-all.result.now) 0 (sym c.is_empty.ensures ∙ c.if-is_empty.true) in
-    let none = none_left r place c.args.row c.requires.row c.args.tries l c.requires.least c.requires.candidates (omega (arith, size, empty)) in
+    let none = none_left r place c.args.row c.requires.row c.args.effort.tries l c.requires.least c.requires.candidates (omega (arith, size, empty)) in
     omega (arith, none, c.requires.open_pairs)
 
 pub first_shown-requires-clause-opens : goal.first_shown-requires-clause-opens
 first_shown-requires-clause-opens c =
     let r = c.args.self.now.indexed.now in
     let place = slice_index c.args.self.now.places.now in
-    let tries = c.args.tries in
+    let tries = c.args.effort.tries in
     let l = c.args.least.now in
     let same : c.beginning-tried.result.now ≡ take tries l.tries.items = c.beginning-tried.ensures ∙ ap (λ (ts : List Try). take tries ts) c.as_slice-all.ensures.value in
     subst (AreOpenPairs r) (sym same) (tried_open r place c.args.row c.requires.row tries l c.requires.least c.requires.candidates)
@@ -39,7 +39,7 @@ returns-in-Some c =
     let r = c.args.self.now.indexed.now in
     let place = slice_index c.args.self.now.places.now in
     let row = c.args.row in
-    let tries = c.args.tries in
+    let tries = c.args.effort.tries in
     let l = c.args.least.now in
     let pair = c.in-Some.pair in
     let o = c.in-Some.outcome in
@@ -51,18 +51,18 @@ returns-in-Some c =
     let fit = found_fits r place row c.requires.row tries l c.requires.least c.requires.candidates c.args.budget pair found in
     let first = tried_first r place row c.requires.row tries l c.requires.least c.requires.candidates in
     let v = c.of_pair.ensures in
-    IsVerdict-made r place tries c.args._apart row pair.1 pair.0 l.variables o c.of_pair.result v.first v.second v.row v.variables v.outcome
+    IsVerdict-made r place tries c.args.effort.apart row pair.1 pair.0 l.variables o c.of_pair.result v.first v.second v.row v.variables v.outcome
     (omega (arith, fit.pair.earlier, fit.pair.within)) fit.pair.within c.requires.row c.requires.there (λ _. (fit.pair, fit.at)) (open_outcome r pair.1 pair.0 row.counts o race)
     (open_counts r pair.1 pair.0 row.counts o race (c.requires.candidates, c.requires.open_pairs)) (λ same'. absurd (open_is_not_apart r pair.1 pair.0 row.counts o race same'))
     c.requires.least.variables
-    (open_pair r pair.1 pair.0 row.counts place tries c.args._apart row.places o race (record { tried = take tries l.tries.items; first = first; budget = c.args.budget; shared = c.requires.shared; found = found }))
+    (open_pair r pair.1 pair.0 row.counts place tries c.args.effort.apart row.places o race (record { tried = take tries l.tries.items; first = first; budget = c.args.budget; shared = c.requires.shared; found = found }))
 
 pub returns-in_ok-tried-in-None : goal.returns-in_ok-tried-in-None
 returns-in_ok-tried-in-None c =
     let r = c.args.self.now.indexed.now in
     let place = slice_index c.args.self.now.places.now in
     let row = c.args.row in
-    let tries = c.args.tries in
+    let tries = c.args.effort.tries in
     let l = c.args.least.now in
     let value = c.as_slice-all.ensures.value in
     let size : length c.as_slice-all.result.now ≡ length l.tries.items = ap (λ (ts : List Try). length ts) value in
@@ -78,6 +78,6 @@ returns-in_ok-tried-in-None c =
     let none = subst (λ (ts : List Try). (left : ℕ) × AreMissed r.events c.args.budget ts left) same (c.in_ok-pair.ensures.none c.in-None.is) in
     let first = tried_first r place row c.requires.row tries l c.requires.least c.requires.candidates in
     let v = c.of_pair-in-None.ensures in
-    IsVerdict-made r place tries c.args._apart row pair.1 pair.0 l.variables (Undecided count) c.of_pair-in-None.result v.first v.second v.row v.variables v.outcome
+    IsVerdict-made r place tries c.args.effort.apart row pair.1 pair.0 l.variables (Undecided count) c.of_pair-in-None.result v.first v.second v.row v.variables v.outcome
     (omega (arith, fit.pair.earlier, fit.pair.within)) fit.pair.within c.requires.row c.requires.there (λ _. (fit.pair, fit.at)) tt (c.requires.candidates, c.requires.open_pairs)
     (λ same'. absurd (undecided_apart count same')) c.requires.least.variables (least, record { tried = take tries l.tries.items; first = first; len = long; budget = c.args.budget; shared = c.requires.shared; left = none.0; none = none.1 })

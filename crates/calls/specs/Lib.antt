@@ -1,0 +1,11 @@
+pub mod BenchFaultTexts
+pub mod Cut
+pub mod Info
+pub mod Jobs
+pub mod Merged
+pub mod Printouts
+pub mod Requests
+pub mod ScriptInputs
+pub mod Searches
+pub mod Threads
+pub mod Told

@@ -1,0 +1,174 @@
+//! Why a command of the program stopped, what is printed of that, and how the faults below become this one.
+ghost use Rattle.std.specs.Prelude.{◌≡◌, ◌++◌, OnOk, OnErr};
+ghost use Rattle.client_scripts.specs.Messages.{words_in};
+ghost use Rattle.calls.specs.BenchFaultTexts.{bench_fault_words, script_refusal_words, words_in_script};
+ghost use Rattle.calls.specs.ScriptInputs.{refused_as};
+
+use client_scripts::{ReplayFault, ScriptCause, ScriptRefusal, fault_text, script_words};
+use rapid_text::OutOfMemory;
+use report::{Piece, append_pieces};
+use std::alloc::{AllocError, AllocFailed};
+use std::fmt;
+use thiserror::Error;
+
+/// Why a command of the program stopped. Its message is what `bench_fault_text` appends.
+#[derive(Clone, Copy, PartialEq, Eq, Debug, Error)]
+pub enum BenchFault {
+    /// 91 to 96: a fault of reading, of a text, or of writing, or want of memory.
+    #[error("{0}")]
+    Replay(ReplayFault),
+    /// 93: a script is refused, of several that run in threads.
+    #[error("{}", in_script(.place, .refusal))]
+    Script {
+        /// The script among them, counted from 1.
+        place: u32,
+        /// What is wrong with it.
+        refusal: ScriptRefusal,
+    },
+    /// 66: a thread could not be started.
+    #[error("no thread")]
+    NoThread,
+    /// 97: there are more than 31 scripts.
+    #[error("too many scripts")]
+    TooManyScripts,
+    /// 106: the trace has no event with the number at which the window begins.
+    #[error("no such event")]
+    NoSuchEvent,
+    /// 107: the trace uses each name that the variable of a prologue could have.
+    #[error("no name is free")]
+    NoName,
+}
+
+impl From<ReplayFault> for BenchFault {
+    ghost use Rattle.std.specs.Prelude.{◌≡◌};
+    ghost use Rattle.calls.specs.declared.fault.BenchFault.TheVariants.{Replay};
+
+    ghost from_gives = { λ fault stopped. stopped ≡ Replay fault };
+
+    fn from(fault: ReplayFault) -> BenchFault {
+        BenchFault::Replay(fault)
+    }
+}
+
+impl From<OutOfMemory> for BenchFault {
+    ghost use Rattle.std.specs.Prelude.{◌≡◌};
+    ghost use Rattle.client_scripts.specs.declared.fault.ReplayFault.TheVariants.{OutOfMemory as NoMemory};
+    ghost use Rattle.calls.specs.declared.fault.BenchFault.TheVariants.{Replay};
+
+    ghost from_gives = { λ _ stopped. stopped ≡ Replay NoMemory };
+
+    fn from(refused: OutOfMemory) -> BenchFault {
+        BenchFault::Replay(ReplayFault::from(refused))
+    }
+}
+
+impl From<AllocError> for BenchFault {
+    ghost use Rattle.std.specs.Prelude.{◌≡◌};
+    ghost use Rattle.client_scripts.specs.declared.fault.ReplayFault.TheVariants.{OutOfMemory as NoMemory};
+    ghost use Rattle.calls.specs.declared.fault.BenchFault.TheVariants.{Replay};
+
+    ghost from_gives = { λ _ stopped. stopped ≡ Replay NoMemory };
+
+    fn from(_error: AllocError) -> BenchFault {
+        BenchFault::Replay(ReplayFault::OutOfMemory)
+    }
+}
+
+impl<T: Drop> From<AllocFailed<T>> for BenchFault {
+    ghost use Rattle.std.specs.Prelude.{◌≡◌};
+    ghost use Rattle.client_scripts.specs.declared.fault.ReplayFault.TheVariants.{OutOfMemory as NoMemory};
+    ghost use Rattle.calls.specs.declared.fault.BenchFault.TheVariants.{Replay};
+
+    ghost from_gives = { λ _ stopped. stopped ≡ Replay NoMemory };
+
+    fn from(_failed: AllocFailed<T>) -> BenchFault {
+        BenchFault::Replay(ReplayFault::OutOfMemory)
+    }
+}
+
+impl BenchFault {
+    /// The fault of the script at this place that is refused; want of memory is a fault of its own.
+    pub(crate) fn of_script(place: u32, refusal: ScriptRefusal) -> BenchFault
+        ensures { result ≡ refused_as place refusal refusal.why }
+    {
+        match refusal.why {
+            ScriptCause::OutOfMemory => BenchFault::Replay(ReplayFault::OutOfMemory),
+            _ => BenchFault::Script { place, refusal },
+        }
+    }
+}
+
+/// What is wrong with a line of a script, which is one of several; no words are want of memory.
+#[derive(Clone, Copy)]
+struct InScript {
+    place: u32,
+    line: u64,
+    words: Option<&'static str>,
+}
+
+impl fmt::Display for InScript {
+    fn fmt<W: fmt::Write>(&self, f: &mut fmt::Formatter<W>) -> fmt::Result {
+        match self.words {
+            Some(words) => write!(f, "script {} line {}: {words}", self.place, self.line),
+            None => write!(f, "out of memory"),
+        }
+    }
+}
+
+/// What is wrong with the script at this place.
+fn in_script(place: &u32, refusal: &ScriptRefusal) -> InScript {
+    InScript {
+        place: *place,
+        line: refusal.line,
+        words: script_words(refusal.why),
+    }
+}
+
+/// Appends these words at a line of a script, or those of want of memory.
+fn append_in_script(
+    out: &mut Vec<u8>,
+    place: u32,
+    line: u64,
+    words: Option<&'static str>,
+) -> Result<(), OutOfMemory>
+    ensures ok { OnOk result (out.new.items ≡ out.old.items ++ words_in_script place line (words_in words.entry)) }
+    ensures err { OnErr result (out.new.items ≡ out.old.items) }
+{
+    match words {
+        Some(words) => append_pieces(
+            out,
+            &[
+                Piece::Words(b"script "),
+                Piece::Number(u64::from(place)),
+                Piece::Words(b" line "),
+                Piece::Number(line),
+                Piece::Words(b": "),
+                Piece::Words(words.as_bytes()),
+            ],
+        ),
+        None => append_pieces(out, &[Piece::Words(b"out of memory")]),
+    }
+}
+
+/// Appends the text of a refused script, which names the script and the line.
+fn append_refusal(out: &mut Vec<u8>, place: u32, refusal: &ScriptRefusal) -> Result<(), OutOfMemory>
+    ensures ok { OnOk result (out.new.items ≡ out.old.items ++ script_refusal_words place refusal.now) }
+    ensures err { OnErr result (out.new.items ≡ out.old.items) }
+{
+    append_in_script(out, place, refusal.line, script_words(refusal.why))
+}
+
+/// Appends the text of a fault, without a line end. Where memory is refused `out` stays as it was.
+pub fn bench_fault_text(fault: &BenchFault, out: &mut Vec<u8>) -> Result<(), OutOfMemory>
+    ensures ok { OnOk result (out.new.items ≡ out.old.items ++ bench_fault_words fault.now) }
+    ensures err { OnErr result (out.new.items ≡ out.old.items) }
+{
+    match fault {
+        BenchFault::Replay(fault) => fault_text(fault, out),
+        BenchFault::Script { place, refusal } => append_refusal(out, *place, refusal),
+        BenchFault::NoThread => append_pieces(out, &[Piece::Words(b"no thread")]),
+        BenchFault::TooManyScripts => append_pieces(out, &[Piece::Words(b"too many scripts")]),
+        BenchFault::NoSuchEvent => append_pieces(out, &[Piece::Words(b"no such event")]),
+        BenchFault::NoName => append_pieces(out, &[Piece::Words(b"no name is free")]),
+    }
+}

@@ -1,0 +1,98 @@
+//! Reads the scripts that are to run at once, each for a client of its own.
+ghost use Rattle.std.specs.Prelude.{◌≡◌, ◌≤◌, ◌+◌, ◌++◌, ◌∷◌, [], ℕ, List, All, map, false, vec_len, IfOk, IfErr, OnOk};
+ghost use Rattle.script_language.specs.Scripts.{Asked};
+ghost use Rattle.calls.specs.ScriptInputs.{AreScripts, IsFirstFault, IsScriptFault, IsScriptOf, IsReadAs, IsTextFault};
+
+use crate::fault::BenchFault;
+use client_scripts::{Script, ScriptCause, ScriptRefusal, Source, read_input, read_script};
+use rapid_text::TextKeyed;
+use std::alloc::Global;
+use std::hash::{DefaultHasher, Hasher};
+
+/// The most scripts, so that one of 32 clients is left for what a search finds.
+pub const MAX_SCRIPTS: usize = 31;
+
+/// Scripts, in the order of their clients, and hashers for the names that they choose.
+#[derive(Drop)]
+pub(crate) struct Scripts {
+    pub(crate) scripts: Vec<Script>,
+    // it was given the text of each script
+    texts: DefaultHasher,
+}
+
+/// A script whose every line is of the client of this number.
+fn script_of(alloc: Global, text: &[u8], client: u32) -> Result<Script, BenchFault>
+    ensures ok { IfOk result (λ asked. IsScriptOf client text.now asked) }
+    ensures err { IfErr result (λ fault. IsTextFault client text.now fault) }
+{
+    let script = match read_script(alloc, text) {
+        Ok(script) => script,
+        Err(refusal) => return Err(BenchFault::of_script(client, refusal)),
+    };
+    match script.stranger(client) {
+        Some(line) => Err(BenchFault::of_script(
+            client,
+            ScriptRefusal {
+                line,
+                why: ScriptCause::BadClient,
+            },
+        )),
+        None => Ok(script),
+    }
+}
+
+impl Scripts {
+    /// No script.
+    fn empty(alloc: Global) -> Scripts
+        ensures count { vec_len result.scripts ≡ 0 }
+        ensures none { result.scripts.items ≡ [] }
+    {
+        Scripts {
+            scripts: Vec::new(alloc),
+            texts: DefaultHasher::new(),
+        }
+    }
+
+    /// Reads the script of the next client.
+    fn read_next<S: Source>(&mut self, alloc: Global, reader: &mut S) -> Result<(), BenchFault>
+        requires reader { S.has_failed reader.old ≡ false }
+        requires few { vec_len self.old.scripts ≤ 30 }
+        ensures count { OnOk result (vec_len self.new.scripts ≡ vec_len self.old.scripts + 1) }
+        ensures read { OnOk result ((text : List ℕ) × (asked : List Asked) × IsReadAs (S.rest reader.old) text × IsScriptOf (vec_len self.old.scripts + 1) text asked
+            × (self.new.scripts.items ≡ self.old.scripts.items ++ asked ∷ [])) }
+        ensures fault { IfErr result (λ fault. IsScriptFault (vec_len self.old.scripts + 1) (S.rest reader.old) fault) }
+    {
+        let client = self.scripts.len() as u32 + 1;
+        let text = read_input(alloc, reader, client + 1)?;
+        self.texts.write(&text);
+        let script = script_of(alloc, &text, client)?;
+        self.scripts.push(script)?;
+        Ok(())
+    }
+
+    /// Makes hashers for the names that the scripts choose.
+    pub(crate) fn keyed(&self) -> TextKeyed {
+        TextKeyed::of(&self.texts.finish().to_le_bytes())
+    }
+}
+
+/// Reads scripts, of which each is the next client's. Their input numbers begin with 2.
+pub(crate) fn read_scripts<S: Source + Drop>(
+    alloc: Global,
+    readers: Vec<S>,
+) -> Result<Scripts, BenchFault>
+    requires readers { All (λ s. S.has_failed s ≡ false) readers.items }
+    requires few { vec_len readers ≤ 31 }
+    ensures count { IfOk result (λ r. vec_len r.scripts ≡ vec_len readers) }
+    ensures read { IfOk result (λ r. AreScripts 1 (map (λ s. S.rest s) readers.items) r.scripts.items) }
+    ensures fault { IfErr result (λ fault. IsFirstFault (map (λ s. S.rest s) readers.items) fault) }
+{
+    let mut all = Scripts::empty(alloc);
+    for mut reader in readers {
+        match all.read_next(alloc, &mut reader) {
+            Ok(()) => {}
+            Err(fault) => return Err(fault),
+        }
+    }
+    Ok(all)
+}

@@ -1,0 +1,35 @@
+//! The calls that the program makes, each over readers and a writer: a module for each of its commands. They stand apart from the
+//! words, files and statuses of the program.
+#![tactic(auto)]
+
+// What they share.
+mod fault;
+mod printout;
+
+// Calls on one trace.
+mod cut_call;
+mod info_call;
+
+// Scripts that run at once.
+mod beside;
+mod inputs;
+mod searching;
+mod seating;
+mod threads_call;
+
+// Reports that are merged.
+mod merge_call;
+mod merge_fault;
+
+pub use client_scripts::{replay, replay_joint};
+pub use cut_call::cut_window;
+pub use fault::{BenchFault, bench_fault_text};
+pub use info_call::info;
+pub use inputs::MAX_SCRIPTS;
+pub use merge_call::{read_part, write_merged, write_merged_json};
+pub use merge_fault::MergeFault;
+pub use race_parts::{Part, Parts};
+pub use searching::MAX_WORKERS;
+pub use seating::Running;
+pub use threads_call::{threads, threads_with_room};
+pub use workspace_lock::BEST_ROOM;

@@ -1,0 +1,250 @@
+//! Runs scripts at once, each in a thread of its own, through the seats of one bench.
+ghost use Rattle.std.specs.Prelude.{◌≡◌, ◌≤◌, ◌<◌, ◌+◌, ◌-◌, ◌++◌, ℕ, suc, List, [], length, map, replicate, slice_get, slice_set, All, vec_len, IfOk, IfErr, IsOk, OnOk, Option, Some, None};
+ghost use Rattle.std.specs.Arc.{arc_value};
+ghost use Rattle.inverse_log.specs.Log.{Benched};
+ghost use Rattle.workspace_lock.specs.Seating.{Site, SeatView, Closes, Opened, fresh_rows};
+ghost use Rattle.report.specs.Log.{log_text};
+ghost use Rattle.client_scripts.specs.declared.fault.ReplayFault.TheVariants.{OutOfMemory as NoMemory};
+ghost use Rattle.calls.specs.declared.fault.BenchFault.TheVariants.{Replay};
+ghost use Rattle.calls.specs.Told.{client_text, fresh_bench, AreTold};
+ghost use Rattle.calls.specs.Jobs.{AnswersJob, AnswerJobs, AreSeated, Numbered, AllLines, lines_of, told_text};
+ghost use Rattle.calls.specs.Threads.{IsRunFault};
+
+use crate::beside::{clients_beside, run_beside};
+use crate::fault::BenchFault;
+use client_scripts::{Script, run_seat};
+use event_index::Indexed;
+use inverse_log::Bench;
+use rapid_text::{OutOfMemory, TextKeyed};
+use report::{Piece, append_pieces};
+use std::alloc::{AllocError, Global};
+use std::sync::{Arc, Wait};
+use std::thread;
+use std::thread::Threads;
+use workspace_lock::{Seat, Seats, open_with_room};
+
+/// What a thread is given: a seat, and the script whose calls it makes there.
+pub(crate) type Job = (Seat, Script);
+
+/// What a thread gives back: its seat, and the lines of its answers where there was memory for each.
+pub(crate) type Told = (Seat, Result<Vec<u8>, OutOfMemory>);
+
+/// Makes the calls of a script through the seat.
+fn run_script<R: Wait>(
+    rt: &R,
+    alloc: Global,
+    indexed: &Indexed,
+    mut seat: Seat,
+    script: &Script,
+) -> Told
+    ensures same { (result.0.site ≡ seat.site) × (result.0.number ≡ seat.number) }
+    ensures told { AnswersJob indexed.now (seat, script.now) result }
+{
+    let mut lines = Vec::new(alloc);
+    match run_seat(&mut seat, rt, indexed, script, &mut lines) {
+        Ok(()) => (seat, Ok(lines)),
+        Err(refused) => (seat, Err(refused)),
+    }
+}
+
+/// Makes the calls of each script through its seat, each in a thread of its own where one can be made. Their order is
+/// that of the jobs.
+pub(crate) fn run_all<R: Threads + Wait + Sync>(
+    rt: &R,
+    alloc: Global,
+    indexed: &Indexed,
+    jobs: Vec<Job>,
+) -> Result<Vec<Told>, AllocError>
+    ensures told { IfOk result (λ told. AnswerJobs indexed.now jobs.items told.items) }
+    ensures site { IfOk result
+        (λ told. (s : Site) → All (λ job. job.0.site ≡ s) jobs.items → All (λ t. t.0.site ≡ s) told.items) }
+{
+    let run = |job: Job| -> Told
+        ensures site { result.0.site ≡ job.0.site }
+        ensures told { AnswersJob indexed.entry.now job result }
+    {
+        let (seat, script) = job;
+        run_script(rt, alloc, indexed, seat, &script)
+    };
+    thread::map_vec(rt, jobs, &run)
+}
+
+/// Gives each script the seat of its client.
+fn seat_all(alloc: Global, seats: &mut Seats, scripts: Vec<Script>) -> Result<Vec<Job>, BenchFault>
+    ensures seats { seats.new.site ≡ seats.old.site }
+    ensures site { IfOk result (λ jobs. All (λ job. job.0.site ≡ seats.old.site) jobs.items) }
+    // Where all seats are in, and there are more than scripts, each script has its own, in order, and then the others alone are in.
+    ensures jobs { (more : ℕ) → seats.old.rows ≡ fresh_rows seats.old.site 1 (vec_len scripts + more) → IfOk result
+        (λ jobs. AreSeated seats.old.site scripts.items jobs.items
+        × (seats.new.rows ≡ replicate (length jobs.items) None ++ fresh_rows seats.old.site (suc (length jobs.items)) more)) }
+    ensures fault { (more : ℕ) → seats.old.rows ≡ fresh_rows seats.old.site 1 (vec_len scripts + more) → IfErr result (λ fault. fault ≡ Replay NoMemory) }
+{
+    let mut jobs = Vec::new(alloc);
+    for script in scripts {
+        let Some(seat) = seats.take() else {
+            return Err(BenchFault::NoThread);
+        };
+        jobs.push((seat, script))?;
+    }
+    Ok(jobs)
+}
+
+/// Appends a client's line and the lines of its answers.
+fn append_client(
+    out: &mut Vec<u8>,
+    client: u32,
+    lines: Result<Vec<u8>, OutOfMemory>,
+) -> Result<(), OutOfMemory>
+    ensures ok { OnOk result (IsOk lines × (out.new.items ≡ out.old.items ++ client_text client (lines_of lines))) }
+{
+    let lines = lines?;
+    append_pieces(
+        out,
+        &[
+            Piece::Words(b"client "),
+            Piece::Number(u64::from(client)),
+            Piece::Words(b"\n"),
+            Piece::Words(&lines),
+        ],
+    )
+}
+
+/// The same where all before went well.
+fn append_next(
+    out: &mut Vec<u8>,
+    so_far: Result<(), OutOfMemory>,
+    client: u32,
+    lines: Result<Vec<u8>, OutOfMemory>,
+) -> Result<(), OutOfMemory>
+    ensures before { OnOk result (IsOk so_far) }
+    ensures ok { OnOk result (IsOk lines × (out.new.items ≡ out.old.items ++ client_text client (lines_of lines))) }
+{
+    so_far?;
+    append_client(out, client, lines)
+}
+
+/// Puts a seat back.
+pub(crate) fn give_back(seats: &mut Seats, seat: Seat)
+    requires { seat.site ≡ seats.old.site }
+    ensures site { seats.new.site ≡ seats.old.site }
+    ensures back { slice_get seats.old.rows (seat.number - 1) ≡ Some None → seats.new.rows ≡ slice_set seats.old.rows (seat.number - 1) (Some seat) }
+{
+    let _ = seats.give(seat);
+}
+
+/// Puts all seats back, and appends what each client was told while memory lasts.
+fn give_all(seats: &mut Seats, told: Vec<Told>, out: &mut Vec<u8>) -> Result<(), OutOfMemory>
+    requires { All (λ t. t.0.site ≡ seats.old.site) told.items }
+    ensures text { OnOk result (AllLines told.items × (out.new.items ≡ out.old.items ++ told_text told.items)) }
+    ensures site { seats.new.site ≡ seats.old.site }
+    // Where none of them was in, and each is of its number, all are in then.
+    ensures back { (rest : List (Option SeatView)) → Numbered 1 told.items → seats.old.rows ≡ replicate (length told.items) None ++ rest
+        → seats.new.rows ≡ map (λ t. Some t.0) told.items ++ rest }
+{
+    let mut outcome = Ok(());
+    for (seat, lines) in told {
+        outcome = append_next(out, outcome, seat.number(), lines);
+        give_back(seats, seat);
+    }
+    outcome
+}
+
+/// The log of the bench, once all seats are back.
+fn append_log(seats: Seats, out: &mut Vec<u8>) -> Result<(), OutOfMemory>
+    ensures { OnOk result ((bench : Benched) × Closes seats bench × (out.new.items ≡ out.old.items ++ log_text bench.log)) }
+{
+    match seats.close() {
+        Ok(bench) => append_log_of(bench, out),
+        Err((seats, _)) => {
+            drop(seats);
+            Err(OutOfMemory)
+        }
+    }
+}
+
+/// The log of a bench that is done with.
+fn append_log_of(bench: Bench, out: &mut Vec<u8>) -> Result<(), OutOfMemory>
+    ensures { OnOk result (out.new.items ≡ out.old.items ++ log_text bench.log) }
+{
+    let outcome = report::log(&bench, out);
+    drop(bench);
+    outcome
+}
+
+/// A bench of the trace with an empty log, and a seat for each of so many clients behind a door with so much room.
+fn open_seats(
+    alloc: Global,
+    indexed: &Arc<Indexed, Global>,
+    names: TextKeyed,
+    clients: u32,
+    room: u32,
+) -> Result<Seats, OutOfMemory>
+    ensures { IfOk result (λ s. Opened (fresh_bench (arc_value indexed.now)) clients s) }
+{
+    match Arc::try_clone(indexed) {
+        Ok(theirs) => open_on(alloc, theirs, names, clients, room),
+        Err(_) => Err(OutOfMemory),
+    }
+}
+
+/// The same on a share of the trace.
+fn open_on(
+    alloc: Global,
+    indexed: Arc<Indexed, Global>,
+    names: TextKeyed,
+    clients: u32,
+    room: u32,
+) -> Result<Seats, OutOfMemory>
+    ensures { IfOk result (λ s. Opened (fresh_bench (arc_value indexed)) clients s) }
+{
+    match Bench::keyed(alloc, indexed, names) {
+        Ok(bench) => open_at(alloc, bench, clients, room),
+        Err(_) => Err(OutOfMemory),
+    }
+}
+
+/// The same at a bench.
+fn open_at(alloc: Global, bench: Bench, clients: u32, room: u32) -> Result<Seats, OutOfMemory>
+    ensures { IfOk result (λ s. Opened bench clients s) }
+{
+    match open_with_room(alloc, bench, clients, room) {
+        Ok(seats) => Ok(seats),
+        Err(_) => Err(OutOfMemory),
+    }
+}
+
+/// How scripts run at once.
+#[derive(Clone, Copy)]
+pub struct Running {
+    /// How many workers search beside them, whose finds a client after the scripts' proposes.
+    pub workers: u32,
+    /// How many seats may queue for a turn at a time (`workspace_lock::open_with_room`). More room, up to 32, mixes the clients' calls more,
+    /// and takes longer. Nothing that is promised rests on it.
+    pub room: u32,
+}
+
+/// Runs each script in a thread of its own, and workers beside them. Gives, once all have ended, what each script was told and the log.
+pub(crate) fn run_scripts<R: Threads + Wait + Sync + Clone + Send + Drop + 'static>(
+    rt: &R,
+    alloc: Global,
+    indexed: Indexed,
+    names: TextKeyed,
+    scripts: Vec<Script>,
+    running: Running,
+) -> Result<Vec<u8>, BenchFault>
+    requires scripts { (0 < vec_len scripts) × (vec_len scripts ≤ 31) }
+    requires workers { running.workers ≤ 16 }
+    ensures told { IfOk result (λ text. AreTold indexed scripts.items running.workers text.items) }
+    ensures fault { IfErr result (λ fault. IsRunFault running.workers fault) }
+{
+    let Running { workers, room } = running;
+    let shared = Arc::new(alloc, indexed)?;
+    let clients = scripts.len() as u32 + clients_beside(workers);
+    let mut seats = open_seats(alloc, &shared, names, clients, room)?;
+    let jobs = seat_all(alloc, &mut seats, scripts)?;
+    let told = run_beside(rt, alloc, &shared, &mut seats, jobs, workers)?;
+    let mut out = Vec::new(alloc);
+    give_all(&mut seats, told, &mut out)?;
+    append_log(seats, &mut out)?;
+    Ok(out)
+}

@@ -1,0 +1,170 @@
+//! Runs several scripts on one trace at once: reads all texts, runs the scripts, and writes what they were told.
+ghost use Rattle.std.specs.Prelude.{◌≡◌, ◌≢◌, ◌⊎◌, ◌<◌, ◌≤◌, ℕ, List, All, false, true, map, vec_len, IfErr, OnErr, OnOk, Err};
+ghost use Rattle.std.specs.Io.KnownBytes.{Appends};
+ghost use Rattle.script_language.specs.Scripts.{Asked};
+ghost use Rattle.client_scripts.specs.Loading.{IsTold};
+ghost use Rattle.client_scripts.specs.declared.fault.ReplayFault.TheVariants.{Write, Read};
+ghost use Rattle.client_scripts.specs.declared.fault.ReadCause.TheVariants.{Device};
+ghost use Rattle.calls.specs.ScriptInputs.{AreScripts, IsFirstFault};
+ghost use Rattle.calls.specs.Threads.{IsRunFault, RunsTogether, StopsRun};
+ghost use Rattle.calls.specs.Told.{AreTold};
+ghost use Rattle.calls.specs.declared.fault.BenchFault.TheVariants.{Replay, TooManyScripts};
+
+use crate::fault::BenchFault;
+use crate::inputs::{MAX_SCRIPTS, Scripts, read_scripts};
+use crate::printout::write_text;
+use crate::seating::{Running, run_scripts};
+use client_scripts::{Sink, Source, read_trace};
+use event_index::Indexed;
+use std::alloc::Global;
+use std::sync::Wait;
+use std::thread::Threads;
+use workspace_lock::BEST_ROOM;
+
+/// Reads a trace and scripts, each whole, of which script i is client i's; then makes the calls of each script on
+/// the trace in a thread of its own, joins all threads, and writes for each script a line `client i` and the lines
+/// of its answers, and then the log. The trace is input 1, script i input i + 1.
+///
+/// Nothing is written before all threads have ended, so nothing where there is another fault than that of the
+/// writer. A call that finds no memory is answered by its line, and the script goes on.
+pub fn threads_with_room<
+    R: Threads + Wait + Sync + Clone + Send + Drop + 'static,
+    S: Source,
+    Q: Source + Drop,
+    K: Sink,
+>(
+    rt: &R,
+    alloc: Global,
+    trace: &mut S,
+    scripts: Vec<Q>,
+    running: Running,
+    writer: &mut K,
+) -> Result<(), BenchFault>
+    requires trace { S.has_failed trace.old ≡ false }
+    requires scripts { All (λ q. Q.has_failed q ≡ false) scripts.items }
+    requires some { 0 < vec_len scripts }
+    requires workers { running.workers ≤ 16 }
+    requires writer { K.has_failed writer.old ≡ false }
+    // Where no write fails, nothing is written at a fault; and where one fails, that is the fault.
+    ensures unwritten { OnErr result (K.has_failed writer.new ≡ false → K.taken writer.new ≡ K.taken writer.old) }
+    ensures write_failed { K.has_failed writer.new ≡ true → result ≡ Err (Replay Write) }
+    // The trace's device is at fault exactly where a read of it failed.
+    ensures device { result ≡ Err (Replay (Read 1 Device)) → S.has_failed trace.new ≡ true }
+    ensures read_failed { S.has_failed trace.new ≡ true → result ≡ Err (Replay (Read 1 Device)) }
+    // There is a text, the one that the reader tells where it tells it, of which what is written comes.
+    ensures told { OnOk result ((bytes : List ℕ) × IsTold (S.rest trace.old) bytes × (text : List ℕ)
+        × RunsTogether bytes (map (λ q. Q.rest q) scripts.items) running.workers text × Appends (K.taken writer.old) (K.taken writer.new) text) }
+    // Too many scripts come before all other faults, then those of the trace, then that of the first script that has one.
+    ensures most { 31 < vec_len scripts → result ≡ Err TooManyScripts }
+    ensures too_many { result ≡ Err TooManyScripts → 31 < vec_len scripts }
+    ensures fault { IfErr result (λ fault. StopsRun (S.rest trace.old) (map (λ q. Q.rest q) scripts.items) running.workers (K.has_failed writer.new) fault) }
+{
+    if scripts.len() > MAX_SCRIPTS {
+        return Err(BenchFault::TooManyScripts);
+    }
+    match read_trace(alloc, trace) {
+        Ok(indexed) => run_on(rt, alloc, indexed, scripts, running, writer),
+        Err(fault) => Err(BenchFault::Replay(fault)),
+    }
+}
+
+/// Runs scripts, which are read first, on a trace, and writes what they were told.
+fn run_on<R: Threads + Wait + Sync + Clone + Send + Drop + 'static, Q: Source + Drop, K: Sink>(
+    rt: &R,
+    alloc: Global,
+    indexed: Indexed,
+    scripts: Vec<Q>,
+    running: Running,
+    writer: &mut K,
+) -> Result<(), BenchFault>
+    requires scripts { All (λ q. Q.has_failed q ≡ false) scripts.items }
+    requires some { (0 < vec_len scripts) × (vec_len scripts ≤ 31) }
+    requires workers { running.workers ≤ 16 }
+    requires writer { K.has_failed writer.old ≡ false }
+    ensures unwritten { OnErr result (K.has_failed writer.new ≡ false → K.taken writer.new ≡ K.taken writer.old) }
+    ensures write_failed { K.has_failed writer.new ≡ true → result ≡ Err (Replay Write) }
+    ensures device { result ≢ Err (Replay (Read 1 Device)) }
+    ensures told { OnOk result ((asked : List (List Asked)) × AreScripts 1 (map (λ q. Q.rest q) scripts.items) asked
+        × (text : List ℕ) × AreTold indexed asked running.workers text × Appends (K.taken writer.old) (K.taken writer.new) text) }
+    ensures few { result ≢ Err TooManyScripts }
+    ensures fault { IfErr result (λ fault. ((fault ≡ Replay Write) × (K.has_failed writer.new ≡ true))
+        ⊎ IsRunFault running.workers fault ⊎ IsFirstFault (map (λ q. Q.rest q) scripts.items) fault) }
+{
+    match read_scripts(alloc, scripts) {
+        Ok(read) => run_read(rt, alloc, indexed, read, running, writer),
+        Err(fault) => {
+            drop(indexed);
+            Err(fault)
+        }
+    }
+}
+
+/// The same of scripts that were read.
+fn run_read<R: Threads + Wait + Sync + Clone + Send + Drop + 'static, K: Sink>(
+    rt: &R,
+    alloc: Global,
+    indexed: Indexed,
+    read: Scripts,
+    running: Running,
+    writer: &mut K,
+) -> Result<(), BenchFault>
+    requires some { (0 < vec_len read.scripts) × (vec_len read.scripts ≤ 31) }
+    requires workers { running.workers ≤ 16 }
+    requires writer { K.has_failed writer.old ≡ false }
+    ensures unwritten { OnErr result (K.has_failed writer.new ≡ false → K.taken writer.new ≡ K.taken writer.old) }
+    ensures write_failed { K.has_failed writer.new ≡ true → result ≡ Err (Replay Write) }
+    ensures told { OnOk result ((text : List ℕ) × AreTold indexed read.scripts.items running.workers text × Appends (K.taken writer.old) (K.taken writer.new) text) }
+    ensures fault { IfErr result (λ fault. ((fault ≡ Replay Write) × (K.has_failed writer.new ≡ true)) ⊎ IsRunFault running.workers fault) }
+{
+    let names = read.keyed();
+    match run_scripts(rt, alloc, indexed, names, read.scripts, running) {
+        Ok(told) => write_told(&told, writer),
+        Err(fault) => Err(fault),
+    }
+}
+
+/// Writes what the scripts were told.
+fn write_told<K: Sink>(told: &[u8], writer: &mut K) -> Result<(), BenchFault>
+    requires { K.has_failed writer.old ≡ false }
+    ensures told { OnOk result (Appends (K.taken writer.old) (K.taken writer.new) told.now) }
+    ensures write_failed { K.has_failed writer.new ≡ true → result ≡ Err (Replay Write) }
+    ensures fault { IfErr result (λ fault. (fault ≡ Replay Write) × (K.has_failed writer.new ≡ true)) }
+{
+    Ok(write_text(writer, told)?)
+}
+
+/// The same with the room that is fastest.
+pub fn threads<
+    R: Threads + Wait + Sync + Clone + Send + Drop + 'static,
+    S: Source,
+    Q: Source + Drop,
+    K: Sink,
+>(
+    rt: &R,
+    alloc: Global,
+    trace: &mut S,
+    scripts: Vec<Q>,
+    workers: u32,
+    writer: &mut K,
+) -> Result<(), BenchFault>
+    requires trace { S.has_failed trace.old ≡ false }
+    requires scripts { All (λ q. Q.has_failed q ≡ false) scripts.items }
+    requires some { 0 < vec_len scripts }
+    requires workers { workers ≤ 16 }
+    requires writer { K.has_failed writer.old ≡ false }
+    ensures unwritten { OnErr result (K.has_failed writer.new ≡ false → K.taken writer.new ≡ K.taken writer.old) }
+    ensures write_failed { K.has_failed writer.new ≡ true → result ≡ Err (Replay Write) }
+    ensures device { result ≡ Err (Replay (Read 1 Device)) → S.has_failed trace.new ≡ true }
+    ensures read_failed { S.has_failed trace.new ≡ true → result ≡ Err (Replay (Read 1 Device)) }
+    ensures told { OnOk result ((bytes : List ℕ) × IsTold (S.rest trace.old) bytes × (text : List ℕ)
+        × RunsTogether bytes (map (λ q. Q.rest q) scripts.items) workers text × Appends (K.taken writer.old) (K.taken writer.new) text) }
+    ensures most { 31 < vec_len scripts → result ≡ Err TooManyScripts }
+    ensures too_many { result ≡ Err TooManyScripts → 31 < vec_len scripts }
+    ensures fault { IfErr result (λ fault. StopsRun (S.rest trace.old) (map (λ q. Q.rest q) scripts.items) workers (K.has_failed writer.new) fault) }
+{
+    let running = Running {
+        workers,
+        room: BEST_ROOM,
+    };
+    threads_with_room(rt, alloc, trace, scripts, running, writer)
+}

@@ -1,0 +1,76 @@
+//! The answer about an entry of the log.
+ghost use Rattle.std.specs.Prelude.{◌≡◌, ◌<◌, ◌++◌, length, slice_get, OnOk};
+ghost use Rattle.inverse_log.specs.Log.{undoes};
+ghost use Rattle.kept_session.specs.QuestionAnswers.{entry_text, state_words, there_text, undo_of};
+
+use inverse_log::{Bench, Entry, Refusal};
+use rapid_text::OutOfMemory;
+use report::{Piece, append_pieces};
+
+/// Whether an entry undoes this one.
+fn undoes(entry: &Entry, number: u64) -> bool
+    ensures { result ≡ undoes number entry.now }
+{
+    match entry {
+        Entry::Undid { client: _, entry } => *entry == number,
+        _ => false,
+    }
+}
+
+/// The undo that took an entry back, if one did.
+fn undo_of(bench: &Bench, number: u64) -> Option<u64>
+    ensures { result ≡ undo_of bench.now.log number }
+{
+    for at in 0..bench.log_len() {
+        if undoes(bench.entry(at), number) {
+            return Some(at);
+        }
+    }
+    None
+}
+
+/// Appends whether an undo took the entry back, and which.
+fn append_state(out: &mut Vec<u8>, undo: Option<u64>) -> Result<(), OutOfMemory>
+    ensures { OnOk result (out.new.items ≡ out.old.items ++ state_words undo) }
+{
+    match undo {
+        None => append_pieces(out, &[Piece::Words(b" live ")]),
+        Some(undo) => append_pieces(
+            out,
+            &[
+                Piece::Words(b" undone "),
+                Piece::Number(undo),
+                Piece::Words(b" "),
+            ],
+        ),
+    }
+}
+
+/// Appends the answer about an entry that is there.
+fn append_there(out: &mut Vec<u8>, bench: &Bench, number: u64) -> Result<(), OutOfMemory>
+    requires { number < length bench.now.log }
+    ensures { OnOk result (out.new.items ≡ out.old.items ++ there_text bench.now.log number) }
+{
+    append_pieces(
+        out,
+        &[
+            Piece::Words(b"entry "),
+            Piece::Number(bench.log_len()),
+            Piece::Words(b" "),
+            Piece::Number(number),
+        ],
+    )?;
+    append_state(out, undo_of(bench, number))?;
+    report::entry(bench, number, out)
+}
+
+/// Appends the answer about an entry, or that there is none.
+pub(crate) fn append_entry(out: &mut Vec<u8>, bench: &Bench, number: u64) -> Result<(), OutOfMemory>
+    ensures { OnOk result (out.new.items ≡ out.old.items ++ entry_text bench.now.trace bench.now.log number (slice_get bench.now.log number)) }
+{
+    if number < bench.log_len() {
+        append_there(out, bench, number)
+    } else {
+        report::refusal(bench.indexed(), &Refusal::NoSuchEntry, out)
+    }
+}

@@ -1,0 +1,103 @@
+//! The answer that tells a schedule which shows a pair of events.
+ghost use Rattle.std.specs.Prelude.{◌≡◌, ◌<◌, ◌++◌, ℕ, List, codes, length, IfOk, OnOk};
+ghost use Rattle.pair_findings.specs.Findings.{IsFinding, IsNeverShown};
+ghost use Rattle.pair_findings.specs.declared.finding.Finding.{Finding};
+ghost use Rattle.kept_session.specs.QuestionWitnesses.{found_line, how_words, IsWitnessLine};
+
+use event_index::Indexed;
+use explain_report::How;
+use must_order::Analysis;
+use pair_findings::{Finding, find, pair_of};
+use rapid_text::OutOfMemory;
+use report::{Piece, append_pieces};
+
+/// How a race was found, in words.
+fn how_words(how: How) -> &'static [u8]
+    ensures { result.now ≡ how_words how }
+{
+    match how {
+        How::Candidate => b"witness candidate",
+        How::Beyond => b"witness beyond",
+        How::Turned => b"witness turned",
+    }
+}
+
+/// Appends what was found of a pair.
+fn append_found(out: &mut Vec<u8>, finding: &Finding) -> Result<(), OutOfMemory>
+    ensures { OnOk result (out.new.items ≡ out.old.items ++ found_line finding.now) }
+{
+    match finding {
+        Finding::Race { how, events } => append_pieces(
+            out,
+            &[
+                Piece::Words(how_words(*how)),
+                Piece::Numbers(events.items()),
+                Piece::Words(b"\n"),
+            ],
+        ),
+        Finding::Forced { chains: _ } => {
+            append_pieces(out, &[Piece::Words(b"refused 99 not shown: forced\n")])
+        }
+        Finding::Guarded { lock: _ } => {
+            append_pieces(out, &[Piece::Words(b"refused 99 not shown: guarded\n")])
+        }
+        Finding::Undecided { events: _ } => {
+            append_pieces(out, &[Piece::Words(b"refused 99 not shown: open\n")])
+        }
+    }
+}
+
+/// Finds what is to be said of a pair.
+fn found_of(
+    out: &Vec<u8>,
+    indexed: &Indexed,
+    first: u32,
+    second: u32,
+) -> Result<Finding, OutOfMemory>
+    requires first { first < length indexed.now.events }
+    requires second { second < length indexed.now.events }
+    ensures finding { IfOk result (IsFinding indexed.now first second) }
+    ensures never { IfOk result (IsNeverShown indexed.now.events first second) }
+{
+    match Analysis::new(*out.allocator(), indexed) {
+        Ok(analysis) => {
+            let found = find(*out.allocator(), &analysis, first, second);
+            drop(analysis);
+            found
+        }
+        Err(refused) => Err(refused),
+    }
+}
+
+/// Appends the answer on two events that conflict.
+fn append_pair(
+    out: &mut Vec<u8>,
+    indexed: &Indexed,
+    first: u32,
+    second: u32,
+) -> Result<(), OutOfMemory>
+    requires first { first < length indexed.now.events }
+    requires second { second < length indexed.now.events }
+    ensures { OnOk result ((finding : Finding) × IsFinding indexed.now first second finding × IsNeverShown indexed.now.events first second finding
+        × (out.new.items ≡ out.old.items ++ found_line finding)) }
+{
+    match found_of(out, indexed, first, second) {
+        Ok(finding) => append_found(out, &finding),
+        Err(refused) => Err(refused),
+    }
+}
+
+/// Appends the answer on two events, given in either order.
+pub(crate) fn append_witness(
+    out: &mut Vec<u8>,
+    indexed: &Indexed,
+    one: u32,
+    other: u32,
+) -> Result<(), OutOfMemory>
+    ensures { OnOk result ((text : List ℕ) × (out.new.items ≡ out.old.items ++ text) × IsWitnessLine indexed.now one other text) }
+{
+    match pair_of(indexed, one, other) {
+        Some((first, second)) => append_pair(out, indexed, first, second),
+        None => append_pieces(out, &[Piece::Words(b"refused 98 no such pair\n")]),
+    }
+}

@@ -1,9 +1,0 @@
-use Rattle.std.proofs.Common.{rules, subst, sym}
-use Rattle.merge_calls.specs.Answers.{IsUntaken}
-use Rattle.merge_calls.proofs.FaultLemmas.{untaken}
-use Rattle.merge_calls.proofs.reading.read_part.Goals as goal
-
-pub returns-in-Ok-clause-err : goal.returns-in-Ok-clause-err
-returns-in-Ok-clause-err g c =
-    subst (IsUntaken c.args.file (g.S.Source.rest c.args.reader.now)) (sym c.from.ensures)
-    (untaken c.args.file (g.S.Source.rest c.args.reader.now) c.in-Ok.text.items c.in-Err-take_file.refusal c.in-Ok.ensures.input.1 (search rules))

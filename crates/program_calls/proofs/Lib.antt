@@ -1,7 +1,0 @@
-pub mod InfoLemmas
-pub mod InputLemmas
-pub mod JobLemmas
-pub mod SearchLemmas
-pub mod SendLemmas
-pub mod ThreadsLemmas
-pub mod ToldLemmas

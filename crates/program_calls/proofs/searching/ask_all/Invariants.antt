@@ -1,7 +1,0 @@
-use Rattle.std.specs.Prelude.{◌≡◌}
-use Rattle.program_calls.specs.Requests.{AreSlices}
-use Rattle.program_calls.proofs.searching.ask_all.Given as goal
-
--- what was submitted are slices of the pairs
-abbrev pub invariant-loop-pair : goal.invariant-loop-pair
-invariant-loop-pair g l = (l.pool.trace ≡ l.fn.pool.trace) × AreSlices l.pairs l.pool.pending

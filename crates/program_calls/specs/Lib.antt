@@ -1,8 +1,0 @@
-pub mod BenchFaultTexts
-pub mod Info
-pub mod Jobs
-pub mod Requests
-pub mod ScriptInputs
-pub mod Searches
-pub mod Threads
-pub mod Told

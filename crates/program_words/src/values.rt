@@ -1,0 +1,118 @@
+//! What a single word says: a number, a name, a date, or a path.
+ghost use Rattle.std.specs.Prelude.{◌≤◌, IfOk};
+
+use crate::task::Named;
+use std::alloc::AllocError;
+
+/// Why words that `clap` takes are refused all the same.
+pub(crate) enum Unread {
+    /// For this reason.
+    Refused(&'static str),
+    /// There was no memory.
+    OutOfMemory,
+}
+
+impl From<AllocError> for Unread {
+    fn from(_error: AllocError) -> Unread {
+        Unread::OutOfMemory
+    }
+}
+
+/// Whether the word is one or more decimal digits.
+fn is_number(word: &str) -> bool {
+    !word.is_empty() && word.as_bytes().iter().all(|byte| byte.is_ascii_digit())
+}
+
+/// The number that the word is, from `least` to `most`. `clap` has seen to the bounds, and takes a sign before the digits, which is
+/// refused for this reason.
+pub(crate) fn number(word: &str, least: u32, most: u32, reason: &'static str) -> Result<u32, Unread>
+    ensures { IfOk result (λ n. (least ≤ n) × (n ≤ most)) }
+{
+    if !is_number(word) {
+        return Err(Unread::Refused(reason));
+    }
+    match word.parse::<u32>() {
+        Ok(number) if least <= number && number <= most => Ok(number),
+        _ => Err(Unread::Refused(reason)),
+    }
+}
+
+/// What the word names: digits an event, any other word a place. A number that is larger than any event is one that no
+/// trace has.
+pub(crate) fn named(word: &str) -> Named<'_> {
+    if is_number(word) {
+        Named::Event(word.parse::<u32>().unwrap_or(u32::MAX))
+    } else {
+        Named::Place(word)
+    }
+}
+
+/// The path that stands for standard input.
+pub(crate) const STANDARD: &str = "-";
+
+/// Whether more than one of the paths is that of standard input.
+pub(crate) fn share_input(paths: &[&str]) -> bool {
+    let mut has_one = false;
+    for path in paths {
+        if *path == STANDARD {
+            if has_one {
+                return true;
+            }
+            has_one = true;
+        }
+    }
+    false
+}
+
+/// A refusal if more than one of the paths is that of standard input.
+pub(crate) fn check_inputs(paths: &[&str]) -> Result<(), Unread> {
+    if share_input(paths) {
+        return Err(Unread::Refused("`-` is standard input, and may be given once"));
+    }
+    Ok(())
+}
+
+/// A date such as 2027-12-31 as the number 20271231, if there is one.
+pub(crate) fn day(word: Option<&str>, may_be: bool) -> Result<Option<u32>, Unread> {
+    let Some(word) = word else {
+        return Ok(None);
+    };
+    if !may_be {
+        return Err(Unread::Refused("`--today` goes with `--triage`"));
+    }
+    match day_of(word.as_bytes()) {
+        Some(day) => Ok(Some(day)),
+        None => Err(Unread::Refused("`--today` takes a date such as 2027-12-31")),
+    }
+}
+
+/// The number of a date.
+fn day_of(word: &[u8]) -> Option<u32> {
+    if word.len() != 10 || word[4] != b'-' || word[7] != b'-' {
+        return None;
+    }
+    let mut day = 0u32;
+    for at in 0..10 {
+        if at != 4 && at != 7 {
+            day = with_digit(day, word[at])?;
+        }
+    }
+    let (month, date) = (day / 100 % 100, day % 100);
+    if 1 <= month && month <= 12 && 1 <= date && date <= 31 {
+        Some(day)
+    } else {
+        None
+    }
+}
+
+/// The number with one more digit.
+fn with_digit(number: u32, digit: u8) -> Option<u32> {
+    if !(b'0' <= digit && digit <= b'9') {
+        return None;
+    }
+    Some(
+        number
+            .saturating_mul(10)
+            .saturating_add(u32::from(digit - b'0')),
+    )
+}

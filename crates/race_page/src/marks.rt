@@ -1,0 +1,65 @@
+//! A writer of markup: own bytes, numbers, and texts that are escaped, one after another.
+ghost use Rattle.std.specs.Prelude.{◌≡◌, ◌++◌, OnOk, decimal};
+ghost use Rattle.markup.specs.Escaped.{escaped};
+ghost use Rattle.race_page.specs.Marks.{mark_text, marks_text};
+
+use itoa::Buffer;
+use markup::escape;
+use rapid_text::OutOfMemory;
+
+/// What is written next.
+#[derive(Clone, Copy)]
+pub(crate) enum Mark<'a> {
+    /// Own markup, as it is.
+    Own(&'a [u8]),
+    /// A number in decimal digits.
+    Number(u64),
+    /// A text, whatever it is: it is escaped.
+    Text(&'a [u8]),
+}
+
+/// Appends these, in order.
+pub(crate) fn append_marks(out: &mut Vec<u8>, marks: &[Mark<'_>]) -> Result<(), OutOfMemory>
+    ensures { OnOk result (out.new.items ≡ out.old.items ++ marks_text marks.now) }
+{
+    for mark in marks {
+        append_mark(out, *mark)?;
+    }
+    Ok(())
+}
+
+/// Appends one of them.
+fn append_mark(out: &mut Vec<u8>, mark: Mark<'_>) -> Result<(), OutOfMemory>
+    ensures { OnOk result (out.new.items ≡ out.old.items ++ mark_text mark.entry) }
+{
+    match mark {
+        Mark::Own(bytes) => append_own(out, bytes),
+        Mark::Number(number) => append_digits(out, number),
+        Mark::Text(text) => append_escaped(out, text),
+    }
+}
+
+/// Appends own markup.
+fn append_own(out: &mut Vec<u8>, bytes: &[u8]) -> Result<(), OutOfMemory>
+    ensures { OnOk result (out.new.items ≡ out.old.items ++ bytes.now) }
+{
+    out.extend_from_slice(bytes)?;
+    Ok(())
+}
+
+/// Appends a number in decimal digits.
+fn append_digits(out: &mut Vec<u8>, number: u64) -> Result<(), OutOfMemory>
+    ensures { OnOk result (out.new.items ≡ out.old.items ++ decimal number) }
+{
+    let mut digits = Buffer::new();
+    out.extend_from_slice(digits.format(number).as_bytes())?;
+    Ok(())
+}
+
+/// Appends a text as markup that means just this text.
+fn append_escaped(out: &mut Vec<u8>, text: &[u8]) -> Result<(), OutOfMemory>
+    ensures { OnOk result (out.new.items ≡ out.old.items ++ escaped text.now) }
+{
+    escape(text, out)?;
+    Ok(())
+}

@@ -1,0 +1,248 @@
+//! The page of a merged report: a row for each pair of locations, with what the parts say of it.
+ghost use Rattle.std.specs.Prelude.{◌≡◌, ◌++◌, IfOk, OnErr, OnOk, take};
+ghost use Rattle.std.specs.List.{filter};
+ghost use Rattle.race_page.specs.Merged.{apart_section, first_text, has_rank, head_text, heading_of, kept_text, lead_text, left_text, merged_begin, merged_text, none_text, opening_text, section_text, title_text};
+
+use crate::heading::append_races;
+use crate::marks::{Mark, append_marks};
+use crate::merged_rows::append_rows;
+use crate::rows::MOST_ROWS;
+use crate::style::{BODY, TOP};
+use race_parts::Pair;
+use rapid_text::OutOfMemory;
+use std::alloc::Global;
+
+/// What stands at the end of the page.
+const END: &[u8] = b"<section>
+<h2>What the words mean</h2>
+<p>A part is the report of one trace, or of one window of a trace. Events have the numbers of that trace.</p>
+<p>Race: a schedule of the part, a correct reordering of its trace, brings the two accesses next to each other. The row
+is that of the part with the shortest schedule.</p>
+<p>Undecided: no part has a schedule for the pair, and the search of one was not complete.</p>
+<p>Apart: no correct reordering of the trace of a part that met the pair brings the two next to each other.</p>
+<p>If the part is a window, <code>racebench cut</code> and the name of the part print the window as a trace.</p>
+</section>
+</main>
+</body>
+</html>
+";
+
+/// Appends a page (HTML) of a merged report of so many parts. Its first line says how many races there are in how many parts. Then there is a
+/// row for each race, each pair of locations that is undecided, and if `apart` is true each that is apart: of each sort the first 2,000 of `pairs`.
+/// If memory is refused `out` stays as it was.
+pub fn merged_page(
+    parts: usize,
+    pairs: &[Pair<'_>],
+    apart: bool,
+    out: &mut Vec<u8>,
+) -> Result<(), OutOfMemory>
+    ensures ok { OnOk result (out.new.items ≡ out.old.items ++ merged_text parts pairs.now apart) }
+    ensures err { OnErr result (out.new.items ≡ out.old.items) }
+{
+    let mut text = Vec::new(*out.allocator());
+    append_page(&mut text, parts, pairs, apart)?;
+    out.extend_from_slice(text.as_slice())?;
+    Ok(())
+}
+
+/// Appends the page.
+fn append_page(
+    out: &mut Vec<u8>,
+    parts: usize,
+    pairs: &[Pair<'_>],
+    apart: bool,
+) -> Result<(), OutOfMemory>
+    ensures { OnOk result (out.new.items ≡ out.old.items ++ merged_text parts pairs.now apart) }
+{
+    append_races_of(out, parts, pairs)?;
+    append_rank(out, parts, pairs, 1)?;
+    append_apart(out, parts, pairs, apart)?;
+    append_marks(out, &[Mark::Own(END)])
+}
+
+/// Appends the beginning of the page, and the races.
+fn append_races_of(out: &mut Vec<u8>, parts: usize, pairs: &[Pair<'_>]) -> Result<(), OutOfMemory>
+    ensures { OnOk result (out.new.items ≡ out.old.items ++ lead_text parts (filter (has_rank 0) pairs.now)) }
+{
+    let races = of_rank(*out.allocator(), pairs, 0)?;
+    append_lead(out, parts, races.as_slice())
+}
+
+/// Appends the beginning of the page, and these races.
+#[tactic(auto, unfolding(crate::specs::Merged::lead_text))]
+fn append_lead(out: &mut Vec<u8>, parts: usize, races: &[Pair<'_>]) -> Result<(), OutOfMemory>
+    ensures { OnOk result (out.new.items ≡ out.old.items ++ lead_text parts races.now) }
+{
+    append_begin(out, races.len() as u64, parts as u64)?;
+    append_section(out, parts, races, 0)
+}
+
+/// Appends what is apart, if that is asked for.
+fn append_apart(
+    out: &mut Vec<u8>,
+    parts: usize,
+    pairs: &[Pair<'_>],
+    apart: bool,
+) -> Result<(), OutOfMemory>
+    ensures { OnOk result (out.new.items ≡ out.old.items ++ apart_section apart parts pairs.now) }
+{
+    if apart {
+        append_rank(out, parts, pairs, 2)
+    } else {
+        Ok(())
+    }
+}
+
+/// Appends the section of this rank.
+fn append_rank(
+    out: &mut Vec<u8>,
+    parts: usize,
+    pairs: &[Pair<'_>],
+    rank: u8,
+) -> Result<(), OutOfMemory>
+    ensures { OnOk result (out.new.items ≡ out.old.items ++ section_text rank parts (filter (has_rank rank) pairs.now)) }
+{
+    let kept = of_rank(*out.allocator(), pairs, rank)?;
+    append_section(out, parts, kept.as_slice(), rank)
+}
+
+/// The pairs of this rank, in their order.
+fn of_rank<'a>(alloc: Global, pairs: &[Pair<'a>], rank: u8) -> Result<Vec<Pair<'a>>, OutOfMemory>
+    ensures { IfOk result (λ kept. kept.items ≡ filter (has_rank rank) pairs.now) }
+{
+    let mut kept = Vec::new(alloc);
+    for pair in pairs {
+        if pair.rank == rank {
+            kept.push(*pair)?;
+        }
+    }
+    Ok(kept)
+}
+
+/// Appends the beginning of the page.
+#[tactic(auto, unfolding(crate::specs::Merged::merged_begin))]
+fn append_begin(out: &mut Vec<u8>, races: u64, parts: u64) -> Result<(), OutOfMemory>
+    ensures { OnOk result (out.new.items ≡ out.old.items ++ merged_begin races parts) }
+{
+    append_head(out, races, parts)?;
+    append_first(out, races, parts)
+}
+
+/// Appends the head of the page, and how the page looks.
+fn append_head(out: &mut Vec<u8>, races: u64, parts: u64) -> Result<(), OutOfMemory>
+    ensures { OnOk result (out.new.items ≡ out.old.items ++ head_text races parts) }
+{
+    append_marks(out, &[Mark::Own(TOP), Mark::Own(b"<title>")])?;
+    append_title(out, races, parts)?;
+    append_marks(out, &[Mark::Own(b"</title>\n"), Mark::Own(BODY)])
+}
+
+/// Appends the first line of the page.
+fn append_first(out: &mut Vec<u8>, races: u64, parts: u64) -> Result<(), OutOfMemory>
+    ensures { OnOk result (out.new.items ≡ out.old.items ++ first_text races parts) }
+{
+    append_marks(out, &[Mark::Own(b"<header>\n<h1>")])?;
+    append_title(out, races, parts)?;
+    append_marks(out, &[Mark::Own(b"</h1>\n</header>\n<main>\n")])
+}
+
+/// Appends how many races there are in how many parts.
+fn append_title(out: &mut Vec<u8>, races: u64, parts: u64) -> Result<(), OutOfMemory>
+    ensures { OnOk result (out.new.items ≡ out.old.items ++ title_text races parts) }
+{
+    append_races(out, races)?;
+    append_marks(
+        out,
+        &[
+            Mark::Own(b" in "),
+            Mark::Number(parts),
+            Mark::Own(if parts == 1 { b" part" } else { b" parts" }),
+        ],
+    )
+}
+
+/// Appends the section of these pairs, which are of this rank.
+#[tactic(auto, unfolding(crate::specs::Merged::section_text))]
+fn append_section(
+    out: &mut Vec<u8>,
+    parts: usize,
+    kept: &[Pair<'_>],
+    rank: u8,
+) -> Result<(), OutOfMemory>
+    ensures { OnOk result (out.new.items ≡ out.old.items ++ section_text rank parts kept.now) }
+{
+    append_opening(out, rank)?;
+    append_kept(out, parts, kept)?;
+    append_marks(out, &[Mark::Own(b"</section>\n")])
+}
+
+/// Appends with what the section of a rank begins.
+fn append_opening(out: &mut Vec<u8>, rank: u8) -> Result<(), OutOfMemory>
+    ensures { OnOk result (out.new.items ≡ out.old.items ++ opening_text rank) }
+{
+    append_marks(
+        out,
+        &[
+            Mark::Own(b"<section>\n<h2>"),
+            Mark::Own(heading_of(rank)),
+            Mark::Own(b"</h2>\n"),
+        ],
+    )
+}
+
+/// The heading of a rank.
+fn heading_of(rank: u8) -> &'static [u8]
+    ensures { result.now ≡ heading_of rank }
+{
+    match rank {
+        0 => b"Races",
+        1 => b"Undecided",
+        _ => b"Apart",
+    }
+}
+
+/// Appends the rows of the first of these pairs, and how many more there are.
+#[tactic(auto, unfolding(crate::specs::Merged::kept_text))]
+fn append_kept(out: &mut Vec<u8>, parts: usize, kept: &[Pair<'_>]) -> Result<(), OutOfMemory>
+    ensures { OnOk result (out.new.items ≡ out.old.items ++ kept_text parts kept.now) }
+{
+    append_none(out, kept)?;
+    append_rows(out, parts, first_of(kept))?;
+    append_left(out, kept.len())
+}
+
+/// Appends that there are none.
+fn append_none(out: &mut Vec<u8>, kept: &[Pair<'_>]) -> Result<(), OutOfMemory>
+    ensures { OnOk result (out.new.items ≡ out.old.items ++ none_text kept.now) }
+{
+    if kept.is_empty() {
+        append_marks(out, &[Mark::Own(b"<p>None.</p>\n")])
+    } else {
+        Ok(())
+    }
+}
+
+/// The first of the pairs, as many as have a row.
+fn first_of<'a, 'b>(kept: &'a [Pair<'b>]) -> &'a [Pair<'b>]
+    ensures { result.now ≡ take 2000 kept.now }
+{
+    &kept[..MOST_ROWS.min(kept.len())]
+}
+
+/// Appends how many of so many pairs have no row, if some have none.
+fn append_left(out: &mut Vec<u8>, count: usize) -> Result<(), OutOfMemory>
+    ensures { OnOk result (out.new.items ≡ out.old.items ++ left_text count) }
+{
+    if count > MOST_ROWS {
+        append_marks(
+            out,
+            &[
+                Mark::Own(b"<p>Left out here: "),
+                Mark::Number((count - MOST_ROWS) as u64),
+                Mark::Own(b". Without --page all are told, as text.</p>\n"),
+            ],
+        )
+    } else {
+        Ok(())
+    }
+}

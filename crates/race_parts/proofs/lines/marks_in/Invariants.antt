@@ -1,0 +1,10 @@
+use Rattle.std.proofs.Common.{length}
+use Rattle.serde_json.specs.View.{view}
+use Rattle.race_parts.proofs.LineLemmas.{AreMarked}
+use Rattle.race_parts.proofs.lines.marks_in.Given as goal
+
+abbrev pub invariant-lines : goal.invariant-lines
+invariant-lines l = AreMarked l.text l.rest (view l.begun.head) l.marks.items
+
+abbrev pub decreases-lines : goal.decreases-lines
+decreases-lines l = length l.rest

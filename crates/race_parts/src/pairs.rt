@@ -1,0 +1,106 @@
+//! Pairs of places, each with the row that is shown and with what the parts say of it.
+ghost use Rattle.std.specs.Prelude.{◌≡◌, ◌≤◌, ◌++◌, ◌∷◌, [], IfOk, None, OnOk, drop, false, length, map, slice_get, true};
+ghost use Rattle.race_parts.specs.Pairs.{line_by, pair_shown, pair_told, pairs_by, pairs_shown, pairs_told};
+ghost use Rattle.race_parts.specs.Texts.{run_count};
+
+use crate::cells::{Cell, Row, cell_at};
+use crate::text::{is_head, run_count};
+use rapid_text::OutOfMemory;
+use std::alloc::Global;
+
+/// A pair of places.
+#[derive(Clone, Copy)]
+pub struct Pair<'a> {
+    /// The line that the row is which is shown.
+    pub line: &'a [u8],
+    /// The name of the part that has it.
+    pub part: &'a [u8],
+    /// 0 for a race, 1 for what is undecided, 2 for what is apart.
+    pub rank: u8,
+    /// In how many parts the two places are a race.
+    pub races: usize,
+    /// In how many they are undecided.
+    pub undecided: usize,
+    /// In how many they are apart.
+    pub apart: usize,
+}
+
+/// The pairs of places in the order in which they are told: races, what is undecided, and what is apart if that is asked for.
+pub fn pairs_of<'a>(
+    alloc: Global,
+    rows: &'a [Row<'_>],
+    cells: &[Cell<'a>],
+    apart: bool,
+) -> Result<Vec<Pair<'a>>, OutOfMemory>
+    ensures { IfOk result (λ pairs. map pair_shown pairs.items ≡ pairs_shown rows.now cells.now apart) }
+{
+    let mut pairs = Vec::new(alloc);
+    push_pairs(&mut pairs, rows, cells, 0)?;
+    push_pairs(&mut pairs, rows, cells, 1)?;
+    if apart {
+        push_pairs(&mut pairs, rows, cells, 2)?;
+    }
+    Ok(pairs)
+}
+
+/// Adds the pairs of this rank.
+fn push_pairs<'a>(
+    pairs: &mut Vec<Pair<'a>>,
+    rows: &'a [Row<'_>],
+    cells: &[Cell<'a>],
+    rank: u8,
+) -> Result<(), OutOfMemory>
+    ensures { OnOk result (map pair_shown pairs.new.items ≡ map pair_shown pairs.old.items ++ pairs_told rows.now rank None cells.now) }
+{
+    let mut before = None;
+    let mut at = 0;
+    'cells: while at < cells.len() {
+        let cell = cell_at(cells, at);
+        if is_head(before, rank, cell) {
+            push_pair(pairs, rows, cell, cells, at)?;
+        }
+        before = Some(cell);
+        at += 1;
+    }
+    Ok(())
+}
+
+/// Adds the pair of the cell at this place, which is the first of its places.
+fn push_pair<'a>(
+    pairs: &mut Vec<Pair<'a>>,
+    rows: &'a [Row<'_>],
+    cell: Cell<'a>,
+    cells: &[Cell<'a>],
+    at: usize,
+) -> Result<(), OutOfMemory>
+    requires { at ≤ length cells.now }
+    ensures { OnOk result (map pair_shown pairs.new.items ≡ map pair_shown pairs.old.items ++ pair_told rows.now cell.entry (drop at cells.now) ∷ []) }
+{
+    pairs.push(pair_of(rows, cell, cells, at))?;
+    Ok(())
+}
+
+/// The pair of the cell at this place, which is the first of its places.
+fn pair_of<'a>(rows: &'a [Row<'_>], cell: Cell<'a>, cells: &[Cell<'a>], at: usize) -> Pair<'a>
+    requires { at ≤ length cells.now }
+    ensures { pair_shown result ≡ pair_told rows.now cell.entry (drop at cells.now) }
+{
+    Pair {
+        line: line_at(rows, cell.number),
+        part: cell.part,
+        rank: cell.rank,
+        races: run_count(cell, 0, cells, at),
+        undecided: run_count(cell, 1, cells, at),
+        apart: run_count(cell, 2, cells, at),
+    }
+}
+
+/// The line that the row of this number is; nothing if there is none.
+fn line_at<'a>(rows: &'a [Row<'_>], number: usize) -> &'a [u8]
+    ensures { result.now ≡ line_by (slice_get rows.now number) }
+{
+    match rows.get(number) {
+        Some(row) => row.line,
+        None => b"",
+    }
+}

@@ -1,0 +1,12 @@
+use Rattle.std.proofs.Common.{None}
+use Rattle.race_sarif.specs.Logs.{joined, rest_text}
+use Rattle.race_sarif.specs.Merged.{merged_objects}
+use Rattle.race_sarif.specs.declared.logs.TheConstants.{HEAD}
+use Rattle.race_sarif.proofs.LogLemmas.{three_pieces}
+use Rattle.race_sarif.proofs.merged.append_log.Goals as goal
+
+pub returns : goal.returns
+returns c =
+    three_pieces c.args.out.now.items c.extend_from_slice.new.self.items c.append_objects.new.out.items c.append_rest.new.out.items HEAD.now
+    (joined (merged_objects c.args.parts c.args.sources c.args.pairs.now)) (rest_text c.args.sources.root.now None None)
+    c.in_ok-extend_from_slice.ensures.items c.in_ok-append_objects.ensures c.in_ok-append_rest.ensures

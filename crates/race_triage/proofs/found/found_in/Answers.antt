@@ -1,0 +1,42 @@
+use Rattle.std.proofs.Common.{◌≡◌, ℕ, List, count_by, Option, Vec, length, max, sym, ap, ◌∙◌, subst, slice_index}
+use Rattle.std.specs.List.{slice_get}
+use Rattle.std.specs.declared.alloc.Global.{Global}
+use Rattle.std.proofs.lemmas.Bool.{true≢false}
+use Rattle.least_pairs.specs.Pairs.{AreLeasts}
+use Rattle.race_groups.specs.declared.kinds.Row.{Row}
+use Rattle.race_triage.specs.Verdicts.{budget_for, has_tries}
+use Rattle.race_triage.proofs.found.found_in.Goals as goal
+use Rattle.race_triage.proofs.found.found_in.Goals.{then-effort+in_ok-firsts, else-effort}
+
+pub returns-clause-found : goal.returns-clause-found
+returns-clause-found c =
+    let r = c.args.tables.indexed.now in
+    let place = slice_index c.args.tables.places.now in
+    let most : c.max-most.result ≡ max c.args.effort.tries 1 = c.max-most.ensures in
+    record {
+      tables = c.requires.tables;
+      is = record {
+        rows = c.requires.rows;
+        there = c.requires.there;
+        once = c.requires.once;
+        shared = record {
+          rows = c.args.groups.rows.items;
+          are = c.requires.rows;
+          there = c.requires.there;
+          once = c.requires.once;
+          complete = c.requires.complete;
+          is = c.budget_of-budget.ensures ∙ ap (λ (rows : List Row). budget_for (count_by has_tries rows)) c.as_slice.ensures.value;
+        };
+        leasts_len = c.in_ok-leasts.ensures.len;
+        leasts = λ at row l here there. subst (λ (n : ℕ). AreLeasts r place row.places n l) most (c.in_ok-leasts.ensures.leasts at row l here there);
+        firsts_len = λ told. elim c.if-effort.branch [
+          | then-effort+in_ok-firsts w ↦ ap (λ (v : Vec (Option (ℕ × ℕ)) Global). length v.items) w.firsts-is ∙ w.in_ok-firsts.ensures.len
+          | else-effort w ↦ absurd (true≢false (sym told ∙ w.if-effort.false))
+        ];
+        firsts = λ told at row first here there. elim c.if-effort.branch [
+          | then-effort+in_ok-firsts w ↦
+              w.in_ok-firsts.ensures.firsts at row first here (ap (λ (v : Vec (Option (ℕ × ℕ)) Global). slice_get v.items at) (sym w.firsts-is) ∙ there)
+          | else-effort w ↦ absurd (true≢false (sym told ∙ w.if-effort.false))
+        ];
+      };
+    }

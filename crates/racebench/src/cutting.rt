@@ -1,0 +1,263 @@
+//! What the program does at `cut`: it prints a window of a trace, or writes all of them as files.
+ghost use Rattle.std.specs.Prelude.{◌<◌};
+
+use crate::doing::finish;
+use crate::input::input_at;
+use crate::pieces::Pieces;
+use crate::quoted::append_number;
+use crate::telling::{tell_files, tell_full, tell_replay, tell_unwritten};
+use crate::windows::Windows;
+use calls::{BenchFault, cut_window};
+use client_scripts::{FromRead, FromWrite, ReadCause, ReplayFault, write_all};
+use program_words::CutTask;
+use rapid_text::{MAX_EVENTS, OutOfMemory};
+use std::alloc::Global;
+use std::fs::File;
+use std::process::ExitCode;
+use std::{fs, io};
+
+/// How many digits the number of a window has at least, so that names sort as numbers do.
+const DIGITS: usize = 9;
+
+/// 94: the folder could not be read.
+const UNREAD: ReplayFault = ReplayFault::Read {
+    input: 1,
+    why: ReadCause::Device,
+};
+
+/// Prints the window that is asked for, or writes all windows.
+pub(crate) fn cut_of_file(rt: &HostRuntime, task: &CutTask<'_>) -> ExitCode
+    requires { 0 < task.now.most }
+{
+    match cut_by(rt, task) {
+        Ok(status) => status,
+        Err(fault) => tell_files(rt, fault, &[task.trace]),
+    }
+}
+
+/// The same, but for the faults of the trace.
+fn cut_by(rt: &HostRuntime, task: &CutTask<'_>) -> Result<ExitCode, BenchFault>
+    requires { 0 < task.now.most }
+{
+    let pieces = Pieces::new(rt.alloc(), input_at(rt, task.trace));
+    match task.into {
+        Some(folder) => write_windows(rt, pieces, task.most, folder),
+        None => print_window(rt, pieces, task),
+    }
+}
+
+/// Prints a window: of a trace that is read whole if it is not too long, or else of what was read up to it.
+fn print_window(
+    rt: &HostRuntime,
+    mut pieces: Pieces,
+    task: &CutTask<'_>,
+) -> Result<ExitCode, BenchFault>
+    requires { 0 < task.now.most }
+{
+    let whole = pieces.span_kept(0, MAX_EVENTS)?;
+    if pieces.is_end(whole.end)? {
+        print_whole(rt, &pieces, task)
+    } else {
+        print_long(rt, pieces, task)
+    }
+}
+
+/// Prints the window of a trace that was read whole.
+fn print_whole(
+    rt: &HostRuntime,
+    pieces: &Pieces,
+    task: &CutTask<'_>,
+) -> Result<ExitCode, BenchFault>
+    requires { 0 < task.now.most }
+{
+    let mut writer = FromWrite::new(io::writer(rt));
+    let mut reader = FromRead::new(pieces.bytes());
+    cut_window(rt.alloc(), &mut reader, task.from, task.most, &mut writer)?;
+    Ok(finish(rt, &mut writer))
+}
+
+/// Prints the window of a longer trace.
+fn print_long(
+    rt: &HostRuntime,
+    pieces: Pieces,
+    task: &CutTask<'_>,
+) -> Result<ExitCode, BenchFault> {
+    let mut windows = Windows::new(rt.alloc(), pieces, task.most);
+    match windows.at(rt.alloc(), u64::from(task.from))? {
+        Some(window) => Ok(print_text(rt, window.text.as_slice())),
+        None => Err(BenchFault::NoSuchEvent),
+    }
+}
+
+/// Prints a text on standard output.
+pub(crate) fn print_text(rt: &HostRuntime, text: &[u8]) -> ExitCode {
+    let mut writer = FromWrite::new(io::writer(rt));
+    match write_all(&mut writer, text) {
+        Ok(()) => finish(rt, &mut writer),
+        Err(_) => tell_replay(rt, ReplayFault::Write),
+    }
+}
+
+/// What is at the path of a folder.
+#[derive(Clone, Copy, PartialEq, Eq)]
+enum Folder {
+    /// A folder without files, which may have been made now.
+    Empty,
+    /// A folder with files.
+    Full,
+    /// Something that cannot be read as a folder.
+    Unread,
+    /// Nothing, and no folder can be made.
+    Unmade,
+    /// There was no memory to look.
+    NoMemory,
+}
+
+/// What is at a path, if looking failed so.
+fn failed_at(rt: &HostRuntime, path: &str, error: io::Error) -> Folder {
+    match error.kind() {
+        io::ErrorKind::NotFound => made_at(rt, path),
+        io::ErrorKind::OutOfMemory => Folder::NoMemory,
+        _ => Folder::Unread,
+    }
+}
+
+/// A new folder at the path.
+fn made_at(rt: &HostRuntime, path: &str) -> Folder {
+    match fs::create_dir(rt, path) {
+        Ok(()) => Folder::Empty,
+        Err(error) => {
+            if error.kind() == io::ErrorKind::OutOfMemory {
+                Folder::NoMemory
+            } else {
+                Folder::Unmade
+            }
+        }
+    }
+}
+
+/// What is at the path of a folder of which the first name could not be taken for this.
+fn unnamed_in(error: io::Error) -> Folder {
+    match error.kind() {
+        // There is a file, and its name is no text.
+        io::ErrorKind::InvalidFilename => Folder::Full,
+        io::ErrorKind::OutOfMemory => Folder::NoMemory,
+        _ => Folder::Unread,
+    }
+}
+
+/// What is at the path of a folder. If there is nothing, the folder is made.
+fn folder_at(rt: &HostRuntime, path: &str) -> Folder {
+    match fs::read_dir(rt, path) {
+        Ok(mut entries) => match entries.next() {
+            None => Folder::Empty,
+            Some(Ok(_)) => Folder::Full,
+            Some(Err(error)) => unnamed_in(error),
+        },
+        Err(error) => failed_at(rt, path, error),
+    }
+}
+
+/// Writes all windows as files into a folder.
+fn write_windows(
+    rt: &HostRuntime,
+    pieces: Pieces,
+    most: u32,
+    folder: &str,
+) -> Result<ExitCode, BenchFault> {
+    match folder_at(rt, folder) {
+        Folder::Empty => write_all_windows(rt, pieces, most, folder),
+        Folder::Full => Ok(tell_full(rt, folder)),
+        Folder::Unmade => Ok(tell_unwritten(rt, folder)),
+        Folder::Unread => Ok(tell_files(rt, BenchFault::Replay(UNREAD), &[folder])),
+        Folder::NoMemory => Err(BenchFault::Replay(ReplayFault::OutOfMemory)),
+    }
+}
+
+/// Writes all windows as files into this folder, which is empty.
+fn write_all_windows(
+    rt: &HostRuntime,
+    pieces: Pieces,
+    most: u32,
+    folder: &str,
+) -> Result<ExitCode, BenchFault> {
+    let mut windows = Windows::new(rt.alloc(), pieces, most);
+    let mut count = 0u64;
+    for _ in 0..u64::MAX {
+        match windows.next(rt.alloc())? {
+            Some(window) => {
+                let path = path_of(rt.alloc(), folder, window.from)?;
+                if !write_file(rt, path.as_str(), window.text.as_slice()) {
+                    return Ok(tell_unwritten(rt, path.as_str()));
+                }
+                count = count.saturating_add(1);
+            }
+            None => return Ok(print_counts(rt, &windows, count)),
+        }
+    }
+    Ok(print_counts(rt, &windows, count))
+}
+
+/// The path of the file of the window at the event of this number.
+fn path_of(alloc: Global, folder: &str, number: u64) -> Result<String, OutOfMemory> {
+    let mut path = Vec::new(alloc);
+    path.extend_from_slice(folder.as_bytes())?;
+    path.extend_from_slice(b"/window-")?;
+    append_padded(&mut path, number)?;
+    path.extend_from_slice(b".std")?;
+    Ok(String::from_utf8_lossy(alloc, &path)?)
+}
+
+/// Appends a number with noughts before it.
+pub(crate) fn append_padded(out: &mut Vec<u8>, number: u64) -> Result<(), OutOfMemory> {
+    let mut digits = Vec::new(*out.allocator());
+    append_number(&mut digits, number)?;
+    for _ in digits.len()..DIGITS {
+        out.push(b'0')?;
+    }
+    out.extend_from_slice(&digits)?;
+    Ok(())
+}
+
+/// Writes a new file. If that fails, no part of it is left.
+fn write_file(rt: &HostRuntime, path: &str, text: &[u8]) -> bool {
+    let Ok(file) = File::create_new(rt, path) else {
+        return false;
+    };
+    let mut writer = FromWrite::new(file);
+    let is_written = write_all(&mut writer, text).is_ok() && writer.flush().is_ok();
+    if !is_written {
+        let _ = fs::remove_file(rt, path);
+    }
+    is_written
+}
+
+/// Prints how many windows there are, of how many events, and how many of them are shorter.
+fn print_counts(rt: &HostRuntime, windows: &Windows, count: u64) -> ExitCode {
+    let mut text = Vec::new(rt.alloc());
+    match append_counts(&mut text, windows, count) {
+        Ok(()) => print_text(rt, text.as_slice()),
+        Err(_) => tell_replay(rt, ReplayFault::OutOfMemory),
+    }
+}
+
+/// Appends the lines of the counts.
+pub(crate) fn append_counts(
+    out: &mut Vec<u8>,
+    windows: &Windows,
+    count: u64,
+) -> Result<(), OutOfMemory> {
+    append_count(out, b"windows ", count)?;
+    append_count(out, b"shorter ", windows.short())?;
+    append_count(out, b"events ", windows.events())?;
+    let threads = windows.threads(*out.allocator())?;
+    append_count(out, b"threads ", threads)
+}
+
+/// Appends the line of a count.
+fn append_count(out: &mut Vec<u8>, word: &[u8], count: u64) -> Result<(), OutOfMemory> {
+    out.extend_from_slice(word)?;
+    append_number(out, count)?;
+    out.push(b'\n')?;
+    Ok(())
+}

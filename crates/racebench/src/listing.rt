@@ -1,0 +1,166 @@
+//! Lists the races of the trace in a file, over the calls of `triage_calls`.
+ghost use Rattle.std.specs.Prelude.{◌≡◌, IfSome, false};
+
+use crate::coding::{lines_of, root_of};
+use crate::input::{Input, input_at};
+use crate::seen::Seen;
+use client_scripts::{Sink, read_trace};
+use event_index::Indexed;
+use program_words::{RacesForm, TriageTask};
+use std::thread::Threads;
+use toml::Value;
+use triage_calls::{
+    About, Asked, Crew, Filters, Form, SourceLine, Sources, TriageFault, Watch, triage, triage_on,
+};
+
+/// What is listed: by which task, how the trace's races came out when they were followed, and the entries of a triage file.
+#[derive(Clone, Copy)]
+pub(crate) struct Listing<'a> {
+    pub(crate) task: &'a TriageTask<'a>,
+    pub(crate) about: About<'a>,
+    pub(crate) triage: Option<&'a [Value]>,
+}
+
+/// What is asked for, as the call takes it.
+fn asked_of<'a>(listing: Listing<'a>, sources: Sources<'a>) -> Asked<'a> {
+    let task = listing.task;
+    Asked {
+        filters: Filters {
+            only: task.only.as_slice(),
+            hide: task.hide.as_slice(),
+        },
+        apart: task.apart,
+        tries: task.tries,
+        workers: task.workers,
+        form: match task.form {
+            RacesForm::Text => Form::Text,
+            RacesForm::Json => Form::Json,
+            RacesForm::Lines => Form::Lines,
+            RacesForm::Entries => Form::Entries,
+            RacesForm::Page => Form::Page {
+                about: listing.about,
+            },
+            RacesForm::Sarif => Form::Sarif { sources },
+        },
+        triage: listing.triage,
+    }
+}
+
+/// The file of known races, where one is named.
+fn known_at(rt: &HostRuntime, path: Option<&str>) -> Option<Input>
+    ensures { IfSome result (λ input. input.failed ≡ false) }
+{
+    match path {
+        Some(path) => Some(input_at(rt, path)),
+        None => None,
+    }
+}
+
+/// Lists the races of the trace in a file. Who watches is told how far that is, and of the end before anything is written.
+pub(crate) fn list_to<R: Threads + Sync, K: Sink, W: Watch + Sync>(
+    rt: &HostRuntime,
+    crew: &Crew<'_, R, Seen<'_, W>>,
+    listing: Listing<'_>,
+    writer: &mut K,
+) -> Result<u64, TriageFault>
+    requires { K.has_failed writer.old ≡ false }
+{
+    match listing.task.source {
+        Some(folder) => list_in(rt, crew, listing, folder, writer),
+        None => {
+            let none = Vec::new(rt.alloc());
+            list_plain(rt, crew, listing, none.as_slice(), writer)
+        }
+    }
+}
+
+/// The same without the lines of the code.
+fn list_plain<R: Threads + Sync, K: Sink, W: Watch + Sync>(
+    rt: &HostRuntime,
+    crew: &Crew<'_, R, Seen<'_, W>>,
+    listing: Listing<'_>,
+    none: &[SourceLine],
+    writer: &mut K,
+) -> Result<u64, TriageFault>
+    requires { K.has_failed writer.old ≡ false }
+{
+    let mut reader = input_at(rt, listing.task.trace);
+    let known = known_at(rt, listing.task.known);
+    let sources = Sources {
+        root: b"",
+        lines: none,
+    };
+    let asked = asked_of(listing, sources);
+    triage(crew, rt.alloc(), &mut reader, known, asked, writer)
+}
+
+/// The same with the code in this folder.
+fn list_in<R: Threads + Sync, K: Sink, W: Watch + Sync>(
+    rt: &HostRuntime,
+    crew: &Crew<'_, R, Seen<'_, W>>,
+    listing: Listing<'_>,
+    folder: &str,
+    writer: &mut K,
+) -> Result<u64, TriageFault>
+    requires { K.has_failed writer.old ≡ false }
+{
+    let mut reader = input_at(rt, listing.task.trace);
+    match read_trace(rt.alloc(), &mut reader) {
+        Ok(indexed) => {
+            crew.watch.read(indexed.len());
+            list_code(rt, crew, listing, &indexed, folder, writer)
+        }
+        Err(fault) => Err(TriageFault::Replay(fault)),
+    }
+}
+
+/// The same of a trace that was read, with the code in this folder.
+fn list_code<R: Threads + Sync, K: Sink, W: Watch + Sync>(
+    rt: &HostRuntime,
+    crew: &Crew<'_, R, Seen<'_, W>>,
+    listing: Listing<'_>,
+    indexed: &Indexed,
+    folder: &str,
+    writer: &mut K,
+) -> Result<u64, TriageFault>
+    requires { K.has_failed writer.old ≡ false }
+{
+    let root = root_of(rt.alloc(), folder)?;
+    list_lines(rt, crew, listing, indexed, root.as_slice(), writer)
+}
+
+/// The same, with the lines of the code.
+fn list_lines<R: Threads + Sync, K: Sink, W: Watch + Sync>(
+    rt: &HostRuntime,
+    crew: &Crew<'_, R, Seen<'_, W>>,
+    listing: Listing<'_>,
+    indexed: &Indexed,
+    root: &[u8],
+    writer: &mut K,
+) -> Result<u64, TriageFault>
+    requires { K.has_failed writer.old ≡ false }
+{
+    let lines = lines_of(rt, indexed, root)?;
+    crew.watch.coded(!lines.is_empty());
+    let sources = Sources {
+        root,
+        lines: lines.as_slice(),
+    };
+    list_with(rt, crew, listing, indexed, sources, writer)
+}
+
+/// The same, with these lines.
+fn list_with<R: Threads + Sync, K: Sink, W: Watch + Sync>(
+    rt: &HostRuntime,
+    crew: &Crew<'_, R, Seen<'_, W>>,
+    listing: Listing<'_>,
+    indexed: &Indexed,
+    sources: Sources<'_>,
+    writer: &mut K,
+) -> Result<u64, TriageFault>
+    requires { K.has_failed writer.old ≡ false }
+{
+    let known = known_at(rt, listing.task.known);
+    let asked = asked_of(listing, sources);
+    triage_on(crew, rt.alloc(), indexed, known, asked, writer)
+}

@@ -1,0 +1,107 @@
+//! What the program does at `merge --sarif`.
+ghost use Rattle.std.specs.Prelude.{◌≡◌, false};
+
+use crate::coding::{lines_of_cells, root_of, tell_codeless};
+use crate::merging::status_at;
+use crate::telling::{tell_replay, tell_triage};
+use calls::Parts;
+use client_scripts::{FromWrite, ReplayFault, Sink};
+use program_words::MergeTask;
+use race_parts::{Cell, cells_of, rows_of};
+use std::io;
+use std::process::ExitCode;
+use triage_calls::{MergedLog, SourceLine, Sources, TriageFault, write_merged_sarif};
+
+/// What was written: how many races, and whether a folder of code has none of the files.
+#[derive(Clone, Copy)]
+struct Written {
+    races: u64,
+    lacks_code: bool,
+}
+
+/// The lines of the code at the places of these cells; nothing if no folder is named.
+fn lines_of(
+    rt: &HostRuntime,
+    cells: &[Cell<'_>],
+    root: &[u8],
+) -> Result<Vec<SourceLine>, ReplayFault> {
+    if root.is_empty() {
+        return Ok(Vec::new(rt.alloc()));
+    }
+    lines_of_cells(rt, cells, root)
+}
+
+/// Writes the log of the parts, with the code in this folder.
+fn write_log<K: Sink>(
+    rt: &HostRuntime,
+    parts: &Parts,
+    apart: bool,
+    root: &[u8],
+    writer: &mut K,
+) -> Result<Written, TriageFault>
+    requires { K.has_failed writer.old ≡ false }
+{
+    let rows = rows_of(rt.alloc(), parts)?;
+    let cells = cells_of(rt.alloc(), &rows)?;
+    let lines = lines_of(rt, &cells, root)?;
+    let log = MergedLog {
+        apart,
+        sources: Sources {
+            root,
+            lines: lines.as_slice(),
+        },
+    };
+    let races = write_merged_sarif(rt.alloc(), parts, &rows, &cells, log, writer)?;
+    Ok(Written {
+        races,
+        lacks_code: lines.is_empty() && !root.is_empty(),
+    })
+}
+
+/// Writes the log of the parts, with the code in this folder, if one is named. Answers how many races are told of.
+pub(crate) fn write_log_in<K: Sink>(
+    rt: &HostRuntime,
+    parts: &Parts,
+    apart: bool,
+    folder: Option<&str>,
+    writer: &mut K,
+) -> Result<u64, TriageFault>
+    requires { K.has_failed writer.old ≡ false }
+{
+    let Some(folder) = folder else {
+        return Ok(write_log(rt, parts, apart, b"", writer)?.races);
+    };
+    let root = root_of(rt.alloc(), folder)?;
+    Ok(write_log(rt, parts, apart, root.as_slice(), writer)?.races)
+}
+
+/// The status after the log was printed. A folder of code without a file that it names is told.
+fn status_of(rt: &HostRuntime, task: &MergeTask<'_>, written: Written) -> ExitCode {
+    if written.lacks_code && tell_codeless(rt, task.source.unwrap_or("")).is_err() {
+        return tell_replay(rt, ReplayFault::OutOfMemory);
+    }
+    status_at(written.races, task.fail)
+}
+
+/// Prints the log of the parts, with the code in this folder.
+fn print_in(rt: &HostRuntime, parts: &Parts, task: &MergeTask<'_>, root: &[u8]) -> ExitCode {
+    let mut writer = FromWrite::new(io::writer(rt));
+    match write_log(rt, parts, task.apart, root, &mut writer) {
+        Ok(written) => match writer.flush() {
+            Ok(()) => status_of(rt, task, written),
+            Err(_) => tell_replay(rt, ReplayFault::Write),
+        },
+        Err(fault) => tell_triage(rt, fault, &[]),
+    }
+}
+
+/// Prints what is told of the parts as a log.
+pub(crate) fn print_log(rt: &HostRuntime, parts: &Parts, task: &MergeTask<'_>) -> ExitCode {
+    let Some(folder) = task.source else {
+        return print_in(rt, parts, task, b"");
+    };
+    match root_of(rt.alloc(), folder) {
+        Ok(root) => print_in(rt, parts, task, root.as_slice()),
+        Err(_) => tell_replay(rt, ReplayFault::OutOfMemory),
+    }
+}

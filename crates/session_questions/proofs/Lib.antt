@@ -1,4 +1,0 @@
-mod FindLemmas
-mod OkLemmas
-mod RowLemmas
-mod RunLemmas

@@ -1,6 +1,0 @@
--- Each schedule of the workspace is one of the trace.
-use Rattle.session_questions.proofs.RowLemmas.{schedule_trace}
-use Rattle.session_questions.proofs.answers.schedule_of.Goals as goal
-
-pub returns-clause-trace : goal.returns-clause-trace
-returns-clause-trace c = schedule_trace c.args.bench.now.trace c.workspace.result.now c.args.name.now c.get.result c.workspace.ensures.reorderings c.get.ensures.some

@@ -1,8 +1,0 @@
--- None of the entries so far undoes it, so the search goes on behind them.
-use Rattle.std.proofs.Common.{◌≡◌, ◌-◌, length, find}
-use Rattle.std.specs.List.{range_with_len}
-use Rattle.session_questions.specs.Answers.{undo_of, undoes_at}
-use Rattle.session_questions.proofs.entries.undo_of.Given as goal
-
-abbrev pub invariant-loop-at : goal.invariant-loop-at
-invariant-loop-at l = undo_of l.bench.log l.number ≡ find (undoes_at l.bench.log l.number) (range_with_len l.at (length l.bench.log - l.at))

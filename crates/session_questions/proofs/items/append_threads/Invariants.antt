@@ -1,7 +1,0 @@
--- The items so far are those of the threads so far.
-use Rattle.std.proofs.Common.{◌≡◌, ◌++◌}
-use Rattle.session_questions.specs.Items.{thread_items}
-use Rattle.session_questions.proofs.items.append_threads.Given as goal
-
-abbrev pub invariant-loop-thread : goal.invariant-loop-thread
-invariant-loop-thread l = l.out.items ≡ l.fn.out.items ++ thread_items l.indexed.events l.schedule.events l.thread

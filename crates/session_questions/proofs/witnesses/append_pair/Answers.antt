@@ -1,5 +1,0 @@
-use Rattle.session_questions.proofs.OkLemmas.{then-ok}
-use Rattle.session_questions.proofs.witnesses.append_pair.Goals as goal
-
-pub returns-in-Ok : goal.returns-in-Ok
-returns-in-Ok c = then-ok c.append_found.result (λ told. (c.in-Ok.finding, c.in-Ok.ensures.finding, c.in-Ok.ensures.never, told)) c.append_found.ensures

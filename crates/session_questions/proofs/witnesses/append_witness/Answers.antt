@@ -1,6 +1,0 @@
-use Rattle.std.proofs.Common.{codes, refl, inl}
-use Rattle.session_questions.proofs.OkLemmas.{then-ok}
-use Rattle.session_questions.proofs.witnesses.append_witness.Goals as goal
-
-pub returns-in-None : goal.returns-in-None
-returns-in-None c = then-ok c.append_pieces.result (λ told. (codes "refused 98 no such pair\n", told, inl (refl, c.pair_of.ensures.none c.in-None.is))) c.append_pieces.ensures.ok
