@@ -21,12 +21,34 @@ MOST_NESTED = 3
 
 # How often each call is drawn where schedules grow, and where much is taken back and copied.
 GROWING = {
-    "new": 3, "add": 14, "back": 2, "swap": 3, "branch": 2, "drop": 1, "adopt": 1,
-    "batch": 2, "undo": 4, "propose": 1, "show": 1, "list": 1, "races": 2,
+    "new": 3,
+    "add": 14,
+    "back": 2,
+    "swap": 3,
+    "branch": 2,
+    "drop": 1,
+    "adopt": 1,
+    "batch": 2,
+    "undo": 4,
+    "propose": 1,
+    "show": 1,
+    "list": 1,
+    "races": 2,
 }
 ARGUING = {
-    "new": 3, "add": 9, "back": 3, "swap": 4, "branch": 5, "drop": 3, "adopt": 3,
-    "batch": 8, "undo": 14, "propose": 2, "show": 2, "list": 1, "races": 1,
+    "new": 3,
+    "add": 9,
+    "back": 3,
+    "swap": 4,
+    "branch": 5,
+    "drop": 3,
+    "adopt": 3,
+    "batch": 8,
+    "undo": 14,
+    "propose": 2,
+    "show": 2,
+    "list": 1,
+    "races": 1,
 }
 # Schedules that come to have all events, whose ends are exchanged.
 ENDING = {"new": 1, "add": 40, "back": 1, "swap": 6, "undo": 1, "propose": 1, "adopt": 1, "races": 2}
@@ -78,10 +100,13 @@ def section(chance, depth):
 
 
 def locked_trace(chance, most):
-    """A trace of 2 or 3 threads with at most so many events, and most accesses in sections of locks. Some threads are forked
-    and joined by the first. It ends where the rules leave no thread that may go on."""
+    """A trace of 2 or 3 threads with at most so many events, and most accesses in sections of locks. Some threads are
+    forked and joined by the first. It ends where the rules leave no thread that may go on."""
     threads = chance.sample(THREADS, chance.randint(2, 3))
-    to_do = {thread: [operation for _ in range(chance.randint(1, 4)) for operation in section(chance, 0)] for thread in threads}
+    to_do = {
+        thread: [operation for _ in range(chance.randint(1, 4)) for operation in section(chance, 0)]
+        for thread in threads
+    }
     first, others = threads[0], [*threads[1:], IDLE]
     for other in chance.sample(others, chance.choice([0, 0, 1, 2])):
         at = chance.randint(0, len(to_do[first]))
@@ -100,8 +125,8 @@ def locked_trace(chance, most):
 
 
 def probed(drawn):
-    """The trace with a write before and a write behind each pair of events, of a variable of their own: the two writes are a
-    candidate exactly where no chain of edges leads from the first event to the second."""
+    """The trace with a write before and a write behind each pair of events, of a variable of their own: the two writes
+    are a candidate exactly where no chain of edges leads from the first event to the second."""
     events = []
     numbers = range(len(drawn.events))
     for number, event in enumerate(drawn.events):
@@ -112,7 +137,8 @@ def probed(drawn):
 
 
 def event(chance, trace_, listed):
-    """An event, most often one that may come next, or the next one of a thread; also the number after the last one, which is none."""
+    """An event, most often one that may come next, or the next one of a thread; also the number after the last one,
+    which is none."""
     wanted = chance.random()
     if wanted < 0.9:
         causes = [trace_.cause(listed, event) for event in range(len(trace_.events))]
@@ -131,7 +157,8 @@ def neighbours(chance, trace_, listed):
 
 
 def proposal(chance, log):
-    """A list, most often a correct reordering that begins like some schedule, and a pair, most often one that it shows."""
+    """A list, most often a correct reordering that begins like some schedule, and a pair, most often one that it
+    shows."""
     trace_ = log.trace
     listed = chance.choice([()] + [row.events for row in log.rows.values()])
     listed = listed[: chance.randint(0, len(listed))]
@@ -174,8 +201,8 @@ def command(chance, state, names, word):
 
 
 def batch(chance, log, names):
-    """A batch, each command of which is drawn after those before it. Most are accepted; of those that are not, the first
-    refused command is at any place, and of the others some have too many."""
+    """A batch, each command of which is drawn after those before it. Most are accepted; of those that are not, the
+    first refused command is at any place, and of the others some have too many."""
     length = chance.choice(LONGEST) if chance.random() < 0.03 else chance.randint(1, MOST_COMMANDS)
     is_good = chance.random() < 0.8
     rows = log.rows
@@ -223,8 +250,8 @@ def call_of_client(chance, log, names, mood, client):
 
 
 def script(chance, trace_, length, clients=None):
-    """So many calls of several clients, each with its client, the line that it is answered by and the log before it; and
-    the log after all."""
+    """So many calls of several clients, each with its client, the line that it is answered by and the log before it;
+    and the log after all."""
     clients = clients or chance.sample(range(1, 33), chance.randint(2, 5))
     names = chance.sample(SCHEDULES, chance.randint(2, 4))
     mood = chance.choice(MOODS)

@@ -1,13 +1,16 @@
-"""Judges the calls that a session makes on its log's file, by the notes of tools/disk.c: what a crash after each may leave.
+"""Judges the calls that a session makes on its log's file, by the notes of tools/disk.c: what a crash after each may
+leave.
 
-Nothing is read or written without the lock. After each write and each cut a crash leaves the lines that the file had when
-the lock was taken, or these and those of the turn, whatever part of what is not yet synced came to the disk. A file gets
-its name once it is whole and synced. An answer is written once the lock is free and the file and its folder are synced,
-since the lock was taken and since the last write.
+Nothing is read or written without the lock. After each write and each cut a crash leaves the lines that the file had
+when the lock was taken, or these and those of the turn, whatever part of what is not yet synced came to the disk. A
+file gets its name once it is whole and synced. An answer is written once the lock is free and the file and its folder
+are synced, since the lock was taken and since the last write.
 """
 
 import itertools
 from collections import namedtuple
+
+from judging import Wrong
 
 # The bytes of the first line of a log's file.
 HEAD = 81
@@ -15,10 +18,6 @@ HEAD = 81
 MOST_LEFT = 3000
 
 Note = namedtuple("Note", "call file said result data")
-
-
-class Wrong(Exception):
-    """What a session did that it may not do."""
 
 
 def kept_lines(file):
@@ -102,7 +101,9 @@ class Disk:
             raise Wrong(f"lines were lost: {self.stood} stood, and now {lines} do")
         for call, left in self.crashes:
             if left not in (self.stood, lines):
-                raise Wrong(f"a crash after {call} leaves {left}; {self.stood} stood, and the turn makes {lines} of it")
+                raise Wrong(
+                    f"a crash after {call} leaves {left}; {self.stood} stood, and the turn makes {lines} of it"
+                )
         self.is_held = False
 
     def change(self, note):

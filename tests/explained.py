@@ -1,17 +1,13 @@
 """Judges what `explain` printed of a pair, by tests/plain.py, which answers from the definitions.
 
-A schedule is told by its runs, a pair that is apart by a chain of reasons or by a lock, and one that is undecided by a chain of SHB.
-Each link of a chain has to be one of the definition, and what no definition fixes may be any of what is true.
+A schedule is told by its runs, a pair that is apart by a chain of reasons or by a lock, and one that is undecided by a
+chain of SHB. Each link of a chain has to be one of the definition, and what no definition fixes may be any of what is
+true.
 """
 
 import collections
 
-
-
-
-class Wrong(Exception):
-    """What is wrong with a text."""
-
+from judging import Wrong
 
 # How many runs are printed one by one, and how many of the last where there are more.
 MOST_RUNS = 11
@@ -122,7 +118,8 @@ READ = "is read by"
 
 
 def without_note(trace, tally, first, words, second):
-    """The words of a link without the note that a write and its read race, which has to stand there exactly where the two are a candidate."""
+    """The words of a link without the note that a write and its read race, which has to stand there exactly where the
+    two are a candidate."""
     if not words.startswith(READ):
         return words
     is_race = trace.conflict(first, second) and trace.is_candidate(first, second)
@@ -148,7 +145,8 @@ def runs_of(trace, listed):
 
 
 def folded(trace, runs):
-    """The lines of the first runs of many: of each thread, in the order of their numbers, how many events they have, and the last."""
+    """The lines of the first runs of many: of each thread, in the order of their numbers, how many events they have,
+    and the last."""
     events = [event for run in runs for event in run]
     lines = [f"runs 1 to {len(runs)}, {count(len(events), 'event')}"]
     for thread in trace.threads():
@@ -159,12 +157,17 @@ def folded(trace, runs):
 
 
 def is_before_write(word):
-    """Whether the first event, which does `word`, has to stand before the second, a write of its variable, in the list: no write of it is between."""
+    """Whether the first event, which does `word`, has to stand before the second, a write of its variable, in the
+    list: no write of it is between."""
 
     def is_before(trace, listed, first, second):
         variable = trace.events[first].name
         between = listed[listed.index(first) + 1 : listed.index(second)]
-        return trace.does(first, word, variable) and trace.does(second, "w", variable) and trace.last_write(variable, between) is None
+        return (
+            trace.does(first, word, variable)
+            and trace.does(second, "w", variable)
+            and trace.last_write(variable, between) is None
+        )
 
     return is_before
 
@@ -172,7 +175,11 @@ def is_before_write(word):
 def is_last_release(trace, listed, first, second):
     lock = trace.events[first].name
     between = listed[listed.index(first) + 1 : listed.index(second)]
-    return trace.does(first, "rel", lock) and trace.does(second, "acq", lock) and not any(trace.does(event, "rel", lock) for event in between)
+    return (
+        trace.does(first, "rel", lock)
+        and trace.does(second, "acq", lock)
+        and not any(trace.does(event, "rel", lock) for event in between)
+    )
 
 
 def of_trace(link):
@@ -216,7 +223,9 @@ def judge_race(trace, tally, text, how, pair, listed, is_all):
         lines.expect(*folded(trace, runs[:first]))
         tally["folded"] += 1
     for number, run in enumerate(runs[first:], start=first + 1):
-        lines.expect(f"run {number} of {trace.thread(run[0])}, {count(len(run), 'event')}", f"  {numbered(trace, run[0])}")
+        lines.expect(
+            f"run {number} of {trace.thread(run[0])}, {count(len(run), 'event')}", f"  {numbered(trace, run[0])}"
+        )
         lines.expect(*["  .."] * (len(run) > 2), *[f"  {numbered(trace, run[-1])}"] * (len(run) > 1))
         if lines.next() is not None and lines.next().startswith("  "):
             judge_wait(trace, tally, listed, run[-1], lines.take())
@@ -242,7 +251,8 @@ def section_begun(trace, release):
 
 
 def judge_link(trace, tally, first, words, second):
-    """Judges a link of a chain. Of one that ends a section, the event that begins it and the event before which it has to end; else None."""
+    """Judges a link of a chain. Of one that ends a section, the event that begins it and the event before which it has
+    to end; else None."""
     words = without_note(trace, tally, first, words, second)
     if words in LINKS:
         if not LINKS[words](trace, first, second):
@@ -269,12 +279,14 @@ def cause_line(trace, begun, depth):
     if trace.does(event, "acq", lock):
         words.append("takes")
     blanks = "  " * (depth - 1)
-    return [f"{blanks}for {trace.thread(event)} {word} {lock} at {event}, and that section began before:" for word in words]
+    return [
+        f"{blanks}for {trace.thread(event)} {word} {lock} at {event}, and that section began before:" for word in words
+    ]
 
 
 def judge_causes(needs):
-    """Judges that each chain that is needed was printed, and rests on no chain that rests on it. `needs` has for each chain, by its ends,
-    the ends of those that it needs."""
+    """Judges that each chain that is needed was printed, and rests on no chain that rests on it. `needs` has for each
+    chain, by its ends, the ends of those that it needs."""
     told = set()
     while True:
         next_told = {ends for ends, needed in needs.items() if told.issuperset(needed)}
@@ -312,7 +324,9 @@ def judge_forced(trace, tally, text, pair):
             break
         line = lines.take()
         depth = blanks_of(line) // 2 + 1
-        waiting = [section for section in open_needs[depth - 1] if section not in needs] if depth <= len(open_needs) else []
+        waiting = (
+            [section for section in open_needs[depth - 1] if section not in needs] if depth <= len(open_needs) else []
+        )
         if not waiting or line not in cause_line(trace, waiting[0], depth):
             raise Wrong(f"that is not for the next chain that is needed: {line!r}")
     judge_causes(needs)

@@ -1,10 +1,11 @@
 """Runs the program with each call of a kind failing in turn, by tools/refuse.c and tools/disk.c. It judges what the
 program writes, and the log that a session leaves.
 
-Each run has to write what is wanted, or to end with the fault's status and text after a beginning of it, and to write nothing else:
+Each run has to write what is wanted, or to end with the fault's status and text after a beginning of it, and to write
+nothing else:
   an allocation    `out of memory`; in a thread or a session the call's line may say so, and the others go on; beside workers one slice may not be
-                   proposed, whose worker wanted memory; or `no thread`, where the system wanted it to start one; or only notes are
-                   missing, as below
+                   proposed, whose worker wanted memory; or `no thread`, where the system wanted it to start one; or only
+                   notes are missing, as below
   a read, a file   `read failed` and nothing on standard output, or in a session the answers before it (there also `write failed`, of a file that is to be
                    made); or only notes are missing, for which a file is read once more
   a write          `write failed`; or only standard error is cut, where the fault's own text could not be written
@@ -25,6 +26,8 @@ import subprocess
 from collections import namedtuple
 
 from disk import HEAD, kept_lines
+
+from judging import Wrong
 
 TOP = pathlib.Path(__file__).resolve().parent.parent
 # The kinds of calls, and how they fail.
@@ -51,14 +54,12 @@ Wanted = namedtuple("Wanted", "status out err in_threads has_workers in_session"
 Log = namedtuple("Log", "name before after client text")
 
 
-class Wrong(Exception):
-    """What a run did that it may not do."""
-
-
 def library(folder):
     """The library that has calls fail, made in this folder."""
     made = pathlib.Path(folder) / "refuse.so"
-    kit = pathlib.Path(subprocess.run(["rt", "doc"], capture_output=True, text=True, check=False).stdout.strip() or "/").parent
+    kit = pathlib.Path(
+        subprocess.run(["rt", "doc"], capture_output=True, text=True, check=False).stdout.strip() or "/"
+    ).parent
     compiler = shutil.which("cc") or shutil.which("clang") or kit / "toolchain/bin/clang"
     sources = [TOP / "tools/refuse.c", TOP / "tools/disk.c"]
     subprocess.run([compiler, "-O2", "-shared", "-fPIC", "-o", made, *sources], check=True)
@@ -66,15 +67,23 @@ def library(folder):
 
 
 def runs_of(made, program, words, stdin, here, way, files, left=None):
-    """The program's runs in the folder `here` with each call of one kind failing in turn; the last one met none. Where they change files, each finds
-    those of the folder `files`. With what each left of the file `left`."""
+    """The program's runs in the folder `here` with each call of one kind failing in turn; the last one met none. Where
+    they change files, each finds those of the folder `files`. With what each left of the file `left`."""
     report = made.parent / "report"
-    told = {"REFUSE": way[0], "REFUSE_HOW": way[1], "REFUSE_IN": str(stdin), "REFUSE_EACH": str(report), "LD_PRELOAD": str(made)}
+    told = {
+        "REFUSE": way[0],
+        "REFUSE_HOW": way[1],
+        "REFUSE_IN": str(stdin),
+        "REFUSE_EACH": str(report),
+        "LD_PRELOAD": str(made),
+    }
     if files:
         told["REFUSE_FILES"] = str(files)
     if left:
         told["REFUSE_LEFT"] = str(left)
-    status = subprocess.run([program, *words], cwd=here, env={**os.environ, **told}, timeout=LONGEST, check=False).returncode
+    status = subprocess.run(
+        [program, *words], cwd=here, env={**os.environ, **told}, timeout=LONGEST, check=False
+    ).returncode
     if status != 0:
         raise Wrong(f"the runs were not made: status {status}")
     rest = report.read_bytes()
@@ -91,7 +100,11 @@ def runs_of(made, program, words, stdin, here, way, files, left=None):
 def has_fault(run, text, behind=b""):
     """Whether the run ended with this fault and notes of this beginning alone."""
     first, *notes = run.err.removesuffix(b"\n").split(b"\n")
-    return run.status == 1 and first == b"racebench: " + text and all(behind and note.startswith(behind) for note in notes)
+    return (
+        run.status == 1
+        and first == b"racebench: " + text
+        and all(behind and note.startswith(behind) for note in notes)
+    )
 
 
 def lacks_notes(run, wanted):
@@ -116,7 +129,8 @@ def is_told_in_threads(run, wanted):
 
 
 def is_told_in_session(run, wanted):
-    """Whether one line is answered by want of memory, those before it as the case wants, and each behind it by something."""
+    """Whether one line is answered by want of memory, those before it as the case wants, and each behind it by
+    something."""
     lines, known = run.out.splitlines(), wanted.out.splitlines()
     at = next((at for at, line in enumerate(lines) if line == b"refused 56 out of memory"), 0)
     is_one = lines.count(b"refused 56 out of memory") == 1
@@ -124,11 +138,14 @@ def is_told_in_session(run, wanted):
 
 
 def parts_of(out):
-    """The lines before the log's, and its entries without their numbers, where these and their count are right; or None."""
+    """The lines before the log's, and its entries without their numbers, where these and their count are right; or
+    None."""
     lines = out.splitlines()
     at = next((at for at, line in enumerate(lines) if line.startswith(b"log ")), len(lines))
     numbers, _, entries = zip(*(line.partition(b" ") for line in lines[at + 1 :])) if lines[at + 1 :] else ((), (), ())
-    is_counted = lines[at : at + 1] == [b"log %d" % len(entries)] and list(numbers) == [b"%d" % number for number in range(len(entries))]
+    is_counted = lines[at : at + 1] == [b"log %d" % len(entries)] and list(numbers) == [
+        b"%d" % number for number in range(len(entries))
+    ]
     return (lines[:at], list(entries)) if is_counted else None
 
 
@@ -137,7 +154,9 @@ def lacks_a_slice(run, wanted):
     told, known = parts_of(run.out), parts_of(wanted.out)
     if (run.status, run.err) != (0, b"") or told is None or known is None or told[0] != known[0]:
         return False
-    return any(b" propose " in entry and told[1] == known[1][:at] + known[1][at + 1 :] for at, entry in enumerate(known[1]))
+    return any(
+        b" propose " in entry and told[1] == known[1][:at] + known[1][at + 1 :] for at, entry in enumerate(known[1])
+    )
 
 
 def has_disk_fault(run, wanted, kind):
@@ -162,13 +181,19 @@ def is_right(run, wanted, kind, how):
             return True
         if wanted.in_session and is_told_in_session(run, wanted):
             return True
-        if (wanted.in_threads and is_told_in_threads(run, wanted)) or (wanted.has_workers and lacks_a_slice(run, wanted)):
+        if (wanted.in_threads and is_told_in_threads(run, wanted)) or (
+            wanted.has_workers and lacks_a_slice(run, wanted)
+        ):
             return True
-        is_told = has_fault(run, b"out of memory") and wanted.out.startswith(run.out) and not (wanted.in_threads and run.out)
+        is_told = (
+            has_fault(run, b"out of memory") and wanted.out.startswith(run.out) and not (wanted.in_threads and run.out)
+        )
         return is_told or (wanted.err and lacks_notes(run, wanted))
     if kind in ("read", "open"):
         is_begun = wanted.out.startswith(run.out) if wanted.in_session else not run.out
-        is_told = has_fault(run, b"read failed", b"note: ") or (wanted.in_session and kind == "open" and has_fault(run, b"write failed", b"note: "))
+        is_told = has_fault(run, b"read failed", b"note: ") or (
+            wanted.in_session and kind == "open" and has_fault(run, b"write failed", b"note: ")
+        )
         return (is_told and is_begun) or (wanted.err and lacks_notes(run, wanted))
     if run.out != wanted.out:
         return has_fault(run, b"write failed", b"note: ") and wanted.out.startswith(run.out)
@@ -244,7 +269,9 @@ def judge(runs, wanted, way, tally, log=None):
     for number, run in enumerate(runs, start=1):
         tally["runs"] += 1
         tally[way] += run.met
-        tally["told in a line"] += kind == "memory" and run.met and run.status == 0 and b"\nrefused 56 out of memory\n" in run.out
+        tally["told in a line"] += (
+            kind == "memory" and run.met and run.status == 0 and b"\nrefused 56 out of memory\n" in run.out
+        )
         if not is_right(run, wanted, kind, how):
             raise Wrong(f"{kind} {number} fails, {how}: status {run.status}, {run.err[:300]!r} and {run.out[:300]!r}")
         if log:

@@ -1,32 +1,29 @@
 #!/usr/bin/env python3
-"""Compares the windows that `cut` prints of traces drawn by chance with those of tests/plain.py, and each window with its trace.
+"""Compares the windows that `cut` prints of traces drawn by chance with those of tests/plain.py, and each window with
+its trace.
 
-Takes the program's path, how many traces to draw, and the first seed. A window is a text of its own: it must keep the rules, and its
-events must be those of the trace under its prologue. The verdict of `explain` on each conflicting pair of the window is compared with all
-correct reorderings of the trace that begin as recorded up to the window: a race is shown by one of the whole trace, and what is apart by
-none that begins so and ends before the window's end. No pair with an event of the prologue is a race.
-Says what is wrong, if something is, and ends with status 1 then, also if something that has to be seen was never met.
+Takes the program's path, how many traces to draw, and the first seed. A window is a text of its own: it must keep the
+rules, and its events must be those of the trace under its prologue. The verdict of `explain` on each conflicting pair
+of the window is compared with all correct reorderings of the trace that begin as recorded up to the window: a race is
+shown by one of the whole trace, and what is apart by none that begins so and ends before the window's end. No pair
+with an event of the prologue is a race. Says what is wrong, if something is, and ends with status 1 then, also if
+something that has to be seen was never met.
 """
 
-import collections
-import os
 import random
 import sys
-import tempfile
 
 sys.dont_write_bytecode = True
 import by_chance
+import judging
 import plain
 import running
+from judging import Wrong
 
 TRACES = 200
 # How many lists are gone over for a trace; a trace with more is judged by its text alone.
 LISTS = 4_000
 REACHED = ["held", "several holds", "read by another", "taken name", "race", "apart", "whole", "inner", "no event", "no holds"]
-
-
-class Wrong(Exception):
-    """What the program prints is not what the definitions say."""
 
 
 def expected(events, start, most):
@@ -40,7 +37,8 @@ def expected(events, start, most):
 
 
 def shown_from(trace, start, end):
-    """The pairs that correct reorderings show that begin as recorded up to `start` and go on with events before `end`; None if there are too many."""
+    """The pairs that correct reorderings show that begin as recorded up to `start` and go on with events before `end`;
+    None if there are too many."""
     lists, shown = [tuple(range(start))], set()
     for listed in lists:
         if len(lists) > LISTS:
@@ -99,23 +97,12 @@ def judge(program, seed, seen):
     judge_pairs(program, trace, start, end, made, seen)
 
 
-def main():
-    program = os.path.abspath(sys.argv[1])
-    traces = int(sys.argv[2]) if len(sys.argv) > 2 else TRACES
-    first = int(sys.argv[3]) if len(sys.argv) > 3 else 0
-    seen = collections.Counter()
-    with tempfile.TemporaryDirectory() as folder:
-        os.chdir(folder)
-        for seed in range(first, first + traces):
-            try:
-                judge(program, seed, seen)
-            except Wrong as wrong:
-                sys.exit(f"seed {seed}: {wrong}{running.given(['', 'trace', 'window'])}")
-    missed = [what for what in REACHED if not seen[what]]
-    print(f"{traces} traces: " + ", ".join(f"{what} {count}" for what, count in sorted(seen.items())))
-    if missed:
-        sys.exit(f"never met: {', '.join(missed)}")
+def judged(run):
+    for seed in run.seeds():
+        with judging.about(f"seed {seed}", "trace", "window"):
+            judge(run.program, seed, run.tally)
+    return f"{run.numbers[0]} traces: " + ", ".join(f"{what} {count}" for what, count in sorted(run.tally.items()))
 
 
 if __name__ == "__main__":
-    main()
+    sys.exit(judging.main("cut", judged, REACHED, {"TRACES": TRACES, "SEED": 0}))

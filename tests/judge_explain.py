@@ -1,27 +1,26 @@
 #!/usr/bin/env python3
-"""Judges what `explain` and `witness` print of each pair of events, by tests/plain.py, which answers from the definitions.
+"""Judges what `explain` and `witness` print of each pair of events, by tests/plain.py, which answers from the
+definitions.
 
-Of each conflicting pair of traces drawn by chance, and of some that were made for what chance draws seldom: the verdict, with all that
-stands behind it (explained.py); that the schedule is a correct reordering which shows the pair, and has exactly the events of the least list in the
-order of the trace where there is one, and else of what the search finds; that `replay` of its script tells the pair, and
-`info` of its trace has it as a candidate; and its picture (pictured.py).
-On small traces all correct reorderings are gone over: none shows a pair that is forced or guarded, and each list in the order of the trace that
-shows a pair has all events of the least one.
+Of each conflicting pair of traces drawn by chance, and of some that were made for what chance draws seldom: the
+verdict, with all that stands behind it (explained.py); that the schedule is a correct reordering which shows the pair,
+and has exactly the events of the least list in the order of the trace where there is one, and else of what the search
+finds; that `replay` of its script tells the pair, and `info` of its trace has it as a candidate; and its picture
+(pictured.py). On small traces all correct reorderings are gone over: none shows a pair that is forced or guarded, and
+each list in the order of the trace that shows a pair has all events of the least one.
 
     judge_explain.py PROGRAM [TRACES [SEED]]      so many drawn traces, the first of this seed
 
 Says what is wrong, if something is, and ends with status 1 then.
 """
 
-import collections
-import os
 import random
 import sys
-import tempfile
 
 sys.dont_write_bytecode = True
 import by_chance
 import explained
+import judging
 import pictured
 import plain
 import running
@@ -35,7 +34,8 @@ DRAWS = [by_chance.locked_trace, by_chance.locked_trace, by_chance.trace]
 NO_PAIRS = 3
 FORMS = [[], ["--script"], ["--std"], ["--svg"]]
 
-# What has to be reached: each verdict, what a small trace has, folded runs, each kind of link, and a chain on which a chain rests on which one rests.
+# What has to be reached: each verdict, what a small trace has, folded runs, each kind of link, and a chain on which a
+# chain rests on which one rests.
 REACHED = [
     *"none candidate beyond turned forced guarded undecided small folded links|section chains|2 pictures arrows".split(),
     "pictures with earlier runs",
@@ -50,9 +50,8 @@ REACHED = [
 class Judge:
     """Runs the program in this folder, and compares."""
 
-    def __init__(self, program):
-        self.program = program
-        self.tally = collections.Counter()
+    def __init__(self, run):
+        self.program, self.tally = run.program, run.tally
 
     def printed(self, *words):
         """What the program prints, where it ends well."""
@@ -71,7 +70,9 @@ class Judge:
         """Compares why the program stops with this text; it has to print nothing else."""
         status, out, err = running.ended(self.program, words)
         if (status, out, err) != (1, b"", f"racebench: {told}\n".encode("ascii")):
-            raise explained.Wrong(f"{' '.join(words)}: status {status}, printed {out[:300]!r}, and {err[:300]!r}, which is not {told!r}")
+            raise explained.Wrong(
+                f"{' '.join(words)}: status {status}, printed {out[:300]!r}, and {err[:300]!r}, which is not {told!r}"
+            )
 
     def judge_trace(self, trace, chance):
         """Judges all conflicting pairs of the trace, and a few others."""
@@ -141,7 +142,9 @@ class Judge:
         if pair not in told:
             raise explained.Wrong(f"the pair is none of those that are shown: {told}")
         answers = [f"{number}: done\n" for number in range(len(shown) + 1)]
-        self.expect("".join(answers) + " ".join(["pairs", *[f"{a}-{b}" for a, b in told]]) + "\n", "replay", "trace", "script")
+        self.expect(
+            "".join(answers) + " ".join(["pairs", *[f"{a}-{b}" for a, b in told]]) + "\n", "replay", "trace", "script"
+        )
 
     def judge_std(self, trace, words, events):
         """Judges the trace of these events, the pair last, and what `info` says of it."""
@@ -154,8 +157,8 @@ class Judge:
 
 
 def verdict_of(trace, pair):
-    """What is to be said of a conflicting pair, and the events of the schedule that shows it, rising: those of the least list in the order of the
-    trace, or of what the search finds; or None."""
+    """What is to be said of a conflicting pair, and the events of the schedule that shows it, rising: those of the
+    least list in the order of the trace, or of what the search finds; or None."""
     kind = trace.kind(*pair)
     listed = trace.in_order(*pair)
     if kind == "candidate":
@@ -199,10 +202,11 @@ def in_turns(times):
     return made(*turns, "A w last", "B w last")
 
 
-# What chance draws seldom: many runs; a thread without an event, and one that is forked and joined; accesses that stay before others; a pair that
-# SHB orders and a list in the order of the trace shows, one that is shown by sections in another order, and one of which no schedule is found; a chain
-# that rests on one that rests on another; a section that has to end before another thread, which holds its lock, takes another lock; two locks that both
-# threads hold, one of them twice.
+# What chance draws seldom: many runs; a thread without an event, and one that is forked and joined; accesses that stay
+# before others; a pair that SHB orders and a list in the order of the trace shows, one that is shown by sections in
+# another order, and one of which no schedule is found; a chain that rests on one that rests on another; a section that
+# has to end before another thread, which holds its lock, takes another lock; two locks that both threads hold, one of
+# them twice.
 MADE = [
     in_turns(14),
     in_turns(70),
@@ -212,37 +216,63 @@ MADE = [
     made("A w x", "A acq l", "A rel l", "B acq l", "B rel l", "B w x"),
     made("A acq l", "A fork W", "A w x", "A rel l", "B acq l", "B r y", "B rel l", "B r x"),
     made("A acq l", "A r x", "A w y", "A w x", "A rel l", "B acq l", "B w x", "B rel l", "B w x"),
-    made("A acq m", "A w x", "A acq l", "A rel m", "A w v", "A rel l", "B acq l", "B acq m", "B r x", "B rel m", "B w v", "B rel l"),
-    made("A acq m", "A w x", "A acq l", "A rel m", "A w v", "A rel l", "B r x", "B acq l", "B acq m", "B w v", "B rel m", "B rel l"),
+    made(
+        "A acq m",
+        "A w x",
+        "A acq l",
+        "A rel m",
+        "A w v",
+        "A rel l",
+        "B acq l",
+        "B acq m",
+        "B r x",
+        "B rel m",
+        "B w v",
+        "B rel l",
+    ),
+    made(
+        "A acq m",
+        "A w x",
+        "A acq l",
+        "A rel m",
+        "A w v",
+        "A rel l",
+        "B r x",
+        "B acq l",
+        "B acq m",
+        "B w v",
+        "B rel m",
+        "B rel l",
+    ),
     made("A acq l", "A acq m", "A w x", "A rel m", "A rel l", "B acq m", "B acq l", "B acq m", "B w x", "B rel m"),
 ]
 
 
-def main():
-    judge = Judge(os.path.abspath(sys.argv[1]))
-    traces = int(sys.argv[2]) if sys.argv[2:] else TRACES
-    first = int(sys.argv[3]) if sys.argv[3:] else 0
-    with tempfile.TemporaryDirectory() as folder:
-        os.chdir(folder)
-        drawn = [(f"made {number}", trace) for number, trace in enumerate(MADE)]
-        for seed in range(first, first + traces):
-            chance = random.Random(seed)
-            drawn.append((f"seed {seed}", chance.choice(DRAWS)(chance, chance.choice(MOST_EVENTS))))
-        for name, trace in drawn:
-            try:
-                judge.judge_trace(trace, random.Random(name))
-            except (explained.Wrong, plain.Contradiction) as what:
-                sys.exit(f"explain, {name}: {what}{running.given(['', 'trace'])}")
-    tally = judge.tally
-    missing = [kind for kind in REACHED if not tally[kind]]
-    if missing:
-        sys.exit(f"explain: never reached: {missing}")
-    verdicts = ", ".join(f"{tally[verdict]} {verdict}" for verdict in ["candidate", "beyond", "turned", "forced", "guarded", "undecided"])
+def drawn(run):
+    """The traces to be judged, each with a name."""
+    traces = [(f"made {number}", trace) for number, trace in enumerate(MADE)]
+    for seed in run.seeds():
+        chance = random.Random(seed)
+        traces.append((f"seed {seed}", chance.choice(DRAWS)(chance, chance.choice(MOST_EVENTS))))
+    return traces
+
+
+def judged(run):
+    judge, tally = Judge(run), run.tally
+    for name, trace in drawn(run):
+        with judging.about(name, "trace"):
+            judge.judge_trace(trace, random.Random(name))
+    count, first = run.numbers
+    verdicts = ", ".join(
+        f"{tally[verdict]} {verdict}"
+        for verdict in ["candidate", "beyond", "turned", "forced", "guarded", "undecided"]
+    )
     links = sum(number for kind, number in tally.items() if kind.startswith(("links|", "SHB|", "waits|")))
-    print(
-        f"explain: {tally['pairs']} pairs of {tally['traces']} traces, seeds {first} to {first + traces - 1}, are told as the definitions say ({verdicts}), "
+    return (
+        f"explain: {tally['pairs']} pairs of {tally['traces']} traces, seeds {first} to {first + count - 1}, are told as the definitions say ({verdicts}), "
         f"with {links} links and {tally['pictures']} pictures; {tally['none']} others are none; on {tally['small']} small traces with all {tally['reorderings']} correct reorderings"
     )
 
 
-main()
+if __name__ == "__main__":
+    sys.exit(judging.main("explain", judged, REACHED, {"TRACES": TRACES, "SEED": 0}))

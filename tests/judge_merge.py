@@ -1,11 +1,11 @@
 #!/usr/bin/env python3
 """Compares what `merge` prints of parts drawn by chance with tests/plain.py.
 
-Takes the program's path, how many lists of parts to draw, and the first seed. The parts are merged at once; in another order, with some of them
-twice; and in groups whose merged reports are merged. Each must print the same text, and the same JSON. A part that is cut anywhere is
-refused, and so are lines that are no line of a report, another version, and two parts of one name. Some parts are what `triage --json`
-prints of drawn traces.
-Says what is wrong, if something is, and ends with status 1 then, also if something that has to be seen was never met.
+Takes the program's path, how many lists of parts to draw, and the first seed. The parts are merged at once; in another
+order, with some of them twice; and in groups whose merged reports are merged. Each must print the same text, and the
+same JSON. The page is read as a browser's parser would read it, and has a row for each pair of locations. A part that is cut anywhere is refused, and so are lines that are no line of a report, another version, and
+two parts of one name. Some parts are what `triage --json` prints of drawn traces. Says what is wrong, if something is,
+and ends with status 1 then, also if something that has to be seen was never met.
 """
 
 import collections
@@ -17,21 +17,20 @@ import tempfile
 
 sys.dont_write_bytecode = True
 import by_chance
+import judge_page
+import judging
 import plain
 import running
+from judging import Wrong
 
 LISTS = 150
-PLACES = ["a.c:1 < f", "a.c:2", "b.c:10", "b.c:9", "é.c:3", "", 'q"\\.c:4']
-REACHED = ["race", "undecided", "apart", "least", "unmet", "twice", "grouped", "cut", "cut at a line", "refused", "other version", "clash", "failed", "triage", "no parts apart"]
-
-
-class Wrong(Exception):
-    """What the program prints is not what the definitions say."""
+PLACES = ["a.c:1 < f", "a.c:2", "b.c:10", "b.c:9", "é.c:3", "", 'q"\\.c:4', "<b>&.c:5 < </td>"]
+REACHED = ["race", "undecided", "apart", "least", "unmet", "twice", "grouped", "cut", "cut at a line", "refused", "other version", "clash", "failed", "triage", "no parts apart", "page", "escaped"]
 
 
 def access(chance, place):
     holds = chance.sample(["m", "n", "mü"], chance.choice([0, 0, 1, 2]))
-    return {"event": chance.randint(0, 40), "holds": holds, "location": place, "operation": chance.choice("rw"), "thread": chance.choice(["T1", "T2"]), "variable": chance.choice("xy")}
+    return {"event": chance.randint(0, 40), "holds": holds, "location": place, "operation": chance.choice("rw"), "thread": chance.choice(["T1", "T2"]), "variable": chance.choice(["x", "y", "<i>x"])}
 
 
 def row(chance, places):
@@ -66,10 +65,51 @@ def write(name, text):
         out.write(text)
 
 
+def outcome_of(told):
+    """What the page says of a row in short."""
+    if told["kind"] == "race":
+        return f"{told['how']}, a schedule with events: {told['events']}, threads: {told['threads']}"
+    return f"undecided, tried: {told['tried']}" if told["kind"] == "undecided" else "apart"
+
+
+def row_of(pair, parts):
+    """The texts of a row of the page: its title, its facts, its two accesses, and what the parts say."""
+    told, counts, name = pair.told, pair.counts, pair.part
+    uses = [
+        f"{'read' if access['operation'] == 'r' else 'write'} at {access['location'].split(' < ')[0]}"
+        for access in told["accesses"]
+    ]
+    first, second = (access["event"] for access in told["accesses"])
+    accesses = [
+        (access["event"], f"{access['thread']}|{access['operation']}({access['variable']})|{access['location']}", access["holds"])
+        for access in told["accesses"]
+    ]
+    races, undecided, apart = counts
+    tally = f"Race: {races}, undecided: {undecided}, apart: {apart}, not met: {len(parts) - sum(counts)}."
+    return (
+        f"{told['accesses'][0]['variable']}: {uses[0]}, {uses[1]}",
+        f"Events {first} and {second}: {outcome_of(told)}",
+        accesses,
+        [tally, f"This row is of the part {name}."],
+    )
+
+
+def row_in(details):
+    """The same of an element of the page."""
+    summary = details.one("summary")
+    facts = [span.text() for span in summary.all("span") if span.attributes.get("class") == "facts"]
+    lines = [line for line in details.one("tbody").all("tr")]
+    return (
+        summary.one("h3").text(),
+        " ".join(facts),
+        [judge_page.access_of(line) for line in lines],
+        [words.text() for words in details.all("p")],
+    )
+
+
 class Judge:
-    def __init__(self, program):
-        self.program = program
-        self.seen = collections.Counter()
+    def __init__(self, run):
+        self.program, self.seen = run.program, run.tally
 
     def printed(self, words):
         return running.printed(self.program, ["merge", *words])
@@ -110,12 +150,39 @@ class Judge:
             if found != wanted:
                 raise Wrong(f"merge {words} {flags} prints\n{found.decode()}and not\n{wanted.decode()}")
 
+    def page(self, words, parts):
+        """The page of these words has the rows of the parts."""
+        with_apart = bool(self.seen["page"] % 2)
+        found = self.printed([*words, "--page", *(["--apart"] if with_apart else [])])
+        root = judge_page.read(found)
+        pairs = plain.merged_pairs(parts)
+        kinds = [pair.told["kind"] for pair in pairs]
+        races, count = kinds.count("race"), len(parts)
+        begin = f"{races or 'No'} race{'' if races == 1 else 's'} in {count} part{'' if count == 1 else 's'}"
+        if root.one("h1").text() != begin or root.one("title").text() != begin:
+            raise Wrong(f"the page begins with {root.one('h1').text()!r} and not {begin!r}")
+        sections = list(root.all("section"))
+        headings = ["Races", "Undecided", *(["Apart"] if with_apart else [])]
+        if [section.one("h2").text() for section in sections] != [*headings, "What the words mean"]:
+            raise Wrong("the page has other sections")
+        for section, kind in zip(sections, plain.RANKS):
+            rows = [row_in(details) for details in section.all("details")]
+            wanted = [row_of(pair, parts) for pair in pairs if pair.told["kind"] == kind]
+            if kind != "apart" or with_apart:
+                if rows != wanted:
+                    raise Wrong(f"the page has the rows {rows} and not {wanted}")
+                if not wanted and "None." not in section.text():
+                    raise Wrong("the page does not say that there are none")
+        self.seen["page"] += 1
+        self.seen["escaped"] += any("<b>" in str(row_of(pair, parts)) for pair in pairs)
+
     def judge_groups(self, chance, parts):
         names = list(parts)
         whole = self.printed([*names, "--json"])
         shuffled = chance.sample(names, len(names)) + chance.sample(names, chance.randint(0, len(names)))
         self.seen["twice"] += len(shuffled) > len(names)
         self.same(shuffled, parts)
+        self.page(shuffled, parts)
         if self.printed([*shuffled, "--json"]) != whole:
             raise Wrong(f"merge {shuffled} --json prints other lines than {names}")
         groups = []
@@ -176,23 +243,15 @@ class Judge:
         self.judge_refusals(chance, parts)
 
 
-def main():
-    judge = Judge(os.path.abspath(sys.argv[1]))
-    lists = int(sys.argv[2]) if len(sys.argv) > 2 else LISTS
-    first = int(sys.argv[3]) if len(sys.argv) > 3 else 0
-    for seed in range(first, first + lists):
-        with tempfile.TemporaryDirectory() as folder:
+def judged(run):
+    judge = Judge(run)
+    for seed in run.seeds():
+        with tempfile.TemporaryDirectory() as folder, judging.about(f"seed {seed}"):
             os.chdir(folder)
-            try:
-                judge.judge(seed)
-            except Wrong as wrong:
-                sys.exit(f"seed {seed}: {wrong}")
+            judge.judge(seed)
             os.chdir("/")
-    missed = [what for what in REACHED if not judge.seen[what]]
-    print(f"{lists} lists of parts: " + ", ".join(f"{what} {count}" for what, count in sorted(judge.seen.items())))
-    if missed:
-        sys.exit(f"never met: {', '.join(missed)}")
+    return f"{run.numbers[0]} lists of parts: " + ", ".join(f"{what} {count}" for what, count in sorted(run.tally.items()))
 
 
 if __name__ == "__main__":
-    main()
+    sys.exit(judging.main("merge", judged, REACHED, {"LISTS": LISTS, "SEED": 0}))

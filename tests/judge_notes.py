@@ -1,5 +1,6 @@
 #!/usr/bin/env python3
-"""Judges when the program writes notes: on a terminal, and if RACEBENCH_NOTES is 1. Elsewhere a fault is one line on standard error.
+"""Judges when the program writes notes: on a terminal, and if RACEBENCH_NOTES is 1. Elsewhere a fault is one line on
+standard error.
 
 Takes the program's path. Says what is wrong, if something is, and ends with status 1 then.
 """
@@ -7,11 +8,12 @@ Takes the program's path. Says what is wrong, if something is, and ends with sta
 import os
 import subprocess
 import sys
-import tempfile
 import tty
 
 sys.dont_write_bytecode = True
+import judging
 import running
+from judging import Wrong
 
 # What is run, what comes on standard error in any case, and the notes after it.
 RUNS = [
@@ -31,14 +33,23 @@ def environment(value):
 
 
 def through_pipe(program, words, value):
-    done = subprocess.run([program, *words], stdin=subprocess.DEVNULL, capture_output=True, env=environment(value), timeout=running.PATIENCE, check=False)
+    done = subprocess.run(
+        [program, *words],
+        stdin=subprocess.DEVNULL,
+        capture_output=True,
+        env=environment(value),
+        timeout=running.PATIENCE,
+        check=False,
+    )
     return done.stderr.decode("ascii")
 
 
 def on_terminal(program, words):
     mine, theirs = os.openpty()
     tty.setraw(theirs)
-    with subprocess.Popen([program, *words], stdin=subprocess.DEVNULL, stdout=subprocess.DEVNULL, stderr=theirs, env=environment(None)) as run:
+    with subprocess.Popen(
+        [program, *words], stdin=subprocess.DEVNULL, stdout=subprocess.DEVNULL, stderr=theirs, env=environment(None)
+    ) as run:
         os.close(theirs)
         shown = b""
         try:
@@ -53,22 +64,20 @@ def on_terminal(program, words):
 
 def judge(words, how, shown, wanted):
     if shown != wanted:
-        sys.exit(f"notes: {words} {how} writes {shown!r}, and not {wanted!r}")
+        raise Wrong(f"{words} {how} writes {shown!r}, and not {wanted!r}")
 
 
-def main():
-    program = os.path.abspath(sys.argv[1])
-    with tempfile.TemporaryDirectory() as folder:
-        os.chdir(folder)
-        running.write("bad", "T1|w(x)|1\nT1 w(x)\n")
-        running.write("good", "T1|w(x)|1\n")
-        for words, line, notes in RUNS:
-            for value in (None, "0", "", "11"):
-                judge(words, f"with RACEBENCH_NOTES {value!r}", through_pipe(program, words, value), line)
-            judge(words, "with RACEBENCH_NOTES 1", through_pipe(program, words, "1"), line + notes)
-            judge(words, "on a terminal", on_terminal(program, words), line + notes)
-        os.chdir("/")
-    print(f"notes: {len(RUNS)} runs, each through a pipe and on a terminal")
+def judged(run):
+    running.write("bad", "T1|w(x)|1\nT1 w(x)\n")
+    running.write("good", "T1|w(x)|1\n")
+    for words, line, notes in RUNS:
+        for value in (None, "0", "", "11"):
+            judge(words, f"with RACEBENCH_NOTES {value!r}", through_pipe(run.program, words, value), line)
+        judge(words, "with RACEBENCH_NOTES 1", through_pipe(run.program, words, "1"), line + notes)
+        judge(words, "on a terminal", on_terminal(run.program, words), line + notes)
+        run.tally["runs"] += 1
+    return f"notes: {len(RUNS)} runs, each through a pipe and on a terminal"
 
 
-main()
+if __name__ == "__main__":
+    sys.exit(judging.main("notes", judged, ["runs"]))

@@ -1,10 +1,11 @@
 #!/usr/bin/env python3
 """Judges the man pages and completions of package/, and the pages that tools/man_pages.py makes.
 
-Each command and flag that `--help` names, each word of a script and each fault has to be there. What is missing is named.
+Each command and flag that `--help` names, each word of a script and each fault has to be there. What is missing is
+named.
 
-Takes the program's path. The last line is `N passed, M failed`. Where bash is not here its completions are not run; where man is
-not here the page is not read by it, and a line says so.
+Takes the program's path. The last line is `N passed, M failed`. Where bash is not here its completions are not run;
+where man is not here the page is not read by it, and a line says so.
 """
 
 import os
@@ -17,6 +18,7 @@ import tempfile
 TOP = os.path.dirname(os.path.dirname(os.path.abspath(__file__)))
 sys.dont_write_bytecode = True
 sys.path.insert(0, os.path.join(TOP, "tools"))
+import judging
 import man_pages
 
 
@@ -33,7 +35,7 @@ def part(pattern, text, what):
     """What the pattern's group finds in a text; where the text has another form by now, this judge has to follow it."""
     found = re.search(pattern, text, re.MULTILINE | re.DOTALL)
     if not found:
-        sys.exit(f"tests/judge_package.py finds no {what}; its pattern is {pattern!r}")
+        raise judging.Wrong(f"there is no {what}; the pattern is {pattern!r}")
     return found[1]
 
 
@@ -53,7 +55,9 @@ class Words:
     @staticmethod
     def flags_of(text):
         options = part(r"^Options:\n((?: [^\n]*\n)+)", text, "options in --help")
-        return re.findall(r"(?<![\w-])--?[A-Za-z][\w-]*", "\n".join(re.findall(r"^ +(-.*?)(?:  |$)", options, re.MULTILINE)))
+        return re.findall(
+            r"(?<![\w-])--?[A-Za-z][\w-]*", "\n".join(re.findall(r"^ +(-.*?)(?:  |$)", options, re.MULTILINE))
+        )
 
     def all_flags(self):
         return sorted({flag for flags in self.flags.values() for flag in flags})
@@ -62,9 +66,13 @@ class Words:
 def page_lacks(words):
     page = re.sub(r"\\f[A-Z]", "", text_of("package", "racebench.1")).replace("\\-", "-").replace("\\ ", " ")
     faults = part(r"^## Faults\n(.*?)^### ", text_of("docs", "FORMATS.md"), "table of faults in docs/FORMATS.md")
-    wanted = [f"command {name}" for name in words.commands if not re.search(rf"^\.B[IR]? {name}\b", page, re.MULTILINE)]
+    wanted = [
+        f"command {name}" for name in words.commands if not re.search(rf"^\.B[IR]? {name}\b", page, re.MULTILINE)
+    ]
     wanted += [f"flag {flag}" for flag in words.all_flags() if not re.search(rf"(?<![\w-]){flag}(?![\w-])", page)]
-    wanted += [f"script word {name}" for name in words.script if not re.search(rf"^\.B[IR]? {name}\b", page, re.MULTILINE)]
+    wanted += [
+        f"script word {name}" for name in words.script if not re.search(rf"^\.B[IR]? {name}\b", page, re.MULTILINE)
+    ]
     for number, fault in re.findall(r"^\| (\d+) \| `([^`]*)`", faults, re.MULTILINE):
         if not re.search(rf"^{number} {re.escape(fault)}", page, re.MULTILINE):
             wanted.append(f"fault {number} {fault}")
@@ -76,13 +84,19 @@ def zsh_lacks(words):
     lacks = [f"command {name}" for name in words.commands if f"'{name}:" not in text or f"        {name})" not in text]
     for command in words.commands:
         case = (re.search(rf"^        {command}\)(.*?);;", text, re.MULTILINE | re.DOTALL) or [None, ""])[1]
-        lacks += [f"flag {flag} of {command}" for flag in words.flags[command] if not re.search(rf"(?<![\w-]){flag}(?![\w-])", case)]
+        lacks += [
+            f"flag {flag} of {command}"
+            for flag in words.flags[command]
+            if not re.search(rf"(?<![\w-]){flag}(?![\w-])", case)
+        ]
     return lacks + [f"flag {flag}" for flag in words.flags[""] if not re.search(rf"(?<![\w-]){flag}(?![\w-])", text)]
 
 
 def completed(*given, command="racebench"):
     """What bash is offered for the last of these words, which follow the command."""
-    line = "source package/$0.bash; COMP_WORDS=($0 \"$@\"); COMP_CWORD=$#; _${0//-/_}; printf '%s\\n' \"${COMPREPLY[@]}\""
+    line = (
+        'source package/$0.bash; COMP_WORDS=($0 "$@"); COMP_CWORD=$#; _${0//-/_}; printf \'%s\\n\' "${COMPREPLY[@]}"'
+    )
     return printed("bash", "-c", line, command, *given, cwd=TOP).split()
 
 
@@ -99,7 +113,9 @@ def bash_lacks(words):
 def screen_words():
     """The options of the screen, and its arguments."""
     told = printed("/usr/bin/python3", "screen/screen", "--help", cwd=TOP)
-    options = re.findall(r"(?<![\w-])--?[a-z][\w-]*", part(r"^options:\n(.*)", told, "options in --help of the screen"))
+    options = re.findall(
+        r"(?<![\w-])--?[a-z][\w-]*", part(r"^options:\n(.*)", told, "options in --help of the screen")
+    )
     return options, re.findall(r"^  ([A-Z]+)$", told, re.MULTILINE)
 
 
@@ -143,27 +159,26 @@ def page_warnings(name):
         return []
     path = os.path.join(TOP, "package", name)
     environment = dict(os.environ, MANWIDTH="80", LC_ALL="C.UTF-8", MANROFFOPT="")
-    told = subprocess.run(["man", "--warnings=w", "--local-file", path], capture_output=True, text=True, check=False, env=environment)
+    told = subprocess.run(
+        ["man", "--warnings=w", "--local-file", path], capture_output=True, text=True, check=False, env=environment
+    )
     return told.stderr.splitlines()
 
 
-def main():
-    words = Words(os.path.abspath(sys.argv[1]))
-    judged = [("package/racebench.1 lacks", page_lacks(words)), ("package/_racebench lacks", zsh_lacks(words)),
-              ("package/racebench.1, read by man", page_warnings("racebench.1")),
-              ("package/racebench-screen.1 lacks", screen_lacks("racebench-screen.1")),
-              ("package/_racebench-screen lacks", screen_lacks("_racebench-screen")),
-              ("package/racebench-screen.1, read by man", page_warnings("racebench-screen.1"))]
-    judged += recorder_pages()
+def judged(run):
+    words = Words(run.program)
+    run.case("package/racebench.1 lacks", page_lacks(words))
+    run.case("package/_racebench lacks", zsh_lacks(words))
+    run.case("package/racebench.1, read by man", page_warnings("racebench.1"))
+    run.case("package/racebench-screen.1 lacks", screen_lacks("racebench-screen.1"))
+    run.case("package/_racebench-screen lacks", screen_lacks("_racebench-screen"))
+    run.case("package/racebench-screen.1, read by man", page_warnings("racebench-screen.1"))
+    for name, wrong in recorder_pages():
+        run.case(name, wrong)
     if shutil.which("bash"):
-        judged.append(("package/racebench.bash lacks", bash_lacks(words)))
-        judged.append(("package/racebench-screen.bash lacks", screen_bash_lacks()))
-    for name, wrong in judged:
-        for what in wrong:
-            print(f"{name}: {what}")
-    failed = sum(1 for _, wrong in judged if wrong)
-    print(f"{len(judged) - failed} passed, {failed} failed")
-    return 1 if failed else 0
+        run.case("package/racebench.bash lacks", bash_lacks(words))
+        run.case("package/racebench-screen.bash lacks", screen_bash_lacks())
 
 
-sys.exit(main())
+if __name__ == "__main__":
+    sys.exit(judging.main("package", judged))

@@ -1,12 +1,15 @@
 #!/usr/bin/env python3
-"""Compares the page that `triage --page` writes with the text that `triage` prints, and judges it as HTML by Python's html.parser.
+"""Compares the page that `triage --page` writes with the text that `triage` prints, and judges it as HTML by Python's
+html.parser.
 
-Takes the program's path, how many traces to draw, and the first seed. Each page is read as a browser's parser would read it: every tag is closed in
-its order, nothing runs and nothing is fetched, and the policy in its head forbids both. Its first line, its counts, its rows with their titles, accesses and locks, and
-its runs are those of the texts that `triage` and `explain` print, neither more nor fewer. Each picture is judged by pictured.py: it draws the schedule that `witness`
-prints, which by plain.py is a correct reordering that shows the row's pair. With a file of followed races, each race has beside it what the file's first line on its two
-locations says, and no other race's. The traces are those of examples/, traces whose names look like markup, and such
-that are drawn by chance. Says what is wrong, if something is, and ends with status 1 then, also where something that has to be seen was never met.
+Takes the program's path, how many traces to draw, and the first seed. Each page is read as a browser's parser would
+read it: every tag is closed in its order, nothing runs and nothing is fetched, and the policy in its head forbids
+both. Its first line, its counts, its rows with their titles, accesses and locks, and its runs are those of the texts
+that `triage` and `explain` print, neither more nor fewer. Each picture is judged by pictured.py: it draws the schedule
+that `witness` prints, which by plain.py is a correct reordering that shows the row's pair. With a file of followed
+races, each race has beside it what the file's first line on its two locations says, and no other race's. The traces
+are those of examples/, traces whose names look like markup, and such that are drawn by chance. Says what is wrong, if
+something is, and ends with status 1 then, also where something that has to be seen was never met.
 """
 
 import collections
@@ -17,33 +20,112 @@ import random
 import re
 import shutil
 import sys
-import tempfile
 
 sys.dont_write_bytecode = True
 import by_chance
+import judging
 import pictured
 import plain
 import running
-from explained import Wrong
+from judging import Wrong
 
 TRACES = 40
 MOST_EVENTS = [8, 16, 28]
-REACHED = ["race", "undecided", "untried", "apart", "picture", "locks", "replaced", "known", "hidden", "left out", "undrawn", "pictures", "arrows", "schedules", "raced", "functions", "callers", "freed", "more variables", "pictures with earlier runs", "pictures with a shared column",
-    "order matters", "same in both orders", "order not known", "other memory", "departed", "not followed", "of these events", "of other events", "turned round", "told twice"]
+REACHED = [
+    "race",
+    "undecided",
+    "untried",
+    "apart",
+    "picture",
+    "locks",
+    "replaced",
+    "known",
+    "hidden",
+    "left out",
+    "undrawn",
+    "pictures",
+    "arrows",
+    "schedules",
+    "raced",
+    "functions",
+    "callers",
+    "freed",
+    "more variables",
+    "pictures with earlier runs",
+    "pictures with a shared column",
+    "order matters",
+    "same in both orders",
+    "order not known",
+    "other memory",
+    "departed",
+    "not followed",
+    "of these events",
+    "of other events",
+    "turned round",
+    "told twice",
+]
 # A trace with so many events at most is small enough for a plain program to go over its schedules.
 SMALL = 60
 POLICY = "default-src 'none'; style-src 'unsafe-inline'; base-uri 'none'; form-action 'none'"
 VOID = {"meta", "path", "rect"}
 ALLOWED = {
-    *("html", "head", "meta", "title", "style", "body", "header", "main", "section", "h1", "h2", "h3", "h4", "p", "bdi", "table", "thead", "tbody"),
+    *(
+        "html",
+        "head",
+        "meta",
+        "title",
+        "style",
+        "body",
+        "header",
+        "main",
+        "section",
+        "h1",
+        "h2",
+        "h3",
+        "h4",
+        "p",
+        "bdi",
+        "table",
+        "thead",
+        "tbody",
+    ),
     *("tr", "th", "td", "details", "summary", "span", "pre", "code", "figure", "figcaption", "div"),
     *("svg", "defs", "desc", "marker", "path", "rect", "text"),
 }
 ATTRIBUTES = {
-    *("lang", "charset", "http-equiv", "content", "name", "id", "class", "scope", "tabindex", "role", "aria-label", "aria-hidden"),
-    *("xmlns", "viewbox", "width", "height", "x", "y", "d", "refx", "refy", "markerwidth", "markerheight", "markerunits", "orient", "marker-end"),
+    *(
+        "lang",
+        "charset",
+        "http-equiv",
+        "content",
+        "name",
+        "id",
+        "class",
+        "scope",
+        "tabindex",
+        "role",
+        "aria-label",
+        "aria-hidden",
+    ),
+    *(
+        "xmlns",
+        "viewbox",
+        "width",
+        "height",
+        "x",
+        "y",
+        "d",
+        "refx",
+        "refy",
+        "markerwidth",
+        "markerheight",
+        "markerunits",
+        "orient",
+        "marker-end",
+    ),
 }
-# What stands in values that a browser would fetch, follow or run; the one link is that of an arrow to its tip, within the page.
+# What stands in values that a browser would fetch, follow or run; the one link is that of an arrow to its tip, within
+# the page.
 FORBIDDEN = re.compile(r"url\((?!#tip\))|javascript:|data:|@import|https?:(?!//www\.w3\.org/2000/svg$)", re.IGNORECASE)
 
 
@@ -140,7 +222,9 @@ def read(page):
     if len(reader.open) != 1 or reader.declared != 1:
         raise Wrong(f"not closed: {[element.tag for element in reader.open[1:]]}")
     root = reader.root.one("html")
-    policies = [meta for meta in root.one("head").all("meta") if meta.attributes.get("http-equiv") == "Content-Security-Policy"]
+    policies = [
+        meta for meta in root.one("head").all("meta") if meta.attributes.get("http-equiv") == "Content-Security-Policy"
+    ]
     if len(policies) != 1 or policies[0].attributes["content"] != POLICY or list(root.one("body").all("meta")):
         raise Wrong("the policy is another one")
     ids = [element.attributes["id"] for tag in ALLOWED for element in root.all(tag) if "id" in element.attributes]
@@ -186,11 +270,15 @@ def facts_of(block):
     of = f"{counted(facts['pairs'], 'pair')} of {counted(facts['variables'], 'variable')}"
     if block.sort == "undecided":
         return begin + f"undecided, {of}, {facts['tried']} tried"
-    return begin + f"{block.facts[0]}, {of}, a schedule of {counted(facts['events'], 'event')} of {counted(facts['threads'], 'thread')}"
+    return (
+        begin
+        + f"{block.facts[0]}, {of}, a schedule of {counted(facts['events'], 'event')} of {counted(facts['threads'], 'thread')}"
+    )
 
 
 def access_title(line, tally):
-    """What the title says of an access: what it does, in which function, and where. Behind ` < ` stands the function, or the place of a call."""
+    """What the title says of an access: what it does, in which function, and where. Behind ` < ` stands the function,
+    or the place of a call."""
     _, what, location = line.split("|", 2)
     place, _, callers = location.partition(" < ")
     caller = callers.partition(" < ")[0]
@@ -232,9 +320,12 @@ def is_read_that_races(line):
 
 
 def reasons_of(explained):
-    """What the row of a pair that is no race may say: the first line of what `explain` prints, and where a read on the way races, one such."""
+    """What the row of a pair that is no race may say: the first line of what `explain` prints, and where a read on the
+    way races, one such."""
     notes = [note for note in map(is_read_that_races, explained) if note]
-    return [f"{explained[0]}, since {read} reads {write} (these two race: explain {write} {read})" for write, read in notes] or explained[:1]
+    return [
+        f"{explained[0]}, since {read} reads {write} (these two race: explain {write} {read})" for write, read in notes
+    ] or explained[:1]
 
 
 class Placed(plain.Trace):
@@ -330,7 +421,8 @@ class Judge:
         return [shown(line) for line in out.split(b"\n")[:-1]]
 
     def judge_picture(self, name, block):
-        """Judges the picture of the row of a race: it is that of the schedule which `witness` prints, and that shows the pair. Answers the schedule."""
+        """Judges the picture of the row of a race: it is that of the schedule which `witness` prints, and that shows
+        the pair. Answers the schedule."""
         pair = (block.first, block.second)
         if pair not in self.pictures:
             raise Wrong(f"no picture of {pair}")
@@ -338,7 +430,9 @@ class Judge:
         listed = tuple(int(line.split(b" ")[0]) for line in out.split(b"\n")[:-1])
         if self.trace is None:
             picture = pictured.Picture(self.pictures[pair])
-            if picture.one("title") != f"A schedule that shows {pair[0]} and {pair[1]}" or picture.one("desc") != " ".join(["Its events:", *map(str, listed)]):
+            if picture.one("title") != f"A schedule that shows {pair[0]} and {pair[1]}" or picture.one(
+                "desc"
+            ) != " ".join(["Its events:", *map(str, listed)]):
                 raise Wrong(f"the picture of {pair} is {picture.one('title')!r}, {picture.one('desc')!r}")
             return listed
         if len(self.trace.events) <= SMALL:
@@ -349,7 +443,8 @@ class Judge:
         return listed
 
     def judge_followed(self, row, block):
-        """Judges what the row of a race says of having been followed. Answers how many of its tables and texts are about that."""
+        """Judges what the row of a race says of having been followed. Answers how many of its tables and texts are
+        about that."""
         seen = [span.text() for span in row.one("summary").all("span") if "seen" in span.attributes["class"].split()]
         heads = [head.text() for head in row.all("h4")]
         if self.followed is None or block.sort != "race":
@@ -373,9 +468,13 @@ class Judge:
         if told != wanted:
             raise Wrong(f"{told} beside {pair}, and plainly {wanted}")
         lines = [[cell.text() for cell in line.children] for line in list(row.all("table"))[1].one("tbody").all("tr")]
-        ends = [[], []] if word == "departed" else [[shown(entry.get(name, "").encode())] for name in ("first", "second")]
+        ends = (
+            [[], []] if word == "departed" else [[shown(entry.get(name, "").encode())] for name in ("first", "second")]
+        )
         places = [shown(text.encode().split(b" < ")[0]) for text in entry["locations"]]
-        rows = [[letter, str(event), place, *end] for letter, event, place, end in zip("AB", entry["events"], places, ends)]
+        rows = [
+            [letter, str(event), place, *end] for letter, event, place, end in zip("AB", entry["events"], places, ends)
+        ]
         if lines != rows:
             raise Wrong(f"{lines} beside {pair}, and plainly {rows}")
         if list(row.all("pre"))[0].text() != shown(entry.get("text", "").encode()) + "\n":
@@ -444,7 +543,9 @@ class Judge:
         if root.one("h1").text() != first or root.one("head").one("title").text() != first:
             raise Wrong(f"the first line is {root.one('h1').text()!r}, and plainly {first!r}")
         sections = list(root.one("main").all("section"))
-        counts = [f"{line.one('th').text()} {next(line.all('td')).text()}" for line in sections[-2].one("tbody").all("tr")]
+        counts = [
+            f"{line.one('th').text()} {next(line.all('td')).text()}" for line in sections[-2].one("tbody").all("tr")
+        ]
         if counts != [line.decode("ascii") for line in lines[:11]]:
             raise Wrong(f"the counts are {counts}")
         sorts = ["race", "undecided"] + ["apart"] * ("--apart" in words)
@@ -454,7 +555,9 @@ class Judge:
         for sort, section in zip(sorts, sections):
             self.judge_section(section, [block for block in blocks if block.sort == sort], name)
         told = "".join(paragraph.text() for paragraph in root.one("main").all("p"))
-        if (f"Runs showed it, and it is not proved. The file has {counted(str(len(followed or [])), 'line')}." in told) != (followed is not None and races > 0):
+        if (
+            f"Runs showed it, and it is not proved. The file has {counted(str(len(followed or [])), 'line')}." in told
+        ) != (followed is not None and races > 0):
             raise Wrong("no word of what was seen and is not proved")
         if ("This is what runs showed, and no proof rests on it." in told) != (followed is not None):
             raise Wrong("no word of what stands beside a race")
@@ -493,16 +596,33 @@ def named(names):
     for number, name in enumerate(names):
         guarded = b"w(g%d)|" % number + name
         lines += [b"A|w(" + name + b")|" + name, b"A|acq(" + lock + b")|1", b"A|" + guarded, b"A|rel(" + lock + b")|2"]
-        lines += [b"B|acq(" + lock + b")|3", b"B|" + guarded, b"B|rel(" + lock + b")|4", b"B|w(" + name + b")|'" + name]
+        lines += [
+            b"B|acq(" + lock + b")|3",
+            b"B|" + guarded,
+            b"B|rel(" + lock + b")|4",
+            b"B|w(" + name + b")|'" + name,
+        ]
     return b"\n".join(lines) + b"\n"
 
 
-NAMES = [b"<script>alert(1)</script>", b'"onload="', b"]]>", b"\xff" * 255, "\u200f\u202eabc".encode(), b"&lt;&#39;&amp;", b"--><!--", b"\x01\x7f\x1b[2J", "ä€😀".encode()]
+NAMES = [
+    b"<script>alert(1)</script>",
+    b'"onload="',
+    b"]]>",
+    b"\xff" * 255,
+    "\u200f\u202eabc".encode(),
+    b"&lt;&#39;&amp;",
+    b"--><!--",
+    b"\x01\x7f\x1b[2J",
+    "ä€😀".encode(),
+]
 
 
 def many(races):
     """A trace with so many races, each at places of its own."""
-    return b"".join(b"%s|w(x%d)|%s%d\n" % (thread, number, thread, number) for thread in (b"A", b"B") for number in range(races))
+    return b"".join(
+        b"%s|w(x%d)|%s%d\n" % (thread, number, thread, number) for thread in (b"A", b"B") for number in range(races)
+    )
 
 
 # Locations as the recorder writes them, with functions, with the places of calls, and with a block that is given back.
@@ -526,12 +646,26 @@ def write(name, text):
         out.write(text)
 
 
-TEXTS = ["", "status 0", "signal 11 (SIGSEGV)", "hangs", "</td><script>alert(1)</script>", '"\u0007\u202e<!--', "the endings differ", "&lt;]]>\U0001f600"]
+TEXTS = [
+    "",
+    "status 0",
+    "signal 11 (SIGSEGV)",
+    "hangs",
+    "</td><script>alert(1)</script>",
+    '"\u0007\u202e<!--',
+    "the endings differ",
+    "&lt;]]>\U0001f600",
+]
 
 
 def followed_line(chance, events, locations):
     """A line on these events and locations, with texts of all kinds."""
-    entry = {"events": events, "locations": locations, "places": [text.split(" < ")[0] for text in locations], "text": chance.choice(TEXTS)}
+    entry = {
+        "events": events,
+        "locations": locations,
+        "places": [text.split(" < ")[0] for text in locations],
+        "text": chance.choice(TEXTS),
+    }
     if chance.random() < 0.2:
         return {**entry, "ended": "departed", "at": chance.choice([None, events[0]])}
     texts = {name: chance.choice(TEXTS) for name in ("first", "second", "why")}
@@ -540,7 +674,8 @@ def followed_line(chance, events, locations):
 
 
 def followed_lines(chance, judge, name):
-    """Lines on some of the races of a trace, with other events, the locations turned round, or twice; and on races that it does not have."""
+    """Lines on some of the races of a trace, with other events, the locations turned round, or twice; and on races
+    that it does not have."""
     lines = running.printed(judge.program, ["triage", name]).split(b"\n")[:-1]
     entries = [followed_line(chance, [3, 1048575], ["no.c:1", "such.c:2 < location"])]
     for pair, locations in locations_of(lines).items():
@@ -583,37 +718,36 @@ def judge_made(judge, here):
     judge.judge("count.std", [], [])
 
 
-def main():
-    judge = Judge(os.path.abspath(sys.argv[1]))
-    traces = int(sys.argv[2]) if sys.argv[2:] else TRACES
-    first = int(sys.argv[3]) if sys.argv[3:] else 0
-    here = os.path.dirname(os.path.abspath(__file__))
-    with tempfile.TemporaryDirectory() as folder:
-        os.chdir(folder)
-        try:
-            judge_made(judge, here)
-        except Wrong as what:
-            sys.exit(f"page: {what}")
-        for number in range(first, first + traces):
-            chance = random.Random(number)
-            draw = chance.choice([by_chance.trace, by_chance.locked_trace])
-            trace = draw(chance, chance.choice(MOST_EVENTS))
-            places = [f"p{place}.c" for place in range(chance.randint(1, 6))]
-            running.write("trace", "".join(trace.line(event) + chance.choice(places) + "\n" for event in range(len(trace.events))))
-            known = running.printed(judge.program, ["triage", "trace"]).decode("ascii")
-            running.write("known", known)
-            # A text without a race would be said on standard error.
-            choices = [[], ["--apart"], ["--known", "known"] if "\nrace " in known else [], ["--hide", "p0.c"]]
-            words = ["--tries", chance.choice(["0", "1", "16"]), *chance.choice(choices)]
-            try:
-                judge.judge("trace", words, followed_lines(chance, judge, "trace") if chance.random() < 0.5 else None)
-            except Wrong as what:
-                sys.exit(f"page, seed {number}, {words}: {what}{running.given(['', 'trace'])}")
-    tally = judge.tally
-    missing = [kind for kind in REACHED if not tally[kind]]
-    if missing:
-        sys.exit(f"page: never reached: {missing}")
-    print(f"page: {traces} traces, seeds {first} to {first + traces - 1}, and {len(NAMES)} names: {tally['race']} races, {tally['undecided']} undecided, {tally['apart']} apart, {tally['picture']} pictures, as the texts say")
+def judge_drawn(judge, chance):
+    """A trace that is drawn by chance, with drawn words and perhaps with followed races."""
+    draw = chance.choice([by_chance.trace, by_chance.locked_trace])
+    trace = draw(chance, chance.choice(MOST_EVENTS))
+    places = [f"p{place}.c" for place in range(chance.randint(1, 6))]
+    running.write(
+        "trace", "".join(trace.line(event) + chance.choice(places) + "\n" for event in range(len(trace.events)))
+    )
+    known = running.printed(judge.program, ["triage", "trace"]).decode("ascii")
+    running.write("known", known)
+    # A text without a race would be said on standard error.
+    choices = [[], ["--apart"], ["--known", "known"] if "\nrace " in known else [], ["--hide", "p0.c"]]
+    words = ["--tries", chance.choice(["0", "1", "16"]), *chance.choice(choices)]
+    with judging.about(str(words), "trace"):
+        judge.judge("trace", words, followed_lines(chance, judge, "trace") if chance.random() < 0.5 else None)
 
 
-main()
+def judged(run):
+    judge, tally = Judge(run.program), run.tally
+    judge_made(judge, os.path.dirname(os.path.abspath(__file__)))
+    for seed in run.seeds():
+        with judging.about(f"seed {seed}"):
+            judge_drawn(judge, random.Random(seed))
+    tally.update(judge.tally)
+    count, first = run.numbers
+    kinds = (
+        f"{tally['race']} races, {tally['undecided']} undecided, {tally['apart']} apart, {tally['picture']} pictures"
+    )
+    return f"page: {count} traces, seeds {first} to {first + count - 1}, and {len(NAMES)} names: {kinds}, as the texts say"
+
+
+if __name__ == "__main__":
+    sys.exit(judging.main("page", judged, REACHED, {"TRACES": TRACES, "SEED": 0}))

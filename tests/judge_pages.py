@@ -8,17 +8,21 @@ the next command are what it prints, on standard output and on standard error. A
 that the page leaves out. Each page has an empty folder, with links to `examples`, `record` and `screen`, and
 `racebench` on the path. Where the page shows `racebench session`, lines to type and their answers take turns.
 
-Prints what differs, and what was left out. The last line is `N passed, M failed`; if nothing was typed, one failed.
+Prints what differs, and what was left out. The last line is `N passed, M failed`; if nothing was typed, it fails.
 """
 
 import os
 import pathlib
 import re
+import shutil
 import signal
 import subprocess
 import sys
 import tempfile
 import threading
+
+sys.dont_write_bytecode = True
+import judging
 
 TOP = pathlib.Path(__file__).resolve().parent.parent
 LINKED = ("examples", "record", "screen")
@@ -33,7 +37,11 @@ LEFT_OUT = [
     ("docs/BUILDS.md", "cmake", "needs CMake and a project"),
     ("docs/BUILDS.md", "bazel", "needs Bazel and a project"),
     ("docs/BUILDS.md", "$R/run", "runs what CMake or Bazel built"),
-    ("record/README.md", "record/reported report.txt", "names the two accesses in the order in which the sanitizer met them"),
+    (
+        "record/README.md",
+        "record/reported report.txt",
+        "names the two accesses in the order in which the sanitizer met them",
+    ),
     ("docs/CONFIRM.md", "racebench triage watchdog.std", "names events of one recording of a program that sleeps"),
     ("docs/CONFIRM.md", "racebench witness watchdog.std", "names events of one recording of a program that sleeps"),
     ("docs/CONFIRM.md", "record/follow --then both", "names events of one recording of a program that sleeps"),
@@ -47,6 +55,11 @@ LEFT_OUT = [
     ("docs/RECORDING.md", "racebench triage race.std", "reads what a program of Rust did"),
     ("docs/SCREEN.md", "screen/screen", "needs a browser"),
 ]
+if shutil.which("parallel") is None:
+    LEFT_OUT += [
+        ("docs/FARM.md", "sh examples/farm/parallel.sh", "needs GNU parallel"),
+        ("docs/FARM.md", "head -n 2 parts", "reads what GNU parallel's jobs wrote"),
+    ]
 
 
 def commands(text):
@@ -149,11 +162,11 @@ def why_left_out(page, command):
     return next((entry for entry in LEFT_OUT if entry[0] == page and command.startswith(entry[1])), None)
 
 
-def judged(page, program, used):
-    """Types the commands of a page: how many printed what is shown, how many did not, how many were left out."""
-    passed = failed = left = 0
+def judge_page(page, run, used):
+    """Types the commands of a page, each a case; answers how many were left out."""
+    left = 0
     with tempfile.TemporaryDirectory(prefix="pages") as temporary:
-        folder = Folder(pathlib.Path(temporary), program)
+        folder = Folder(pathlib.Path(temporary), run.program)
         for number, command, shown in commands((TOP / page).read_text(encoding="utf-8")):
             entry = why_left_out(page, command)
             if entry:
@@ -162,12 +175,9 @@ def judged(page, program, used):
                 left += 1
                 continue
             printed = answered(folder, command, shown)
-            if as_shown(command, printed, shown):
-                passed += 1
-            else:
-                failed += 1
-                print(f"{page}:{number}: $ {command}\n  prints\n{printed[:4000]}  and the page shows", *shown, sep="\n")
-    return passed, failed, left
+            differs = "\n".join([f"$ {command}\n  prints\n{printed[:4000]}  and the page shows", *shown])
+            run.case(f"{page}:{number}", [] if as_shown(command, printed, shown) else [differs])
+    return left
 
 
 def all_pages():
@@ -182,25 +192,18 @@ def prepare(program):
         return folder.printed("record/cc examples/count.c -o count && record/run ./count > count.std"), folder.status
 
 
-def main():
-    program = pathlib.Path(sys.argv[1]).resolve()
-    pages = sys.argv[2:] or all_pages()
-    printed, status = prepare(program)
+def judged(run):
+    pages, used = run.texts or all_pages(), set()
+    printed, status = prepare(run.program)
     if status:
         print(f"examples/count.c is not recorded: {printed}")
-    used, counts = set(), [0, 0, 0]
-    for page in pages:
-        for place, count in enumerate(judged(page, program, used)):
-            counts[place] += count
-    stale = [entry for entry in LEFT_OUT if entry[0] in pages and entry not in used]
-    for page, begins, _ in stale:
-        print(f"{page} has no command that begins with {begins}: take it out of LEFT_OUT")
-    if counts[0] + counts[1] == 0:
-        print("no command was typed")
-    passed, failed = counts[0], counts[1] + len(stale) + (counts[0] + counts[1] == 0)
-    print(f"{len(pages)} pages; {counts[2]} commands were left out")
-    print(f"{passed} passed, {failed} failed")
-    return 1 if failed else 0
+    left = sum(judge_page(page, run, used) for page in pages)
+    if not run.passed + run.failed:
+        raise judging.Wrong("no command was typed")
+    for page, begins, _ in [entry for entry in LEFT_OUT if entry[0] in pages and entry not in used]:
+        run.case(page, [f"there is no command that begins with {begins}: take it out of LEFT_OUT"])
+    print(f"{len(pages)} pages; {left} commands were left out")
 
 
-sys.exit(main())
+if __name__ == "__main__":
+    sys.exit(judging.main("pages", judged, texts="PAGE"))

@@ -1,23 +1,24 @@
 #!/usr/bin/env python3
-"""Judges which pair of events `explain` and `witness` take if they are given locations, by tests/plain.py and the rules of docs/FORMATS.md.
+"""Judges which pair of events `explain` and `witness` take if they are given locations, by tests/plain.py and the
+rules of docs/FORMATS.md.
 
-Draws traces with locations that resemble one another, and pairs of words: locations, files and lines, paths, parts of them and numbers of events. Where
-the words name a pair, both commands must print what they print of its two events; else they must say that there is no such pair.
+Draws traces with locations that resemble one another, and pairs of words: locations, files and lines, paths, parts of
+them and numbers of events. Where the words name a pair, both commands must print what they print of its two events;
+else they must say that there is no such pair.
 
     judge_places.py PROGRAM [TRACES [SEED]]      so many drawn traces, the first of this seed
 
 Says what is wrong, if something is, and ends with status 1 then, also if a kind of question was never met.
 """
 
-import collections
-import os
 import random
 import sys
-import tempfile
 
 sys.dont_write_bytecode = True
 import by_chance
+import judging
 import running
+from judging import Wrong
 
 TRACES = 150
 MOST_EVENTS = [8, 16, 28]
@@ -26,13 +27,40 @@ TRIES = 16
 DRAWS = [by_chance.locked_trace, by_chance.trace]
 PLACES = ["a/u.c:1", "b/u.c:1", "u.c:1", "u.c:11", "a/u.c:2", "lib/u_v.c:2", ""]
 CALLS = ["", "", " < put", " < put < main m.c:3", " < get m.c:3", " < get m.c:31", " < operator< p.cc:7"]
-WORDS = [*PLACES[:-1], "/src/a/u.c:1", "c:1", "c:2", "put", "get", "ge", "main m.c:3", "m.c:3", "m.c:31", "u.c", "< put", "p.cc:7", "x.c:1", ":1", "+1"]
+WORDS = [
+    *PLACES[:-1],
+    "/src/a/u.c:1",
+    "c:1",
+    "c:2",
+    "put",
+    "get",
+    "ge",
+    "main m.c:3",
+    "m.c:3",
+    "m.c:31",
+    "u.c",
+    "< put",
+    "p.cc:7",
+    "x.c:1",
+    ":1",
+    "+1",
+]
 FORMS = [[], ["--script"], ["--std"]]
-REACHED = ["whole", "path", "part", "nothing", "several", "shared", "same accesses", "two sets", "event", "no conflict", "candidate", "open", "apart"]
-
-
-class Wrong(Exception):
-    """What the program prints is not what the definitions say."""
+REACHED = [
+    "whole",
+    "path",
+    "part",
+    "nothing",
+    "several",
+    "shared",
+    "same accesses",
+    "two sets",
+    "event",
+    "no conflict",
+    "candidate",
+    "open",
+    "apart",
+]
 
 
 def is_word(byte):
@@ -113,7 +141,8 @@ class Located:
         return self.reported(ones, others, tally)
 
     def reported(self, ones, others, tally):
-        """The pair that `triage` reports of these accesses: the least candidate, the first open pair that is shown, the least open one, the least one."""
+        """The pair that `triage` reports of these accesses: the least candidate, the first open pair that is shown,
+        the least open one, the least one."""
         pairs = sorted(
             (second, first, self.trace.kind(first, second))
             for first, second in self.trace.conflicting()
@@ -146,9 +175,8 @@ def tries_of(trace, pairs):
 
 
 class Judge:
-    def __init__(self, program):
-        self.program = program
-        self.tally = collections.Counter()
+    def __init__(self, run):
+        self.program, self.tally = run.program, run.tally
 
     def judge_trace(self, located, chance):
         running.write("trace", located.text())
@@ -181,25 +209,16 @@ class Judge:
         self.tally["pairs"] += pair is not None
 
 
-def main():
-    judge = Judge(os.path.abspath(sys.argv[1]))
-    traces = int(sys.argv[2]) if sys.argv[2:] else TRACES
-    first = int(sys.argv[3]) if sys.argv[3:] else 0
-    with tempfile.TemporaryDirectory() as folder:
-        os.chdir(folder)
-        for seed in range(first, first + traces):
-            chance = random.Random(seed)
-            located = Located(chance.choice(DRAWS)(chance, chance.choice(MOST_EVENTS)), chance)
-            try:
-                judge.judge_trace(located, chance)
-            except Wrong as what:
-                sys.exit(f"places, seed {seed}: {what}{running.given(['', 'trace'])}")
-    tally = judge.tally
-    missing = [kind for kind in REACHED if not tally[kind]]
-    if missing:
-        sys.exit(f"places: never reached: {missing}")
+def judged(run):
+    judge, tally = Judge(run), run.tally
+    for seed in run.seeds():
+        chance = random.Random(seed)
+        located = Located(chance.choice(DRAWS)(chance, chance.choice(MOST_EVENTS)), chance)
+        with judging.about(f"seed {seed}", "trace"):
+            judge.judge_trace(located, chance)
     kinds = ", ".join(f"{tally[kind]} {kind}" for kind in REACHED)
-    print(f"places: {tally['questions']} questions on {tally['traces']} traces, {tally['pairs']} with a pair, are answered as the rules say ({kinds})")
+    return f"places: {tally['questions']} questions on {tally['traces']} traces, {tally['pairs']} with a pair, are answered as the rules say ({kinds})"
 
 
-main()
+if __name__ == "__main__":
+    sys.exit(judging.main("places", judged, REACHED, {"TRACES": TRACES, "SEED": 0}))

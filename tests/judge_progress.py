@@ -1,31 +1,35 @@
 #!/usr/bin/env python3
-"""Judges what `triage` shows of its progress where standard error is a terminal: a line that is written anew while it works, and wiped out before
-anything else is written.
+"""Judges what `triage` shows of its progress where standard error is a terminal: a line that is written anew while it
+works, and wiped out before anything else is written.
 
-The trace is one whose work takes long enough, which is measured, since no size would do on every machine. What comes on standard output and the status
-have to be those of a run whose standard error is a pipe, and nothing may come through that pipe, or lines with `--progress`. What is quick shows nothing.
-Takes the program's path. Says what is wrong, if something is, and ends with status 1 then.
+The trace is one whose work takes long enough, which is measured, since no size would do on every machine. What comes
+on standard output and the status have to be those of a run whose standard error is a pipe, and nothing may come
+through that pipe, or lines with `--progress`. What is quick shows nothing. Takes the program's path. Says what is
+wrong, if something is, and ends with status 1 then.
 """
 
 import os
 import re
 import subprocess
 import sys
-import tempfile
 import time
 import tty
 
 sys.dont_write_bytecode = True
+import judging
 import running
+from judging import Wrong
 
-# How many seconds the work takes at least where lines have to come, how many pairs of places are tried first, and how many at most.
+# How many seconds the work takes at least where lines have to come, how many pairs of places are tried first, and how
+# many at most.
 LEAST_SECONDS = 1.8
 FIRST_PAIRS = 20
 MOST_PAIRS = 64_000
 # Events that stand before the pairs, so that each search goes over many.
 OTHERS = 60_000
-# How many lines that tell of more pairs of places have to come then; how long nothing comes before the first line; and how often more work is
-# tried where fewer lines come: a busy machine may hold a run up before it looks at its first pair.
+# How many lines that tell of more pairs of places have to come then; how long nothing comes before the first line; and
+# how often more work is tried where fewer lines come: a busy machine may hold a run up before it looks at its first
+# pair.
 LEAST_LINES = 2
 QUIET_SECONDS = 0.9
 TRIES = 6
@@ -37,7 +41,14 @@ def trace(pairs):
     """So many pairs of places, each shown by critical sections in another order alone, which is searched for."""
     lines = [f"T{i % 2}|r(y)|others" for i in range(OTHERS)]
     for i in range(pairs):
-        lines += [f"T0|acq(l)|a{i}", f"T0|w(x{i})|a{i}", f"T0|rel(l)|a{i}", f"T1|acq(l)|b{i}", f"T1|rel(l)|b{i}", f"T1|w(x{i})|b{i}"]
+        lines += [
+            f"T0|acq(l)|a{i}",
+            f"T0|w(x{i})|a{i}",
+            f"T0|rel(l)|a{i}",
+            f"T1|acq(l)|b{i}",
+            f"T1|rel(l)|b{i}",
+            f"T1|w(x{i})|b{i}",
+        ]
     return "".join(line + "\n" for line in lines), len(lines)
 
 
@@ -69,41 +80,42 @@ class Shown:
 
 
 def judge_shown(run, events, pairs, rest=""):
-    """Judges what a terminal was sent: lines of rising numbers, the wiping, and the rest. Answers how many lines told of more pairs of places."""
+    """Judges what a terminal was sent: lines of rising numbers, the wiping, and the rest. Answers how many lines told
+    of more pairs of places."""
     at, longest, judged, told = 0, 0, 0, 0
     while line := SHOWN.match(run.sent, at):
         at = line.end()
         longest = max(longest, len(line[0]) - 1)
         if line[1] is not None and (judged or int(line[1]) != events):
-            sys.exit(f"progress: behind {judged} pairs of places, of {events} events, {line[0]!r} was shown")
+            raise Wrong(f"behind {judged} pairs of places, of {events} events, {line[0]!r} was shown")
         if line[2] is not None:
             if not judged <= int(line[2]) <= int(line[3]) or int(line[3]) != pairs:
-                sys.exit(f"progress: behind {judged} of {pairs} pairs of places {line[0]!r} was shown")
+                raise Wrong(f"behind {judged} of {pairs} pairs of places {line[0]!r} was shown")
             told += int(line[2]) > judged
             judged = int(line[2])
     wiped = WIPED.match(run.sent, at)
     if longest and (not wiped or len(wiped[0]) - 2 < longest):
-        sys.exit(f"progress: a line of {longest} characters was not wiped out: {run.sent[at : at + 100]!r}")
+        raise Wrong(f"a line of {longest} characters was not wiped out: {run.sent[at : at + 100]!r}")
     at = wiped.end() if longest else at
     if run.sent[at:] != rest:
-        sys.exit(f"progress: {run.sent[at:][:300]!r} came behind the line, and not {rest[:300]!r}")
+        raise Wrong(f"{run.sent[at:][:300]!r} came behind the line, and not {rest[:300]!r}")
     if run.seconds >= LEAST_SECONDS and told < LEAST_LINES:
         raise TooFew(f"in {run.seconds:.1f} s {told} lines told of more pairs of places: {run.sent[:300]!r}")
     if longest and run.quiet < QUIET_SECONDS:
-        sys.exit(f"progress: something was shown after {run.quiet:.2f} s")
+        raise Wrong(f"something was shown after {run.quiet:.2f} s")
     return told
 
 
 def judge_status(words, status, wanted):
     if status != wanted:
-        sys.exit(f"progress: {words}: status {status} beside a terminal, and not {wanted}")
+        raise Wrong(f"{words}: status {status} beside a terminal, and not {wanted}")
 
 
 def judge_output(words, wanted):
     """Compares standard output with that of a run without a terminal."""
     with open("out", "rb") as out:
         if out.read() != wanted:
-            sys.exit(f"progress: {words}: another standard output beside a terminal")
+            raise Wrong(f"{words}: another standard output beside a terminal")
 
 
 def judge_quick(program):
@@ -115,22 +127,26 @@ def judge_quick(program):
         judge_status(words, run.status, status)
         judge_output(words, out)
         if run.seconds < QUIET_SECONDS and run.sent != err.decode("ascii"):
-            sys.exit(f"progress: {words} shows {run.sent!r}, and writes {err!r} where no terminal is")
+            raise Wrong(f"{words} shows {run.sent!r}, and writes {err!r} where no terminal is")
 
 
 def judge_asked(program, events, pairs, wanted):
     """With `--progress` a pipe is sent lines of rising numbers, and standard output is as without it."""
     status, out, err = running.ended(program, ["triage", "trace", "--progress"])
     if (status, out) != (0, wanted):
-        sys.exit(f"progress: status {status} with --progress, or another standard output")
-    told = [re.fullmatch(r"events (\d+)|pairs of places (\d+) of (\d+)", line) for line in err.decode("ascii").splitlines()]
+        raise Wrong(f"status {status} with --progress, or another standard output")
+    told = [
+        re.fullmatch(r"events (\d+)|pairs of places (\d+) of (\d+)", line) for line in err.decode("ascii").splitlines()
+    ]
     if not all(told):
-        sys.exit(f"progress: with --progress a pipe is sent {err[:300]!r}")
+        raise Wrong(f"with --progress a pipe is sent {err[:300]!r}")
     if len(told) < LEAST_LINES:
         raise TooFew(f"with --progress a pipe is sent {err[:300]!r} only")
     counts = [int(line[2]) for line in told if line[2]]
-    if counts != sorted(counts) or any(int(line[1] or events) != events or int(line[3] or pairs) != pairs for line in told):
-        sys.exit(f"progress: with --progress other numbers are sent: {err[:300]!r}")
+    if counts != sorted(counts) or any(
+        int(line[1] or events) != events or int(line[3] or pairs) != pairs for line in told
+    ):
+        raise Wrong(f"with --progress other numbers are sent: {err[:300]!r}")
 
 
 def long_run(program, pairs):
@@ -143,7 +159,7 @@ def long_run(program, pairs):
         if run.seconds >= LEAST_SECONDS:
             return run, events, pairs
         if pairs == MOST_PAIRS:
-            sys.exit(f"progress: the work on {pairs} pairs of places took {run.seconds:.1f} s only")
+            raise Wrong(f"the work on {pairs} pairs of places took {run.seconds:.1f} s only")
         pairs = min(int(pairs * 1.2 * LEAST_SECONDS / run.seconds) + 1, MOST_PAIRS)
 
 
@@ -156,14 +172,15 @@ def judge_long(program):
             return judge_lines(program, run, events, pairs), pairs
         except TooFew as what:
             pairs, why = min(2 * pairs, MOST_PAIRS), what
-    sys.exit(f"progress: {why}")
+    raise Wrong(f"{why}")
 
 
 def judge_lines(program, run, events, pairs):
-    """What takes long shows lines: beside a file, by a worker with all on one terminal, and before a fault. Answers how many told of more."""
+    """What takes long shows lines: beside a file, by a worker with all on one terminal, and before a fault. Answers
+    how many told of more."""
     status, out, err = running.ended(program, ["triage", "trace"])
     if status != 0 or err:
-        sys.exit(f"progress: status {status} where no terminal is, and on standard error {err[:300]!r}")
+        raise Wrong(f"status {status} where no terminal is, and on standard error {err[:300]!r}")
     judge_output(["triage", "trace"], out)
     judge_asked(program, events, pairs, out)
     lines = judge_shown(run, events, pairs)
@@ -174,16 +191,16 @@ def judge_lines(program, run, events, pairs):
     words = ["triage", "trace"]
     run = Shown(program, words, "/dev/full")
     judge_status(words, run.status, 1)
-    return lines + judge_shown(run, events, pairs, "racebench: write failed\nnote: standard output cannot be written\n")
+    return lines + judge_shown(
+        run, events, pairs, "racebench: write failed\nnote: standard output cannot be written\n"
+    )
 
 
-def main():
-    program = os.path.abspath(sys.argv[1])
-    with tempfile.TemporaryDirectory() as folder:
-        os.chdir(folder)
-        judge_quick(program)
-        lines, pairs = judge_long(program)
-    print(f"progress: {lines} lines told of {pairs} pairs of places in three runs, each was wiped out, and nothing came where no terminal is")
+def judged(run):
+    judge_quick(run.program)
+    run.tally["lines"], pairs = judge_long(run.program)
+    return f"progress: {run.tally['lines']} lines told of {pairs} pairs of places in three runs, each was wiped out, and nothing came where no terminal is"
 
 
-main()
+if __name__ == "__main__":
+    sys.exit(judging.main("progress", judged, ["lines"]))

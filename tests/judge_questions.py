@@ -1,33 +1,66 @@
 #!/usr/bin/env python3
-"""Judges the questions of a session, lines that begin with `?`, on traces and scripts drawn by chance: each answer is compared with what plain.py,
-a plain program of the definitions, says of the log at that moment. A question makes no entry; a faulty one is named with its line.
+"""Judges the questions of a session, lines that begin with `?`, on traces and scripts drawn by chance: each answer is
+compared with what plain.py, a plain program of the definitions, says of the log at that moment. A question makes no
+entry; a faulty one is named with its line.
 
-Takes the program's path, and how many sessions are drawn, 60 where that is not said. Says what is wrong, if something is, and ends with status 1.
+Takes the program's path, and how many sessions are drawn, 60 where that is not said. Says what is wrong, if something
+is, and ends with status 1.
 """
 
-import collections
 import os
 import random
 import subprocess
 import sys
-import tempfile
 
 sys.dont_write_bytecode = True
 import by_chance
+import judging
 import plain
 import running
+from judging import Wrong
 
 SESSIONS = 60
 EVENTS = 14
 CALLS = 30
 # Lines that ask nothing.
-FAULTY = ["?", "? what A", "? next", "? next A B", "? next A/B", "? rows A", "? entry", "? entry x", "? part A 0", "? run A", "? run A -1", "? witness 0", "?  "]
+FAULTY = [
+    "?",
+    "? what A",
+    "? next",
+    "? next A B",
+    "? next A/B",
+    "? rows A",
+    "? entry",
+    "? entry x",
+    "? part A 0",
+    "? run A",
+    "? run A -1",
+    "? witness 0",
+    "?  ",
+]
 # What has to be reached.
-REACHED = ["next", "23", "24", "25", "26", "free", "run", "stopped", "part", "rows", "live", "undone", "42", "57", "21", "22", "faulty", "race", "98", "99"]
-
-
-class Wrong(Exception):
-    """What an answer says that it may not say."""
+REACHED = [
+    "next",
+    "23",
+    "24",
+    "25",
+    "26",
+    "free",
+    "run",
+    "stopped",
+    "part",
+    "rows",
+    "live",
+    "undone",
+    "42",
+    "57",
+    "21",
+    "22",
+    "faulty",
+    "race",
+    "98",
+    "99",
+]
 
 
 class Asked:
@@ -47,7 +80,13 @@ class Asked:
             return str(event)
         words = told.split(" ")
         self.tally[words[0]] += 1
-        more = [words[4], words[6]] if words[0] == "24" else [str(self.trace.threads().index(words[-1]))] if words[0] == "25" else []
+        more = (
+            [words[4], words[6]]
+            if words[0] == "24"
+            else [str(self.trace.threads().index(words[-1]))]
+            if words[0] == "25"
+            else []
+        )
         return ":".join([str(event), words[0], *more])
 
     def next_events(self, events):
@@ -64,7 +103,14 @@ class Asked:
     def next(self, name):
         events = self.events_at(name)
         self.tally["next"] += 1
-        return " ".join(["next", str(len(self.log.entries)), str(len(events)), *(self.cause(events, event) for event in self.next_events(events))])
+        return " ".join(
+            [
+                "next",
+                str(len(self.log.entries)),
+                str(len(events)),
+                *(self.cause(events, event) for event in self.next_events(events)),
+            ]
+        )
 
     def run(self, name, event):
         events = self.events_at(name)
@@ -75,7 +121,9 @@ class Asked:
             self.tally["22"] += 1
             return "refused 46 22 not next"
         self.tally["run"] += 1
-        left = [other for other in self.trace.events_of(self.trace.thread(event)) if other not in events and other <= event]
+        left = [
+            other for other in self.trace.events_of(self.trace.thread(event)) if other not in events and other <= event
+        ]
         for count, other in enumerate(left):
             if self.trace.cause(events, other) is not None:
                 self.tally["stopped"] += 1
@@ -86,12 +134,16 @@ class Asked:
     def part(self, name, start, count):
         events = self.events_at(name)
         self.tally["part"] += 1
-        return " ".join(["part", *map(str, (len(self.log.entries), len(events), start, *events[start : start + count]))])
+        return " ".join(
+            ["part", *map(str, (len(self.log.entries), len(events), start, *events[start : start + count]))]
+        )
 
     def rows(self):
         self.tally["rows"] += 1
         listed = [(name, self.log.rows[name]) for name in self.log.names()]
-        items = [f"{name}:{len(row.events)}:{row.birth[0]}:{self.log.entries[row.birth[0]].client}" for name, row in listed]
+        items = [
+            f"{name}:{len(row.events)}:{row.birth[0]}:{self.log.entries[row.birth[0]].client}" for name, row in listed
+        ]
         return " ".join(["rows", str(len(self.log.entries)), *items])
 
     def entry(self, number):
@@ -112,7 +164,11 @@ class Asked:
             number = self.chance.randint(0, len(self.log.entries))
             return f"? entry {number}", self.entry(number)
         name = self.chance.choice(names)
-        about = {"next": (), "run": (self.chance.randint(0, len(self.trace.events)),), "part": (self.chance.randint(0, 6), self.chance.randint(0, 6))}[word]
+        about = {
+            "next": (),
+            "run": (self.chance.randint(0, len(self.trace.events)),),
+            "part": (self.chance.randint(0, 6), self.chance.randint(0, 6)),
+        }[word]
         line = " ".join(["?", word, name, *map(str, about)])
         if self.events_at(name) is None:
             self.tally["42"] += 1
@@ -134,11 +190,22 @@ def judge_witness(trace, first, second, told, tally):
     listed = tuple(map(int, events))
     tally["race"] += 1
     right = trace.is_reordering(listed) and trace.shows(listed, first, second)
-    return word == "witness" and how in ("candidate", "beyond", "turned") and right and (how == "candidate") == (kind == "candidate")
+    return (
+        word == "witness"
+        and how in ("candidate", "beyond", "turned")
+        and right
+        and (how == "candidate") == (kind == "candidate")
+    )
 
 
 def session(program, lines):
-    done = subprocess.run([program, "session", "trace", "log"], input="".join(line + "\n" for line in lines).encode("ascii"), capture_output=True, timeout=running.PATIENCE, check=False)
+    done = subprocess.run(
+        [program, "session", "trace", "log"],
+        input="".join(line + "\n" for line in lines).encode("ascii"),
+        capture_output=True,
+        timeout=running.PATIENCE,
+        check=False,
+    )
     if done.returncode != 0 or done.stderr:
         raise Wrong(f"status {done.returncode}: {done.stderr[:300]!r}")
     return done.stdout.decode("ascii").split("\n")[:-1]
@@ -179,22 +246,15 @@ def judge_session(program, seed, tally):
         raise Wrong("a question has made a line of the log")
 
 
-def main():
-    program = os.path.abspath(sys.argv[1])
-    count = int(sys.argv[2]) if len(sys.argv) > 2 else SESSIONS
-    tally = collections.Counter()
-    with tempfile.TemporaryDirectory() as folder:
-        os.chdir(folder)
-        for seed in range(count):
-            try:
-                judge_session(program, seed, tally)
-            except Wrong as what:
-                sys.exit(f"questions: seed {seed}: {what}{running.given(['', 'trace'])}")
-        os.chdir("/")
-    missing = [what for what in REACHED if not tally[what]]
-    if missing:
-        sys.exit(f"questions: in {count} sessions there was no {', '.join(missing)}")
-    print(f"questions: {count} sessions, " + ", ".join(f"{tally[what]} {what}" for what in ("next", "run", "part", "rows", "live", "undone", "race", "faulty")))
+def judged(run):
+    for seed in range(run.numbers[0]):
+        with judging.about(f"seed {seed}", "trace"):
+            judge_session(run.program, seed, run.tally)
+    kinds = ", ".join(
+        f"{run.tally[what]} {what}" for what in ("next", "run", "part", "rows", "live", "undone", "race", "faulty")
+    )
+    return f"questions: {run.numbers[0]} sessions, {kinds}"
 
 
-main()
+if __name__ == "__main__":
+    sys.exit(judging.main("questions", judged, REACHED, {"SESSIONS": SESSIONS}))

@@ -1,23 +1,23 @@
 #!/usr/bin/env python3
 """Judges what `replay` and `info` print, by tests/plain.py, which answers from the definitions.
 
-The traces and scripts are drawn by chance, always the same ones. Whole outputs have to be alike. It also tries every order in which
-several clients can undo a few commands. Each kind of answer has to be reached, so that no draw can go stale unseen.
-Takes the program's path. Says what is wrong, if something is, and ends with status 1 then.
+The traces and scripts are drawn by chance, always the same ones. Whole outputs have to be alike. It also tries every
+order in which several clients can undo a few commands. Each kind of answer has to be reached, so that no draw can go
+stale unseen. Takes the program's path. Says what is wrong, if something is, and ends with status 1 then.
 """
 
 import collections
 import itertools
-import os
 import random
 import re
 import sys
-import tempfile
 
 sys.dont_write_bytecode = True
 import by_chance
+import judging
 import plain
 import running
+from judging import Wrong
 
 # How many traces are drawn; how many scripts on each, and how many calls in one.
 TRACES = 400
@@ -31,8 +31,8 @@ MOST_PROBED = 12
 LOGS = 60
 # How many scripts are run on a trace with a thread that has no event.
 IDLE_SCRIPTS = 12
-# So many clients undo so many times, in every order; so many orders stand in one script. And for how many lists of commands
-# drawn by chance, with fewer undos.
+# So many clients undo so many times, in every order; so many orders stand in one script. And for how many lists of
+# commands drawn by chance, with fewer undos.
 UNDOING = 3
 UNDOS = 7
 ORDERS = 4
@@ -108,7 +108,9 @@ class Tally(collections.Counter):
             self["batch|twice-on-one"] += bool(later)
             self["batch|made-and-dropped"] += words[at] in ("new", "branch") and ("drop", name) in later
             self["batch|dropped-and-made"] += words[at] == "drop" and name in [plain.written(other) for other in later]
-            self["batch|copies-its-own"] += words[at] in ("new", "branch") and any(other[:2] == ("branch", name) for other in later)
+            self["batch|copies-its-own"] += words[at] in ("new", "branch") and any(
+                other[:2] == ("branch", name) for other in later
+            )
         self["batch|longest"] += len(commands) == plain.BATCH_LIMIT
         self["batch|alone"] += len(commands) == 1
         self["in batches"] += len(commands)
@@ -121,7 +123,9 @@ class Tally(collections.Counter):
             self["undo|last"] += 1
         later = [entry for entry in log.entries[undone + 1 :] if entry.kind in ("did", "batch")]
         # Later commands that touched a name were undone themselves, and those that were not touch other names.
-        self["undo|past-undone"] += any(name in plain.touches(entry.what) for entry in later for name in plain.writes(what))
+        self["undo|past-undone"] += any(
+            name in plain.touches(entry.what) for entry in later for name in plain.writes(what)
+        )
         past = [other for number, _, other in log.live if number > undone]
         self["undo|past-others"] += bool(past)
         self["undo|batch-past-others"] += what[0] == "batch" and bool(past)
@@ -138,13 +142,14 @@ class Judge:
         self.tally = Tally()
 
     def compare(self, expected, *words):
-        """Ends with the first line that the program prints otherwise, where there is one, and with what it was given."""
+        """Ends with the first line that the program prints otherwise, where there is one, and with what it was
+        given."""
         printed = running.printed(self.program, words)
         if printed == expected.encode("ascii"):
             return
         pairs = itertools.zip_longest(expected.encode("ascii").split(b"\n"), printed.split(b"\n"))
         at, (wanted, found) = next((at, pair) for at, pair in enumerate(pairs, start=1) if pair[0] != pair[1])
-        sys.exit(f"{words[0]}, line {at}: {found!r}, and plainly {wanted!r}{running.given(words)}")
+        raise Wrong(f"{words[0]}, line {at}: {found!r}, and plainly {wanted!r}{judging.given(words[1:])}")
 
     def judge_info(self, trace):
         running.write("trace", trace.text())
@@ -237,16 +242,34 @@ def judge_logs(judge):
 
 IDLE_THREAD = [("A", "w", "x"), ("A", "fork", "W"), ("B", "join", "W"), ("B", "w", "x")]
 # Schedules that grow, are copied, go and come again, on a trace of two threads that use one lock.
-ONE_LOCK = [("T1", "w", "x"), ("T1", "acq", "l"), ("T1", "rel", "l"), ("T2", "acq", "l"), ("T2", "rel", "l"), ("T2", "w", "x")]
+ONE_LOCK = [
+    ("T1", "w", "x"),
+    ("T1", "acq", "l"),
+    ("T1", "rel", "l"),
+    ("T2", "acq", "l"),
+    ("T2", "rel", "l"),
+    ("T2", "w", "x"),
+]
 COMMANDS = [
-    (0, ("new", "A")), (1, ("new", "B")), (0, ("add", "A", 0)), (2, ("branch", "A", 1, "C")), (1, ("add", "B", 3)),
-    (0, ("drop", "A")), (2, ("add", "C", 3)), (1, ("new", "A")), (2, ("swap", "C", 0)),
+    (0, ("new", "A")),
+    (1, ("new", "B")),
+    (0, ("add", "A", 0)),
+    (2, ("branch", "A", 1, "C")),
+    (1, ("add", "B", 3)),
+    (0, ("drop", "A")),
+    (2, ("add", "C", 3)),
+    (1, ("new", "A")),
+    (2, ("swap", "C", 0)),
 ]
 # Batches on the same schedules, two commands of one on one schedule, and one that makes a schedule anew.
 IN_BATCHES = [
-    (0, ("batch", (("new", "A"), ("add", "A", 0), ("new", "B")))), (1, ("batch", (("add", "B", 3), ("branch", "B", 1, "C")))),
-    (2, ("batch", (("drop", "A"), ("new", "A")))), (0, ("add", "C", 0)), (1, ("batch", (("drop", "C"), ("new", "D"), ("drop", "D")))),
-    (2, ("new", "C")), (0, ("batch", (("add", "A", 0), ("add", "A", 3), ("swap", "A", 0), ("back", "B")))),
+    (0, ("batch", (("new", "A"), ("add", "A", 0), ("new", "B")))),
+    (1, ("batch", (("add", "B", 3), ("branch", "B", 1, "C")))),
+    (2, ("batch", (("drop", "A"), ("new", "A")))),
+    (0, ("add", "C", 0)),
+    (1, ("batch", (("drop", "C"), ("new", "D"), ("drop", "D")))),
+    (2, ("new", "C")),
+    (0, ("batch", (("add", "A", 0), ("add", "A", 3), ("swap", "A", 0), ("back", "B")))),
     (1, ("new", "D")),
 ]
 
@@ -273,7 +296,8 @@ def with_names(renamed, call):
 
 
 def in_order(log, group, commands, order):
-    """The commands and then the undos of these clients, all with names and clients of this group alone; and the log after all."""
+    """The commands and then the undos of these clients, all with names and clients of this group alone; and the log
+    after all."""
     names = sorted({name for _, command in commands for name in plain.touches(command)})
     renamed = {name: f"{name}.{group}" for name in names}
     steps = [(client, with_names(renamed, command)) for client, command in commands]
@@ -329,17 +353,13 @@ def summary(tally):
     )
 
 
-def main():
-    judge = Judge(os.path.abspath(sys.argv[1]))
-    with tempfile.TemporaryDirectory() as folder:
-        os.chdir(folder)
-        for part in (judge_by_chance, judge_idle, judge_probed, judge_logs, judge_undo):
-            part(judge)
-    missing = [kind for kind in REACHED if not judge.tally[kind]]
-    if missing:
-        sys.exit(f"replay: never reached: {missing}")
-    print(summary(judge.tally))
+def judged(run):
+    judge = Judge(run.program)
+    for part in (judge_by_chance, judge_idle, judge_probed, judge_logs, judge_undo):
+        part(judge)
+    run.tally = judge.tally
+    return summary(judge.tally)
 
 
 if __name__ == "__main__":
-    main()
+    sys.exit(judging.main("replay", judged, REACHED))

@@ -1,9 +1,11 @@
 #!/usr/bin/env python3
-"""Judges `triage --sarif` by the rules of SARIF 2.1.0 (tests/sarif_rules.py), by `triage --json`, and by the schedules that `witness` prints.
+"""Judges `triage --sarif` by the rules of SARIF 2.1.0 (tests/sarif_rules.py), by `triage --json`, and by the schedules
+that `witness` prints.
 
-Takes traces with calls, hostile names and long schedules, and traces drawn by chance. Each log must have a result for each object of JSON, in their order,
-with its accesses, their calls as stacks, and, for a race, its schedule as a code flow: every step once, in the order of the schedule, and at its end the two
-accesses. Moves lines of code: the fingerprints must stay; and changes a line: they must differ.
+Takes traces with calls, hostile names and long schedules, and traces drawn by chance. Each log must have a result for
+each object of JSON, in their order, with its accesses, their calls as stacks, and, for a race, its schedule as a code
+flow: every step once, in the order of the schedule, and at its end the two accesses. Moves lines of code: the
+fingerprints must stay; and changes a line: they must differ.
 
     judge_sarif.py PROGRAM [TRACES [SEED]]      so many drawn traces, the first of this seed
 
@@ -16,12 +18,12 @@ import os
 import random
 import re
 import sys
-import tempfile
 import urllib.parse
 
 sys.dont_write_bytecode = True
 import by_chance
 import compiled
+import judging
 import running
 import sarif_rules
 from sarif_rules import Wrong
@@ -32,13 +34,41 @@ MOST_STEPS = 200
 MOST_CALLS = 64
 MOST_FLOWS = 200
 MOST_LINE = 10**9
-PLACES = ["a/u.c:1", "b/u.c:1", "/usr/include/x.h:12", "src/u v.c:3", "a:b.c:7", "./k#?%.c:9", "9", "u.c:0", "u.c:9999999999999", "\u00fc.c:2", ""]
+PLACES = [
+    "a/u.c:1",
+    "b/u.c:1",
+    "/usr/include/x.h:12",
+    "src/u v.c:3",
+    "a:b.c:7",
+    "./k#?%.c:9",
+    "9",
+    "u.c:0",
+    "u.c:9999999999999",
+    "\u00fc.c:2",
+    "",
+]
 CALLS = ["", " < put", " < put < main m.c:3", " < m.c:3 < main", " < operator< p.cc:7 < go < main m.c:4"]
-RULES = {"race": ("data-race", "fail", "error"), "undecided": ("undecided-pair", "fail", "warning"), "apart": ("apart", "pass", "none")}
+RULES = {
+    "race": ("data-race", "fail", "error"),
+    "undecided": ("undecided-pair", "fail", "warning"),
+    "apart": ("apart", "pass", "none"),
+}
 VERBS = {"r": "reads", "w": "writes", "acq": "acquires", "rel": "releases", "fork": "forks", "join": "joins"}
 DRAWS = [by_chance.locked_trace, by_chance.trace]
 FOUND = {"race": "Data race", "undecided": "Undecided pair", "apart": "No race"}
-REACHED = ["race", "apart", "flow", "cut flow", "frame", "no file", "absolute", "within the folder", "no line", "moved", "changed"]
+REACHED = [
+    "race",
+    "apart",
+    "flow",
+    "cut flow",
+    "frame",
+    "no file",
+    "absolute",
+    "within the folder",
+    "no line",
+    "moved",
+    "changed",
+]
 
 
 def place_parts(place):
@@ -84,7 +114,11 @@ class Judge:
     def check_location(self, location, place, function, words, root):
         """Judges a location by the place, the function and the words that it has to have."""
         self.equal(location["message"]["text"], words, "the message of a location")
-        self.equal([one["fullyQualifiedName"] for one in location.get("logicalLocations", [])], [function] if function else [], "the function")
+        self.equal(
+            [one["fullyQualifiedName"] for one in location.get("logicalLocations", [])],
+            [function] if function else [],
+            "the function",
+        )
         file, line = place_parts(place)
         if file is None:
             self.tally["no file"] += 1
@@ -120,7 +154,8 @@ class Judge:
             self.check_location(frame, place, function, function or "a call", root)
 
     def check_flow(self, flow, events, pair, root):
-        """Each step of the schedule is there once, but the first ones of a thread with many; at its end are the two accesses."""
+        """Each step of the schedule is there once, but the first ones of a thread with many; at its end are the two
+        accesses."""
         self.tally["flow"] += 1
         listed = running.printed(self.program, ["witness", "trace", *map(str, pair)]).decode("utf-8").splitlines()
         steps = [int(line.split(" ", 1)[0]) for line in listed if line[:1].isdigit()] + list(pair)
@@ -132,11 +167,23 @@ class Judge:
             wanted = threads[thread["id"]]
             kept = wanted[-MOST_STEPS:]
             self.tally["cut flow"] += len(kept) < len(wanted)
-            note = f"steps: {len(wanted)}" if len(kept) == len(wanted) else f"steps: the last {MOST_STEPS} of {len(wanted)}"
+            note = (
+                f"steps: {len(wanted)}"
+                if len(kept) == len(wanted)
+                else f"steps: the last {MOST_STEPS} of {len(wanted)}"
+            )
             self.equal(thread["message"]["text"], note, "the note of a thread")
-            self.equal([step["executionOrder"] for step in thread["locations"]], [order for order, _ in kept], "the order of steps")
+            self.equal(
+                [step["executionOrder"] for step in thread["locations"]],
+                [order for order, _ in kept],
+                "the order of steps",
+            )
             for step, (order, event) in zip(thread["locations"], kept):
-                self.equal(step["importance"], "essential" if order > len(steps) - 2 else "important", "the importance of a step")
+                self.equal(
+                    step["importance"],
+                    "essential" if order > len(steps) - 2 else "important",
+                    "the importance of a step",
+                )
                 self.check_access(step["location"], events[event], root)
 
     def check_result(self, result, told, events, root, is_drawn):
@@ -148,7 +195,11 @@ class Judge:
         head = f"{FOUND[kind]} on {second.name}: {second.words()}, and {first.words()}; "
         wanted = f"{head}{compiled.why(told)}. More: racebench explain TRACE {pair[0]} {pair[1]}"
         self.equal(result["message"]["text"], wanted, "the message")
-        self.equal((len(result["locations"]), len(result["relatedLocations"]), len(result["stacks"])), (1, 1, 2), "the number of accesses")
+        self.equal(
+            (len(result["locations"]), len(result["relatedLocations"]), len(result["stacks"])),
+            (1, 1, 2),
+            "the number of accesses",
+        )
         self.check_access(result["locations"][0], second, root)
         self.check_access(result["relatedLocations"][0], first, root)
         self.check_stack(result["stacks"][0], second, root)
@@ -173,12 +224,19 @@ class Judge:
             out.write("".join(line + "\n" for line in lines))
         events = [Event(line) for line in lines]
         run = self.log_of(words + (["--source", root] if root else []))["runs"][0]
-        told = [json.loads(line) for line in running.printed(self.program, ["triage", "trace", "--json", *words]).splitlines()]
+        told = [
+            json.loads(line)
+            for line in running.printed(self.program, ["triage", "trace", "--json", *words]).splitlines()
+        ]
         blocks = [one for one in told if one["kind"] in RULES]
         self.equal(len(run["results"]), len(blocks), "the number of results")
         for at, (result, block) in enumerate(zip(run["results"], blocks)):
             self.check_result(result, block, events, (root.rstrip("/") + "/") if root else "", at < MOST_FLOWS)
-        self.equal(run["properties"], {one["kind"]: one["count"] for one in told if one["kind"] in ("known", "hidden")}, "what was left out")
+        self.equal(
+            run["properties"],
+            {one["kind"]: one["count"] for one in told if one["kind"] in ("known", "hidden")},
+            "what was left out",
+        )
         self.equal(list(run["originalUriBaseIds"]), ["SRCROOT"] if root else [], "whether a folder is named")
         return [result["partialFingerprints"]["racePair/v1"] for result in run["results"]]
 
@@ -192,7 +250,13 @@ def drawn(chance, number):
 
 def racy(gap, place, other):
     """A race between a writer and a reader, with so many events of the writer before."""
-    return ["main|fork(T1)|m.c:1", "main|fork(T2)|m.c:2", *["T1|w(own)|a.c:1 < fill"] * gap, f"T1|w(x)|{place}", f"T2|r(x)|{other}"]
+    return [
+        "main|fork(T1)|m.c:1",
+        "main|fork(T2)|m.c:2",
+        *["T1|w(own)|a.c:1 < fill"] * gap,
+        f"T1|w(x)|{place}",
+        f"T2|r(x)|{other}",
+    ]
 
 
 def check_long(judge):
@@ -223,7 +287,8 @@ def write_code(texts):
 
 
 def check_moved(judge):
-    """A moved line keeps its fingerprint; another line, function, variable or file has another one. The order of the accesses does not matter."""
+    """A moved line keeps its fingerprint; another line, function, variable or file has another one. The order of the
+    accesses does not matter."""
     code = {"p.c": ["int x;", "", "    x = 1;", "return x;"], "sub/p.c": ["", "x = 1;"]}
     for root in ("code", os.path.abspath("code")):
         write_code(code)
@@ -233,9 +298,17 @@ def check_moved(judge):
         whole = judge.check([f"T1|w(x)|{os.path.abspath('code')}/p.c:3 < put", "T2|r(x)|p.c:4 < get"], [], root)
         judge.equal(whole == before, root.startswith("/"), "whether a path within the folder is relative")
         write_code({"p.c": ["// one", "// two", *code["p.c"]]})
-        judge.equal(judge.check(["T1|w(x)|p.c:5 < put", "T2|r(x)|p.c:6 < get"], [], root), before, "the fingerprint of moved lines")
+        judge.equal(
+            judge.check(["T1|w(x)|p.c:5 < put", "T2|r(x)|p.c:6 < get"], [], root),
+            before,
+            "the fingerprint of moved lines",
+        )
         write_code({"p.c": ["", "  x = 1;  \r", "return x;"]})
-        judge.equal(judge.check(["T1|w(x)|p.c:2 < put", "T2|r(x)|p.c:3 < get"], [], root), before, "the fingerprint of lines with other blanks")
+        judge.equal(
+            judge.check(["T1|w(x)|p.c:2 < put", "T2|r(x)|p.c:3 < get"], [], root),
+            before,
+            "the fingerprint of lines with other blanks",
+        )
         judge.tally["moved"] += 1
         write_code(code)
         others = {
@@ -255,35 +328,24 @@ def check_moved(judge):
 def check_filters(judge):
     judge.check(["T1|w(x)|a.c:1", "T2|w(x)|b.c:2", "T1|w(y)|a.c:3", "T2|w(y)|b.c:4"], ["--hide", "(y)"])
     judge.check(["T1|w(x)|a.c:1"], [])
-    judge.check([f"{thread}|{word}|{thread}.c:1" for thread in ("T1", "T2") for word in ("acq(l)", "w(x)", "rel(l)")], ["--apart"])
+    judge.check(
+        [f"{thread}|{word}|{thread}.c:1" for thread in ("T1", "T2") for word in ("acq(l)", "w(x)", "rel(l)")],
+        ["--apart"],
+    )
 
 
-def main():
-    program = os.path.abspath(sys.argv[1])
-    count = int(sys.argv[2]) if len(sys.argv) > 2 else TRACES
-    seed = int(sys.argv[3]) if len(sys.argv) > 3 else 1
-    judge = Judge(program)
-    with tempfile.TemporaryDirectory() as folder:
-        os.chdir(folder)
-        what = "tables"
-        try:
-            for part in (check_filters, check_hostile, check_moved, check_long, check_many):
-                what = part.__name__
-                part(judge)
-            for number in range(seed, seed + count):
-                what = f"trace {number}"
-                chance = random.Random(number)
-                judge.check(drawn(chance, number), chance.choice([[], ["--apart"], ["--tries", "0"]]))
-        except (Wrong, KeyError, ValueError, IndexError) as wrong:
-            print(f"judge_sarif: {what}: {type(wrong).__name__}: {wrong}")
-            return 1
-    missing = [what for what in REACHED if not judge.tally[what]]
-    if missing:
-        print(f"judge_sarif: never met: {', '.join(missing)}")
-        return 1
-    print("judge_sarif: " + ", ".join(f"{count} {what}" for what, count in sorted(judge.tally.items())))
-    return 0
+def judged(run):
+    judge = Judge(run.program)
+    for part in (check_filters, check_hostile, check_moved, check_long, check_many):
+        with judging.about(part.__name__):
+            part(judge)
+    for seed in run.seeds():
+        chance = random.Random(seed)
+        with judging.about(f"trace {seed}"):
+            judge.check(drawn(chance, seed), chance.choice([[], ["--apart"], ["--tries", "0"]]))
+    run.tally = judge.tally
+    return "judge_sarif: " + ", ".join(f"{count} {what}" for what, count in sorted(run.tally.items()))
 
 
 if __name__ == "__main__":
-    sys.exit(main())
+    sys.exit(judging.main("judge_sarif", judged, REACHED, {"TRACES": TRACES, "SEED": 1}))

@@ -1,13 +1,15 @@
 #!/usr/bin/env python3
-"""Judges `session` and `log`: what no clause can say of them, since it is told of processes, files, kills and full disks.
+"""Judges `session` and `log`: what no clause can say of them, since it is told of processes, files, kills and full
+disks.
 
     judge_session.py PROGRAM [KILLS [CALLS]]     with so many kills, 20 where that is not said, and a last run at once in which each of four
                                                  sessions has so many calls, none where that is not said
 
-A script through sessions, cut anywhere into several, is answered as `replay` answers it. A session that is killed has lost no answered entry.
-A file that is cut anywhere stands for its whole lines; one of another trace, or one that was edited, is refused and left as it is. Four
-sessions at once have one legal history, by legal.py. On a full disk nothing is answered, and the next session goes on. Two sessions make one
-file. A half of a line waits for its end.
+A script through sessions, cut anywhere into several, is answered as `replay` answers it. A session that is killed has
+lost no answered entry. A file that is cut anywhere stands for its whole lines; one of another trace, or one that was
+edited, is refused and left as it is. Four sessions at once have one legal history, by legal.py. On a full disk nothing
+is answered, and the next session goes on. Two sessions make one file. A half of a line waits for its end. Closed
+standard streams leave the log whole.
 """
 
 import collections
@@ -25,9 +27,11 @@ import time
 
 sys.dont_write_bytecode = True
 import by_chance
+import judging
 import legal
 import plain
 import running
+from judging import Wrong
 
 KILLS = 20
 SCRIPTS = 40
@@ -41,13 +45,13 @@ TURNS_AT_ONCE = 6
 OPENED = 20
 HEAD = 81
 # What has to be reached.
-REACHED = ["scripts", "kills", "answered", "cuts", "edits", "at once", "later", "opened", "full", "undo"]
+REACHED = ["scripts", "kills", "answered", "cuts", "edits", "at once", "later", "opened", "full", "undo", "closed"]
 
 
 def fail(what):
     folder = os.getcwd()
     kept = shutil.copytree(folder, tempfile.mkdtemp(prefix="session-"), dirs_exist_ok=True)
-    sys.exit(f"session: {what}\nwhat it worked on stands in {kept}")
+    raise Wrong(f"{what}\nwhat it worked on is in {kept}")
 
 
 class Sessions:
@@ -60,13 +64,17 @@ class Sessions:
     def run(self, text, *words, status=0, error=b"", **more):
         """What a session writes on this input."""
         given = ["session", "trace", "log", *words]
-        done = subprocess.run([self.program, *given], input=text, capture_output=True, timeout=running.PATIENCE, check=False, **more)
+        done = subprocess.run(
+            [self.program, *given], input=text, capture_output=True, timeout=running.PATIENCE, check=False, **more
+        )
         if done.returncode != status or (error is not None and done.stderr != error):
             fail(f"{given}: status {done.returncode}, and not {status}: {done.stderr.decode()[:300]}")
         return done.stdout
 
     def start(self, *words):
-        return subprocess.Popen([self.program, "session", "trace", "log", *words], stdin=subprocess.PIPE, stdout=subprocess.PIPE, bufsize=0)
+        return subprocess.Popen(
+            [self.program, "session", "trace", "log", *words], stdin=subprocess.PIPE, stdout=subprocess.PIPE, bufsize=0
+        )
 
     def entries(self):
         """The lines of the log that count, as pairs of a client and a call's words."""
@@ -97,7 +105,8 @@ def at_rest(what):
 
 
 def judge_scripts(sessions, seed):
-    """A script, cut into some sessions, is answered as `replay` does; the lines of the log are answered again as calls of it."""
+    """A script, cut into some sessions, is answered as `replay` does; the lines of the log are answered again as calls
+    of it."""
     chance = random.Random(seed)
     fresh()
     trace = by_chance.trace(chance, EVENTS)
@@ -120,10 +129,15 @@ def judge_scripts(sessions, seed):
 
 
 def judge_client(sessions):
-    """With a client its lines have no number; what is no script line is told with the line's number, and the session goes on."""
+    """With a client its lines have no number; what is no script line is told with the line's number, and the session
+    goes on."""
     fresh()
     running.write("trace", "T1|w(x)|1\nT2|w(x)|2\n")
-    told = sessions.run(b"  new A \r\n\n\t\nfoo\nnew\nnew -\n1 new A\nadd A x\nraces A\nundo\nnew " + b"x" * 65533 + b"\nundo 7", "--client", "12")
+    told = sessions.run(
+        b"  new A \r\n\n\t\nfoo\nnew\nnew -\n1 new A\nadd A x\nraces A\nundo\nnew " + b"x" * 65533 + b"\nundo 7",
+        "--client",
+        "12",
+    )
     wanted = (
         b"0: done\nline 4: 81 bad word\nline 5: 81 bad word\n1: done\nline 7: 81 bad word\nline 8: 82 bad number\npairs 0-1\n2: undone 1\n"
         b"line 11: 85 line too long\nrefused 57 no such entry\n"
@@ -189,7 +203,8 @@ def judge_kills(sessions, kills, seed=1):
 
 
 def judge_killed(sessions, trace, log, calls, told):
-    """The log after a kill: the entries from before, those of the calls that were answered, and perhaps those of further ones."""
+    """The log after a kill: the entries from before, those of the calls that were answered, and perhaps those of
+    further ones."""
     logs = sessions.history(trace)
     if sessions.entries()[: len(log.entries)] != [entry_words(log, number) for number in range(len(log.entries))]:
         fail("a kill changed entries from before")
@@ -214,7 +229,8 @@ def entry_words(log, number):
 
 
 def judge_cuts(sessions):
-    """A file that is cut at each of its bytes, or is whole, stands for the lines that are whole, and the next session goes on from them."""
+    """A file that is cut at each of its bytes, or is whole, stands for the lines that are whole, and the next session
+    goes on from them."""
     fresh()
     running.write("trace", "T1|w(x)|1\nT2|w(x)|2\n")
     for text in [b"1 new A\n", b"1 new B\n2 new C\n1 undo\n", b"2 add C 1\n"]:
@@ -234,7 +250,8 @@ def judge_cuts(sessions):
         if pathlib.Path("log").read_bytes() != whole[:HEAD] + b"\n".join([*lines[:count], b" 3 new Z", b"!"]):
             fail(f"cut to {size} bytes, the file is {pathlib.Path('log').read_bytes()}")
         sessions.tally["cuts"] += 1
-    # What stands behind a closed gate never counts, be it a block whose write was cut short or lines with open gates. Two lines in one block take its place.
+    # What stands behind a closed gate never counts, be it a block whose write was cut short or lines with open gates.
+    # Two lines in one block take its place.
     answers = f"{len(lines)}: done\n{len(lines) + 1}: done\n".encode("ascii")
     for torn in [b"1 new D\n 1 ad", b" 1 new D\n 1 new E\n"]:
         pathlib.Path("log").write_bytes(whole + torn)
@@ -245,7 +262,8 @@ def judge_cuts(sessions):
 
 
 def judge_edits(sessions):
-    """A log of another trace is refused, and so is one with a line that is no call which is logged there; each is left as it is."""
+    """A log of another trace is refused, and so is one with a line that is no call which is logged there; each is left
+    as it is."""
     fresh()
     running.write("trace", "T1|w(x)|1\nT2|w(x)|2\n")
     sessions.run(b"1 new A\n1 add A 0\n1 add A 1\n1 undo\n")
@@ -287,7 +305,11 @@ def judge_shorter(sessions):
     fresh()
     running.write("trace", "T1|w(x)|1\nT2|w(x)|2\n")
     process = subprocess.Popen(
-        [sessions.program, "session", "trace", "log", "--client", "1"], stdin=subprocess.PIPE, stdout=subprocess.PIPE, stderr=subprocess.PIPE, bufsize=0
+        [sessions.program, "session", "trace", "log", "--client", "1"],
+        stdin=subprocess.PIPE,
+        stdout=subprocess.PIPE,
+        stderr=subprocess.PIPE,
+        bufsize=0,
     )
     os.write(process.stdin.fileno(), b"new A\nnew B\n")
     if not is_told(process, b"0: done\n1: done\n"):
@@ -295,7 +317,9 @@ def judge_shorter(sessions):
     cut = pathlib.Path("log").read_bytes()[: HEAD + 3]
     os.truncate("log", HEAD + 3)
     told, error = process.communicate(b"new C\n", timeout=running.PATIENCE)
-    if (told, error, process.returncode) != (b"", b"racebench: log file line 3\n", 1) or pathlib.Path("log").read_bytes() != cut:
+    if (told, error, process.returncode) != (b"", b"racebench: log file line 3\n", 1) or pathlib.Path(
+        "log"
+    ).read_bytes() != cut:
         fail(f"of a file that is shorter is said {told} {error}")
 
 
@@ -344,7 +368,10 @@ def judge_opened(sessions):
         if os.path.exists("log"):
             os.remove("log")
         processes = [sessions.start("--client", str(client)) for client in (1, 2, 3)]
-        told = [process.communicate(f"new {name}\n".encode("ascii"), timeout=running.PATIENCE)[0] for process, name in zip(processes, "ABC")]
+        told = [
+            process.communicate(f"new {name}\n".encode("ascii"), timeout=running.PATIENCE)[0]
+            for process, name in zip(processes, "ABC")
+        ]
         if sorted(told) != [b"0: done\n", b"1: done\n", b"2: done\n"] or len(sessions.entries()) != 3:
             fail(f"sessions opened at once are told {told}")
         sessions.tally["opened"] += 1
@@ -352,7 +379,8 @@ def judge_opened(sessions):
 
 
 def judge_full(sessions):
-    """Where the file may get no longer nothing is answered, a note names it, the log is what it was, and the next session goes on."""
+    """Where the file may get no longer nothing is answered, a note names it, the log is what it was, and the next
+    session goes on."""
     fresh()
     running.write("trace", "T1|w(x)|1\nT2|w(x)|2\n")
     sessions.run(b"1 new A\n")
@@ -379,7 +407,12 @@ def judge_waits(sessions):
     fresh()
     running.write("trace", "T1|w(x)|1\nT2|w(x)|2\n")
     process = sessions.start("--client", "3")
-    for text, wanted in [(b"new A\n", b"0: done\n"), (b"add A 0\nne", b"1: done\n"), (b"w B\n", b"2: done\n"), (b"list\nsho", b"names A B\n")]:
+    for text, wanted in [
+        (b"new A\n", b"0: done\n"),
+        (b"add A 0\nne", b"1: done\n"),
+        (b"w B\n", b"2: done\n"),
+        (b"list\nsho", b"names A B\n"),
+    ]:
         os.write(process.stdin.fileno(), text)
         if not is_told(process, wanted):
             fail(f"{text} is not answered by {wanted}")
@@ -390,38 +423,52 @@ def judge_waits(sessions):
         fail(f"the last line is answered by {told}")
 
 
-def main():
-    program = os.path.abspath(sys.argv[1])
-    kills = int(sys.argv[2]) if len(sys.argv) > 2 else KILLS
-    calls = int(sys.argv[3]) if len(sys.argv) > 3 else 0
-    sessions = Sessions(program)
-    with tempfile.TemporaryDirectory() as folder:
-        os.chdir(folder)
-        for seed in range(SCRIPTS):
-            judge_scripts(sessions, seed)
-        judge_client(sessions)
-        judge_kills(sessions, kills)
-        judge_cuts(sessions)
-        judge_edits(sessions)
-        judge_shorter(sessions)
-        for seed in range(TURNS_AT_ONCE):
-            judge_at_once(sessions, seed)
-        if calls:
-            judge_at_once(sessions, TURNS_AT_ONCE, calls)
-        fresh()
-        judge_opened(sessions)
-        judge_full(sessions)
-        judge_waits(sessions)
-    tally = sessions.tally
-    missing = [kind for kind in REACHED if not tally[kind]]
-    if missing:
-        sys.exit(f"sessions: never reached: {missing}")
-    print(
+def judge_closed(sessions):
+    """A session with closed standard streams writes no answer into the log, and reads no line of it as a call."""
+    fresh()
+    running.write("trace", "T1|w(x)|1\nT2|w(x)|2\n")
+    for closed in [(0,), (1,), (2,), (0, 1), (0, 2), (1, 2), (0, 1, 2)]:
+        pathlib.Path("log").unlink(missing_ok=True)
+        sessions.run(b"1 new A\n1 add A 0\n")
+        words = [sessions.program, "session", "trace", "log"]
+        streams = dict.fromkeys(["stdin", "stdout", "stderr"], subprocess.PIPE)
+        with subprocess.Popen(words, **streams, preexec_fn=lambda: [os.close(stream) for stream in closed]) as process:
+            out, _ = process.communicate(b"2 new B\n2 list\n", timeout=running.PATIENCE)
+        is_written = closed == (2,)
+        if (out, process.returncode) != ((b"2: done\nnames A B\n", 0) if is_written else (b"", 1)):
+            fail(f"without the streams {closed} a session ends with {process.returncode}, and writes {out}")
+        at_rest(f"without the streams {closed}")
+        if sessions.entries() not in ([(1, "new A"), (1, "add A 0")], [(1, "new A"), (1, "add A 0"), (2, "new B")]):
+            fail(f"without the streams {closed} the log has {sessions.entries()}")
+        sessions.tally["closed"] += 1
+
+
+def judged(run):
+    kills, calls = run.numbers
+    sessions = Sessions(run.program)
+    for seed in range(SCRIPTS):
+        judge_scripts(sessions, seed)
+    judge_client(sessions)
+    judge_kills(sessions, kills)
+    judge_cuts(sessions)
+    judge_edits(sessions)
+    judge_shorter(sessions)
+    for seed in range(TURNS_AT_ONCE):
+        judge_at_once(sessions, seed)
+    if calls:
+        judge_at_once(sessions, TURNS_AT_ONCE, calls)
+    fresh()
+    judge_opened(sessions)
+    judge_full(sessions)
+    judge_waits(sessions)
+    judge_closed(sessions)
+    run.tally = tally = sessions.tally
+    return (
         f"sessions: {tally['scripts']} scripts cut into sessions are answered as by replay; {tally['kills']} kills lost none of {tally['answered']} answers; "
         f"{tally['cuts']} cuts, {tally['edits']} edits; {tally['at once']} calls of {CLIENTS} sessions at once are legal histories, {tally['later']} of "
-        f"them after entries of others; {tally['opened']} times opened at once; {tally['full']} full disks"
+        f"them after entries of others; {tally['opened']} times opened at once; {tally['full']} full disks; {tally['closed']} times with closed streams"
     )
 
 
 if __name__ == "__main__":
-    main()
+    sys.exit(judging.main("session", judged, REACHED, {"KILLS": KILLS, "CALLS": 0}))

@@ -5,17 +5,16 @@ Two of three runs are with no door before the lock, so that the clients' calls c
 Takes the program's path. Says what is wrong, if something is, and ends with status 1 then.
 """
 
-import collections
-import os
 import random
 import sys
-import tempfile
 
 sys.dont_write_bytecode = True
 import by_chance
+import judging
 import legal
 import plain
 import running
+from judging import Wrong
 
 # So many, and more until the calls came mixed often enough, which takes longer on one processor, but so many at most.
 RUNS = 3_000
@@ -32,8 +31,8 @@ REACHED = ["add", "back", "swap", "branch", "drop", "adopt", "batch", "undo", "p
 
 
 def scripts(chance, trace):
-    """A list of calls for each client. They are drawn after a log that has the calls of all, in some order; the order in which
-    they come to be made is another."""
+    """A list of calls for each client. They are drawn after a log that has the calls of all, in some order; the order
+    in which they come to be made is another."""
     lengths = [chance.randint(*CALLS) for _ in range(chance.randint(*CLIENTS))]
     drawn = [[] for _ in lengths]
     names = chance.sample(by_chance.SCHEDULES, 2)
@@ -58,35 +57,28 @@ def judge_run(program, tally, room, trace, drawn):
     try:
         told, entries = running.parts_of(printed.splitlines(), [len(calls) for calls in drawn])
         seen = legal.judge(trace, drawn, told, entries)
-    except legal.Wrong as what:
-        sys.exit(f"{what}{running.given(words)}\n--- printed\n{printed}")
+    except Wrong as what:
+        raise Wrong(f"{what}{judging.given(words)}\n--- printed\n{printed}") from what
     if room != running.NO_DOOR:
         del seen["mixed"]
     tally.update(seen)
 
 
-def main():
-    program = os.path.abspath(sys.argv[1])
-    tally = collections.Counter()
-    traces = [by_chance.trace(random.Random(seed), MOST_EVENTS) for seed in range(TRACES)]
-    with tempfile.TemporaryDirectory() as folder:
-        os.chdir(folder)
-        seed = 0
-        while seed < RUNS or (tally["mixed"] < LEAST_MIXED and seed < MOST_RUNS):
-            trace = traces[seed % TRACES]
-            room = running.NO_DOOR if seed % 3 < 2 else running.BEST_ROOM
-            judge_run(program, tally, room, trace, scripts(random.Random(seed), trace))
-            seed += 1
-    missing = [kind for kind in REACHED if not tally[kind]]
-    if missing:
-        sys.exit(f"small runs: never reached: {missing}")
+def judged(run):
+    tally, seed = run.tally, 0
+    traces = [by_chance.trace(random.Random(number), MOST_EVENTS) for number in range(TRACES)]
+    while seed < RUNS or (tally["mixed"] < LEAST_MIXED and seed < MOST_RUNS):
+        trace = traces[seed % TRACES]
+        room = running.NO_DOOR if seed % 3 < 2 else running.BEST_ROOM
+        judge_run(run.program, tally, room, trace, scripts(random.Random(seed), trace))
+        seed += 1
     if tally["mixed"] < LEAST_MIXED:
-        sys.exit(f"small runs: in {tally['mixed']} only a client came again after another")
-    print(
+        raise Wrong(f"in {tally['mixed']} only a client came again after another")
+    return (
         f"small runs: {seed} with {tally['calls']} calls and {tally['entries']} entries are each one legal history; in {tally['mixed']} of those with no "
         f"door a client came again after another, and {tally['later']} answers tell of others' entries"
     )
 
 
 if __name__ == "__main__":
-    main()
+    sys.exit(judging.main("small runs", judged, REACHED))

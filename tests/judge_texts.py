@@ -1,20 +1,20 @@
 #!/usr/bin/env python3
 """Judges what `info` says of trace texts in two tables: all that it prints of one, or where and for what it is refused.
 
-These are worked examples of the checks of a line and of the rules of a trace (docs/FORMATS.md), up to their limits. Each
-number of a refusal there has to stand in a table. What is printed of the events of a text is said by tests/plain.py.
-Takes the program's path. Says what is wrong, if something is, and ends with status 1 then.
+These are worked examples of the checks of a line and of the rules of a trace (docs/FORMATS.md), up to their limits.
+Each number of a refusal there has to stand in a table. What is printed of the events of a text is said by
+tests/plain.py. Takes the program's path. Says what is wrong, if something is, and ends with status 1 then.
 """
 
-import os
 import re
 import subprocess
 import sys
-import tempfile
 
 sys.dont_write_bytecode = True
+import judging
 import plain
 import running
+from judging import Wrong
 
 # What the program refuses a text or a trace for.
 NUMBERS = {1, 2, 3, 4, 5, 6, 7, 8, 11, 12, 13, 14, 15, 16}
@@ -44,7 +44,10 @@ ACCEPTED = [
     (["T2 w x", "T1 join T2"], "T2|w(x)|\nT1|join(T2)|"),
     (["T1 acq l", "T1 acq l", "T1 rel l", "T1 rel l"], "T1|acq(l)\nT1|acq(l)\nT1|rel(l)\nT1|rel(l)"),
     (["M fork W", "W w x", "M join W", "M r x"], "M|fork(W)|1\nW|w(x)|2\nM|join(W)|3\nM|r(x)|4"),
-    (["T1 fork T2", "T1 join T2", "T1 join T2", "T3 join T2"], "T1|fork(T2)|\nT1|join(T2)|\nT1|join(T2)|\nT3|join(T2)|"),
+    (
+        ["T1 fork T2", "T1 join T2", "T1 join T2", "T3 join T2"],
+        "T1|fork(T2)|\nT1|join(T2)|\nT1|join(T2)|\nT3|join(T2)|",
+    ),
     (
         ["T1 acq l", "T1 acq l", "T1 rel l", "T1 rel l", "T2 acq l", "T2 rel l"],
         "T1|acq(l)|\nT1|acq(l)|\nT1|rel(l)|\nT1|rel(l)|\nT2|acq(l)|\nT2|rel(l)|",
@@ -102,27 +105,26 @@ def said_of(events):
 
 
 def judge(program, text, wanted):
-    """Ends where the program ends otherwise or prints something else of the text."""
+    """Whether the program ends so and prints this of the text."""
     running.write("trace", text)
     done = subprocess.run([program, "info", "trace"], capture_output=True, timeout=running.PATIENCE, check=False)
     found = (done.returncode, done.stdout.decode("ascii", "replace"), done.stderr.decode("ascii", "replace"))
     if found != wanted:
-        sys.exit(f"info: {found}, and to be {wanted}, of {text[:200]!r}, a text of {len(text)} bytes")
+        raise Wrong(f"{found}, and to be {wanted}, of {text[:200]!r}, a text of {len(text)} bytes")
 
 
-def main():
-    program = os.path.abspath(sys.argv[1])
+def judged(run):
     rows = [(text, (0, said_of(events), "")) for events, *texts in ACCEPTED for text in texts]
     accepted = len(rows)
     rows += [(text, (1, "", f"racebench: trace {said}\n")) for said, *texts in REFUSED for text in texts]
     missing = NUMBERS - {int(re.search(r": (\d+) ", said)[1]) for said, *_ in REFUSED}
     if missing or not accepted:
-        sys.exit(f"info: no text is refused for {missing}, or none is accepted")
-    with tempfile.TemporaryDirectory() as folder:
-        os.chdir(folder)
-        for text, wanted in rows:
-            judge(program, text, wanted)
-    print(f"info: {len(rows)} texts are judged as the formats say, {len(rows) - accepted} of them refused")
+        raise Wrong(f"no text is refused for {missing}, or none is accepted")
+    for text, wanted in rows:
+        judge(run.program, text, wanted)
+        run.tally["texts"] += 1
+    return f"info: {len(rows)} texts are judged as the formats say, {len(rows) - accepted} of them refused"
 
 
-main()
+if __name__ == "__main__":
+    sys.exit(judging.main("info", judged))

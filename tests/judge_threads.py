@@ -1,33 +1,47 @@
 #!/usr/bin/env python3
 """Runs scripts of 31 clients at once, several times, and judges what `threads` printed, by tests/legal.py.
 
-Which order the calls were made in is another at each run, so no expected output can be written down. Half of the runs are with no door
-before the lock, so that the clients change often, which is counted.
-Takes the program's path. Says what is wrong, if something is, and ends with status 1 then.
+Which order the calls were made in is another at each run, so no expected output can be written down. Half of the runs
+are with no door before the lock, so that the clients change often, which is counted. Takes the program's path. Says
+what is wrong, if something is, and ends with status 1 then.
 """
 
-import collections
-import os
 import random
 import sys
-import tempfile
 
 sys.dont_write_bytecode = True
+import judging
 import legal
 import plain
 import running
+from judging import Wrong
 
 CLIENTS = 31
 CALLS = 40
 # So many of each kind, and with no door more, until the clients took turns often enough, but so many at most.
 RUNS = 3
 MOST_RUNS = 300
-# How often the client has to change in the logs of the runs with no door beside the changes that there are where each client's calls are made in one go.
+# How often the client has to change in the logs of the runs with no door beside the changes that there are where each
+# client's calls are made in one go.
 LEAST_CHANGES = 60
 EVENTS = 40
 SHARED = ["left", "right", "middle"]
 # What has to be reached.
-REACHED = ["new", "add", "back", "swap", "branch", "drop", "adopt", "batch", "undo", "propose", "blocked", "later", "mixed"]
+REACHED = [
+    "new",
+    "add",
+    "back",
+    "swap",
+    "branch",
+    "drop",
+    "adopt",
+    "batch",
+    "undo",
+    "propose",
+    "blocked",
+    "later",
+    "mixed",
+]
 
 
 def trace():
@@ -44,11 +58,25 @@ def call(chance, own):
     name = chance.choice([own] + SHARED)
     event = chance.randrange(EVENTS // 2)
     kinds = [
-        f"new {name}", f"add {name} {event}", f"add {name} {event % 5}", f"add {name} {event % 5}",
-        f"back {name}", f"swap {name} {event % 8}", f"branch {name} 0 {chance.choice([own, own + '.1'] + SHARED)}",
-        f"drop {name}", "undo", "undo", f"undo {chance.randrange(CLIENTS * CALLS)}", "propose 3 7", "propose 3 7 0 1 2 4 5 6",
-        f"adopt {name} 0", f"show {name}", "list", f"races {name}",
-        f"batch new {own}.2 ; add {name} {event % 5} ; branch {name} 0 {own}.3 ; drop {own}.2", f"batch drop {name} ; new {name} ; add {name} 0",
+        f"new {name}",
+        f"add {name} {event}",
+        f"add {name} {event % 5}",
+        f"add {name} {event % 5}",
+        f"back {name}",
+        f"swap {name} {event % 8}",
+        f"branch {name} 0 {chance.choice([own, own + '.1'] + SHARED)}",
+        f"drop {name}",
+        "undo",
+        "undo",
+        f"undo {chance.randrange(CLIENTS * CALLS)}",
+        "propose 3 7",
+        "propose 3 7 0 1 2 4 5 6",
+        f"adopt {name} 0",
+        f"show {name}",
+        "list",
+        f"races {name}",
+        f"batch new {own}.2 ; add {name} {event % 5} ; branch {name} 0 {own}.3 ; drop {own}.2",
+        f"batch drop {name} ; new {name} ; add {name} 0",
     ]
     return chance.choice(kinds)
 
@@ -73,38 +101,30 @@ def judge_run(program, tally, room, of, names, drawn):
     try:
         told, entries = running.parts_of(printed.splitlines(), [len(lines) for lines in drawn])
         tally.update(legal.judge(of, drawn, told, entries))
-    except legal.Wrong as what:
-        sys.exit(f"{what}\n--- printed\n{printed}")
+    except Wrong as what:
+        raise Wrong(f"{what}\n--- printed\n{printed}") from what
 
 
-def main():
-    program = os.path.abspath(sys.argv[1])
-    of = trace()
-    written = scripts()
+def judged(run):
+    of, written, tally, runs = trace(), scripts(), run.tally, 0
     drawn = [[plain.call_of(line) for line in lines] for lines in written]
-    tally = collections.Counter()
-    with tempfile.TemporaryDirectory() as folder:
-        os.chdir(folder)
-        running.write("trace", of.text())
-        names = [f"script{client}" for client in range(1, CLIENTS + 1)]
-        for client, (name, lines) in enumerate(zip(names, written), start=1):
-            running.write(name, "".join(f"{client} {line}\n" for line in lines))
-        runs = 0
-        while runs < RUNS or (tally["changes"] < runs * (CLIENTS - 1) + LEAST_CHANGES and runs < MOST_RUNS):
-            judge_run(program, tally, running.NO_DOOR, of, names, drawn)
-            runs += 1
-        changes = tally["changes"]
-        for _ in range(RUNS):
-            judge_run(program, tally, running.BEST_ROOM, of, names, drawn)
-    missing = [kind for kind in REACHED if not tally[kind]]
-    if missing:
-        sys.exit(f"threads: never reached: {missing}")
+    running.write("trace", of.text())
+    names = [f"script{client}" for client in range(1, CLIENTS + 1)]
+    for client, (name, lines) in enumerate(zip(names, written), start=1):
+        running.write(name, "".join(f"{client} {line}\n" for line in lines))
+    while runs < RUNS or (tally["changes"] < runs * (CLIENTS - 1) + LEAST_CHANGES and runs < MOST_RUNS):
+        judge_run(run.program, tally, running.NO_DOOR, of, names, drawn)
+        runs += 1
+    changes = tally["changes"]
+    for _ in range(RUNS):
+        judge_run(run.program, tally, running.BEST_ROOM, of, names, drawn)
     if changes < runs * (CLIENTS - 1) + LEAST_CHANGES:
-        sys.exit(f"threads: in {runs} runs with no door the client changed {changes} times only")
-    print(
+        raise Wrong(f"in {runs} runs with no door the client changed {changes} times only")
+    return (
         f"threads: {runs + RUNS} runs of {CLIENTS} scripts with {tally['entries']} entries are legal; the client changed {changes} times in the logs of the "
         f"{runs} with no door, and {tally['changes'] - changes} times in the others"
     )
 
 
-main()
+if __name__ == "__main__":
+    sys.exit(judging.main("threads", judged, REACHED))

@@ -1,10 +1,12 @@
 #!/usr/bin/env python3
-"""Compares all that `triage` prints of traces drawn by chance with a plain program that goes over all pairs of events, by tests/plain.py.
+"""Compares all that `triage` prints of traces drawn by chance with a plain program that goes over all pairs of events,
+by tests/plain.py.
 
-Takes the program's path, how many traces to draw, and the first seed. Each trace is listed with what is apart and a drawn number of tries; again with its own
-output as what is known, which leaves no race; with texts that blocks need or must not have; with a status that tells of races; and by workers, as JSON and
-as lines for editors (tests/compiled.py), which have to tell the same.
-Says what is wrong, if something is, and ends with status 1 then, also where something that has to be seen was never met.
+Takes the program's path, how many traces to draw, and the first seed. Each trace is listed with what is apart and a
+drawn number of tries; again with its own output as what is known, which leaves no race; with texts that blocks need or
+must not have; with a status that tells of races; and by workers, as JSON and as lines for editors (tests/compiled.py),
+which have to tell the same. Says what is wrong, if something is, and ends with status 1 then, also where something
+that has to be seen was never met.
 """
 
 import collections
@@ -18,22 +20,39 @@ import tempfile
 sys.dont_write_bytecode = True
 import by_chance
 import compiled
+import judging
 import plain
 import running
+from judging import Wrong
 
 TRACES = 3_000
 MOST_EVENTS = [8, 16, 28, 40]
 TRIES = [0, 1, 2, 16, 16, 16]
 # The calls of locations: most have none.
-CALLS = [""] * 6 + [" < f", " < f < main m.c:3 < m.c:9", " < operator< <int> p.cc:7 < main m+0x1 < x.c:", " < f < g :7 <  h.c:1"]
+CALLS = [""] * 6 + [
+    " < f",
+    " < f < main m.c:3 < m.c:9",
+    " < operator< <int> p.cc:7 < main m+0x1 < x.c:",
+    " < f < g :7 <  h.c:1",
+]
 # What JSON tells by number, in the order of the text.
 COUNTS = "events threads pairs candidates open guarded forced places races undecided apart".split()
 NUMBERS = "pairs variables events threads tried".split()
-REACHED = ["candidate", "beyond", "turned", "undecided", "apart", "untried", "known", "hidden", "failed", "holds", "one place", "more variables", "called"]
-
-
-class Wrong(Exception):
-    """What the program prints is not what the definitions say."""
+REACHED = [
+    "candidate",
+    "beyond",
+    "turned",
+    "undecided",
+    "apart",
+    "untried",
+    "known",
+    "hidden",
+    "failed",
+    "holds",
+    "one place",
+    "more variables",
+    "called",
+]
 
 
 class Located:
@@ -54,7 +73,9 @@ class Located:
         """The conflicting pairs by pair of places, each by its later event and then its earlier one, with its kind."""
         groups = collections.defaultdict(list)
         for first, second in self.trace.conflicting():
-            groups[tuple(sorted((self.places[first], self.places[second])))].append((second, first, self.trace.kind(first, second)))
+            groups[tuple(sorted((self.places[first], self.places[second])))].append(
+                (second, first, self.trace.kind(first, second))
+            )
         return {places: sorted(pairs) for places, pairs in groups.items()}
 
 
@@ -76,12 +97,17 @@ def variables(trace, pairs):
 
 
 def verdict(trace, pairs, tries):
-    """The order of the block among others, its first line, and the two events; of a list in another order than the trace's no size is told."""
+    """The order of the block among others, its first line, and the two events; of a list in another order than the
+    trace's no size is told."""
     counted = collections.Counter(kind for _, _, kind in pairs)
     of_open = f"variables {variables(trace, pairs)}"
     if counted["candidate"]:
         second, first = next((second, first) for second, first, kind in pairs if kind == "candidate")
-        return 0, (second, first), f"race {first} {second} candidate pairs {counted['candidate']} {of_open} {size(trace, trace.in_order(first, second))}"
+        return (
+            0,
+            (second, first),
+            f"race {first} {second} candidate pairs {counted['candidate']} {of_open} {size(trace, trace.in_order(first, second))}",
+        )
     if not counted["open"]:
         second, first, _ = pairs[0]
         return 2, (second, first), f"apart {first} {second} pairs {len(pairs)}"
@@ -89,11 +115,19 @@ def verdict(trace, pairs, tries):
     for second, first in all_tries[:tries]:
         listed = trace.in_order(first, second)
         if listed is not None:
-            return 0, (second, first), f"race {first} {second} beyond pairs {counted['open']} {of_open} {size(trace, listed)}"
+            return (
+                0,
+                (second, first),
+                f"race {first} {second} beyond pairs {counted['open']} {of_open} {size(trace, listed)}",
+            )
         if trace.turned(first, second) is not None:
             return 0, (second, first), f"race {first} {second} turned pairs {counted['open']} {of_open} events"
     second, first = all_tries[0]
-    return 1, (second, first), f"undecided {first} {second} pairs {counted['open']} {of_open} tried {min(tries, len(all_tries))}"
+    return (
+        1,
+        (second, first),
+        f"undecided {first} {second} pairs {counted['open']} {of_open} tried {min(tries, len(all_tries))}",
+    )
 
 
 def text_of(objects):
@@ -108,7 +142,16 @@ def text_of(objects):
         else:
             accesses = told.pop("accesses")
             numbers = [f"{name} {told.pop(name)}" for name in NUMBERS if name in told]
-            lines.append(" ".join([kind, *[str(access["event"]) for access in accesses], *([told.pop("how")] if kind == "race" else []), *numbers]))
+            lines.append(
+                " ".join(
+                    [
+                        kind,
+                        *[str(access["event"]) for access in accesses],
+                        *([told.pop("how")] if kind == "race" else []),
+                        *numbers,
+                    ]
+                )
+            )
             for access in accesses:
                 lines.append(f"  {access['thread']}|{access['operation']}({access['variable']})|{access['location']}")
                 lines += [f"    holds {lock}" for lock in access["holds"]]
@@ -136,12 +179,22 @@ class Judge:
         parts = collections.Counter(part for part, _, _, _ in found)
         counts = [
             *(f"events {len(trace.events)}", f"threads {len(trace.threads())}", f"pairs {sum(kinds.values())}"),
-            *(f"{word} {kinds[kind]}" for word, kind in [("candidates", "candidate"), ("open", "open"), ("guarded", "guarded"), ("forced", "forced")]),
+            *(
+                f"{word} {kinds[kind]}"
+                for word, kind in [
+                    ("candidates", "candidate"),
+                    ("open", "open"),
+                    ("guarded", "guarded"),
+                    ("forced", "forced"),
+                ]
+            ),
             *(f"places {len(groups)}", f"races {parts[0]}", f"undecided {parts[1]}", f"apart {parts[2]}"),
         ]
         blocks = []
         for part, (second, first), head, places in found:
-            self.tally["untried" if head.endswith(" tried 0") else head.split(" ")[3] if part == 0 else head.split(" ")[0]] += 1
+            self.tally[
+                "untried" if head.endswith(" tried 0") else head.split(" ")[3] if part == 0 else head.split(" ")[0]
+            ] += 1
             self.tally["one place"] += places[0] == places[1]
             self.tally["more variables"] += part == 0 and " variables 1 " not in head
             blocks.append([head, *self.access(located, first), *self.access(located, second)])
@@ -175,7 +228,9 @@ class Judge:
         status, out, err = running.ended(self.program, ["triage", "trace", "--known", "known", *flag])
         said = b"" if races else b"racebench: known has no block `race`: no race is known\n"
         if (status, err) != (0, said):
-            raise Wrong(f"status {status} with {len(races)} known races, and on standard error {err!r}, and not {said!r}")
+            raise Wrong(
+                f"status {status} with {len(races)} known races, and on standard error {err!r}, and not {said!r}"
+            )
         self.compare(counts + sum(kept, []) + [f"known {len(races)}"], out)
         self.tally["known"] += len(races)
         self.judge_filters(counts, rest, flag, chance)
@@ -202,7 +257,11 @@ class Judge:
     def judge_filters(self, counts, rest, flag, chance):
         text = chance.choice(["p0.c", "|w(", "|r(x)", "T1|", "p1.c:1"])
         word = chance.choice(["--only", "--hide"])
-        has = [block for block in rest if any(text in line for line in block[1:] if line.startswith("  ") and not line.startswith("    "))]
+        has = [
+            block
+            for block in rest
+            if any(text in line for line in block[1:] if line.startswith("  ") and not line.startswith("    "))
+        ]
         kept = [block for block in rest if (block in has) == (word == "--only")]
         out = running.printed(self.program, ["triage", "trace", word, text, *flag])
         self.compare(counts + sum(kept, []) + [f"hidden {len(rest) - len(kept)}"], out)
@@ -223,7 +282,7 @@ MADE = [
 
 
 def judge_some(program, first, numbers):
-    """Judges the traces of these numbers in a folder of its own; what was seen, or what is wrong."""
+    """Judges the traces of these numbers in a folder of its own, and returns what was seen."""
     judge = Judge(program)
     with tempfile.TemporaryDirectory() as folder:
         os.chdir(folder)
@@ -231,31 +290,24 @@ def judge_some(program, first, numbers):
             chance = random.Random(first + number)
             draw = chance.choice([by_chance.trace, by_chance.locked_trace])
             located = Located(MADE[number] if number < 0 else draw(chance, chance.choice(MOST_EVENTS)), chance)
-            try:
+            with judging.about(f"seed {first + number}", "trace"):
                 judge.judge_trace(located, chance)
-            except (Wrong, plain.Contradiction) as what:
-                return f"triage, seed {first + number}: {what}{running.given(['', 'trace'])}"
     return judge.tally
 
 
-def main():
-    program = os.path.abspath(sys.argv[1])
-    traces = int(sys.argv[2]) if sys.argv[2:] else TRACES
-    first = int(sys.argv[3]) if sys.argv[3:] else 0
+def judged(run):
+    traces, first = run.numbers
     processors = len(os.sched_getaffinity(0))
     shares = [range(-len(MADE) + share, traces, processors) for share in range(processors)]
-    tally = collections.Counter()
     with concurrent.futures.ProcessPoolExecutor(processors) as pool:
-        for told in pool.map(judge_some, [program] * processors, [first] * processors, shares):
-            if isinstance(told, str):
-                sys.exit(told)
-            tally += told
-    missing = [kind for kind in REACHED if not tally[kind]]
-    if missing:
-        sys.exit(f"triage: never reached: {missing}")
-    kinds = ", ".join(f"{tally[kind]} {kind}" for kind in ["candidate", "beyond", "turned", "undecided", "untried", "apart"])
-    print(f"triage: {tally['traces']} traces with {tally['pairs']} pairs, seeds {first} to {first + traces - 1}, are listed as the definitions say ({kinds})")
+        for seen in pool.map(judge_some, [run.program] * processors, [first] * processors, shares):
+            run.tally += seen
+    tally = run.tally
+    kinds = ", ".join(
+        f"{tally[kind]} {kind}" for kind in ["candidate", "beyond", "turned", "undecided", "untried", "apart"]
+    )
+    return f"triage: {tally['traces']} traces with {tally['pairs']} pairs, seeds {first} to {first + traces - 1}, are listed as the definitions say ({kinds})"
 
 
 if __name__ == "__main__":
-    main()
+    sys.exit(judging.main("triage", judged, REACHED, {"TRACES": TRACES, "SEED": 0}))

@@ -1,26 +1,30 @@
 #!/usr/bin/env python3
-"""Judges `triage --triage` and `--init-triage` by a second reader of triage files, Python's tomllib, and the rules of docs/FORMATS.md.
+"""Judges `triage --triage` and `--init-triage` by a second reader of triage files, Python's tomllib, and the rules of
+docs/FORMATS.md.
 
-Draws traces with locations that resemble one another and triage files that resemble their races. The races that are printed must be those of `triage`
-without the file that no entry leaves out, and the notes must name the entries that these rules name. With workers the text is the same.
-A file that `--init-triage` wrote must leave out each race. A file that is changed by chance must be refused exactly if tomllib or the table of keys refuses it, at the same line if the mistake is a key's.
+Draws traces with locations that resemble one another and triage files that resemble their races. The races that are
+printed must be those of `triage` without the file that no entry leaves out, and the notes must name the entries that
+these rules name. With workers the text is the same. A file that `--init-triage` wrote must leave out each race. A file
+that is changed by chance must be refused exactly if tomllib or the table of keys refuses it, at the same line if the
+mistake is a key's.
 
     judge_triage_file.py PROGRAM [TRACES [SEED]]      so many drawn traces, the first of this seed
 
 Says what is wrong, if something is, and ends with status 1 then, also if a kind of entry was never met.
 """
 
-import collections
 import datetime
 import os
 import random
 import re
 import subprocess
 import sys
-import tempfile
 import tomllib
 
 sys.dont_write_bytecode = True
+import judging
+import running
+from judging import Wrong
 
 TRACES = 120
 TODAY = datetime.date(2027, 6, 1)
@@ -29,7 +33,20 @@ FUNCTIONS = ["add", "get", "operator new", ""]
 VARIABLES = ["x", "y", "heap:u.c:3#1+8", 'q"t', "back\\slash"]
 VERDICTS = ["known", "benign", "false", "fixed"]
 KEYS = {"paths", "functions", "variables", "lines", "verdict", "reason", "author", "expires"}
-REACHED = ["left out", "printed", "by line", "by function", "other variable", "unmet", "fixed", "written", "refused TOML", "refused entry", "expired", "more than entries"]
+REACHED = [
+    "left out",
+    "printed",
+    "by line",
+    "by function",
+    "other variable",
+    "unmet",
+    "fixed",
+    "written",
+    "refused TOML",
+    "refused entry",
+    "expired",
+    "more than entries",
+]
 WORDS = {
     "table": "is no table",
     "unknown": "has an unknown key",
@@ -42,10 +59,6 @@ WORDS = {
     "author": "has an `author` other than a text",
     "expires": "has an `expires` other than a date",
 }
-
-
-class Wrong(Exception):
-    """What the program prints is not what the rules say."""
 
 
 def drawn_trace(chance):
@@ -99,7 +112,14 @@ def is_about(entry, lines, first, second):
         return False
     if "variables" not in entry:
         return True
-    return any(all(used in entry["variables"] for _, used, where in map(parts, lines) if used is not None and where == location) for location in (one, other))
+    return any(
+        all(
+            used in entry["variables"]
+            for _, used, where in map(parts, lines)
+            if used is not None and where == location
+        )
+        for location in (one, other)
+    )
 
 
 def mistake_of(entry):
@@ -112,7 +132,11 @@ def mistake_of(entry):
         ("variables", lambda value: texts(value) and value),
         ("lines", numbers),
     ]
-    last = [("reason", lambda value: isinstance(value, str)), ("author", lambda value: isinstance(value, str)), ("expires", lambda value: type(value) is datetime.date)]
+    last = [
+        ("reason", lambda value: isinstance(value, str)),
+        ("author", lambda value: isinstance(value, str)),
+        ("expires", lambda value: type(value) is datetime.date),
+    ]
     if not isinstance(entry, dict):
         return "table"
     if set(entry) - KEYS:
@@ -148,7 +172,9 @@ def refusal_of(text):
             if found:
                 start, end = heads[at], (heads + [len(lines)])[at + 1]
                 key = "expires" if found == "expired" else found
-                spot = next((n for n in range(start + 1, end) if re.match(rf"{key}(?![A-Za-z0-9_-])", lines[n])), start)
+                spot = next(
+                    (n for n in range(start + 1, end) if re.match(rf"{key}(?![A-Za-z0-9_-])", lines[n])), start
+                )
                 words = "has expired" if found == "expired" else WORDS[found]
                 return f"racebench: triage file line {spot + 1} column 1: entry {at + 1} {words}"
     return None
@@ -164,7 +190,11 @@ def literal(value):
 
 def drawn_entry(chance, lines, races):
     """An entry that resembles a race, or anything."""
-    locations = [side_of(parts(lines[event])[2]) for event in chance.choice(races)] if races and chance.random() < 0.85 else [side_of(parts(chance.choice(lines))[2]) for _ in range(2)]
+    locations = (
+        [side_of(parts(lines[event])[2]) for event in chance.choice(races)]
+        if races and chance.random() < 0.85
+        else [side_of(parts(chance.choice(lines))[2]) for _ in range(2)]
+    )
     if chance.random() < 0.4:
         locations.reverse()
     entry = {"paths": [path for path, _, _ in locations]}
@@ -178,12 +208,16 @@ def drawn_entry(chance, lines, races):
     if chance.random() < 0.3:
         entry["reason"] = chance.choice(["", "seen", "a \t tab"])
     if chance.random() < 0.3:
-        entry["expires"] = TODAY + datetime.timedelta(days=chance.choice([0, 1, 400] if chance.random() < 0.9 else [-1]))
+        entry["expires"] = TODAY + datetime.timedelta(
+            days=chance.choice([0, 1, 400] if chance.random() < 0.9 else [-1])
+        )
     return entry
 
 
 def text_of(entries):
-    return "\n".join("[[race]]\n" + "".join(f"{key} = {literal(value)}\n" for key, value in entry.items()) for entry in entries)
+    return "\n".join(
+        "[[race]]\n" + "".join(f"{key} = {literal(value)}\n" for key, value in entry.items()) for entry in entries
+    )
 
 
 def spoiled(chance, text):
@@ -205,7 +239,9 @@ def spoiled(chance, text):
 
 
 def run(program, folder, *args):
-    return subprocess.run([program, "triage", "t.std", *args], cwd=folder, capture_output=True, timeout=60)
+    return subprocess.run(
+        [program, "triage", "t.std", *args], cwd=folder, capture_output=True, timeout=running.PATIENCE
+    )
 
 
 def blocks(output):
@@ -230,15 +266,32 @@ def judge_file(program, folder, lines, races, text, reached):
     done = run(program, folder, "--triage", "f.toml", "--today", day)
     refusal = refusal_of(text)
     if refusal == "not TOML":
-        demand(done.returncode == 1 and re.fullmatch(rb"racebench: triage file line \d+ column \d+: not TOML\n", done.stderr), f"no TOML is taken: {done.stderr}")
+        demand(
+            done.returncode == 1
+            and re.fullmatch(rb"racebench: triage file line \d+ column \d+: not TOML\n", done.stderr),
+            f"no TOML is taken: {done.stderr}",
+        )
         reached["refused TOML"] += 1
         return
     if refusal:
-        demand(done.returncode == 1 and done.stdout == b"" and done.stderr.decode() == refusal + "\n", f"{done.stderr.decode()} in place of {refusal}")
-        reached["expired" if refusal.endswith("expired") else "more than entries" if "not a" in refusal else "refused entry"] += 1
+        demand(
+            done.returncode == 1 and done.stdout == b"" and done.stderr.decode() == refusal + "\n",
+            f"{done.stderr.decode()} in place of {refusal}",
+        )
+        reached[
+            "expired"
+            if refusal.endswith("expired")
+            else "more than entries"
+            if "not a" in refusal
+            else "refused entry"
+        ] += 1
         return
     entries = tomllib.loads(text).get("race", [])
-    kept = [race for race in races if not any(entry["verdict"] != "fixed" and is_about(entry, lines, *race) for entry in entries)]
+    kept = [
+        race
+        for race in races
+        if not any(entry["verdict"] != "fixed" and is_about(entry, lines, *race) for entry in entries)
+    ]
     demand(done.returncode == 0 and blocks(done.stdout) == kept, f"printed {blocks(done.stdout)} in place of {kept}")
     demand(f"known {len(races) - len(kept)}\n" in done.stdout.decode(), "another number of known races")
     notes = ""
@@ -256,7 +309,9 @@ def judge_file(program, folder, lines, races, text, reached):
         reached["by line"] += met and "lines" in entry and "functions" not in entry
     demand(done.stderr.decode() == notes, f"{done.stderr.decode()} in place of {notes}")
     with_workers = run(program, folder, "--triage", "f.toml", "--today", day, "--workers", "3")
-    demand((with_workers.stdout, with_workers.stderr) == (done.stdout, done.stderr), "three workers print another text")
+    demand(
+        (with_workers.stdout, with_workers.stderr) == (done.stdout, done.stderr), "three workers print another text"
+    )
     reached["left out"] += len(races) - len(kept)
     reached["printed"] += len(kept)
 
@@ -271,11 +326,19 @@ def judge_trace(program, folder, seed, reached):
     races = blocks(plain.stdout)
     written = run(program, folder, "--init-triage")
     text = written.stdout.decode()
-    demand(written.returncode == 0 and len(tomllib.loads(text).get("race", [])) == len(races), "another number of entries is written")
+    demand(
+        written.returncode == 0 and len(tomllib.loads(text).get("race", [])) == len(races),
+        "another number of entries is written",
+    )
     write(folder, "i.toml", text)
     again = run(program, folder, "--triage", "i.toml")
-    plainly = [race for race in races if all(not re.match(r"0\d", side_of(parts(lines[event])[2])[1]) for event in race)]
-    demand(not set(blocks(again.stdout)) & set(plainly), f"a written entry does not leave out its race: {blocks(again.stdout)}")
+    plainly = [
+        race for race in races if all(not re.match(r"0\d", side_of(parts(lines[event])[2])[1]) for event in race)
+    ]
+    demand(
+        not set(blocks(again.stdout)) & set(plainly),
+        f"a written entry does not leave out its race: {blocks(again.stdout)}",
+    )
     reached["written"] += len(races)
     for _ in range(4):
         text = text_of([drawn_entry(chance, lines, races) for _ in range(chance.randint(1, 3))])
@@ -283,25 +346,12 @@ def judge_trace(program, folder, seed, reached):
         judge_file(program, folder, lines, races, spoiled(chance, text), reached)
 
 
-def main():
-    program = os.path.abspath(sys.argv[1])
-    traces = int(sys.argv[2]) if len(sys.argv) > 2 else TRACES
-    first = int(sys.argv[3]) if len(sys.argv) > 3 else 1
-    reached = collections.Counter()
-    with tempfile.TemporaryDirectory() as folder:
-        for seed in range(first, first + traces):
-            try:
-                judge_trace(program, folder, seed, reached)
-            except Wrong as wrong:
-                print(f"seed {seed}: {wrong}")
-                return 1
-    missing = [what for what in REACHED if not reached[what]]
-    if missing:
-        print(f"never met: {', '.join(missing)}")
-        return 1
-    print(", ".join(f"{what} {reached[what]}" for what in REACHED))
-    return 0
+def judged(run):
+    for seed in run.seeds():
+        with judging.about(f"seed {seed}"):
+            judge_trace(run.program, ".", seed, run.tally)
+    return ", ".join(f"{what} {run.tally[what]}" for what in REACHED)
 
 
 if __name__ == "__main__":
-    sys.exit(main())
+    sys.exit(judging.main("triage file", judged, REACHED, {"TRACES": TRACES, "SEED": 1}))

@@ -1,26 +1,27 @@
 #!/usr/bin/env python3
 """Runs scripts beside workers, and judges what `threads --workers` printed, by tests/plain.py and tests/legal.py.
 
-The log has to be one that calls build one after another, and each script has to be told what it is told there. The client behind those of the
-scripts has to have proposed each of the first 64 candidates once, with the pair's slice, and no client has to come after it. Half of the runs are
-with no door before the lock, so that proposals come among the scripts' calls, which has to be reached.
-Takes the program's path. Says what is wrong, if something is, and ends with status 1 then.
+The log has to be one that calls build one after another, and each script has to be told what it is told there. The
+client behind those of the scripts has to have proposed each of the first 64 candidates once, with the pair's slice,
+and no client has to come after it. Half of the runs are with no door before the lock, so that proposals come among the
+scripts' calls, which has to be reached. Takes the program's path. Says what is wrong, if something is, and ends with
+status 1 then.
 """
 
-import collections
-import os
 import random
 import sys
-import tempfile
 
 sys.dont_write_bytecode = True
 import by_chance
+import judging
 import legal
 import plain
 import running
+from judging import Wrong
 
 WORKERS = [1, 4, 16]
-# How many scripts run at once, and on how many traces drawn by chance; in how many rounds at most, until all was reached.
+# How many scripts run at once, and on how many traces drawn by chance; in how many rounds at most, until all was
+# reached.
 SCRIPTS = [1, 3, 30]
 TRACES = 4
 MOST_ROUNDS = 60
@@ -29,8 +30,8 @@ SLICED = 64
 # How many calls each script has, of the runs with few scripts and with many.
 CALLS = 40
 CALLS_OF_MANY = 8
-# What has to be reached: a proposal that a script adopts, and one that is not on the board yet; a script's entry between two proposals; a trace with
-# more candidates than are sliced, and one with none; a slice that has events.
+# What has to be reached: a proposal that a script adopts, and one that is not on the board yet; a script's entry
+# between two proposals; a trace with more candidates than are sliced, and one with none; a slice that has events.
 REACHED = ["adopted", "too early", "among", "more", "none", "events"]
 
 
@@ -48,7 +49,15 @@ def quiet():
 def script(chance, client, length):
     """Calls that adopt what workers propose, among some on a schedule of the client's own."""
     own = f"own{client}"
-    kinds = [f"adopt {own} 0", f"adopt {own} {chance.randrange(4)}", f"add {own} {chance.randrange(6)}", f"back {own}", f"show {own}", f"races {own}", "undo"]
+    kinds = [
+        f"adopt {own} 0",
+        f"adopt {own} {chance.randrange(4)}",
+        f"add {own} {chance.randrange(6)}",
+        f"back {own}",
+        f"show {own}",
+        f"races {own}",
+        "undo",
+    ]
     return [f"new {own}"] + [chance.choice(kinds) for _ in range(length - 1)]
 
 
@@ -57,12 +66,16 @@ def judge_proposals(tally, trace, entries, searcher):
     first = trace.candidates()[:SLICED]
     calls = [plain.call_of(words) for client, words in entries if client == searcher]
     if any(client > searcher for client, _ in entries):
-        raise legal.Wrong(f"the log has entries of a client past {searcher}")
+        raise Wrong(f"the log has entries of a client past {searcher}")
     for call in calls:
         if call[0] != "propose" or call[1:3] not in first or call[3] != trace.slice(*call[1:3]):
-            raise legal.Wrong(f"client {searcher} has made `{plain.words_of(call)}`, which proposes no slice of one of the first candidates")
+            raise Wrong(
+                f"client {searcher} has made `{plain.words_of(call)}`, which proposes no slice of one of the first candidates"
+            )
     if sorted(call[1:3] for call in calls) != first:
-        raise legal.Wrong(f"client {searcher} has proposed {sorted(call[1:3] for call in calls)}, and the first candidates are {first}")
+        raise Wrong(
+            f"client {searcher} has proposed {sorted(call[1:3] for call in calls)}, and the first candidates are {first}"
+        )
     tally["proposed"] += len(calls)
     tally["events"] += sum(bool(call[3]) for call in calls)
     tally["more"] += len(trace.candidates()) > SLICED
@@ -84,8 +97,8 @@ def judge_run(program, tally, words, trace, written):
         told, entries = running.parts_of(printed.splitlines(), [len(lines) for lines in drawn])
         legal.judge(trace, drawn, told, entries)
         judge_proposals(tally, trace, entries, len(drawn) + 1)
-    except legal.Wrong as what:
-        sys.exit(f"{what}{running.given(['threads', 'trace', *names])}\n--- printed\n{printed}")
+    except Wrong as what:
+        raise Wrong(f"{what}{judging.given(['trace', *names])}\n--- printed\n{printed}") from what
     tally["runs"] += 1
     for calls, lines in zip(drawn, told):
         for call, line in zip(calls, lines):
@@ -95,7 +108,8 @@ def judge_run(program, tally, words, trace, written):
 
 
 def judge_round(program, tally, number):
-    """Each number of workers with each number of scripts, on traces drawn by chance and on two of more and of no candidates."""
+    """Each number of workers with each number of scripts, on traces drawn by chance and on two of more and of no
+    candidates."""
     chance = random.Random(number)
     drawn = [by_chance.trace(chance, MOST_EVENTS) for _ in range(TRACES)]
     for at, trace in enumerate([crossing(10), crossing(3), quiet(), *drawn]):
@@ -107,22 +121,17 @@ def judge_round(program, tally, number):
                 judge_run(program, tally, [*room, "--workers", str(workers)], trace, scripts)
 
 
-def main():
-    program = os.path.abspath(sys.argv[1])
-    tally = collections.Counter()
-    with tempfile.TemporaryDirectory() as folder:
-        os.chdir(folder)
-        for number in range(MOST_ROUNDS):
-            judge_round(program, tally, number)
-            if all(tally[kind] for kind in REACHED):
-                break
-    missing = [kind for kind in REACHED if not tally[kind]]
-    if missing:
-        sys.exit(f"workers: never reached: {missing}")
-    print(
+def judged(run):
+    tally = run.tally
+    for number in range(MOST_ROUNDS):
+        judge_round(run.program, tally, number)
+        if all(tally[kind] for kind in REACHED):
+            break
+    return (
         f"workers: {tally['runs']} runs with {tally['proposed']} proposed slices are legal; scripts adopted {tally['adopted']} proposals and came too early "
         f"for {tally['too early']}, and in {tally['among']} runs they made entries between two proposals"
     )
 
 
-main()
+if __name__ == "__main__":
+    sys.exit(judging.main("workers", judged, REACHED))

@@ -1,21 +1,23 @@
 """Judges one run of scripts at once, by tests/plain.py, which answers from the definitions.
 
-The log has to be one that calls build one after another, and each client has to be told what it is told there: the calls that
-made an entry are answered as at that entry, in the client's order, and each other call as after some number of entries that lies
-between its neighbours'.
+The log has to be one that calls build one after another, and each client has to be told what it is told there: the
+calls that made an entry are answered as at that entry, in the client's order, and each other call as after some number
+of entries that lies between its neighbours'.
 """
+
+from __future__ import annotations
 
 import collections
 import re
+from collections.abc import Iterable, Sequence
 
 import plain
+from judging import Wrong
+
+Tally = collections.Counter[str]
 
 
-class Wrong(Exception):
-    """What is wrong with a run."""
-
-
-def history(trace, entries):
+def history(trace: plain.Trace, entries: Iterable[tuple[int, str]]) -> list[plain.Log]:
     """The logs of the first 0, 1 .. entries, where each is accepted and is the one that its call makes."""
     logs = [plain.Log(trace)]
     for number, (client, words) in enumerate(entries):
@@ -26,17 +28,21 @@ def history(trace, entries):
     return logs
 
 
-def place_of(logs, client, call, line, place):
+def place_of(logs: Sequence[plain.Log], client: int, call: plain.Call, line: str, place: int) -> int:
     """After how many entries the call is answered so, at least `place`."""
     numbered = re.match(r"(\d+): ", line)
-    places = [int(numbered.group(1))] if numbered else range(place, len(logs))
+    places: Iterable[int] = [int(numbered.group(1))] if numbered else range(place, len(logs))
     for at in places:
         if place <= at < len(logs) and logs[at].reply(client, call)[0] == line:
             return at
-    raise Wrong(f"client {client} was told {line} for {plain.words_of(call)}, after {place} of {len(logs) - 1} entries or later")
+    raise Wrong(
+        f"client {client} was told {line} for {plain.words_of(call)}, after {place} of {len(logs) - 1} entries or later"
+    )
 
 
-def judge_client(tally, logs, client, calls, lines):
+def judge_client(
+    tally: Tally, logs: Sequence[plain.Log], client: int, calls: Sequence[plain.Call], lines: Sequence[str]
+) -> None:
     """Counts what the client was told, where it is right."""
     if len(lines) != len(calls):
         raise Wrong(f"client {client} was told {len(lines)} lines for {len(calls)} calls")
@@ -57,9 +63,14 @@ def judge_client(tally, logs, client, calls, lines):
         raise Wrong(f"client {client} was told of {own}, and the log has {logged}")
 
 
-def judge(trace, drawn, told, entries):
+def judge(
+    trace: plain.Trace,
+    drawn: Sequence[Sequence[plain.Call]],
+    told: Sequence[Sequence[str]],
+    entries: Sequence[tuple[int, str]],
+) -> Tally:
     """What the run had, counted by its kind: the calls of each client, the lines that it was told, and the log."""
-    tally = collections.Counter()
+    tally: Tally = collections.Counter()
     logs = history(trace, entries)
     for client, (calls, lines) in enumerate(zip(drawn, told, strict=True), start=1):
         judge_client(tally, logs, client, calls, lines)

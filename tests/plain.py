@@ -1,27 +1,63 @@
-"""A plain program that answers as `replay` and `info` do, from the words of docs/DEFINITIONS.md and docs/FORMATS.md; and what the
-definitions say of a pair of events, for judges of `explain` and `witness`.
+"""A plain program that answers as `replay` and `info` do, from the words of docs/DEFINITIONS.md and docs/FORMATS.md;
+and what the definitions say of a pair of events, for judges of `explain` and `witness`.
 
 It goes over lists and over the trace, and has neither clocks nor tables nor steps back. Its log keeps the entries
 alone: the rows of each log are folded anew of the commands that were not undone. What the headline of docs/PROMISES.md
 says of all logs is asked of each log here: where it does not hold, `Contradiction` is raised.
 """
 
-from collections import namedtuple
+from __future__ import annotations
+
+from collections.abc import Callable, Iterable, Iterator, Mapping, Sequence
+from typing import Any, Concatenate, NamedTuple, ParamSpec, TypeVar
+
+import judging
 
 LOG_LIMIT = 1_000_000
 CANDIDATE_LIMIT = 1_000
 BATCH_LIMIT = 64
 
-# What one thread does: `word` is that of the trace text, `name` the variable, lock or thread.
-Event = namedtuple("Event", "thread word name")
-# A schedule; its birth is the number of the entry that made it, and the place of the command in that entry.
-Row = namedtuple("Row", "birth events")
-# `kind` is did, batch, proposed or undid. `what` is the call of a command, of a batch or of a proposal, and of an undo the
-# number of the entry that it takes back.
-Entry = namedtuple("Entry", "client kind what")
+# A list of events, by their numbers in the trace.
+Listed = tuple[int, ...]
+# A call: its word, and its arguments in the order of the script's line; a list of events is one argument, and so are
+# the commands of a batch, each of which is the call that it is alone.
+Call = tuple[Any, ...]
+# A command or batch that was not undone: its number in the log, its client, and the call.
+Live = tuple[int, int, Call]
+# A row of a part that `merge` reads: an object of JSON.
+Told = Mapping[str, Any]
 
 
-class Contradiction(Exception):
+class Event(NamedTuple):
+    """What one thread does: `word` is that of the trace text, `name` the variable, lock or thread."""
+
+    thread: str
+    word: str
+    name: str
+
+
+class Row(NamedTuple):
+    """A schedule; its birth is the number of the entry that made it, and the place of the command in that entry."""
+
+    birth: tuple[int, int]
+    events: Listed
+
+
+class Entry(NamedTuple):
+    """`kind` is did, batch, proposed or undid. `what` is the call of a command, of a batch or of a proposal, and of an
+    undo the number of the entry that it takes back."""
+
+    client: int
+    kind: str
+    what: Any
+
+
+Rows = dict[str, Row]
+About = ParamSpec("About")
+Answer = TypeVar("Answer")
+
+
+class Contradiction(judging.Wrong):
     """Two of the definitions say different things."""
 
 
@@ -29,13 +65,13 @@ class Refused(Exception):
     """The number of a refusal and its words."""
 
 
-def holds(events, thread, lock):
+def holds(events: Iterable[Event], thread: str, lock: str) -> int:
     """How often the thread holds the lock after these events."""
     own = [event.word for event in events if event.thread == thread and event.name == lock]
     return own.count("acq") - own.count("rel")
 
 
-def breach(earlier, event):
+def breach(earlier: Sequence[Event], event: Event) -> int | None:
     """The number of the first rule that the event breaks after these events of a trace, or None."""
     thread, word, name = event
     done = [(other.word, other.name) for other in earlier]
@@ -55,14 +91,15 @@ def breach(earlier, event):
     return None
 
 
-def asked_once(question):
+def asked_once(question: Callable[Concatenate[Trace, About], Answer]) -> Callable[Concatenate[Trace, About], Answer]:
     """The question to a trace, whose answer is kept: a trace never changes."""
 
-    def answer(trace, *about):
+    def answer(trace: Trace, /, *about: About.args, **named: About.kwargs) -> Answer:
         key = (question, *about)
         if key not in trace.asked:
-            trace.asked[key] = question(trace, *about)
-        return trace.asked[key]
+            trace.asked[key] = question(trace, *about, **named)
+        found: Answer = trace.asked[key]
+        return found
 
     return answer
 
@@ -70,36 +107,36 @@ def asked_once(question):
 class Trace:
     """The events of a trace, and what the definitions say of them and of lists of their numbers, which are tuples."""
 
-    def __init__(self, events):
+    def __init__(self, events: Iterable[Event]) -> None:
         self.events = tuple(events)
-        self.asked = {}
+        self.asked: dict[tuple[Any, ...], Any] = {}
 
-    def line(self, event):
+    def line(self, event: int) -> str:
         """The line of the event, without its end."""
         thread, word, name = self.events[event]
         return f"{thread}|{word}({name})|"
 
-    def location(self, event):
+    def location(self, event: int) -> str:
         """Where the event is; drawn traces have no locations."""
         return ""
 
-    def text(self):
+    def text(self) -> str:
         return "".join(self.line(event) + "\n" for event in range(len(self.events)))
 
-    def thread(self, event):
+    def thread(self, event: int) -> str:
         return self.events[event].thread
 
-    def does(self, event, word, name):
+    def does(self, event: int, word: str, name: str) -> bool:
         return self.events[event].word == word and self.events[event].name == name
 
-    def is_event(self, event):
+    def is_event(self, event: int) -> bool:
         return event < len(self.events)
 
     @asked_once
-    def events_of(self, thread):
+    def events_of(self, thread: str) -> list[int]:
         return [event for event in range(len(self.events)) if self.thread(event) == thread]
 
-    def threads(self):
+    def threads(self) -> list[str]:
         """All threads in the order of their first uses, also those that are only forked or joined."""
         used = []
         for thread, word, name in self.events:
@@ -107,31 +144,35 @@ class Trace:
         return list(dict.fromkeys(used))
 
     @asked_once
-    def forks_of(self, thread):
+    def forks_of(self, thread: str) -> list[int]:
         return [event for event in range(len(self.events)) if self.does(event, "fork", thread)]
 
-    def last_write(self, variable, events):
+    def last_write(self, variable: str, events: Iterable[int]) -> int | None:
         """The last write of the variable among these events, or None."""
         writes = [event for event in events if self.does(event, "w", variable)]
         return writes[-1] if writes else None
 
     @asked_once
-    def last_writer(self, read):
+    def last_writer(self, read: int) -> int | None:
         return self.last_write(self.events[read].name, range(read))
 
-    def base(self, event):
+    def base(self, event: int) -> int | None:
         """The event before it in its thread; of the first one the thread's fork, or None."""
         earlier = [other for other in self.events_of(self.thread(event)) if other < event]
         if not earlier:
             earlier = self.forks_of(self.thread(event))
         return earlier[-1] if earlier else None
 
-    def conflict(self, first, second):
+    def bases(self, *events: int) -> set[int]:
+        """The bases of these events, of those that have one."""
+        return {base for base in map(self.base, events) if base is not None}
+
+    def conflict(self, first: int, second: int) -> bool:
         one, other = self.events[first], self.events[second]
         words = {one.word, other.word}
         return one.thread != other.thread and one.name == other.name and words <= {"r", "w"} and "w" in words
 
-    def independent(self, first, second):
+    def independent(self, first: int, second: int) -> bool:
         one, other = self.events[first], self.events[second]
         words = {one.word, other.word}
         is_same = one.name == other.name
@@ -146,14 +187,14 @@ class Trace:
 
     # Correct reorderings.
 
-    def keeps_thread_order(self, listed):
+    def keeps_thread_order(self, listed: Listed) -> bool:
         for thread in {self.thread(event) for event in listed}:
             own = [event for event in listed if self.thread(event) == thread]
             if own != self.events_of(thread)[: len(own)]:
                 return False
         return True
 
-    def may_stand(self, earlier, event):
+    def may_stand(self, earlier: Listed, event: int) -> bool:
         """Whether the event keeps its writer, lock, fork and join where these events stand before it."""
         thread, word, name = self.events[event]
         if any(fork not in earlier for fork in self.forks_of(thread)):
@@ -168,7 +209,7 @@ class Trace:
         return True
 
     @asked_once
-    def is_reordering(self, listed):
+    def is_reordering(self, listed: Listed) -> bool:
         return (
             all(self.is_event(event) for event in listed)
             and self.keeps_thread_order(listed)
@@ -178,7 +219,7 @@ class Trace:
     # Why an event may not come next, and why neighbours do not change places.
 
     @asked_once
-    def cause(self, listed, event):
+    def cause(self, listed: Listed, event: int) -> str | None:
         """The number and the words of the first cause for which the event may not come next, or None."""
         if not self.is_event(event):
             return "21 no such event"
@@ -199,7 +240,7 @@ class Trace:
             return "26 join early"
         return None
 
-    def extended(self, listed, event):
+    def extended(self, listed: Listed, event: int) -> Listed:
         """The list followed by the event, where that is a correct reordering."""
         cause = self.cause(listed, event)
         if self.is_reordering(listed + (event,)) != (cause is None):
@@ -208,7 +249,7 @@ class Trace:
             raise Refused(f"46 {cause}")
         return listed + (event,)
 
-    def exchanged(self, listed, at):
+    def exchanged(self, listed: Listed, at: int) -> Listed:
         """The list with the events at this place and the next in each other's place."""
         if at + 1 >= len(listed):
             raise Refused("47 28 no such pair")
@@ -216,7 +257,7 @@ class Trace:
             raise Refused("47 29 dependent")
         return listed[:at] + (listed[at + 1], listed[at]) + listed[at + 2 :]
 
-    def first_fault(self, listed):
+    def first_fault(self, listed: Listed) -> int | None:
         """The first place at which the list stops being a correct reordering, or None."""
         for at in range(len(listed)):
             if not self.is_reordering(listed[: at + 1]):
@@ -225,11 +266,11 @@ class Trace:
 
     # Which pairs a list shows.
 
-    def is_ready(self, listed, event):
+    def is_ready(self, listed: Listed, event: int) -> bool:
         earlier = [other for other in self.events_of(self.thread(event)) if other < event]
         return event not in listed and all(other in listed for other in earlier + self.forks_of(self.thread(event)))
 
-    def shows(self, listed, first, second):
+    def shows(self, listed: Listed, first: int, second: int) -> bool:
         return (
             self.is_event(first)
             and self.is_event(second)
@@ -239,13 +280,13 @@ class Trace:
         )
 
     @asked_once
-    def shown_pairs(self, listed):
+    def shown_pairs(self, listed: Listed) -> list[tuple[int, int]]:
         ready = [event for event in range(len(self.events)) if self.is_ready(listed, event)]
         return [(a, b) for a in ready for b in ready if a < b and self.shows(listed, a, b)]
 
     # SHB and candidates.
 
-    def is_edge(self, first, second):
+    def is_edge(self, first: int, second: int) -> bool:
         """Whether the first event comes before the second with nothing between them."""
         one, other = self.events[first], self.events[second]
         return (
@@ -258,7 +299,7 @@ class Trace:
         )
 
     @asked_once
-    def chains(self):
+    def chains(self) -> list[set[int]]:
         """For each event all to which a chain of edges leads from it, itself too."""
         numbers = range(len(self.events))
         after = [{first} | {second for second in numbers if self.is_edge(first, second)} for first in numbers]
@@ -268,29 +309,30 @@ class Trace:
                     after[first] |= after[between]
         return after
 
-    def is_candidate(self, first, second):
+    def is_candidate(self, first: int, second: int) -> bool:
         """Whether the first of two conflicting events is neither the base of the second nor SHB-before it."""
         base = self.base(second)
         return base is None or base not in self.chains()[first]
 
-    def conflicting(self):
+    def conflicting(self) -> list[tuple[int, int]]:
         """All pairs of events that conflict, in rising order."""
         numbers = range(len(self.events))
         return [(first, second) for first in numbers for second in numbers[first + 1 :] if self.conflict(first, second)]
 
-    def candidates(self):
+    def candidates(self) -> list[tuple[int, int]]:
         """All candidates for a race, in rising order."""
         return [pair for pair in self.conflicting() if self.is_candidate(*pair)]
 
-    def slice(self, first, second):
+    def slice(self, first: int, second: int) -> Listed:
         """The events that are the base of one of the two, or from which a chain of edges leads to it."""
-        bases = {self.base(first), self.base(second)} - {None}
+        bases = self.bases(first, second)
         return tuple(event for event, after in enumerate(self.chains()) if after & bases)
 
     # Must-before, and the kind of a pair.
 
-    def section_end(self, acquire):
-        """The release that ends the critical section of the acquire, after which its thread holds the lock as often as before it; or None."""
+    def section_end(self, acquire: int) -> int | None:
+        """The release that ends the critical section of the acquire, after which its thread holds the lock as often as
+        before it; or None."""
         thread, _, lock = self.events[acquire]
         for event in self.events_of(thread):
             if event > acquire and self.does(event, "rel", lock):
@@ -298,27 +340,32 @@ class Trace:
                     return event
         return None
 
-    def acquires(self, events):
+    def section_ends(self, acquires: Iterable[int]) -> set[int]:
+        """The ends of the sections that these acquires begin, of those that end."""
+        return {end for end in map(self.section_end, acquires) if end is not None}
+
+    def acquires(self, events: Iterable[int]) -> list[int]:
         """Those of the events that acquire a lock."""
         return [event for event in events if self.events[event].word == "acq"]
 
-    def locks(self):
+    def locks(self) -> list[str]:
         """All locks in the order of their first uses, which is that of their numbers."""
         return list(dict.fromkeys(event.name for event in self.events if event.word in ("acq", "rel")))
 
     @asked_once
-    def locks_before(self, event):
+    def locks_before(self, event: int) -> list[str]:
         """The locks that the event's thread holds before it, in the order of their numbers."""
         return [lock for lock in self.locks() if holds(self.events[:event], self.thread(event), lock)]
 
-    def held_since(self, event, lock):
+    def held_since(self, event: int, lock: str) -> int:
         """The acquire since which the event's thread holds the lock before the event: of nested ones the outermost."""
         own = [other for other in self.events_of(self.thread(event)) if other < event and self.does(other, "acq", lock)]
         return [acquire for acquire in own if not holds(self.events[:acquire], self.thread(event), lock)][-1]
 
     @asked_once
-    def links(self, event):
-        """What comes before the event with nothing between them: its base, the write that it reads, and what it joins."""
+    def links(self, event: int) -> set[int]:
+        """What comes before the event with nothing between them: its base, the write that it reads, and what it
+        joins."""
         _, word, name = self.events[event]
         before = [self.base(event)]
         if word == "r":
@@ -327,38 +374,39 @@ class Trace:
             before += self.events_of(name) + self.forks_of(name)
         return {other for other in before if other is not None}
 
-    def ends_first(self, acquire, event):
-        """Whether the section that the acquire begins has to end before the event, where the acquire has to come before it: the
-        event lies in a section of that lock in another thread, or begins one."""
+    def ends_first(self, acquire: int, event: int) -> bool:
+        """Whether the section that the acquire begins has to end before the event, where the acquire has to come
+        before it: the event lies in a section of that lock in another thread, or begins one."""
         lock = self.events[acquire].name
         is_inside = lock in self.locks_before(event) or self.does(event, "acq", lock)
         return is_inside and self.thread(acquire) != self.thread(event) and self.section_end(acquire) is not None
 
     @asked_once
-    def must(self):
-        """For each event all that are must-before it, itself too: the least sets with these that are closed under links and ends of sections."""
+    def must(self) -> list[set[int]]:
+        """For each event all that are must-before it, itself too: the least sets with these that are closed under
+        links and ends of sections."""
         numbers = range(len(self.events))
         before = [{event} for event in numbers]
         while True:
             grown = []
             for event in numbers:
-                ends = {self.section_end(acquire) for acquire in self.acquires(before[event]) if self.ends_first(acquire, event)}
+                ends = self.section_ends(acquire for acquire in self.acquires(before[event]) if self.ends_first(acquire, event))
                 grown.append(before[event].union(*[before[other] for other in self.links(event) | ends]))
             if grown == before:
                 return before
             before = grown
 
-    def is_forced(self, first, second):
+    def is_forced(self, first: int, second: int) -> bool:
         """Whether the first event is the base of the second, or must-before that."""
         base = self.base(second)
         return base is not None and first in self.must()[base]
 
-    def guard(self, first, second):
+    def guard(self, first: int, second: int) -> str | None:
         """The least lock that both threads hold before the two events, or None."""
         common = [lock for lock in self.locks_before(first) if lock in self.locks_before(second)]
         return common[0] if common else None
 
-    def kind(self, first, second):
+    def kind(self, first: int, second: int) -> str:
         """Of which kind two conflicting events are, the earlier of which is the first."""
         if self.is_candidate(first, second):
             return "candidate"
@@ -368,9 +416,9 @@ class Trace:
 
     # Schedules that show a pair.
 
-    def needed(self, events):
-        """The least set that has these events, with each event its links, and, of two acquires of one lock by different threads, the
-        end of the section of the earlier; in the order of the trace."""
+    def needed(self, events: Iterable[int]) -> Listed:
+        """The least set that has these events, with each event its links, and, of two acquires of one lock by
+        different threads, the end of the section of the earlier; in the order of the trace."""
         needed = set(events)
         while True:
             grown = needed.union(*[self.links(event) for event in needed])
@@ -379,30 +427,30 @@ class Trace:
                 for second in taken:
                     is_shared = self.events[first].name == self.events[second].name and self.thread(first) != self.thread(second)
                     if first < second and is_shared:
-                        grown.add(self.section_end(first))
+                        grown |= self.section_ends([first])
             if grown == needed:
                 return tuple(sorted(needed))
             needed = grown
 
-    def in_order(self, first, second):
+    def in_order(self, first: int, second: int) -> Listed | None:
         """The least list in the order of the trace that shows the pair, or None where no such list does."""
-        listed = self.needed({self.base(first), self.base(second)} - {None})
+        listed = self.needed(self.bases(first, second))
         return None if first in listed or second in listed else listed
 
-    def wanted(self, first, second):
-        """The least set that has the bases of both, with each event its links, and with each acquire the end of its section."""
-        wanted = {self.base(first), self.base(second)} - {None}
+    def wanted(self, first: int, second: int) -> list[int]:
+        """The least set that has the bases of both, with each event its links, and with each acquire the end of its
+        section."""
+        wanted = self.bases(first, second)
         while True:
-            ends = {self.section_end(acquire) for acquire in self.acquires(wanted)} - {None}
-            grown = wanted.union(ends, *[self.links(event) for event in wanted])
+            grown = wanted.union(self.section_ends(self.acquires(wanted)), *[self.links(event) for event in wanted])
             if grown == wanted:
                 return sorted(wanted)
             wanted = grown
 
-    def turned(self, first, second):
-        """What a search finds that begins with the least list in the order of the trace after which the second event is next,
-        and goes on by the first event that is wanted and may come next, and never goes back; or None."""
-        listed = self.needed({self.base(second)} - {None})
+    def turned(self, first: int, second: int) -> Listed | None:
+        """What a search finds that begins with the least list in the order of the trace after which the second event
+        is next, and goes on by the first event that is wanted and may come next, and never goes back; or None."""
+        listed = self.needed(self.bases(second))
         wanted = [event for event in self.wanted(first, second) if event not in (first, second)]
         while not self.shows(listed, first, second):
             enabled = [event for event in wanted if self.cause(listed, event) is None]
@@ -412,16 +460,16 @@ class Trace:
         return listed
 
     @asked_once
-    def reorderings(self):
+    def reorderings(self) -> list[Listed]:
         """All correct reorderings."""
-        found = [()]
+        found: list[Listed] = [()]
         for listed in found:
             for event in range(len(self.events)):
                 if self.cause(listed, event) is None:
                     found.append(self.extended(listed, event))
         return found
 
-    def info(self):
+    def info(self) -> str:
         """What is printed of what the trace holds."""
         variables = {event.name for event in self.events if event.word in ("r", "w")}
         locks = {event.name for event in self.events if event.word in ("acq", "rel")}
@@ -435,17 +483,14 @@ class Trace:
         return "".join(line + "\n" for line in lines)
 
 
-# A call is a tuple: its word, and its arguments in the order of the script's line; a list of events is one argument, and so are
-# the commands of a batch, each of which is the call that it is alone.
-
-
-def is_on(lock, events):
+def is_on(lock: str, events: Iterable[Event]) -> int:
     """How many of the events are on the lock."""
     return sum(event.word in ("acq", "rel") and event.name == lock for event in events)
 
 
-def prologue(events, start, end, name):
-    """The events that take what is held at `start`, before the events up to `end`; `name` is that of their variable and lock."""
+def prologue(events: Sequence[Event], start: int, end: int, name: str) -> list[Event]:
+    """The events that take what is held at `start`, before the events up to `end`; `name` is that of their variable
+    and lock."""
     trace, part = Trace(events), events[start:end]
     locks = list(dict.fromkeys(event.name for event in events if event.word in ("acq", "rel")))
     taken = [(thread, lock) for lock in locks for thread in trace.threads() for _ in range(min(holds(events[:start], thread, lock), 2 * is_on(lock, part)))]
@@ -460,7 +505,17 @@ def prologue(events, start, end, name):
     return made
 
 
-def new_name(events):
+def windows(length: int, most: int) -> list[tuple[int, int]]:
+    """The first event of each window of a trace with so many events, and the first one after it: they overlap by
+    half."""
+    found: list[tuple[int, int]] = []
+    for start in range(0, length, (most + 1) // 2):
+        if not found or found[-1][1] < length:
+            found.append((start, min(start + most, length)))
+    return found
+
+
+def new_name(events: Iterable[Event]) -> str:
     """`window` with as few underscores as make it a name that no variable and no lock has."""
     used = {event.name for event in events if event.word not in ("fork", "join")}
     name = "window"
@@ -469,17 +524,17 @@ def new_name(events):
     return name
 
 
-def words_of(call):
+def words_of(call: Call) -> str:
     """The line of the call in a script, without its client."""
     if call[0] == "batch":
         return "batch " + " ; ".join(words_of(command) for command in call[1])
-    words = []
+    words: list[Any] = []
     for part in call:
         words += part if isinstance(part, tuple) else [part]
     return " ".join(str(word) for word in words)
 
 
-def call_of(line):
+def call_of(line: str) -> Call:
     """The call of such a line, in a script or in a log, where each undo is told by the number of what it took back."""
     word, *rest = line.split(" ")
     if word == "batch":
@@ -494,22 +549,22 @@ def call_of(line):
     return (word, *rest[:1], *[int(number) for number in rest[1:]])
 
 
-def commands_of(call):
+def commands_of(call: Call) -> tuple[Call, ...]:
     """The commands of a batch, in their order, or the command that is alone."""
-    return call[1] if call[0] == "batch" else (call,)
+    return tuple(call[1]) if call[0] == "batch" else (call,)
 
 
-def written(command):
+def written(command: Call) -> str:
     """The name that a command alone writes."""
-    return command[3] if command[0] == "branch" else command[1]
+    return str(command[3] if command[0] == "branch" else command[1])
 
 
-def writes(call):
+def writes(call: Call) -> list[str]:
     """The names that its commands write, each once, in the order in which they come first."""
     return list(dict.fromkeys(written(command) for command in commands_of(call)))
 
 
-def touches(call):
+def touches(call: Call) -> set[str]:
     """The names that its commands write or copy."""
     return {name for command in commands_of(call) for name in (command[1], written(command))}
 
@@ -517,10 +572,10 @@ def touches(call):
 class Log:
     """The entries of a log, and what the definitions say of them."""
 
-    def __init__(self, trace, entries=()):
+    def __init__(self, trace: Trace, entries: tuple[Entry, ...] = ()) -> None:
         self.trace = trace
         self.entries = entries
-        self.board = [entry.what[3] for entry in entries if entry.kind == "proposed"]
+        self.board: list[Listed] = [entry.what[3] for entry in entries if entry.kind == "proposed"]
         undone = {entry.what for entry in entries if entry.kind == "undid"}
         # The commands and batches that were not undone, each with its number and client.
         self.live = [
@@ -530,9 +585,9 @@ class Log:
         ]
         self.rows = self.fold(self.live)
 
-    def fold(self, live):
+    def fold(self, live: Iterable[Live]) -> Rows:
         """The rows that these make of none, in their order: none is refused, and each row is a correct reordering."""
-        rows = {}
+        rows: Rows = {}
         for number, _, call in live:
             try:
                 self.change(rows, number, call)
@@ -543,13 +598,13 @@ class Log:
                 raise Contradiction(f"{name} is no correct reordering: {row.events}")
         return rows
 
-    def rows_after(self, rows, number, call):
+    def rows_after(self, rows: Rows, number: int, call: Call) -> Rows:
         """What this call of this number makes of the rows, which stay as they are."""
         after = dict(rows)
         self.change(after, number, call)
         return after
 
-    def change(self, rows, number, call):
+    def change(self, rows: Rows, number: int, call: Call) -> None:
         """Does the commands of this call of this number, one after another, up to the first that is refused."""
         for place, command in enumerate(commands_of(call)):
             try:
@@ -562,7 +617,7 @@ class Log:
             if row is not None:
                 rows[written(command)] = row
 
-    def row_after(self, rows, birth, command):
+    def row_after(self, rows: Rows, birth: tuple[int, int], command: Call) -> Row | None:
         """What a command of this birth makes of the row that it writes; None where that goes."""
         word, name, *rest = command
         row = rows.get(name)
@@ -583,7 +638,7 @@ class Log:
             return Row(birth, row.events[:length])
         return Row(row.birth, self.events_after(row.events, word, rest))
 
-    def events_after(self, events, word, rest):
+    def events_after(self, events: Listed, word: str, rest: Sequence[Any]) -> Listed:
         """What a command that changes a row's events makes of them."""
         if word == "add":
             return self.trace.extended(events, rest[0])
@@ -592,22 +647,22 @@ class Log:
         if word == "adopt":
             if rest[0] >= len(self.board):
                 raise Refused("44 no such proposal")
-            return self.board[rest[0]]
+            return self.board[int(rest[0])]
         if word != "back":
             raise ValueError(word)
         if not events:
             raise Refused("45 nothing to retract")
         return events[:-1]
 
-    def names(self):
+    def names(self) -> list[str]:
         return sorted(self.rows, key=lambda name: self.rows[name].birth)
 
-    def row(self, name):
+    def row(self, name: str) -> Row:
         if name not in self.rows:
             raise Refused("42 no such schedule")
         return self.rows[name]
 
-    def answer(self, client, call):
+    def answer(self, client: int, call: Call) -> tuple[str, Log]:
         """The line that the client's call is answered by, and the log after it."""
         told, entry = self.reply(client, call)
         if entry is None:
@@ -617,7 +672,7 @@ class Log:
             self.ask_undone(entry.what, after)
         return told, after
 
-    def reply(self, client, call):
+    def reply(self, client: int, call: Call) -> tuple[str, Entry | None]:
         """The line that the client's call is answered by, and the entry that it makes, or None."""
         try:
             if call[0] in ("show", "list", "races"):
@@ -629,7 +684,7 @@ class Log:
             return f"refused {why}", None
         return f"{len(self.entries)}: {told}", entry
 
-    def looked(self, call):
+    def looked(self, call: Call) -> str:
         """What a call that changes nothing is answered."""
         if call[0] == "list":
             return " ".join(["names"] + self.names())
@@ -638,7 +693,7 @@ class Log:
             return " ".join(["shown"] + [str(event) for event in events])
         return " ".join(["pairs"] + [f"{first}-{second}" for first, second in self.trace.shown_pairs(events)])
 
-    def entered(self, client, call):
+    def entered(self, client: int, call: Call) -> tuple[str, Entry]:
         """What a call that is logged is answered, behind its number, and its entry."""
         if call[0] == "undo":
             undone = self.live_of_number(client, call[1]) if call[1:] else self.latest_live(client)
@@ -657,14 +712,14 @@ class Log:
         self.rows_after(self.rows, len(self.entries), call)
         return "done", Entry(client, "batch" if call[0] == "batch" else "did", call)
 
-    def latest_live(self, client):
+    def latest_live(self, client: int) -> int:
         """The number of the client's latest command or batch that was not undone."""
         own = [number for number, whose, _ in self.live if whose == client]
         if not own:
             raise Refused("51 nothing to undo")
         return own[-1]
 
-    def live_of_number(self, client, number):
+    def live_of_number(self, client: int, number: int) -> int:
         """The number, where it is that of a command or batch of the client that was not undone."""
         if number >= len(self.entries):
             raise Refused("57 no such entry")
@@ -674,14 +729,14 @@ class Log:
             raise Refused("59 not live")
         return number
 
-    def ask_blocked(self, undone):
+    def ask_blocked(self, undone: int) -> None:
         """Asks whether a later one that was not undone, of any client, touches a name that this one wrote."""
         for number, _, call in self.live:
             touched = [name for name in writes(self.entries[undone].what) if name in touches(call)]
             if number > undone and touched:
                 raise Refused(f"52 rests on {number} {touched[0]}")
 
-    def ask_undone(self, undone, after):
+    def ask_undone(self, undone: int, after: Log) -> None:
         """Asks whether the undo gave the written names the rows that they had, and changed no other row."""
         before = self.fold([entry for entry in self.live if entry[0] < undone])
         names = writes(self.entries[undone].what)
@@ -690,12 +745,12 @@ class Log:
         if after.rows != expected:
             raise Contradiction(f"the undo of {undone} leaves {after.rows} and not {expected}")
 
-    def line(self, number):
+    def line(self, number: int) -> str:
         """The line of an entry in the printed log."""
         client, kind, what = self.entries[number]
         return f"{number} {client} {f'undo {what}' if kind == 'undid' else words_of(what)}"
 
-    def text(self):
+    def text(self) -> str:
         lines = [f"log {len(self.entries)}"] + [self.line(number) for number in range(len(self.entries))]
         return "".join(line + "\n" for line in lines)
 
@@ -703,30 +758,49 @@ class Log:
 RANKS = ["race", "undecided", "apart"]
 
 
-def merged(parts, with_apart):
-    """What `merge` prints of the parts, each a name with the objects of its lines, the counts first."""
+class Shown(NamedTuple):
+    """A pair of places of a merged report: the row that is shown, its part, and in how many parts the pair is a race,
+    undecided and apart."""
+
+    rank: int
+    part: str
+    told: Told
+    counts: list[int]
+
+
+def merged_pairs(parts: Mapping[str, Sequence[Told]]) -> list[Shown]:
+    """The pairs of places of the parts in the order in which `merge` tells them."""
     rows = sorted(
         (*sorted(access["location"].encode() for access in row["accesses"]), RANKS.index(row["kind"]), row.get("events", 0), name.encode(), *(access["event"] for access in reversed(row["accesses"])), number)
         for name, objects in parts.items()
         for number, row in enumerate(objects[1:])
     )
-    places = {}
+    places: dict[tuple[Any, ...], list[Any]] = {}
     for row in rows:
         places.setdefault(row[:2], []).append(row)
+    pairs = []
+    for found in places.values():
+        name = found[0][4].decode()
+        counts = [sum(row[2] == rank for row in found) for rank in range(3)]
+        pairs.append(Shown(found[0][2], name, parts[name][1 + found[0][-1]], counts))
+    return sorted(pairs, key=lambda pair: pair.rank)
+
+
+def merged(parts: Mapping[str, Sequence[Told]], with_apart: bool) -> str:
+    """What `merge` prints of the parts, each a name with the objects of its lines, the counts first."""
+    pairs = merged_pairs(parts)
     lines = [f"parts {len(parts)}"]
-    lines += [f"{word} {sum(found[0][2] == rank for found in places.values())}" for rank, word in enumerate(["races", "undecided", "apart"])]
-    for rank in range(3 if with_apart else 2):
-        for found in places.values():
-            if found[0][2] == rank:
-                name, told = found[0][4].decode(), parts[found[0][4].decode()][1 + found[0][-1]]
-                counts = [sum(row[2] == each for row in found) for each in range(3)]
-                lines += block(told)
-                lines.append(f"    parts race {counts[0]} undecided {counts[1]} apart {counts[2]} unmet {len(parts) - sum(counts)}")
-                lines.append(f"    part {name}")
+    lines += [f"{word} {sum(pair.rank == rank for pair in pairs)}" for rank, word in enumerate(["races", "undecided", "apart"])]
+    for pair in pairs:
+        if with_apart or pair.rank < 2:
+            lines += block(pair.told)
+            races, undecided, apart = pair.counts
+            lines.append(f"    parts race {races} undecided {undecided} apart {apart} unmet {len(parts) - sum(pair.counts)}")
+            lines.append(f"    part {pair.part}")
     return "".join(line + "\n" for line in lines)
 
 
-def block(told):
+def block(told: Told) -> Iterator[str]:
     """The lines of text of a row."""
     numbers = [f"{name} {told[name]}" for name in ["pairs", "variables", "events", "threads", "tried"] if name in told]
     yield " ".join([told["kind"], *(str(access["event"]) for access in told["accesses"]), *([told["how"]] if "how" in told else []), *numbers])

@@ -2,7 +2,8 @@
 
 import os
 import subprocess
-import sys
+
+from judging import Wrong, given
 
 # How long a run may take that takes a moment, in seconds: a machine may be slow and busy.
 PATIENCE = 900
@@ -14,8 +15,11 @@ def write(name, text):
 
 
 def ended(program, words, more=None):
-    """The status with which the program ends, and what it writes on standard output and on standard error; `more` is added to its environment."""
-    done = subprocess.run([program, *words], capture_output=True, timeout=PATIENCE, check=False, env={**os.environ, **(more or {})})
+    """The status with which the program ends, and what it writes on standard output and on standard error; `more` is
+    added to its environment."""
+    done = subprocess.run(
+        [program, *words], capture_output=True, timeout=PATIENCE, check=False, env={**os.environ, **(more or {})}
+    )
     return done.returncode, done.stdout, done.stderr
 
 
@@ -23,21 +27,12 @@ def printed(program, words):
     """What the program writes, where it ends well."""
     status, out, err = ended(program, words)
     if status != 0 or err:
-        sys.exit(f"{words[0]}: status {status}: {err.decode()[:300]}{given(words)}")
+        raise Wrong(f"{words[0]}: status {status}: {err.decode()[:300]}{given(words[1:])}")
     return out
 
 
-def given(words):
-    """The files that the program was given, for a look at what went wrong."""
-    texts = []
-    for name in filter(os.path.exists, words[1:]):
-        with open(name, encoding="ascii") as text:
-            texts.append(f"\n--- {name}\n{text.read()}")
-    return "".join(texts)
-
-
-# What `threads` is told beside its files: that each thread may queue for its turn at any time, so that clients change at nearly each
-# call; and nothing, as users run it, where one thread makes many calls before another comes.
+# What `threads` is told beside its files: that each thread may queue for its turn at any time, so that clients change
+# at nearly each call; and nothing, as users run it, where one thread makes many calls before another comes.
 NO_DOOR = ["--room=32"]
 BEST_ROOM = []
 
@@ -48,15 +43,15 @@ def parts_of(lines, lengths):
     told = []
     for client, calls in enumerate(lengths, start=1):
         if lines[at : at + 1] != [f"client {client}"]:
-            sys.exit(f"line {at + 1} is not that of client {client}: {lines[at : at + 1]}")
+            raise Wrong(f"line {at + 1} is not that of client {client}: {lines[at : at + 1]}")
         told.append(lines[at + 1 : at + 1 + calls])
         at += 1 + calls
     if lines[at : at + 1] != [f"log {len(lines) - at - 1}"]:
-        sys.exit(f"line {at + 1} does not count the log: {lines[at : at + 1]}")
+        raise Wrong(f"line {at + 1} does not count the log: {lines[at : at + 1]}")
     log = []
     for number, line in enumerate(lines[at + 1 :]):
         entry, client, words = line.split(" ", 2)
         if int(entry) != number:
-            sys.exit(f"entry {number} of the log has another number: {line}")
+            raise Wrong(f"entry {number} of the log has another number: {line}")
         log.append((int(client), words))
     return told, log

@@ -1,8 +1,11 @@
-"""What SARIF 2.1.0 demands of a log, as far as racebench writes it: a checker written from the standard's text (OASIS, 27 March 2020). The names of
-properties and those that are required were compared with Debian's python3-sarif-python-om, which was made from the published schema; no Debian package has
-the schema itself. A property that is not in the tables is wrong, also if the standard has it."""
+"""What SARIF 2.1.0 demands of a log, as far as racebench writes it: a checker written from the standard's text (OASIS,
+27 March 2020). The names of properties and those that are required were compared with Debian's
+python3-sarif-python-om, which was made from the published schema; no Debian package has the schema itself. A property
+that is not in the tables is wrong, also if the standard has it."""
 
 import re
+
+from judging import Wrong
 
 TEXT, COUNT, LINE = "text", "count", "line"
 KINDS = ("notApplicable", "pass", "fail", "review", "open", "informational")
@@ -15,7 +18,13 @@ OBJECTS = {
     "run": {"tool!": "tool", "results": ["result"], "originalUriBaseIds": {"": "artifact"}, "properties": "bag"},
     "tool": {"driver!": "driver"},
     "driver": {"name!": TEXT, "rules": ["rule"]},
-    "rule": {"id!": TEXT, "name": TEXT, "shortDescription": "message!", "help": "message!", "defaultConfiguration": "configuration"},
+    "rule": {
+        "id!": TEXT,
+        "name": TEXT,
+        "shortDescription": "message!",
+        "help": "message!",
+        "defaultConfiguration": "configuration",
+    },
     "configuration": {"level": LEVELS},
     "result": {
         "message!": "message!",
@@ -44,10 +53,6 @@ OBJECTS = {
 NOT_EMPTY = {"threadFlows", "locations"}
 # RFC 3986: a URI, or a relative reference whose first segment has no colon; no character that has to be encoded.
 URI = re.compile(r"(?:[A-Za-z][A-Za-z0-9+.-]*:)?(?:[A-Za-z0-9._~!$&'()*+,;=@/-]|%[0-9A-F]{2})*")
-
-
-class Wrong(Exception):
-    """The log is not what the standard demands."""
 
 
 def check_value(value, kind, where):

@@ -1,0 +1,111 @@
+#!/usr/bin/env python3
+"""Judges the other judges: each must end with status 1 if the program prints nothing, if it answers wrongly, and if
+there is nothing to judge.
+
+    judge_judges.py PROGRAM [JUDGE ..]      with names, such as judge_cut, only these
+
+A wrong program is a shell script that runs the right one and changes what it prints. The last line is `N passed, M
+failed`.
+"""
+
+import concurrent.futures
+import os
+import pathlib
+import subprocess
+import sys
+
+sys.dont_write_bytecode = True
+import judging
+
+HERE = pathlib.Path(__file__).resolve().parent
+# How long a judge may take to find what is wrong, in seconds: a machine may be slow and busy.
+LONGEST = 3600
+# What a wrong program does, in shell; `right` runs the right one, with its output in "$out" and its status in "$status".
+WRONG = {
+    "prints nothing": "exit 0",
+    "leaves its last line out": """right "$@"; sed '$d' "$out"; exit $status""",
+    "leaves the last digit out": r"""right "$@"; sed -z 's/[0-9]\([^0-9]*\)$/\1/' "$out"; exit $status""",
+    "writes a line more on standard error": """right "$@"; cat "$out"; echo more >&2; exit $status""",
+    "always ends well": """right "$@"; cat "$out"; exit 0""",
+    "has other flags": r"""right "$@"; sed 's/--\([a-z]\)/--x\1/' "$out"; exit $status""",
+    "cuts its last argument": """n=$#
+for word; do
+    n=$((n - 1)); shift
+    if [ $n -eq 0 ]; then word=${word%?}; fi
+    set -- "$@" "$word"
+done
+right "$@"; cat "$out"; exit $status""",
+    "writes a window less": """right "$@"
+for word; do last=$word; done
+if [ -d "$last" ]; then rm -f "$(ls -d "$last"/window-* | tail -n 1)"; fi
+cat "$out"; exit $status""",
+    "forgets races before a fault": """right "$@"; if [ $status -eq 1 ]; then sed -i '/^race /,$d' "$out"; fi; cat "$out"; exit $status""",
+}
+SCRIPT = """#!/bin/sh
+out=$(mktemp)
+trap 'rm -f "$out"' EXIT
+right() {{ "{program}" "$@" > "$out"; status=$?; }}
+{body}
+"""
+# What each judge has to find; the first three are found by each judge that this does not name.
+USUAL = ["prints nothing", "leaves its last line out", "leaves the last digit out"]
+FOUND = {
+    "judge_notes": ["prints nothing", "writes a line more on standard error"],
+    "judge_package": ["prints nothing", "has other flags"],
+    "judge_places": ["prints nothing", "cuts its last argument"],
+    "judge_progress": ["writes a line more on standard error"],
+    "judge_texts": [*USUAL, "writes a line more on standard error", "always ends well"],
+    "judge_windows": [*USUAL, "writes a window less", "forgets races before a fault"],
+}
+# Arguments that make a judge look at little, since it goes on after a wrong answer.
+ARGUMENTS = {"judge_pages": ["docs/EXPLAIN.md"], "judge_record": ["tests/recorded/relaxed.c"]}
+# Arguments that leave a judge nothing to judge, or too little.
+NOTHING = {
+    "judge_pages": ["CHANGELOG.md"],
+    "judge_record": ["no such case"],
+    **{f"judge_{name}": ["0"] for name in "cut merge merged_sarif places questions sarif triage triage_file windows".split()},
+}
+
+
+def wrong_program(folder: pathlib.Path, program: str, what: str) -> str:
+    """Writes a wrong program, and answers its path."""
+    path = folder / what.replace(" ", "_")
+    path.write_text(SCRIPT.format(program=program, body=WRONG[what]), encoding="utf-8")
+    path.chmod(0o755)
+    return str(path)
+
+
+def told_of(judge: str, program: str, arguments: list[str]) -> list[str]:
+    """What is wrong with the judge on a program that it has to refuse."""
+    words = [sys.executable, "-B", str(HERE / f"{judge}.py"), program, *arguments]
+    try:
+        done = subprocess.run(
+            words, capture_output=True, timeout=LONGEST, check=False, env={**os.environ, "TMPDIR": os.getcwd()}
+        )
+    except subprocess.TimeoutExpired:
+        return [f"it is not done after {LONGEST} seconds"]
+    said = (done.stdout + done.stderr).decode(errors="replace")
+    if done.returncode != 1:
+        return [f"status {done.returncode}, and not 1: {said[-300:]}"]
+    return [f"it breaks: {said[-600:]}"] if "Traceback (most recent call last)" in said else []
+
+
+def cases_of(run: judging.Run, judges: list[str]) -> list[tuple[str, str, list[str]]]:
+    """Each case: a judge, the program that it is given, and its other arguments."""
+    made = {what: wrong_program(pathlib.Path.cwd(), run.program, what) for what in WRONG}
+    cases = [(judge, made[what], ARGUMENTS.get(judge, [])) for judge in judges for what in FOUND.get(judge, USUAL)]
+    return cases + [(judge, run.program, NOTHING[judge]) for judge in judges if judge in NOTHING]
+
+
+def judged(run: judging.Run) -> None:
+    names = [path.stem for path in sorted(HERE.glob("judge_*.py")) if path.stem != "judge_judges"]
+    judges = [name for name in names if not run.texts or name in run.texts]
+    cases = cases_of(run, judges)
+    with concurrent.futures.ThreadPoolExecutor(len(os.sched_getaffinity(0))) as pool:
+        for case, wrong in zip(cases, pool.map(told_of, *zip(*cases))):
+            judge, program, arguments = case
+            run.case(f"{judge}, {os.path.basename(program)} {' '.join(arguments)}", wrong)
+
+
+if __name__ == "__main__":
+    sys.exit(judging.main("judges", judged, texts="JUDGE"))

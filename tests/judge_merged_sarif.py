@@ -1,0 +1,194 @@
+#!/usr/bin/env python3
+"""Judges `merge --sarif` by the rules of SARIF 2.1.0 (tests/sarif_rules.py), by the rows of tests/plain.py, and by the
+fingerprints of `triage --sarif`.
+
+Takes parts drawn by chance and parts that `triage --json` prints of drawn traces. Each log must have a result for each
+pair of locations, in the order of the text, with the accesses and their calls of the row that is shown, and with how
+many parts say what. No result has a code flow. A race of one trace must have the fingerprint that `triage --sarif` of
+that trace gives it, with the folder of the code and without it.
+
+    judge_merged_sarif.py PROGRAM [LISTS [SEED]]      so many lists of parts, the first of this seed
+
+Says what is wrong, if something is, and ends with status 1 then.
+"""
+
+import collections
+import json
+import os
+import random
+import sys
+import tempfile
+
+sys.dont_write_bytecode = True
+import compiled
+import judge_merge
+import judge_sarif
+import judging
+import plain
+import running
+import sarif_rules
+
+LISTS = 60
+NAMES = ["a.json", "b c.json", "é.json", "t.std --windows 9 --window 000000004", "t.std --windows 9 --window"]
+CODE = {"a/u.c": "  x = 1;", "b/u.c": "y(x);  ", "src/u v.c": "\n\n  return x;", "./k#?%.c": ""}
+REACHED = [
+    "race",
+    "undecided",
+    "apart",
+    "window",
+    "no window",
+    "several parts",
+    "one fingerprint",
+    "line of code",
+    "frame",
+    "other verb",
+    "no results",
+]
+
+
+class Access(judge_sarif.Event):
+    """An access of a row."""
+
+    def __init__(self, told):
+        self.thread, self.word, self.name = told["thread"], told["operation"], told["variable"]
+        self.location = told["location"]
+
+    def words(self):
+        verb = {"r": "reads", "w": "writes"}.get(self.word, self.word)
+        return f"{self.thread} {verb} {self.name} at {self.place() or '?'}"
+
+
+def line_at(root, file, number):
+    """The line of the code, without blanks at its ends; nothing if it is not there."""
+    path = file if file.startswith("/") else root + file
+    if not root or not os.path.isfile(path):
+        return ""
+    with open(path, encoding="utf-8") as text:
+        lines = text.read().split("\n")
+    return lines[number - 1].strip() if 0 < number <= len(lines) else ""
+
+
+def side(access, root):
+    """What a fingerprint has of an access."""
+    file, number = judge_sarif.place_parts(access.place())
+    shown = access.place() if file is None else file
+    shown = shown[len(root) :] if root and shown.startswith(root) else shown
+    line = line_at(root, file, number) if file else ""
+    return f"{shown}\n{judge_sarif.calls_of(access.location)[0]}\n{access.name}\n{line}"
+
+
+def print_of(accesses, root):
+    return "\n".join(sorted((side(access, root) for access in accesses), key=str.encode))
+
+
+def message_of(pair, accesses, parts):
+    """What a result has to say of a pair of places."""
+    first, second = accesses
+    kind = pair.told["kind"]
+    found = f"{judge_sarif.FOUND[kind]} on {second.name}"
+    head = f"{found}: {second.words()}, and {first.words()}; {compiled.why(pair.told)}"
+    races, undecided, apart = pair.counts
+    tally = f"Of {parts} parts, race in {races}, undecided in {undecided}, apart in {apart}"
+    events = " and ".join(str(access["event"]) for access in pair.told["accesses"])
+    origin = f"{'Shortest schedule' if kind == 'race' else 'Shown'}: events {events} of part {pair.part}"
+    is_window = pair.part.split(" ")[-2:-1] == ["--window"]
+    return f"{head}. {tally}. {origin}" + (f". Window: racebench cut {pair.part}" if is_window else "")
+
+
+class Judge(judge_sarif.Judge):
+    def check_pair(self, result, pair, parts, root):
+        kind = pair.told["kind"]
+        self.tally[kind] += 1
+        self.tally["several parts"] += sum(pair.counts) > 1
+        self.tally["window" if "Window:" in result["message"]["text"] else "no window"] += 1
+        self.equal((result["ruleId"], result["kind"], result["level"]), judge_sarif.RULES[kind], "the rule")
+        accesses = first, second = [Access(told) for told in pair.told["accesses"]]
+        self.tally["other verb"] += first.word not in "rw"
+        self.equal(result["message"]["text"], message_of(pair, accesses, parts), "the message")
+        self.check_access(result["locations"][0], second, root)
+        self.check_access(result["relatedLocations"][0], first, root)
+        counts = [len(result[name]) for name in ("locations", "relatedLocations", "stacks")]
+        self.equal(counts, [1, 1, 2], "the number of accesses")
+        self.check_stack(result["stacks"][0], second, root)
+        self.check_stack(result["stacks"][1], first, root)
+        self.equal("codeFlows" in result, False, "a code flow of a merged row")
+        print_ = result["partialFingerprints"]["racePair/v1"]
+        self.equal(print_, print_of(accesses, root), "the fingerprint")
+        self.tally["line of code"] += bool(root) and any(line.endswith(";") for line in print_.split("\n"))
+
+    def run_of(self, words):
+        out = running.printed(self.program, words)
+        self.equal((out[-1:], out.count(b"\n")), (b"\n", 1), "the end of the log")
+        log = json.loads(out.decode("utf-8"))
+        sarif_rules.check(log)
+        return log["runs"][0]
+
+    def check_log(self, parts, flags, folder):
+        """Judges the log of the parts; its results."""
+        run = self.run_of(["merge", *parts, "--sarif", *flags, *(["--source", folder] if folder else [])])
+        pairs = [pair for pair in plain.merged_pairs(parts) if flags or pair.rank < 2]
+        self.equal(len(run["results"]), len(pairs), "the number of results")
+        self.tally["no results"] += not pairs
+        for result, pair in zip(run["results"], pairs):
+            self.check_pair(result, pair, len(parts), folder and f"{folder}/")
+        self.equal(run["properties"], {}, "what was left out")
+        self.equal(list(run["originalUriBaseIds"]), ["SRCROOT"] if folder else [], "whether a folder is named")
+        return run["results"]
+
+    def check_same(self, name, folder):
+        """The results of one trace and of its part have the same fingerprints."""
+        source = ["--source", folder] if folder else []
+        of_trace = self.run_of(["triage", "trace", "--sarif", *source])["results"]
+        of_part = self.run_of(["merge", name, "--sarif", *source])["results"]
+        prints = [
+            sorted(result["partialFingerprints"]["racePair/v1"] for result in results)
+            for results in (of_trace, of_part)
+        ]
+        self.equal(prints[1], prints[0], "the fingerprints of a part")
+        self.tally["one fingerprint"] += len(of_part)
+
+    def part_of(self, chance, seed, name):
+        """Writes a part of this name, and answers its objects."""
+        if seed % 2:
+            objects = judge_merge.part(chance)
+            for told in objects[1:]:
+                told["accesses"][0]["operation"] = chance.choice(["r", "w", "frees"])
+            judge_merge.write(name, "".join(map(judge_merge.line, objects)).encode())
+            return objects
+        with open("trace", "w", encoding="utf-8") as out:
+            out.write("".join(line + "\n" for line in judge_sarif.drawn(chance, seed)))
+        text = running.printed(self.program, ["triage", "trace", "--json", *chance.choice([[], ["--apart"]])])
+        judge_merge.write(name, text)
+        for folder in ("", "code"):
+            self.check_same(name, folder)
+        return [json.loads(told) for told in text.splitlines()]
+
+    def judge(self, seed):
+        chance = random.Random(seed)
+        for name, text in CODE.items():
+            os.makedirs(os.path.dirname(f"code/{name}"), exist_ok=True)
+            with open(f"code/{name}", "w", encoding="utf-8") as out:
+                out.write(text)
+        parts = {name: self.part_of(chance, seed, name) for name in chance.sample(NAMES, chance.randint(1, len(NAMES)))}
+        for flags in ([], ["--apart"]):
+            for folder in ("", "code", os.path.abspath("code")):
+                self.check_log(parts, flags, folder)
+        judge_merge.write("whole", running.printed(self.program, ["merge", *parts, "--json"]))
+        whole = running.printed(self.program, ["merge", "whole", "--sarif"])
+        self.equal(whole, running.printed(self.program, ["merge", *parts, "--sarif"]), "the log of a merged report")
+
+
+def judged(run):
+    judge = Judge(run.program)
+    judge.tally = run.tally = collections.Counter()
+    for seed in run.seeds():
+        with tempfile.TemporaryDirectory() as folder, judging.about(f"seed {seed}"):
+            os.chdir(folder)
+            judge.judge(seed)
+            os.chdir("/")
+    counts = ", ".join(f"{what} {count}" for what, count in sorted(run.tally.items()))
+    return f"{run.numbers[0]} lists of parts: {counts}"
+
+
+if __name__ == "__main__":
+    sys.exit(judging.main("judge_merged_sarif", judged, REACHED, {"LISTS": LISTS, "SEED": 0}))

@@ -1,0 +1,375 @@
+#!/usr/bin/env python3
+"""Compares the windows that `cut --into` writes, and the report of `triage --windows`, of traces drawn by chance with
+tests/plain.py.
+
+Takes the program's path, how many traces to draw, and the first seed. Each window must have the events that it says,
+after a prologue that takes what is held, whatever the order of its locks and threads. `triage --windows` must print
+what `merge` makes of `triage --json` of each window, with the numbers that the events have in the trace, with and
+without workers, of a file and of standard input. Each race of it is shown by a correct reordering of the whole trace
+that begins as recorded up to its window; and each pair with two accesses in one window that such a reordering shows,
+before the window's end, is there as a race or undecided. A trace with a line that is refused, an event that breaks a
+rule, or a thread too many, is judged up to there. Says what is wrong, if something is, and ends with status 1 then,
+also if something that has to be seen was never met.
+"""
+
+import json
+import os
+import random
+import shutil
+import subprocess
+import sys
+
+sys.dont_write_bytecode = True
+import by_chance
+import judging
+import plain
+import running
+from judge_cut import shown_from
+from judge_triage import Located
+from judging import Wrong
+
+TRACES = 60
+MOST_THREADS = 256
+REACHED = [
+    "held",
+    "several holds",
+    "one window",
+    "many windows",
+    "race",
+    "undecided",
+    "apart",
+    "standard input",
+    "workers",
+    "refused line",
+    "broken rule",
+    "full folder",
+    "no events",
+    "shown",
+    "one at a time",
+    "skipped line",
+    "taken name",
+    "no last line feed",
+    "carriage returns",
+    "failed",
+    "progress",
+    "many threads",
+]
+# Lines that are no events.
+SKIPPED = ["\n", " \t\n", "\r\n", "T1|begin(block)|\n", " T2 | end(block) | 7\n"]
+
+
+def blocks_of(lines, name):
+    """The parts of a prologue with this name in any order: what takes a lock, and what waits for that."""
+    made = []
+    at = 0
+    while at < len(lines):
+        size = 7 if at + 3 < len(lines) and f"|acq({name})" not in lines[at + 3] else 3
+        made.append(tuple(lines[at : at + size]))
+        at += size
+    return sorted(made)
+
+
+def with_taken_name(chance, trace):
+    """The trace, whose variables or whose locks all have the name that a prologue takes if it may."""
+    words = chance.choice([("r", "w"), ("acq", "rel")])
+    events = []
+    for event in trace.events:
+        event = event._replace(name="window") if event.word in words else event
+        if plain.breach(events, event) is None:
+            events.append(event)
+    return plain.Trace(events)
+
+
+def crossed_trace(chance, most):
+    """A trace of writes around sections of one lock: many of its pairs are open, since only the order of the sections
+    keeps them apart."""
+    events = []
+    while len(events) < most:
+        one, other = chance.sample(["A", "B", "C"], 2)
+        variable = chance.choice(["x", "y"])
+        events += [plain.Event(one, "w", variable), plain.Event(one, "acq", "l"), plain.Event(one, "rel", "l")]
+        events += [plain.Event(other, "acq", "l"), plain.Event(other, "rel", "l"), plain.Event(other, "w", variable)]
+    return plain.Trace(events)
+
+
+def with_skipped(chance, lines):
+    """The lines with some before, between and behind them that are no events."""
+    made = []
+    for line in [*lines, ""]:
+        while chance.random() < 0.2:
+            made.append(chance.choice(SKIPPED))
+        made.append(line)
+    return made[:-1]
+
+
+def wanted_blocks(events, start, end, name):
+    return blocks_of([f"{thread}|{word}({what})|" for thread, word, what in plain.prologue(events, start, end, name)], name)
+
+
+def place_in(line):
+    """Where a window lies, by its first line."""
+    words = line.removeprefix("window|begin(").removesuffix(")|").split(" ")
+    if words[::2] != ["FROM", "TO", "PROLOGUE"]:
+        raise Wrong(f"the first line of a window is {line}")
+    return tuple(map(int, words[1::2]))
+
+
+def moved(part, place):
+    """A part with the numbers that events have in the trace, and without pairs of events of the prologue."""
+    start, _, prologue = place
+    head, *rows = [json.loads(line) for line in part.splitlines()]
+    kept = [row for row in rows if row["accesses"][0]["event"] >= prologue]
+    told = [head | {"apart": head["apart"] - len(rows) + len(kept)}, *kept]
+    for row in kept:
+        for access in row["accesses"]:
+            access["event"] += start - prologue
+    return "".join(json.dumps(row, sort_keys=True, separators=(",", ":"), ensure_ascii=False) + "\n" for row in told)
+
+
+class Judge:
+    def __init__(self, run):
+        self.program, self.seen = run.program, run.tally
+
+    def windows(self, located, most, folder):
+        """The windows that are written, as texts by their first events; each must be that of the trace."""
+        events, wanted = located.trace.events, plain.windows(len(located.trace.events), most)
+        shutil.rmtree(folder, ignore_errors=True)
+        told = running.printed(self.program, ["cut", "trace", "--windows", str(most), "--into", folder]).decode()
+        counts = f"windows {len(wanted)}\nshorter 0\nevents {len(events)}\nthreads {len(located.trace.threads())}\n"
+        if told != counts:
+            raise Wrong(f"cut --into prints {told!r} and not {counts!r}")
+        if sorted(os.listdir(folder)) != [f"window-{start:09}.std" for start, _ in wanted]:
+            raise Wrong(f"the folder has {sorted(os.listdir(folder))}, for windows {wanted}")
+        return {start: self.window(located, start, end, f"{folder}/window-{start:09}.std") for start, end in wanted}
+
+    def window(self, located, start, end, path):
+        """The place of the window in this file, which has to be right."""
+        with open(path, encoding="utf-8") as text:
+            head, *lines = text.read().splitlines()
+        place = place_in(head)
+        own = [located.line(event) for event in range(start, end)]
+        front = lines[: len(lines) - len(own)]
+        if place != (start, end, len(front)) or lines[len(front) :] != own:
+            raise Wrong(f"the window at {start} is\n{head}\n" + "\n".join(lines))
+        name = front[0].split("(")[1].split(")")[0] if front else "window"
+        if front and (name.rstrip("_") != "window" or name in {event.name for event in located.trace.events[start:end]}):
+            raise Wrong(f"the window at {start} has a prologue with the name {name}")
+        self.seen["taken name"] += name != "window"
+        if blocks_of(front, name) != wanted_blocks(located.trace.events, start, end, name):
+            raise Wrong(f"the prologue at {start} is\n" + "\n".join(front))
+        self.seen["held"] += bool(front)
+        self.seen["several holds"] += len(front) > 20
+        return place
+
+    def report(self, places, most, flags, tries):
+        """What `merge` makes of the windows that were written: as JSON, as a page, as a log and as text."""
+        names = {}
+        for start, place in places.items():
+            names[start] = f"trace --windows {most} --window {start:09}"
+            words = ["triage", f"whole/window-{start:09}.std", "--json", *flags, *tries]
+            part = running.printed(self.program, words)
+            with open(names[start], "w", encoding="utf-8") as out:
+                out.write(moved(part.decode(), place))
+        forms = [["--json"], ["--page", *flags], ["--sarif", *flags], flags]
+        made = [running.printed(self.program, ["merge", *names.values(), *more]) for more in forms]
+        for name in names.values():
+            os.remove(name)
+        return made
+
+    def same(self, words, wanted, stdin=None):
+        done = subprocess.run([self.program, *words], capture_output=True, check=False, stdin=stdin, timeout=running.PATIENCE)
+        if (done.returncode, done.stderr) != (0, b"") or done.stdout != wanted:
+            raise Wrong(f"{words} ends with {done.returncode} and prints\n{done.stdout.decode()}{done.stderr.decode()}and not\n{wanted.decode()}")
+
+    def judge_report(self, chance, located, places, most):
+        """The report of `triage --windows`, which is returned as objects."""
+        flags = chance.choice([[], ["--apart"]])
+        tries = chance.choice([[], [], ["--tries", "0"]])
+        told, page, log, text = self.report(places, most, flags, tries)
+        events, threads = len(located.trace.events), len(located.trace.threads())
+        head = f"windows {len(places)}\nshorter 0\nevents {events}\nthreads {threads}\n".encode()
+        words = ["triage", "trace", f"--windows={most}", *flags, *tries]
+        self.same([*words, "--json"], told)
+        self.same([*words, "--page"], page)
+        self.same([*words, "--sarif"], log)
+        self.same(words, head + text)
+        workers = chance.choice([1, 2, 5])
+        self.same([*words, "--workers", str(workers)], head + text)
+        self.seen["workers"] += 1
+        self.judge_status(chance, words, head + text)
+        with open("trace", "rb") as stdin:
+            of_input = told.replace(b'"name":"trace ', b'"name":"- ')
+            again = [self.program, "triage", "-", *words[2:], "--json"]
+            found = subprocess.run(again, capture_output=True, check=False, stdin=stdin, timeout=running.PATIENCE)
+            if found.stdout.replace(b'"part":"trace ', b'"part":"- ') != of_input.replace(b'"part":"trace ', b'"part":"- '):
+                raise Wrong(f"of standard input it prints\n{found.stdout.decode()}and not\n{of_input.decode()}")
+        self.seen["standard input"] += 1
+        self.seen["one window" if len(places) == 1 else "many windows"] += 1
+        return [json.loads(line) for line in told.splitlines()], bool(flags)
+
+    def judge_status(self, chance, words, wanted):
+        """`--fail` gives the status and `--progress` lines on standard error, beside the same output."""
+        races = not wanted.split(b"\nraces ")[1].startswith(b"0\n")
+        if running.ended(self.program, [*words, "--fail"]) != (3 if races else 0, wanted, b""):
+            raise Wrong(f"{words} --fail ends otherwise, with {'a race' if races else 'no race'}")
+        self.seen["failed"] += races
+        if chance.random() < 0.3:
+            status, out, err = running.ended(self.program, [*words, "--progress"])
+            if (status, out) != (0, wanted) or any(line.split()[::2] != [b"windows", b"events"] for line in err.splitlines()):
+                raise Wrong(f"{words} --progress ends with {status}, {err!r}, or prints something else")
+            self.seen["progress"] += bool(err)
+
+    def rows(self, objects):
+        """The rows of each part, by the first event of its window."""
+        parts = {int(told["name"].rsplit(" ", 1)[1]): told["text"] for told in objects if told["kind"] == "part"}
+        return {start: [json.loads(line) for line in text.splitlines()[1:]] for start, text in parts.items()}
+
+    def judge_races(self, located, places, objects):
+        """Each race is one of the whole trace; what a reordering shows from a window on is a race or undecided."""
+        for start, rows in self.rows(objects).items():
+            shown = shown_from(located.trace, start, places[start][1])
+            if shown is None:
+                continue
+            told = {}
+            for row in rows:
+                pair = tuple(sorted(access["event"] for access in row["accesses"]))
+                told[tuple(sorted(located.places[event] for event in pair))] = row["kind"]
+                self.seen[row["kind"]] += 1
+                if row["kind"] == "race" and pair not in shown:
+                    raise Wrong(f"{pair} is a race of the window at {start}, and no reordering shows it")
+                if row["kind"] == "apart" and pair in shown:
+                    raise Wrong(f"{pair} is apart in the window at {start}, and a reordering shows it")
+            for pair in shown & set(located.trace.conflicting()):
+                if min(pair) >= start and told.get(tuple(sorted(located.places[event] for event in pair))) not in ("race", "undecided"):
+                    raise Wrong(f"{pair} is shown from {start} on, and the window has no race there")
+                self.seen["shown"] += 1
+
+    def judge_one(self, places, most, chance):
+        """A window alone is the one that was written, or has the same events after a prologue in another order."""
+        start = chance.choice(list(places))
+        found = running.printed(self.program, ["cut", "trace", "--windows", str(most), "--window", str(start)]).decode()
+        with open(f"whole/window-{start:09}.std", encoding="utf-8") as text:
+            wanted = text.read()
+        size = places[start][2] + 1
+        if [found.splitlines()[0], *found.splitlines()[size:]] != [wanted.splitlines()[0], *wanted.splitlines()[size:]]:
+            raise Wrong(f"cut --window {start} prints\n{found}and not\n{wanted}")
+        self.seen["one at a time"] += 1
+
+    def refused(self, words, fault):
+        """What is printed before this fault."""
+        status, out, err = running.ended(self.program, words)
+        if (status, err) != (1, f"racebench: {fault}\n".encode()):
+            raise Wrong(f"{words} ends with {status}, {err.decode()!r} and not with {fault!r}")
+        return out
+
+    def judge_faults(self, chance, located, most):
+        """A trace with a refused line, or an event that breaks a rule, is judged up to there."""
+        lines = with_skipped(chance, located.text().splitlines(keepends=True))
+        at = chance.randint(0, len(lines))
+        events = len([line for line in lines[:at] if line not in SKIPPED])
+        wrong = [
+            ("T9|w(x)\n|\n", f"trace line {at + 2}: 2 bad parentheses", "refused line"),
+            ("T9|rel(other)|\n", f"trace event {events}: 11 release not held", "broken rule"),
+        ]
+        line, fault, kind = chance.choice(wrong)
+        running.write("wrong", "".join(lines[:at] + [line] + lines[at:]))
+        before = events + (kind == "refused line")
+        running.write("trace", "".join(lines[:at] + ([line.splitlines()[0] + "\n"] if kind == "refused line" else [])))
+        shutil.rmtree("some", ignore_errors=True)
+        self.refused(["cut", "wrong", "--windows", str(most), "--into", "some"], fault)
+        ends = [place_in(open(f"some/{name}", encoding="utf-8").readline().rstrip("\n"))[1] for name in os.listdir("some")]
+        if max(ends, default=0) != before:
+            raise Wrong(f"windows before event {before} end at {sorted(ends)}")
+        out = self.refused(["triage", "wrong", f"--windows={most}"], fault)
+        whole = running.printed(self.program, ["triage", "trace", f"--windows={most}"])
+        races = [[line for line in text.splitlines() if line.startswith(b"race ")] for text in (out, whole)]
+        if races[0] != races[1] and len(ends) < 2:
+            raise Wrong(f"before the fault it prints\n{out.decode()}and not\n{whole.decode()}")
+        self.seen[kind] += 1
+
+    def judge_threads(self, chance):
+        """A thread that is one too many over the whole trace is refused with its line; windows before it are written."""
+        most, skipped = chance.randint(2, 40), chance.randint(0, 5)
+        before = [f"T{number}|w(x)|{number}\n" for number in range(MOST_THREADS)]
+        running.write("wrong", "\n" * skipped + "".join(before) + "T0|w(x)|\nmain|w(x)|\n" + "|\n")
+        shutil.rmtree("some", ignore_errors=True)
+        fault = f"trace line {skipped + len(before) + 2}: 8 too many names"
+        self.refused(["cut", "wrong", "--windows", str(most), "--into", "some"], fault)
+        ends = [place_in(open(f"some/{name}", encoding="utf-8").readline().rstrip("\n"))[1] for name in os.listdir("some")]
+        if max(ends) != len(before) + 1:
+            raise Wrong(f"windows before a thread too many end at {sorted(ends)}")
+        self.seen["many threads"] += 1
+
+    def judge_folder(self, most):
+        """A folder with a file is refused, and stays as it was."""
+        before = {name: os.stat(f"whole/{name}").st_mtime_ns for name in os.listdir("whole")}
+        self.refused(["cut", "trace", "--windows", str(most), "--into", "whole"], "the folder has files: whole")
+        if before != {name: os.stat(f"whole/{name}").st_mtime_ns for name in os.listdir("whole")}:
+            raise Wrong("a folder with files was changed")
+        os.makedirs("odd", exist_ok=True)
+        with open(b"odd/\xff", "wb"):
+            pass
+        self.refused(["cut", "trace", "--windows", str(most), "--into", "odd"], "the folder has files: odd")
+        self.seen["full folder"] += 1
+
+    def write(self, chance, text):
+        """Writes the trace, sometimes with other ends of lines."""
+        if chance.random() < 0.2:
+            text = text.removesuffix("\n")
+            self.seen["no last line feed"] += 1
+        if chance.random() < 0.2:
+            text = text.replace("\n", "\r\n")
+            self.seen["carriage returns"] += 1
+        with open("trace", "w", encoding="ascii", newline="") as out:
+            out.write(text)
+
+    def judge(self, seed):
+        chance = random.Random(seed)
+        length = chance.choice([8, 14, 30, 60])
+        draw = crossed_trace if seed % 5 == 0 else by_chance.locked_trace if seed % 2 else by_chance.trace
+        drawn = draw(chance, length)
+        drawn = with_taken_name(chance, drawn) if chance.random() < 0.2 else drawn
+        located = Located(drawn, chance)
+        lines = with_skipped(chance, located.text().splitlines(keepends=True))
+        self.write(chance, "".join(lines))
+        self.seen["skipped line"] += any(line in SKIPPED for line in lines)
+        events = len(drawn.events)
+        most = chance.choice([1, 2, 3, max(1, events // 3), max(1, events // 2), events + 1])
+        places = self.windows(located, most, "whole")
+        objects, has_apart = self.judge_report(chance, located, places, most)
+        self.judge_races(located, places, objects)
+        self.judge_one(places, most, chance)
+        self.judge_folder(most)
+        self.judge_faults(chance, located, most)
+        return has_apart
+
+    def judge_empty(self, text):
+        """A trace without events has no window, and nothing of it is judged."""
+        running.write("trace", text)
+        shutil.rmtree("none", ignore_errors=True)
+        self.same(["cut", "trace", "--into", "none"], b"windows 0\nshorter 0\nevents 0\nthreads 0\n")
+        if os.listdir("none"):
+            raise Wrong("a trace without events has a window")
+        self.refused(["cut", "trace", "--window", "0"], "no such event")
+        head = b"windows 0\nshorter 0\nevents 0\nthreads 0\n"
+        self.same(["triage", "trace", "--windows"], head + b"parts 0\nraces 0\nundecided 0\napart 0\n")
+        status, out, err = running.ended(self.program, ["triage", "trace", "--windows", "--fail"])
+        if status != 4 or b"no events" not in err:
+            raise Wrong(f"with --fail a trace without events ends with {status}, {err!r}, and prints {out!r}")
+        self.seen["no events"] += 1
+
+
+def judged(run):
+    judge = Judge(run)
+    for seed in run.seeds():
+        with judging.about(f"seed {seed}", "trace"):
+            judge.judge(seed)
+    for text in ["", "\n", "".join(SKIPPED)] if run.numbers[0] else []:
+        judge.judge_empty(text)
+    if run.numbers[0]:
+        judge.judge_threads(random.Random(run.numbers[1]))
+    return f"{run.numbers[0]} traces: " + ", ".join(f"{what} {count}" for what, count in sorted(run.tally.items()))
+
+
+if __name__ == "__main__":
+    sys.exit(judging.main("windows", judged, REACHED, {"TRACES": TRACES, "SEED": 0}))
