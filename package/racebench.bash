@@ -15,11 +15,11 @@ _racebench() {
         session) flags="--client --help -h" ;;
         log) flags="--help -h" ;;
         threads) flags="--workers --help -h" ;;
-        triage) flags="--known --only --hide --apart --tries --workers --json --lines --page --sarif --source --confirmed --triage --init-triage --today --fail --progress --help -h" ;;
+        triage) flags="--known --only --hide --apart --tries --workers --windows --json --lines --page --sarif --source --confirmed --triage --init-triage --today --fail --progress --help -h" ;;
         explain) flags="--all --help -h" ;;
         witness) flags="--script --std --svg --help -h" ;;
-        cut) flags="--windows --window --help -h" ;;
-        merge) flags="--apart --json --fail --help -h" ;;
+        cut) flags="--windows --window --into --help -h" ;;
+        merge) flags="--apart --json --page --sarif --source --fail --help -h" ;;
     esac
     if [[ " --workers --client --tries --only --hide --windows --window " == *" ${COMP_WORDS[COMP_CWORD - 1]} "* ]]; then
         COMPREPLY=() # a number or a text

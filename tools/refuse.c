@@ -2,17 +2,18 @@
  *   REFUSE      what kind of call: memory (malloc and realloc; so where it is missing), read, write, open or thread;
  *               or, of disk.c, pwrite, ftruncate, fsync, flock or link
  *   REFUSE_AT   the number of the call of this kind, from 1
- *   REFUSE_HOW  how it fails: error (so where it is missing), interrupted, short (one byte is moved), nothing (a write takes no byte), or
- *               cut (one byte is written, and the next write fails)
+ *   REFUSE_HOW  how it fails: error (so if it is missing), interrupted, short (one byte is moved), nothing (a write
+ *               takes no byte), or cut (one byte is written, and the next write fails)
  *   REFUSE_MARK a file that is made where the call came
- * Or it runs the program again and again before its first instruction, with each call of the kind failing in turn, until a run ends
- * without such a call:
- *   REFUSE_EACH the file that gets, for each run, a line `STATUS MET OUT ERR` and then what the run wrote: its exit status or, below 0,
- *               the signal that ended it; whether the call came; and how many bytes follow of its standard output,
- *               of its standard error and of the file REFUSE_LEFT, -1 if there is none
+ * Or it runs the program again and again before its first instruction, with each call of the kind failing in turn, until
+ * a run ends without such a call:
+ *   REFUSE_EACH the file that gets, for each run, a line `STATUS MET OUT ERR` and then what the run wrote: its exit
+ *               status or, below 0, the signal that ended it; whether the call came; and how many bytes follow of its
+ *               standard output, of its standard error and of the file REFUSE_LEFT, -1 if there is none
  *   REFUSE_LEFT the file whose bytes are told as each run left them
  *   REFUSE_IN   the path of the standard input of these runs
- *   REFUSE_FILES the folder whose files each of them finds where it runs, and nothing else there; without it they find what is left by the one before
+ *   REFUSE_FILES the folder whose files each of them finds where it runs, and nothing else there; without it they find
+ *               what is left by the one before
  * A run of these may take 20 seconds. */
 #define _GNU_SOURCE
 #include <errno.h>
@@ -197,11 +198,21 @@ __attribute__((constructor)) static void begin(void) {
     next_create = dlsym((void *)-1L, "pthread_create"); /* the one behind this library's: RTLD_NEXT */
     const char *text = getenv("REFUSE_AT");
     long wanted = text ? atol(text) : 0;
-    refuse_how = is("REFUSE_HOW", "interrupted") ? INTERRUPTED : is("REFUSE_HOW", "short") ? SHORT
-        : is("REFUSE_HOW", "nothing") ? NOTHING : is("REFUSE_HOW", "cut") ? CUT : FAILS;
-    enum kind asked = is("REFUSE", "read") ? READ : is("REFUSE", "write") ? WRITE : is("REFUSE", "open") ? OPEN
-        : is("REFUSE", "thread") ? THREAD : is("REFUSE", "pwrite") ? PWRITE : is("REFUSE", "ftruncate") ? FTRUNCATE
-        : is("REFUSE", "fsync") ? FSYNC : is("REFUSE", "flock") ? FLOCK : is("REFUSE", "link") ? LINK : MEMORY;
+    refuse_how = is("REFUSE_HOW", "interrupted") ? INTERRUPTED
+        : is("REFUSE_HOW", "short")              ? SHORT
+        : is("REFUSE_HOW", "nothing")            ? NOTHING
+        : is("REFUSE_HOW", "cut")                ? CUT
+                                                 : FAILS;
+    enum kind asked = is("REFUSE", "read") ? READ
+        : is("REFUSE", "write")            ? WRITE
+        : is("REFUSE", "open")             ? OPEN
+        : is("REFUSE", "thread")           ? THREAD
+        : is("REFUSE", "pwrite")           ? PWRITE
+        : is("REFUSE", "ftruncate")        ? FTRUNCATE
+        : is("REFUSE", "fsync")            ? FSYNC
+        : is("REFUSE", "flock")            ? FLOCK
+        : is("REFUSE", "link")             ? LINK
+                                           : MEMORY;
     const char *report = getenv("REFUSE_EACH");
     if (report) run_each(report);
     else at = wanted;
