@@ -6,7 +6,7 @@ import random
 import subprocess
 import sys
 
-DIVISOR = int(sys.argv[2]) if len(sys.argv) > 2 else 1
+DIVISOR = int(sys.argv[2]) if __name__ == "__main__" and len(sys.argv) > 2 else 1
 
 
 def sized(count):
@@ -384,4 +384,5 @@ def main():
     write_refused(folder)
 
 
-main()
+if __name__ == "__main__":
+    main()
