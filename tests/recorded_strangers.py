@@ -22,8 +22,8 @@ STATIC = ["-std=c++17", "-static-libstdc++", "-static-libgcc"]
 COMPILED = {"statics.cpp": STATIC, "cxx20.cpp": ["-std=c++20", "-latomic"], "wide_atomic.cpp": ["-std=c++17", "-latomic"]}
 CALLED = {"exits.c": ("exit", "quick", "under", "abort", "crash", "kill")}
 INPUT = {"input.c": b"a line\n" * 30}
-# How many seconds a recorded run may take; most take a part of one.
-LONGEST = 60
+# How many seconds a recorded run may take, on a machine that does much else; most take a part of one.
+LONGEST = 300
 
 
 def labels_of(paths):

@@ -14,11 +14,11 @@ int main(void) {
     pthread_t t;
     struct timespec late;
     pthread_create(&t, NULL, work, NULL);
-    clock_gettime(CLOCK_MONOTONIC, &late), late.tv_sec += 20;
+    clock_gettime(CLOCK_MONOTONIC, &late), late.tv_sec += 600;
     if (pthread_clockjoin_np(t, NULL, CLOCK_MONOTONIC, &late)) return 1;
     x++;
     pthread_create(&t, NULL, work, NULL);
-    clock_gettime(CLOCK_REALTIME, &late), late.tv_sec += 20;
+    clock_gettime(CLOCK_REALTIME, &late), late.tv_sec += 600;
     if (pthread_timedjoin_np(t, NULL, &late)) return 1;
     x++;
     pthread_create(&t, NULL, work, NULL);

@@ -1,4 +1,5 @@
-// An object that is destroyed while another thread calls it.
+// An object that is destroyed while another thread calls it: after that, by a flag that orders nothing.
+#include <atomic>
 #include <cstdio>
 #include <thread>
 #include <unistd.h>
@@ -10,11 +11,15 @@ struct Base {
 struct Derived : Base { // RACE
     int value() const override { return 2; }
 };
+static std::atomic<bool> called;
 int main() {
     Base *p = new Derived;
     long sum = 0;
-    std::thread t([p, &sum] { sum += p->value(); }); // RACE
-    usleep(20000);
+    std::thread t([p, &sum] {
+        sum += p->value(); // RACE
+        called.store(true, std::memory_order_relaxed);
+    });
+    while (!called.load(std::memory_order_relaxed)) usleep(1000);
     delete p; // RACE
     t.join();
     std::printf("%ld\n", sum);

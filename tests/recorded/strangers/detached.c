@@ -1,11 +1,14 @@
 /* A thread that was made detached ends, and a joinable one may get its id. */
+#define _GNU_SOURCE
 #include <pthread.h>
 #include <semaphore.h>
 #include <stdio.h>
+#include <sys/syscall.h>
 #include <unistd.h>
 static sem_t done;
-static int x[4], y;
+static int x[4], y, number;
 static void *alone(void *p) {
+    number = (int)syscall(SYS_gettid);
     sem_post(&done);
     return p;
 }
@@ -21,7 +24,8 @@ int main(void) {
     for (int k = 0; k < 4; k++) {
         pthread_create(&id, &a, alone, NULL);
         sem_wait(&done);
-        usleep(20000);
+        /* Until the system has no such thread. */
+        while (!syscall(SYS_tgkill, getpid(), number, 0)) usleep(1000);
         pthread_create(&id, NULL, work, &x[k]);
         pthread_join(id, NULL);
         y += x[k];

@@ -1,4 +1,5 @@
 /* Calls that a handler interrupts end, where it was said so. */
+#define _GNU_SOURCE
 #include <errno.h>
 #include <pthread.h>
 #include <semaphore.h>
@@ -28,8 +29,10 @@ int main(void) {
     pthread_create(&t[0], NULL, waits, NULL), pthread_create(&t[1], NULL, reads, NULL);
     for (int k = 0; k < 2; k++)
         while (sem_wait(&ready)) {}
-    usleep(50000);
-    for (int k = 0; k < 2; k++) pthread_kill(t[k], SIGUSR1), pthread_join(t[k], NULL);
+    /* A signal that comes before the call interrupts nothing, so there are more. */
+    for (int k = 0; k < 2; k++)
+        do pthread_kill(t[k], SIGUSR1), usleep(20000);
+        while (pthread_tryjoin_np(t[k], NULL));
     printf("%d %d\n", interrupted[0], interrupted[1]);
     return 0;
 }

@@ -1,5 +1,6 @@
 /* Keys, cleanup handlers, exits of threads, values that are joined, a join by a sibling. */
 #include <pthread.h>
+#include <semaphore.h>
 #include <stdint.h>
 #include <stdio.h>
 #include <stdlib.h>
@@ -7,6 +8,7 @@
 static pthread_key_t key, again;
 static int ended, cleaned, by_sibling, values;
 static pthread_t first;
+static sem_t begun;
 static void at_end(void *p) {
     ended++;
     free(p);
@@ -33,6 +35,7 @@ static void *joins(void *p) {
 static void *sleeps(void *p) {
     int n = 8;
     pthread_cleanup_push(clean, &n);
+    sem_post(&begun);
     for (;;) sleep(10);
     pthread_cleanup_pop(0);
     return p;
@@ -44,8 +47,9 @@ int main(void) {
     pthread_create(&first, NULL, work, (void *)7), pthread_create(&second, NULL, joins, NULL);
     pthread_join(second, &v);
     values = (int)(intptr_t)v;
+    sem_init(&begun, 0, 0);
     pthread_create(&third, NULL, sleeps, NULL);
-    usleep(2000);
+    sem_wait(&begun);
     pthread_cancel(third), pthread_join(third, &v);
     printf("%d %d %d %d %d\n", ended, cleaned, by_sibling, values, v == PTHREAD_CANCELED);
     return 0;

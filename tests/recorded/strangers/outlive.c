@@ -1,14 +1,17 @@
-/* A thread that outlives main, and what is done at the end. */
+/* A thread that outlives main, and what is done at the end. The flag orders nothing. */
 #include <pthread.h>
+#include <stdatomic.h>
 #include <stdio.h>
 #include <stdlib.h>
 #include <unistd.h>
 static int x, y;
+static atomic_int begun;
 static void *work(void *p) {
     y = 1;
-    for (int k = 0; k < 100; k++) {
+    for (;;) {
         x++; /* RACE */
-        usleep(100);
+        atomic_store_explicit(&begun, 1, memory_order_relaxed);
+        usleep(1000);
     }
     return p;
 }
@@ -21,6 +24,6 @@ int main(void) {
     atexit(at_end);
     pthread_create(&t, NULL, work, NULL);
     pthread_detach(t);
-    usleep(3000);
+    while (!atomic_load_explicit(&begun, memory_order_relaxed)) usleep(1000);
     return 3;
 }

@@ -6,7 +6,7 @@
 #include <stdio.h>
 #include <sys/time.h>
 #include <unistd.h>
-static sem_t s;
+static sem_t s, begun;
 static atomic_int stop;
 static long work_done[2];
 static void on_alarm(int n) {
@@ -19,13 +19,17 @@ static void *waits(void *p) {
     return p;
 }
 static void *works(void *p) {
-    while (!stop) ++*(long *)p;
+    long *done = p;
+    while (!stop) {
+        if (++*done == 100) sem_post(&begun);
+        if (*done > 1000) usleep(1000);
+    }
     return p;
 }
 int main(void) {
     pthread_t t[3];
     sigset_t set;
-    sem_init(&s, 0, 0);
+    sem_init(&s, 0, 0), sem_init(&begun, 0, 0);
     signal(SIGALRM, on_alarm);
     sigemptyset(&set), sigaddset(&set, SIGALRM);
     pthread_sigmask(SIG_BLOCK, &set, NULL);
@@ -33,8 +37,8 @@ int main(void) {
     pthread_create(&t[2], NULL, works, &work_done[0]);
     pthread_sigmask(SIG_UNBLOCK, &set, NULL);
     pthread_create(&t[1], NULL, works, &work_done[1]);
-    usleep(2000);
     pthread_sigmask(SIG_BLOCK, &set, NULL);
+    for (int k = 0; k < 2; k++) sem_wait(&begun);
     kill(getpid(), SIGALRM);
     for (int k = 0; k < 3; k++) pthread_join(t[k], NULL);
     puts("done");
