@@ -1,5 +1,5 @@
-// Timers that interrupt every wait, and handlers that only count by atomics; nothing is lost, nothing hangs. The threads
-// go on until handlers have run in the main thread and in others.
+// Timers that interrupt every wait, and handlers that only count by atomics; nothing is lost, nothing hangs. The
+// threads go on until handlers have run in the main thread and in others.
 #include <atomic>
 #include <condition_variable>
 #include <csignal>
