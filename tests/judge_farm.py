@@ -13,6 +13,7 @@ import re
 import shutil
 import subprocess
 import sys
+import time
 
 sys.dont_write_bytecode = True
 import judging
@@ -38,7 +39,7 @@ HELD = """#!/bin/sh
 at=${{2##*/}}
 if [ "$1 $at" = "triage count.std" ]; then
     mkdir first 2> /dev/null || mkdir second 2> /dev/null
-    for _ in $(seq 600); do
+    for _ in $(seq 6000); do
         if [ ! -d second ]; then sleep 0.1; fi
     done
 fi
@@ -128,7 +129,12 @@ def judge_parallel(wanted):
         out.write("no trace\n")
     if ran([*words, "bad.std"], PARTS="parallel", RACEBENCH=os.path.abspath("always")) != 1 or os.path.exists(os.path.join("parallel", "merged.json")):
         raise Wrong("parallel.sh merges although a trace was refused")
-    # A trace twice counts once; one that is newer than its report is triaged again, and no other.
+    # A trace twice counts once; one that is newer than its report is triaged again, and no other. Times of files may be
+    # whole seconds.
+    now = time.time()
+    for name, trace in TRACES.items():
+        os.utime(trace, (now - 20, now - 20))
+        os.utime(f"parallel/{name}", (now - 10, now - 10))
     before = {name: os.stat(f"parallel/{name}").st_mtime_ns for name in TRACES}
     os.utime("count.std")
     if ran([*words, "count.std"], PARTS="parallel", RACEBENCH="./always") != 0:

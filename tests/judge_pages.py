@@ -30,8 +30,11 @@ LINKED = ("examples", "record", "screen")
 LONGEST = 900
 # A recording is made again so often if the machine was so busy that a thread lost its turn by force.
 AGAIN = 3
-# Programs that sleep: each recording has other turns, and `record/confirm` prints its races in another order.
+# Programs that sleep: each recording has other turns, and `record/confirm` prints its races in another order. What comes
+# after a race is a matter of time too: where threads wait long for a processor, about one `record/confirm` in six has
+# another ending. So their commands are typed again if they print something else, up to so many times in all.
 SLEEPS = r"\b(?:watchdog|mended)\b"
+TRIES = 12
 # Commands that are not typed: the page, how the command begins, and why.
 LEFT_OUT = [
     ("docs/BUILDS.md", "cmake", "needs CMake and a project"),
@@ -147,12 +150,15 @@ def end_after(process):
 
 
 def answered(folder, command, shown):
-    """What the command prints; a recording that was disturbed is made again."""
+    """What the command prints; a recording that was disturbed is made again, and so is what hangs on the time."""
     if command.startswith("racebench session "):
         return folder.typed(command, shown)
-    for _ in range(AGAIN):
+    before, by_time = folder.status, re.search(SLEEPS, command)
+    for number in range(TRIES if by_time else AGAIN):
+        folder.status = before
         printed = folder.printed(command)
-        if not re.search(r"\b[1-9]\d* taken by force$", printed, re.MULTILINE):
+        was_forced = number < AGAIN - 1 and re.search(r"\b[1-9]\d* taken by force$", printed, re.MULTILINE)
+        if not was_forced and (not by_time or as_shown(command, printed, shown)):
             break
     return printed
 

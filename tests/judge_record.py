@@ -32,6 +32,8 @@ RECORD = os.path.join(TOP, "record")
 PATIENCE = recorded_places.PATIENCE
 # Runs of each program; every further compiler makes one.
 SEEDS = (1, 2, 3)
+# A recording is made again so often if the machine was so busy that a thread lost its turn by force.
+AGAIN = recorded_places.AGAIN
 # Each program, the words for the recorder, and the pairs of lines that race in it: RACE are the lines that say so, and
 # TRIAGED the same where locks come between, so that no candidate but a schedule shows it.
 PROGRAMS = [
@@ -124,7 +126,10 @@ def compiled(source, c, cxx):
 
 def recorded(words, seed):
     """Records `program`; the trace is in `trace.std`."""
-    trace, said = done([os.path.join(RECORD, "run"), "--seed", str(seed), *words, "./program"])
+    for _ in range(AGAIN):
+        trace, said = done([os.path.join(RECORD, "run"), "--seed", str(seed), *words, "./program"])
+        if said.endswith(", 0 taken by force\n"):
+            break
     if not re.search(r"^record/run: recorded \d+ events, \d+ turns, \d+ taken by force$", said, re.MULTILINE):
         raise Wrong(f"the recorder did not say what it recorded: {said[:600]}")
     if "left out" in said or "not made by pthread_create" in said:

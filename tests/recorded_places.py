@@ -18,6 +18,8 @@ SOURCES = os.path.join(TOP, "tests", "recorded")
 PLACE = re.compile(r"(.+):(\d+)$")
 # How long a command may take, on a machine that does much else.
 PATIENCE = 900
+# A recording is made again so often if the machine was so busy that a thread lost its turn by force.
+AGAIN = 5
 # The calls around both accesses of p/util.c, as far as they are the same in both threads.
 COMMON = ["p_work", "both main.c:8", "down main.c:15", "down main.c:13"]
 

@@ -15,7 +15,7 @@ import tempfile
 import time
 
 from judging import Wrong
-from recorded_places import PATIENCE
+from recorded_places import AGAIN, PATIENCE
 
 TOP = os.path.dirname(os.path.dirname(os.path.abspath(__file__)))
 RECORD = os.path.join(TOP, "record")
@@ -25,6 +25,8 @@ RUNS = 10
 # The head of a raw file, the size of its records, and the kinds whose answers are the world's: runtime/format.h.
 HEAD, RECORD_SIZE = struct.Struct("<16Q"), 48
 ANSWER = 16
+# The place in the head of how many turns were taken by force.
+FORCED = 8
 
 TWO_THREADS = """#include <pthread.h>
 #include <stdlib.h>
@@ -59,8 +61,17 @@ def recorded(*words, wanted=0, **more):
 
 
 def raw_records(words, seed):
+    """The records of a run in which no thread lost its turn by force, if a busy machine lets one of some runs be so."""
+    for _ in range(AGAIN):
+        records, was_forced = raw_run(words, seed)
+        if not was_forced:
+            break
+    return records
+
+
+def raw_run(words, seed):
     """The records of a run, without its trace: for each its thread, clock, kind and place, and of those that no clock
-    answered the rest."""
+    answered the rest. And how many turns were taken by force."""
     with tempfile.TemporaryFile() as file:
         surroundings = dict(
             os.environ,
@@ -74,7 +85,7 @@ def raw_records(words, seed):
         file.seek(head[6])
         whole = file.read(min(head[2], head[1]) * RECORD_SIZE)
     records = [whole[at : at + RECORD_SIZE] for at in range(0, len(whole), RECORD_SIZE)]
-    return [record if record[42] != ANSWER else record[8:24] + record[40:] for record in records]
+    return [record if record[42] != ANSWER else record[8:24] + record[40:] for record in records], head[FORCED]
 
 
 def judge_same_runs(c):
@@ -100,12 +111,21 @@ def is_run_of_its_seed(name, record):
     return record(2) != first
 
 
+def undisturbed(*words):
+    """The trace of a run in which no thread lost its turn by force, if a busy machine lets one of some runs be so."""
+    for _ in range(AGAIN):
+        trace, said = recorded(*words)
+        if ", 0 taken by force" in said:
+            break
+    return trace
+
+
 def judge_same_teams(c):
     """The same of OpenMP, by the traces: where the library's threads have their stacks is the system's choice."""
     if c != "gcc":
         return
     ran([os.path.join(RECORD, "cc"), "-O1", "-fopenmp", os.path.join(SOURCES, "teams.c"), "-o", "teams"])
-    if not is_run_of_its_seed("teams.c", lambda seed: recorded("--seed", str(seed), "./teams")[0]):
+    if not is_run_of_its_seed("teams.c", lambda seed: undisturbed("--seed", str(seed), "./teams")):
         raise Wrong("teams.c is one recording with both seeds")
 
 

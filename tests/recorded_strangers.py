@@ -11,6 +11,7 @@ import json
 import os
 import re
 import subprocess
+import sys
 
 from judging import Wrong
 from recorded_places import PATIENCE, RECORD, SOURCES
@@ -74,7 +75,7 @@ def judge_run(name, words, seed):
         raise Wrong(f"seed {seed}: ends with {status}, and not with {wanted}: {told[-600:]}")
     own = "".join(line for line in told.splitlines(True) if not line.startswith("record"))
     if sorted(own.split()) != sorted("".join(written).split()):
-        raise Wrong(f"seed {seed}: prints {own!r}, and not {''.join(written)!r}")
+        raise Wrong(f"seed {seed}: prints {own!r}, and not {''.join(written)!r}; status {status}: {told[-300:]}")
     if "left out" in told:
         raise Wrong(f"seed {seed}: something is left out: {told[-600:]}")
     with open("trace.std", "w", encoding="utf-8") as text:
@@ -158,6 +159,66 @@ def judge_few_files(c):
         raise Wrong(f"with few files: {said}{told}{long_told}")
 
 
+def has_own_descriptors():
+    """Whether the system lets a thread have descriptors of its own: Linux 5.9 or newer."""
+    ask = "import ctypes; print(ctypes.CDLL(None).syscall(436, 1000, 1001, 2))"
+    return ran([sys.executable, "-c", ask])[1] == "0\n"
+
+
+def judge_descriptors(c):
+    """What the recorder opens meanwhile changes no number of a descriptor of the program: its thread beside those of the
+    program has its own."""
+    if not has_own_descriptors():
+        print("record/: descriptors of the recorder are not tested, since a thread can't have its own here")
+        return
+    with open("source.c", "w", encoding="ascii") as source:
+        source.write(DESCRIPTORS)
+    status, _, said = ran([os.path.join(RECORD, "cc"), "source.c", "-o", "program"], env=dict(os.environ, RECORD_CC=c))
+    _, _, told = ran([os.path.join(RECORD, "run"), "./program"])
+    if status or not told.startswith("a thread has its own\n"):
+        raise Wrong(f"the recorder's descriptors are the program's: {said}{told}")
+
+
+# Looks, for some seconds at least, for a thread that has no more than one descriptor.
+DESCRIPTORS = """#include <dirent.h>
+#include <pthread.h>
+#include <semaphore.h>
+#include <stdio.h>
+#include <unistd.h>
+static sem_t end;
+static volatile int x;
+static void *work(void *p) { x++; while (sem_wait(&end)) {} return p; }
+static int count(const char *path) {
+    int n = 0;
+    DIR *folder = opendir(path);
+    if (!folder) return 99;
+    for (struct dirent *d; (d = readdir(folder));) n += d->d_name[0] != '.';
+    closedir(folder);
+    return n;
+}
+static int is_there(void) {
+    char path[300];
+    int there = 0;
+    DIR *tasks = opendir("/proc/self/task");
+    for (struct dirent *d; tasks && (d = readdir(tasks));) {
+        snprintf(path, sizeof path, "/proc/self/task/%s/fd", d->d_name);
+        there |= d->d_name[0] != '.' && count(path) <= 1;
+    }
+    closedir(tasks);
+    return there;
+}
+int main(void) {
+    pthread_t t;
+    int there = 0;
+    sem_init(&end, 0, 0);
+    pthread_create(&t, NULL, work, NULL);
+    for (int k = 0; k < 500 && !there; k++) there = is_there(), usleep(10000);
+    puts(there ? "a thread has its own" : "no thread has its own");
+    x++, sem_post(&end);
+    return pthread_join(t, NULL);
+}
+"""
+
 # More records than the first piece of the file has.
 LONG = """#include <pthread.h>
 static volatile int x;
@@ -175,5 +236,6 @@ def cases(racebench, c, cxx):
     names = [name for name in names if cxx or name.endswith(".c")]
     found = [(f"calls behind a jump, {c}", judge_calls), (f"a library that is opened late, {c}", judge_late)]
     found += [(f"few open files, {c}", judge_few_files), (f"a header for later, {c}", judge_header)]
+    found += [(f"descriptors of the recorder, {c}", judge_descriptors)]
     strangers = [(f"strangers/{name}, {c}", judge_stranger, (racebench, name, c, cxx)) for name in names]
     return strangers + [(name, judge, (c,)) for name, judge in found]

@@ -1,4 +1,4 @@
-/* A thread beside those of the program: it takes the token from one that keeps it. */
+/* Two threads beside those of the program: one takes the token from a thread that keeps it, and one waits for it. */
 
 /* Milliseconds of a processor. */
 #define LONG_RUN 1000
@@ -25,11 +25,21 @@ static void look(u64 looks, int asleep, int runs_long) {
     if (holder != was) head->forced++;
 }
 
-/* It ends with the program's threads: a program may end with the last of them. */
-static void *watcher(void *none) {
+#ifndef SYS_close_range
+#define SYS_close_range 436
+#endif
+#define UNSHARE 2
+
+/* The looker opens files of the system, and the program's next descriptor must not depend on when it does: from Linux
+ * 5.9 on it has descriptors of its own, none at first. */
+static void leave_descriptors(void) { syscall(SYS_close_range, 0, 0xffffffffl, UNSHARE); }
+
+/* It ends with the program's threads. */
+static void *looker(void *none) {
     u64 seen = 0, still = 0, ran = 0;
     u32 who = NOBODY, looks = 0, sleeps = 0;
     inside = 1;
+    leave_descriptors();
     while (__atomic_load_n(&living, __ATOMIC_SEQ_CST)) {
         struct timespec pause = {0, 20000000};
         syscall(SYS_nanosleep, &pause, NULL);
@@ -48,18 +58,34 @@ static void *watcher(void *none) {
     return none;
 }
 
-/* The first thread that the program makes gets a watcher beside it. */
+static int begin_beside(pthread_t *id, void *(*body)(void *)) {
+    REAL_OF(pthread_create, "GLIBC_2.34", int, pthread_t *, const pthread_attr_t *, void *(*)(void *), void *);
+    return real(id, NULL, body, NULL);
+}
+
+static pthread_t looker_id;
+
+/* A program may end with the last of its threads, and then this one ends the process: with the program's descriptors,
+ * into which the C library writes what is left. */
+static void *watcher(void *none) {
+    inside = 1;
+    REAL_OF(pthread_join, "GLIBC_2.34", int, pthread_t, void **);
+    real(looker_id, NULL);
+    return none;
+}
+
+/* The first thread that the program makes gets both beside it. The program's own thread makes them, so that where their
+ * stacks are is the same in each run. */
 static void watch(void) {
     static u8 there;
     if (__atomic_exchange_n(&there, 1, __ATOMIC_SEQ_CST)) return;
-    REAL_OF(pthread_create, "GLIBC_2.34", int, pthread_t *, const pthread_attr_t *, void *(*)(void *), void *);
     pthread_t id;
     sigset_t all, before;
     sigfillset(&all);
     pthread_sigmask(SIG_SETMASK, &all, &before);
     u8 was = inside;
     inside = 1;
-    real(&id, NULL, watcher, NULL);
+    if (!begin_beside(&looker_id, looker)) begin_beside(&id, watcher);
     inside = was;
     pthread_sigmask(SIG_SETMASK, &before, NULL);
 }
