@@ -194,7 +194,7 @@ def judge_outputs(racebench):
 def judge_program(racebench):
     """racebench is named by either option or by the variable."""
     recorded(os.path.join(SOURCES, "lost.c"), [])
-    confirm = [os.path.join(RECORD, "confirm"), "program.std", "program.clock"]
+    confirm = [os.path.join(RECORD, "confirm"), *LIMITS, "program.std", "program.clock"]
     ways = [("--racebench", racebench), ("--program", racebench), ()]
     env = dict(os.environ, RACEBENCH="/nowhere")
     told = [
@@ -253,6 +253,21 @@ def judge_waits(racebench):
         raise Wrong(f"a thread that waits for a relaxed flag: {found}")
 
 
+def judge_recorded_order(racebench):
+    """A schedule from which the run departs is tried again in the order of the recording."""
+    recorded(os.path.join(SOURCES, "told_relaxed.cpp"), [])
+    found = confirmed(racebench, wanted=1)
+    ended = {tuple(sorted(int(place.rsplit(":", 1)[1]) for place in one["places"])): one["ended"] for one in found}
+    if ended != {(17, 24): "departed", (36, 39): "stands"}:
+        raise Wrong(f"a ring with a relaxed tail: {ended}")
+    witness = ran([racebench, "witness", "program.std", *map(str, found[1]["events"])])[0]
+    _, told = ran([*FOLLOW, "program.clock", *map(str, found[1]["events"]), "./program"], 1, witness)
+    if "departed at event" not in told:
+        raise Wrong(f"the printed schedule was to be departed from: {told}")
+    lines = sorted(witness.splitlines(), key=lambda line: int(line.split()[0]))
+    ran([*FOLLOW, "program.clock", *map(str, found[1]["events"]), "./program"], text="\n".join(lines) + "\n")
+
+
 def judge_refusals(racebench):
     """A witness, a clock, a trace and a program of other recordings are refused with 3."""
     recorded(os.path.join(SOURCES, "lost.c"), [])
@@ -293,6 +308,7 @@ JUDGES = [
     ("the program's name", judge_program),
     ("a departure", judge_departs),
     ("a thread that waits", judge_waits),
+    ("the order of the recording", judge_recorded_order),
     ("teams of OpenMP", judge_teams),
     ("gdb", judge_debugger),
     ("refusals", judge_refusals),
