@@ -4,6 +4,8 @@ pub mod FrontLemmas
 pub mod WeightLemmas
 pub mod EachPartLemmas
 pub mod RowLemmas
+pub mod WaitingLemmas
+pub mod SettledLemmas
 pub mod WalkLemmas
 pub mod SharingLemmas
 pub mod WholeLemmas

@@ -16,5 +16,6 @@ pub mod Counts
 pub mod Found
 pub mod Turns
 pub mod Adding
+pub mod Waiting
 pub mod ClassTables
 pub mod GroupRows

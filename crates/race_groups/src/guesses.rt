@@ -18,7 +18,7 @@ pub(crate) struct Guesses {
 impl Guesses {
     /// Room for the pairs of the classes' places.
     pub(crate) fn new(alloc: Global, infos: &[Class]) -> Result<Guesses, OutOfMemory> {
-        let width = (last_place(infos) as usize).saturating_add(1);
+        let width = width_of(infos);
         let size = width.saturating_mul(width).min(MOST);
         Ok(Guesses {
             rows: vec![in alloc; 0u32; size]?,
@@ -39,6 +39,11 @@ impl Guesses {
             *row = u32::try_from(at).unwrap_or(0);
         }
     }
+}
+
+/// How many places the classes have, counted by the greatest number.
+pub(crate) fn width_of(infos: &[Class]) -> usize {
+    (last_place(infos) as usize).saturating_add(1)
 }
 
 // The greatest number of a place.

@@ -25,6 +25,7 @@ mod spread;
 mod sums;
 mod takers;
 mod totals;
+mod waiting;
 mod walk;
 mod weighing;
 mod workers;

@@ -1,11 +1,13 @@
 //! Rows by pair of places, each with what was counted of it.
-ghost use Rattle.std.specs.Prelude.{◌≡◌, ℕ, ◌+◌, ◌^◌, ◌<◌, ◌≤◌, OnOk, IfOk, IfSome, true, Some, None, slice_get, if◌then◌else◌};
-ghost use Rattle.indexmap.specs.IndexMap.{get, keys, index_map_len, IsEmpty, IsUnique, Updates};
+ghost use Rattle.std.specs.Prelude.{◌≡◌, ℕ, ◌+◌, ◌^◌, ◌<◌, ◌≤◌, OnErr, OnOk, IfOk, IfSome, true, Some, None, slice_get, if◌then◌else◌};
+ghost use Rattle.indexmap.specs.IndexMap.{get, keys, index_map_len, IsEmpty, IsUnchanged, IsUnique, Updates, with_value_at};
 ghost use Rattle.race_groups.specs.Groups.{is_between};
 ghost use Rattle.race_groups.specs.Rows.{Part, part, same_places, count_at, AreRows};
+ghost use Rattle.race_groups.specs.Waiting.{AreWaiting, rows_with, waiting_at, with_more};
 
 use crate::class::Class;
 use crate::guesses::Guesses;
+use crate::waiting::Waiting;
 use indexmap::IndexMap;
 use rapid_text::OutOfMemory;
 use std::alloc::{AllocError, AllocFailed, Global};
@@ -27,11 +29,12 @@ pub(crate) struct Sums {
 /// For each pair of places, the lesser first, what was counted of it.
 pub(crate) type Rows = IndexMap<(u32, u32), Sums>;
 
-/// Rows to which counts are added, with guesses where they stand. Contracts see the rows alone.
+/// Rows to which counts are added, with guesses where they stand. Contracts see the rows with all that waits for them.
 #[derive(Drop)]
 pub(crate) struct GrowingRows {
     rows: Rows,
     guesses: Guesses,
+    waiting: Waiting,
 }
 
 impl Model for GrowingRows {
@@ -45,12 +48,15 @@ impl Model for GrowingRows {
     ghost use Rattle.indexmap.specs.Layout.{hash_map_code};
     ghost use Rattle.race_groups.specs.contracts.rows.Sums as sums;
     ghost use Rattle.race_groups.specs.declared.rows.Sums.{Sums};
+    ghost use Rattle.race_groups.specs.Waiting.{AreWaiting, rows_with};
 
     ghost Value = { Entries (ℕ × ℕ) Sums (BuildHasherDefault FoldHasher) };
 
     ghost coded = { hash_map_code (coded× coded_ℕ coded_ℕ) sums.the_row.coded (made.the_row fold.the_row).coded };
 
-    ghost view = { λ r. r.rows };
+    ghost view = { λ r. rows_with r.waiting.cells.items r.rows };
+
+    ghost invariant = { λ r. AreWaiting r.waiting.cells.items r.rows };
 }
 
 impl GrowingRows {
@@ -61,9 +67,11 @@ impl GrowingRows {
         ensures unique { IfOk result (IsUnique same_places) }
     {
         let guesses = Guesses::new(alloc, infos)?;
+        let waiting = Waiting::new(alloc, infos)?;
         Ok(GrowingRows {
             rows: IndexMap::new(alloc),
             guesses,
+            waiting,
         })
     }
 
@@ -84,14 +92,24 @@ impl GrowingRows {
             → count_at k self.new p q ≡ count_at k self.old p q + (if is_between p q first second then part k more else 0)) }
         ensures rows { OnOk result (AreRows self.new) }
     {
-        add(&mut self.rows, &mut self.guesses, first, second, more)
+        add_or_wait(
+            &mut self.rows,
+            &mut self.guesses,
+            &mut self.waiting,
+            first,
+            second,
+            more,
+        )?;
+        Ok(())
     }
 
     /// The rows, once all is added.
     pub(crate) fn into_rows(self) -> Rows
         ensures { result ≡ self }
     {
-        let GrowingRows { rows, .. } = self;
+        let GrowingRows { rows, waiting, .. } = self;
+        let mut rows = rows;
+        settle(&mut rows, &waiting);
         rows
     }
 }
@@ -139,6 +157,19 @@ impl<T: Drop> From<AllocFailed<T>> for RowsRefusal {
 }
 
 impl Sums {
+    // So many candidates more.
+    fn with_candidates(self, more: u64) -> Sums
+        requires { self.candidates + more < 2 ^ 64 }
+        ensures { result ≡ with_more self more }
+    {
+        Sums {
+            all: self.all,
+            candidates: self.candidates + more,
+            ordered: self.ordered,
+            guarded: self.guarded,
+        }
+    }
+
     // Both together.
     fn plus(self, more: Sums) -> Sums
         requires room { (k : Part) → part k self + part k more < 2 ^ 64 }
@@ -151,6 +182,53 @@ impl Sums {
             guarded: self.guarded + more.guarded,
         }
     }
+}
+
+// Adds to what was counted of a pair of places. Mere candidates wait, if the row is known.
+fn add_or_wait(
+    rows: &mut Rows,
+    guesses: &mut Guesses,
+    waiting: &mut Waiting,
+    first: u32,
+    second: u32,
+    more: Sums,
+) -> Result<(), OutOfMemory>
+    requires more { (k : Part) × (0 < part k more) }
+    requires waiting { AreWaiting waiting.old.cells.items rows.old }
+    requires room { (k : Part) (p q : ℕ) → p ≤ q → count_at k (rows_with waiting.old.cells.items rows.old) p q + part k more < 2 ^ 64 }
+    ensures ok { OnOk result ((k : Part) (p q : ℕ) → p ≤ q → count_at k (rows_with waiting.new.cells.items rows.new) p q
+        ≡ count_at k (rows_with waiting.old.cells.items rows.old) p q + (if is_between p q first second then part k more else 0)) }
+    ensures waiting { AreWaiting waiting.new.cells.items rows.new }
+{
+    if waiting.keep(first, second, more) {
+        return Ok(());
+    }
+    add(rows, guesses, first, second, more)?;
+    waiting.open(first, second);
+    Ok(())
+}
+
+// Adds to each row what waits for it.
+fn settle(rows: &mut Rows, waiting: &Waiting)
+    requires { AreWaiting waiting.now.cells.items rows.old }
+    ensures { rows.new ≡ rows_with waiting.now.cells.items rows.old }
+{
+    for at in 0..rows.len() {
+        settle_at(rows, waiting, at);
+    }
+}
+
+// Adds to the row at this place what waits for it.
+fn settle_at(rows: &mut Rows, waiting: &Waiting, at: usize)
+    requires at { at < index_map_len rows.old }
+    requires fits { (e : (ℕ × ℕ) × Sums) → slice_get rows.old.entries at ≡ Some e
+        → e.1.candidates + waiting_at waiting.now.cells.items e.0.0 e.0.1 < 2 ^ 64 }
+    ensures { (e : (ℕ × ℕ) × Sums) → slice_get rows.old.entries at ≡ Some e
+        → rows.new ≡ with_value_at rows.old at (with_more e.1 (waiting_at waiting.now.cells.items e.0.0 e.0.1)) }
+{
+    let (places, sums) = rows.pair_mut(at);
+    let more = waiting.of(places.0, places.1);
+    *sums = sums.with_candidates(more);
 }
 
 // Adds to what was counted of a pair of places.
@@ -167,6 +245,7 @@ fn add(
     ensures ok { OnOk result ((k : Part) (p q : ℕ) → p ≤ q
         → count_at k rows.new p q ≡ count_at k rows.old p q + (if is_between p q first second then part k more else 0)) }
     ensures rows { OnOk result (AreRows rows.new) }
+    ensures err { OnErr result (IsUnchanged rows.old rows.new) }
 {
     let key = ordered(first, second);
     match guessed_at(rows, guesses, first, second, key) {

@@ -1,0 +1,44 @@
+-- Rows and the candidates that wait for them, by the places of the later and of the earlier event. No public clause cites this module.
+use Rattle.std.specs.Prelude.{◌≡◌, ℕ, ◌+◌, ◌-◌, ◌<◌, ◌≤◌, ◌^◌, List, [], map, slice_get, slice_index, Option, Some, None, Vec}
+use Rattle.std.specs.declared.alloc.Global.{Global}
+use Rattle.indexmap.specs.IndexMap.{IndexMap, with_entries}
+use Rattle.race_groups.specs.Rows.{Part, of_all, of_candidates, of_ordered, of_guarded, count_at, AreRows}
+use Rattle.race_groups.specs.declared.rows.Sums.{Sums}
+
+abbrev pub numbers_of : Option (Vec ℕ Global) → List ℕ
+numbers_of None = []
+numbers_of (Some v) = v.items
+
+-- 0 where no row of the places of a later and an earlier event is known; else one more than how many candidates wait for it
+abbrev pub cell_at : List (Vec ℕ Global) → ℕ → ℕ → ℕ
+cell_at cells q p = slice_index (numbers_of (slice_get cells q)) p
+
+-- how many candidates of two places wait
+abbrev pub waiting_at : List (Vec ℕ Global) → ℕ → ℕ → ℕ
+waiting_at cells p q = (cell_at cells q p - 1) + (cell_at cells p q - 1)
+
+-- what a part has of so many candidates
+abbrev pub waiting_of : Part → ℕ → ℕ
+waiting_of of_all n = 0
+waiting_of of_candidates n = n
+waiting_of of_ordered n = 0
+waiting_of of_guarded n = 0
+
+-- with so many candidates more
+abbrev pub with_more : Sums → ℕ → Sums
+with_more s n = record { all = s.all; candidates = s.candidates + n; ordered = s.ordered; guarded = s.guarded }
+
+-- a row with what waits for it
+abbrev pub entry_with : List (Vec ℕ Global) → (ℕ × ℕ) × Sums → (ℕ × ℕ) × Sums
+entry_with cells e = (e.0, with_more e.1 (waiting_at cells e.0.0 e.0.1))
+
+-- all rows with what waits for them
+abbrev pub rows_with : {S : Type 0} → List (Vec ℕ Global) → IndexMap (ℕ × ℕ) Sums S → IndexMap (ℕ × ℕ) Sums S
+rows_with cells m = with_entries m (map (entry_with cells) m.entries)
+
+-- Only candidates of two places that have a row wait, none of one place twice, and each row can take what waits for it.
+pub record AreWaiting {S : Type 0} (cells : List (Vec ℕ Global)) (m : IndexMap (ℕ × ℕ) Sums S) : Type 0 where
+  pub rows : AreRows m
+  pub there : (p q : ℕ) → p ≤ q → ((k : Part) → count_at k m p q ≡ 0) → (cell_at cells p q ≡ 0) × (cell_at cells q p ≡ 0)
+  pub apart : (p : ℕ) → cell_at cells p p ≡ 0
+  pub fits : (p q : ℕ) → p ≤ q → count_at of_candidates m p q + waiting_at cells p q < 2 ^ 64
