@@ -9,9 +9,9 @@ use Rattle.race_groups.specs.declared.class.Class.{Class}
 use Rattle.rapid_text.specs.declared.event.Event.{Event}
 use Rattle.rapid_text.specs.declared.event.Op.TheVariants.{Read}
 use Rattle.least_pairs.specs.Going.{AreMore, HasCandidate, HasOpen, IsSound}
-use Rattle.least_notes.specs.declared.least.Least.{Least}
+use Rattle.least_pairs.specs.declared.least.Least.{Least}
 use Rattle.least_pairs.specs.declared.leasts.Search.{Search}
-use Rattle.least_notes.specs.declared.tries.Between.{Between}
+use Rattle.least_pairs.specs.declared.tries.Between.{Between}
 use Rattle.least_pairs.proofs.HeldLemmas.{candidate_stays, open_stays, variable_stays, candidate_later, open_later, variable_later}
 
 -- two events of one class are at one place

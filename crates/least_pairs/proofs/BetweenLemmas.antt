@@ -12,13 +12,13 @@ use Rattle.race_groups.specs.Groups.{is_between}
 use Rattle.race_groups.specs.declared.kinds.Row.{Row}
 use Rattle.race_groups.proofs.RowLemmas.{between_cases}
 use Rattle.least_pairs.specs.Lanes.{access_op}
-use Rattle.least_notes.specs.Noting.{HoldsUp}
-use Rattle.least_notes.specs.Order.{IsUpTo}
+use Rattle.least_pairs.specs.Taking.{HoldsUp}
+use Rattle.least_pairs.specs.Order.{IsUpTo}
 use Rattle.least_pairs.specs.Pairs.{AreAt, IsPair}
 use Rattle.least_pairs.specs.Uses.{AreUsesHeld, HoldsBetween, HoldsEither, IsCovered, IsEventOf, IsFirstHeld, IsOwner, IsPairBetween, IsPairOf, IsUse}
 use Rattle.least_pairs.specs.declared.uses.Of.{Of}
 use Rattle.least_pairs.specs.declared.uses.Use.{Use}
-use Rattle.least_notes.proofs.OrderLemmas.{IsUpTo-trans}
+use Rattle.least_pairs.proofs.OrderLemmas.{IsUpTo-trans}
 use Rattle.least_pairs.proofs.BasicLemmas.{access_is}
 
 up_by : (p q : ℕ × ℕ) → p.0 ≤ q.0 → p.1 ≤ q.1 → IsUpTo p q

@@ -7,10 +7,10 @@ use Rattle.rapid_text.specs.Recording.{Recording}
 use Rattle.rapid_text.specs.declared.event.Event.{Event}
 use Rattle.event_index.specs.Events.{passes_by}
 use Rattle.event_index.specs.Relations.{IsConflicting, is_access}
-use Rattle.least_notes.specs.Order.{IsAhead, IsUpTo}
+use Rattle.least_pairs.specs.Order.{IsAhead, IsUpTo}
 use Rattle.least_pairs.specs.Pairs.{AreFirstTries, IsLeastPair, IsOf, IsOpenOf}
-use Rattle.least_notes.specs.declared.tries.Between.{Between}
-use Rattle.least_notes.specs.declared.tries.Try.{Try}
+use Rattle.least_pairs.specs.declared.tries.Between.{Between}
+use Rattle.least_pairs.specs.declared.tries.Try.{Try}
 use Rattle.least_pairs.specs.declared.wanted.Wanted.TheVariants.{Open}
 
 pub ahead_up : (p q s : ℕ × ℕ) → IsAhead p q → IsUpTo q s → IsUpTo p s

@@ -1,5 +1,5 @@
 -- What is found of each row once all variables were gone through.
-use Rattle.std.proofs.Common.{◌≡◌, ◌≢◌, ℕ, ◌<◌, ◌⊎◌, true, IfSome, List, All, length, slice_get, Option, Some, None, refl, sym, ap, ◌∙◌, subst, arith, inl, inr}
+use Rattle.std.proofs.Common.{◌≡◌, ◌≢◌, ℕ, ◌<◌, ◌⊎◌, ◌↔◌, true, IsTrue, IfSome, List, All, length, slice_get, Option, Some, None, refl, sym, ap, ◌∙◌, subst, arith, inl, inr}
 use Rattle.std.specs.List.{slice_index_or}
 use Rattle.std.proofs.lemmas.Bool.{cases_order}
 use Rattle.std.proofs.lemmas.List.Elements.{All-get_or}
@@ -15,15 +15,17 @@ use Rattle.race_groups.specs.Groups.{IsCountOf}
 use Rattle.race_groups.specs.Kinds.{IsRow}
 use Rattle.race_groups.specs.declared.kinds.Row.{Row}
 use Rattle.least_pairs.specs.Going.{AreHeldBelow, AreSoFar}
-use Rattle.least_notes.specs.Noting.{HoldsTry}
-use Rattle.least_pairs.specs.Noting.{IsSoFar}
-use Rattle.least_notes.specs.Order.{IsAhead, IsUpTo}
+use Rattle.least_pairs.specs.Taking.{HoldsTry}
+use Rattle.least_pairs.specs.Noting.{HasOwn, IsSoFar}
+use Rattle.least_pairs.specs.Order.{IsAhead, IsUpTo}
 use Rattle.least_pairs.specs.Pairs.{AreFirstTries, AreLeasts, HasPair, IsFit, IsLeastPair, IsOf, IsOpenOf, IsPair, is_access_at}
-use Rattle.least_notes.specs.declared.least.Least.{Least}
-use Rattle.least_notes.specs.declared.tries.Between.{Between}
-use Rattle.least_notes.specs.declared.tries.Try.{Try}
+use Rattle.least_pairs.specs.declared.least.Least.{Least}
+use Rattle.least_pairs.specs.declared.tries.Between.{Between}
+use Rattle.least_pairs.specs.declared.tries.Try.{Try}
 use Rattle.least_pairs.specs.declared.wanted.Wanted.TheVariants.{Candidate}
+use Rattle.race_groups.proofs.ThreadLemmas.{All-before}
 use Rattle.least_pairs.proofs.FirstLemmas.{named_access}
+use Rattle.least_pairs.proofs.NextLemmas.{all_below}
 use Rattle.least_pairs.proofs.RowLemmas.{no_candidate}
 use Rattle.least_pairs.proofs.TakenLemmas.{access_one}
 use Rattle.least_pairs.proofs.WindowLemmas.{between}
@@ -69,13 +71,30 @@ moved P p q later earlier holds = subst (λ (a : ℕ). P a q.0) (sym earlier) (s
 All-from_tries : (ts : List Try) (P : Try → Type 0) → ((i : ℕ) (d : Try) → i < length ts → P (slice_index_or ts i d)) → All P ts
 All-from_tries ts P each = λ i d lt. each i d lt
 
-module _ (r : Recording) (formed : IsWellFormed r) (place : ℕ → ℕ) (rows : List Row) (rows_are : All (IsRow r place) rows) (once : AreOnce rows) (most : ℕ) (leasts : List Least)
-    (far : AreSoFar r place rows most (length r.variables) leasts) (held : AreHeldBelow r place rows most (length r.variables) leasts) (at : ℕ) (row : Row) (l : Least)
+-- once all variables were gone through, those with P were counted
+pub variables_counted : (r : Recording) → IsWellFormed r → (place : ℕ → ℕ) (places : ℕ × ℕ) (most : ℕ) (P : ℕ → Type 0) (l : Least)
+    → IsSoFar r place places most P (length r.variables) l → IsCountOf (HasOwn P r place places) (before (length r.variables)) l.variables
+variables_counted r formed place places most P l here =
+    let X : ℕ = length r.variables in
+    let c = here.variables in
+    elim c.now [
+      | inl counted ↦
+          let has : HasPair r place places X = counted.1.1 in
+          let event = passes_event (λ (v : Event). is_access X v.op) r.events has.first has.access in
+          let v : Event = event.0 in
+          let named : IsNamed r v = at_get (IsNamed r) r.events has.first v formed.named event.1 in
+          let low = named_access r X v.op named.1 event.2 in
+          absurd (omega (arith, low))
+      | inr done ↦ subst (IsCountOf (HasOwn P r place places) (before X)) (sym done.1) c.count
+    ]
+
+module _ (r : Recording) (formed : IsWellFormed r) (place : ℕ → ℕ) (rows : List Row) (rows_are : All (IsRow r place) rows) (once : AreOnce rows) (most : ℕ) (P : ℕ → Type 0) (all : (y : ℕ) → P y)
+    (leasts : List Least) (far : AreSoFar r place rows most P (length r.variables) leasts) (held : AreHeldBelow r place rows most P (length r.variables) leasts) (at : ℕ) (row : Row) (l : Least)
     (is : slice_get rows at ≡ Some row) (found : slice_get leasts at ≡ Some l) where
   abbrev X : ℕ
   X = length r.variables
 
-  here : IsSoFar r place row.places most X l
+  here : IsSoFar r place row.places most P X l
   here = far.each at row l is found
 
   -- the variable of a pair has a name
@@ -92,14 +111,14 @@ module _ (r : Recording) (formed : IsWellFormed r) (place : ℕ → ℕ) (rows :
   candidate_up : (a b : ℕ) → IsFit r place row.places Candidate a b → (q : ℕ × ℕ) × (l.candidate ≡ Some q) × IsUpTo q (b, a)
   candidate_up a b fit =
       let v = variable_of a b fit.pair in
-      let h = (held v.0 a b v.1 fit.pair v.2).candidate fit.kind in
+      let h = (held v.0 a b v.1 (all v.0) fit.pair v.2).candidate fit.kind in
       let same = found_same h.at h.found (one_row r place rows rows_are once at h.at row h.row a b is h.row_is fit.at h.there) h.found_is in
       (h.holds.0, sym (ap (λ (m : Least). m.candidate) same) ∙ h.holds.1, h.holds.2)
 
   open_held : (of : Between) (a b : ℕ) → IsOpenOf r place row.places of a b → (0 < row.counts.candidates) ⊎ HoldsTry most of (b, a) l.tries.items
   open_held of a b o =
       let v = variable_of a b o.fit.pair in
-      let h = (held v.0 a b v.1 o.fit.pair v.2).opens of o.of_these o.fit.kind in
+      let h = (held v.0 a b v.1 (all v.0) o.fit.pair v.2).opens of o.of_these o.fit.kind in
       let place_is = one_row r place rows rows_are once at h.at row h.row a b is h.row_is o.fit.at h.there in
       let same = found_same h.at h.found place_is h.found_is in
       let row_is : h.row ≡ row = same_Some h.row row (sym h.row_is ∙ ap (slice_get rows) place_is ∙ is) in
@@ -167,23 +186,19 @@ module _ (r : Recording) (formed : IsWellFormed r) (place : ℕ → ℕ) (rows :
       ];
     }
 
-  variables_counted : IsCountOf (HasPair r place row.places) (before X) l.variables
-  variables_counted =
-      let c = here.variables in
-      elim c.now [
-        | inl counted ↦
-            let has : HasPair r place row.places X = counted.1 in
-            let event = passes_event (λ (v : Event). is_access X v.op) r.events has.first has.access in
-            let v : Event = event.0 in
-            let named : IsNamed r v = at_get (IsNamed r) r.events has.first v formed.named event.1 in
-            let low = named_access r X v.op named.1 event.2 in
-            absurd (omega (arith, low))
-        | inr done ↦ subst (IsCountOf (HasPair r place row.places) (before X)) (sym done.1) c.count
-      ]
+  counted_all : IsCountOf (HasPair r place row.places) (before X) l.variables
+  counted_all =
+      let c = variables_counted r formed place row.places most P l here in
+      record {
+        test = c.test;
+        tells = All-before (λ y. IsTrue (c.test y) ↔ HasPair r place row.places y) X
+            (λ y lt. let told = all_below (λ k. IsTrue (c.test k) ↔ HasOwn P r place row.places k) X y c.tells lt in ((λ is. (told.0 is).1), λ has. told.1 (all y, has)));
+        count = c.count;
+      }
 
   pub AreLeasts-from : AreLeasts r place row.places most l
   AreLeasts-from = record {
     candidate = least_candidate l.candidate refl;
     tries = first_tries;
-    variables = variables_counted;
+    variables = counted_all;
   }

@@ -21,15 +21,15 @@ use Rattle.race_groups.specs.Groups.{is_between}
 use Rattle.race_groups.specs.Kinds.{IsRow}
 use Rattle.race_groups.specs.declared.kinds.Row.{Row}
 use Rattle.least_pairs.specs.Lanes.{access_op}
-use Rattle.least_notes.specs.Noting.{HoldsUp}
-use Rattle.least_notes.specs.Order.{IsUpTo}
+use Rattle.least_pairs.specs.Taking.{HoldsUp}
+use Rattle.least_pairs.specs.Order.{IsUpTo}
 use Rattle.least_pairs.specs.Pairs.{AreAt, IsFit, IsLeastPair, IsPair, is_access_at}
 use Rattle.least_pairs.specs.Uses.{AreFirsts, AreFirstsHeld, AreFirstsNoted, AreUses, AreUsesHeld, IsFirstHeld, IsUsed}
 use Rattle.least_pairs.specs.declared.uses.Use.{Use}
 use Rattle.least_pairs.specs.declared.wanted.Wanted.TheVariants.{Any as AnyKind}
 use Rattle.least_pairs.proofs.UseLemmas.{get_set_here, get_set_other}
 use Rattle.least_pairs.proofs.BetweenLemmas.{between_here, between_over, is_writing_one}
-use Rattle.least_notes.proofs.OrderLemmas.{IsUpTo-refl, IsUpTo-trans}
+use Rattle.least_pairs.proofs.OrderLemmas.{IsUpTo-refl, IsUpTo-trans}
 use Rattle.least_pairs.proofs.BasicLemmas.{access_one, at_get, one_row}
 
 -- What was held is held when further pairs were taken in.

@@ -6,15 +6,15 @@ use Rattle.std.specs.List.{slice_index_or}
 use Rattle.race_groups.specs.Groups.{is_between}
 use Rattle.race_groups.specs.declared.kinds.Row.{Row}
 use Rattle.least_pairs.specs.Going.{AreMore, IsCandidateHeld, IsOpenHeld, IsVariableHeld}
-use Rattle.least_notes.specs.Noting.{HoldsTry, HoldsUp}
+use Rattle.least_pairs.specs.Taking.{HoldsTry, HoldsUp}
 use Rattle.least_pairs.specs.Noting.{IsMore}
-use Rattle.least_notes.specs.Order.{IsUpTo}
+use Rattle.least_pairs.specs.Order.{IsUpTo}
 use Rattle.least_pairs.specs.Pairs.{AreAt}
-use Rattle.least_notes.specs.declared.least.Least.{Least}
-use Rattle.least_notes.specs.declared.tries.Between.{Between}
-use Rattle.least_notes.specs.declared.tries.Try.{Try}
+use Rattle.least_pairs.specs.declared.least.Least.{Least}
+use Rattle.least_pairs.specs.declared.tries.Between.{Between}
+use Rattle.least_pairs.specs.declared.tries.Try.{Try}
 use Rattle.std.proofs.lemmas.List.Elements.{All-weaker}
-use Rattle.least_notes.proofs.OrderLemmas.{IsUpTo-trans}
+use Rattle.least_pairs.proofs.OrderLemmas.{IsUpTo-trans}
 
 pub IsMore-same : (most x : ℕ) (l : Least) → IsMore most x l l
 IsMore-same most x l = record { last = λ is. is; candidate = λ p up. up; tries = λ of p held. held }

@@ -1,3 +1,5 @@
+pub mod OrderLemmas
+pub mod TryLemmas
 pub mod BasicLemmas
 pub mod LaneFacts
 pub mod HeldLemmas
@@ -19,3 +21,5 @@ pub mod BetweenLemmas
 pub mod FirstLemmas
 pub mod NotedLemmas
 pub mod CallerLemmas
+pub mod JoinLemmas
+pub mod ShareLemmas

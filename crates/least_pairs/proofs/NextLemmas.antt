@@ -18,13 +18,13 @@ use Rattle.race_groups.specs.declared.kinds.Row.{Row}
 use Rattle.race_groups.proofs.SumLemmas.{sum_by_same, sum_by_zero}
 use Rattle.race_groups.proofs.ThreadLemmas.{All-before}
 use Rattle.least_pairs.specs.Going.{AreAllTaken, AreSoFar}
-use Rattle.least_pairs.specs.Noting.{IsCounting}
+use Rattle.least_pairs.specs.Noting.{HasOwn, IsCounting}
 use Rattle.least_pairs.specs.Pairs.{AreAt, HasPair, IsPair}
-use Rattle.least_notes.specs.declared.least.Least.{Least}
+use Rattle.least_pairs.specs.declared.least.Least.{Least}
 use Rattle.least_pairs.proofs.BasicLemmas.{one_row}
 
 -- what holds of all numbers below an end
-all_below : (P : ℕ → Type 0) (n k : ℕ) → All P (before n) → k < n → P k
+pub all_below : (P : ℕ → Type 0) (n k : ℕ) → All P (before n) → k < n → P k
 all_below P n k all lt =
     let size = length-range_with_len 0 n in
     let is : slice_index_or (before n) k k ≡ k = get_or-range_with_len 0 n k k lt ∙ omega arith in
@@ -75,7 +75,7 @@ module _ (P : ℕ → Type 0) (x m : ℕ) (counted : IsCountOf P (before x) m) (
 none_some : (n : ℕ) → ◌≢◌ {A = Option ℕ} None (Some n)
 none_some n same = cc
 
-next_last : (last : Option ℕ) (x : ℕ) → IfSome last (λ y. y ≤ x) → last ≢ Some (x + 1)
+pub next_last : (last : Option ℕ) (x : ℕ) → IfSome last (λ y. y ≤ x) → last ≢ Some (x + 1)
 next_last None x reached = λ same. none_some (x + 1) same
 next_last (Some y) x reached = λ same. let is = same_Some y (x + 1) same in omega (arith, is, reached)
 
@@ -91,6 +91,21 @@ any_last : (last : Option ℕ) (n : ℕ) → IfSome last (λ y. y ≤ 0) → IfS
 any_last None n reached = reached
 any_last (Some y) n reached = omega (arith, reached)
 
+-- where the variable, if it has what is counted, was counted, the next one is reached
+next_counting : (Has : ℕ → Type 0) (x : ℕ) (l : Least) → (Has x → l.last ≡ Some x) → IsCounting Has x l.last l.variables → IsCounting Has (x + 1) l.last l.variables
+next_counting Has x l was_counted c = record {
+  below = l.variables;
+  count = elim c.now [
+    | inl counted ↦ let n = counted.2 in IsCountOf-more Has x c.below c.count true ((λ _. counted.1), λ _. refl) l.variables (omega (arith, n))
+    | inr not_counted ↦
+        let n = not_counted.1 in
+        IsCountOf-more Has x c.below c.count false ((λ no_test. absurd (true≢false (sym no_test))), λ has. absurd (not_counted.0 (was_counted has))) l.variables
+        (omega (arith, n))
+  ];
+  now = inr (next_last l.last x c.reached, refl);
+  reached = later_last l.last x c.reached;
+}
+
 module _ (r : Recording) (place : ℕ → ℕ) (rows : List Row) (rows_are : All (IsRow r place) rows) (once : AreOnce rows) where
   module _ (most x : ℕ) (leasts : List Least) (taken : AreAllTaken r place rows most x leasts) (at : ℕ) (row : Row) (l : Least) (is : slice_get rows at ≡ Some row)
       (found : slice_get leasts at ≡ Some l) where
@@ -105,24 +120,9 @@ module _ (r : Recording) (place : ℕ → ℕ) (rows : List Row) (rows_are : All
         let one : h.found ≡ l = same_Some h.found l (sym h.found_is ∙ ap (slice_get leasts) same ∙ found) in
         sym (ap (λ (k : Least). k.last) one) ∙ h.last
 
-    next_counting : IsCounting (HasPair r place row.places) x l.last l.variables → IsCounting (HasPair r place row.places) (x + 1) l.last l.variables
-    next_counting c = record {
-      below = l.variables;
-      count = elim c.now [
-        | inl counted ↦
-            let n = counted.2 in
-            IsCountOf-more (HasPair r place row.places) x c.below c.count true ((λ _. counted.1), λ _. refl) l.variables (omega (arith, n))
-        | inr not_counted ↦
-            let n = not_counted.1 in
-            IsCountOf-more (HasPair r place row.places) x c.below c.count false ((λ no_test. absurd (true≢false (sym no_test))), λ has. absurd (not_counted.0 (was_counted has))) l.variables
-            (omega (arith, n))
-      ];
-      now = inr (next_last l.last x c.reached, refl);
-      reached = later_last l.last x c.reached;
-    }
-
-  pub AreSoFar-next : (most x : ℕ) (leasts : List Least) → AreSoFar r place rows most x leasts → AreAllTaken r place rows most x leasts → AreSoFar r place rows most (x + 1) leasts
-  AreSoFar-next most x leasts far taken = record {
+  pub AreSoFar-next : (most : ℕ) (P : ℕ → Type 0) (x : ℕ) (leasts : List Least) → AreSoFar r place rows most P x leasts → AreAllTaken r place rows most x leasts
+      → AreSoFar r place rows most P (x + 1) leasts
+  AreSoFar-next most P x leasts far taken = record {
     len = far.len;
     each = λ at row l is found.
         let old = far.each at row l is found in
@@ -130,30 +130,47 @@ module _ (r : Recording) (place : ℕ → ℕ) (rows : List Row) (rows_are : All
           candidate = old.candidate;
           each = old.each;
           tries = old.tries;
-          variables = next_counting most x leasts taken at row l is found old.variables;
+          variables = next_counting (HasOwn P r place row.places) x l (λ has. was_counted most x leasts taken at row l is found has.1) old.variables;
         };
   }
 
--- where no pair is a candidate or open, nothing is found of any variable
-module _ (r : Recording) (place : ℕ → ℕ) (rows : List Row) (most : ℕ) (leasts : List Least)
-    (none : (a b : ℕ) → IsPair r.events a b → ¬ (IsKind r a b CandidateKind ⊎ IsKind r a b OpenKind)) where
-  no_variable : (places : ℕ × ℕ) (y : ℕ) → ¬ HasPair r place places y
-  no_variable places y has = elim has.fit [
-    | inl fit ↦ none has.first has.second fit.pair (inl fit.kind)
-    | inr fit ↦ none has.first has.second fit.pair (inr fit.kind)
-  ]
+-- a variable without P is passed by
+pub AreSoFar-skip : (r : Recording) (place : ℕ → ℕ) (rows : List Row) (most : ℕ) (P : ℕ → Type 0) (x : ℕ) (leasts : List Least) → ¬ P x
+    → AreSoFar r place rows most P x leasts → AreSoFar r place rows most P (x + 1) leasts
+AreSoFar-skip r place rows most P x leasts other far = record {
+  len = far.len;
+  each = λ at row l is found.
+      let old = far.each at row l is found in
+      record {
+        candidate = old.candidate;
+        each = old.each;
+        tries = old.tries;
+        variables = next_counting (HasOwn P r place row.places) x l (λ has. absurd (other has.0)) old.variables;
+      };
+}
 
-  counting_none : (places : ℕ × ℕ) (n v : ℕ) (last : Option ℕ) → IsCounting (HasPair r place places) 0 last v → IsCounting (HasPair r place places) n last v
+-- where no pair is a candidate or open, no variable has one
+pub no_variable : (r : Recording) (place : ℕ → ℕ) → ((a b : ℕ) → IsPair r.events a b → ¬ (IsKind r a b CandidateKind ⊎ IsKind r a b OpenKind))
+    → (places : ℕ × ℕ) (y : ℕ) → ¬ HasPair r place places y
+no_variable r place none places y has = elim has.fit [
+  | inl fit ↦ none has.first has.second fit.pair (inl fit.kind)
+  | inr fit ↦ none has.first has.second fit.pair (inr fit.kind)
+]
+
+-- where no variable with P has a pair, nothing is found of any of them
+module _ (r : Recording) (place : ℕ → ℕ) (rows : List Row) (most : ℕ) (P : ℕ → Type 0) (leasts : List Least)
+    (none : (places : ℕ × ℕ) (y : ℕ) → ¬ HasOwn P r place places y) where
+  counting_none : (places : ℕ × ℕ) (n v : ℕ) (last : Option ℕ) → IsCounting (HasOwn P r place places) 0 last v → IsCounting (HasOwn P r place places) n last v
   counting_none places n v last c =
       elim c.now [
-        | inl counted ↦ absurd (no_variable places 0 counted.1)
+        | inl counted ↦ absurd (none places 0 counted.1)
         | inr done ↦
             let nothing : v ≡ 0 = done.1 ∙ c.count.count in
             record {
               below = v;
               count = record {
                 test = λ y. false;
-                tells = All-before (λ y. IsTrue false ↔ HasPair r place places y) n (λ y lt. ((λ no_test. absurd (true≢false (sym no_test))), λ has. absurd (no_variable places y has)));
+                tells = All-before (λ y. IsTrue false ↔ HasOwn P r place places y) n (λ y lt. ((λ no_test. absurd (true≢false (sym no_test))), λ has. absurd (none places y has)));
                 count = nothing ∙ sym (sum_by_zero (before n));
               };
               now = inr ((λ same. done.0 (zero_last last n c.reached same)), refl);
@@ -161,7 +178,7 @@ module _ (r : Recording) (place : ℕ → ℕ) (rows : List Row) (most : ℕ) (l
             }
       ]
 
-  pub AreSoFar-none : (n : ℕ) → AreSoFar r place rows most 0 leasts → AreSoFar r place rows most n leasts
+  pub AreSoFar-none : (n : ℕ) → AreSoFar r place rows most P 0 leasts → AreSoFar r place rows most P n leasts
   AreSoFar-none n far = record {
     len = far.len;
     each = λ at row l is found.

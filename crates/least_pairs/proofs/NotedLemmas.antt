@@ -4,9 +4,9 @@ use Rattle.std.proofs.lemmas.List.Elements.{All-contains, All-weaker}
 use Rattle.race_groups.specs.Groups.{is_between}
 use Rattle.least_pairs.specs.Going.{AreMore, HasCandidate}
 use Rattle.least_pairs.specs.Noted.{AreTrueNotes, IsNothing, IsTrueNote}
-use Rattle.least_notes.specs.Noting.{HoldsUp}
+use Rattle.least_pairs.specs.Taking.{HoldsUp}
 use Rattle.least_pairs.specs.Pairs.{AreAt}
-use Rattle.least_notes.specs.declared.least.Least.{Least}
+use Rattle.least_pairs.specs.declared.least.Least.{Least}
 use Rattle.least_pairs.specs.declared.leasts.Search.{Search}
 use Rattle.least_pairs.specs.declared.noted.Note.{Note}
 use Rattle.least_pairs.specs.declared.noted.Noted.{Noted}

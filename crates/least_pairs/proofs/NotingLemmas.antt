@@ -21,20 +21,13 @@ use Rattle.race_groups.specs.declared.class.Class.{Class}
 use Rattle.race_groups.specs.declared.kinds.Row.{Row}
 use Rattle.race_groups.proofs.TellLemmas.{sharing_tells, shared_by_none}
 use Rattle.least_pairs.specs.Going.{AreSoFar, AreMore}
-use Rattle.least_notes.specs.Noting.{AreTries, HoldsTry, HoldsUp, IsCandidateNoted, IsOpenNoted, IsVariableNoted}
-use Rattle.least_pairs.specs.Noting.{IsCounting, IsMore, IsSoFar}
-use Rattle.least_pairs.specs.Pairs.{HasPair, IsFit, IsOpenOf, IsPair, is_access_at}
-use Rattle.least_notes.specs.declared.least.Least.{Least}
-use Rattle.least_notes.specs.declared.tries.Between.{Between}
-use Rattle.least_notes.specs.declared.tries.Try.{Try}
+use Rattle.least_pairs.specs.Taking.{AreTries, HoldsTry, HoldsUp, IsCandidateNoted, IsOpenNoted, IsVariableNoted}
+use Rattle.least_pairs.specs.Noting.{HasOwn, IsCounting, IsMore, IsNothing, IsSoFar}
+use Rattle.least_pairs.specs.Pairs.{IsFit, IsOpenOf, IsPair, is_access_at}
+use Rattle.least_pairs.specs.declared.least.Least.{Least}
+use Rattle.least_pairs.specs.declared.tries.Between.{Between}
+use Rattle.least_pairs.specs.declared.tries.Try.{Try}
 use Rattle.least_pairs.specs.declared.wanted.Wanted.TheVariants.{Candidate, Open}
-
--- Nothing was found yet.
-pub record IsNothing (l : Least) : Type 0 where
-  pub variables : l.variables ≡ 0
-  pub candidate : l.candidate ≡ None
-  pub tries : l.tries.items ≡ []
-  pub last : l.last ≡ None
 
 AreTries-nil : (most : ℕ) → AreTries most []
 AreTries-nil most = record {
@@ -85,19 +78,19 @@ module _ (Has : ℕ → Type 0) where
     reached = subst (λ o. IfSome o (λ y. y ≤ x)) (sym noted.0) (le_refl x);
   }
 
-module _ (r : Recording) (place : ℕ → ℕ) (rows : List Row) (most : ℕ) where
-  IsSoFar-none : (places : ℕ × ℕ) (l : Least) → IsNothing l → IsSoFar r place places most 0 l
+module _ (r : Recording) (place : ℕ → ℕ) (rows : List Row) (most : ℕ) (P : ℕ → Type 0) where
+  IsSoFar-none : (places : ℕ × ℕ) (l : Least) → IsNothing l → IsSoFar r place places most P 0 l
   IsSoFar-none places l none = record {
     candidate = subst (λ o. IfSome o (λ p. IsFit r place places Candidate p.1 p.0)) (sym none.candidate) tt;
     each =
         subst (All (λ (t : Try). IsOpenOf r place places t.between t.pair.1 t.pair.0)) (sym none.tries)
         (All-nil (λ (t : Try). IsOpenOf r place places t.between t.pair.1 t.pair.0));
     tries = subst (AreTries most) (sym none.tries) (AreTries-nil most);
-    variables = IsCounting-none (HasPair r place places) l.last l.variables none.last none.variables;
+    variables = IsCounting-none (HasOwn P r place places) l.last l.variables none.last none.variables;
   }
 
-  pub AreSoFar-none : (leasts : List Least) → length leasts ≡ length rows → All IsNothing leasts → AreSoFar r place rows most 0 leasts
-  AreSoFar-none leasts len none = record {
+  pub AreSoFar-start : (leasts : List Least) → length leasts ≡ length rows → All IsNothing leasts → AreSoFar r place rows most P 0 leasts
+  AreSoFar-start leasts len none = record {
     len = len;
     each = λ at row l row_is is.
         let mine = All-get_or IsNothing leasts at l (slice_get_within leasts at l is) none in
@@ -109,20 +102,20 @@ IsMore-same most x l m same =
     subst (IsMore most x l) same (record { last = λ is. is; candidate = λ p holds. holds; tries = λ of p holds. holds })
 
 -- One row's part is exchanged.
-module _ (r : Recording) (place : ℕ → ℕ) (rows : List Row) (most x : ℕ) (leasts : List Least) (so_far : AreSoFar r place rows most x leasts) (at : ℕ) (row : Row) (row_is : slice_get rows at ≡ Some row) where
+module _ (r : Recording) (place : ℕ → ℕ) (rows : List Row) (most : ℕ) (P : ℕ → Type 0) (x : ℕ) (leasts : List Least) (so_far : AreSoFar r place rows most P x leasts) (at : ℕ) (row : Row) (row_is : slice_get rows at ≡ Some row) where
   pub row_within : at < length leasts
   row_within = let len = so_far.len in let within = slice_get_within rows at row row_is in omega arith
 
   old_is : (d : Least) → slice_get leasts at ≡ Some (get_or leasts at d)
   old_is d = slice_get-get_or leasts at d row_within
 
-  pub old_so_far : (d : Least) → IsSoFar r place row.places most x (get_or leasts at d)
+  pub old_so_far : (d : Least) → IsSoFar r place row.places most P x (get_or leasts at d)
   old_so_far d = so_far.each at row (get_or leasts at d) row_is (old_is d)
 
   -- another variable can be counted
   pub few_variables : (d : Least) → IsWellFormed r → x < length r.variables → (get_or leasts at d).variables < 4294967295
   few_variables d formed within =
-      let few = IsCounting-few (HasPair r place row.places) x (get_or leasts at d).variables (get_or leasts at d).last (old_so_far d).variables in
+      let few = IsCounting-few (HasOwn P r place row.places) x (get_or leasts at d).variables (get_or leasts at d).last (old_so_far d).variables in
       let limit = formed.variables in
       omega arith
 
@@ -130,13 +123,13 @@ module _ (r : Recording) (place : ℕ → ℕ) (rows : List Row) (most x : ℕ) 
   new_is m =
       slice_get-get_or (set leasts at m) at m (omega (arith, row_within, length-set leasts at m)) ∙ ap Some (get_or-set_same leasts at m m row_within)
 
-  pub AreSoFar-set : (m : Least) → IsSoFar r place row.places most x m → AreSoFar r place rows most x (set leasts at m)
+  pub AreSoFar-set : (m : Least) → IsSoFar r place row.places most P x m → AreSoFar r place rows most P x (set leasts at m)
   AreSoFar-set m far = record {
     len = length-set leasts at m ∙ so_far.len;
     each = λ k other l other_is is. elim (slice_get-set leasts at k m l row_within is) [
       | inl here ↦
           let same : row ≡ other = same_Some row other (sym row_is ∙ ap (slice_get rows) (sym here.0) ∙ other_is) in
-          subst (λ (y : Row). IsSoFar r place y.places most x l) same (subst (IsSoFar r place row.places most x) here.1 far)
+          subst (λ (y : Row). IsSoFar r place y.places most P x l) same (subst (IsSoFar r place row.places most P x) here.1 far)
       | inr there ↦ so_far.each k other l other_is there.1
     ];
   }
@@ -153,7 +146,7 @@ module _ (r : Recording) (place : ℕ → ℕ) (rows : List Row) (most x : ℕ) 
   }
 
 -- What is known of a row after a pair of events more, or the variable alone, was taken in.
-module _ (r : Recording) (place : ℕ → ℕ) (places : ℕ × ℕ) (most x : ℕ) (l m : Least) (so_far : IsSoFar r place places most x l) where
+module _ (r : Recording) (place : ℕ → ℕ) (places : ℕ × ℕ) (most : ℕ) (P : ℕ → Type 0) (x : ℕ) (own : P x) (l m : Least) (so_far : IsSoFar r place places most P x l) where
   abbrev IsFound : ℕ × ℕ → Type 0
   IsFound p = IsFit r place places Candidate p.1 p.0
 
@@ -161,7 +154,7 @@ module _ (r : Recording) (place : ℕ → ℕ) (places : ℕ × ℕ) (most x : �
   IsTried t = IsOpenOf r place places t.between t.pair.1 t.pair.0
 
   pub so_far_candidate : (a b : ℕ) → IsFit r place places Candidate a b → is_access_at r.events x a ≡ true → IsCandidateNoted x (b, a) l m
-      → IsSoFar r place places most x m
+      → IsSoFar r place places most P x m
   so_far_candidate a b fit access noted = record {
     candidate = elim noted.each [
       | inl fresh ↦ subst (λ o. IfSome o IsFound) (sym fresh) fit
@@ -170,23 +163,23 @@ module _ (r : Recording) (place : ℕ → ℕ) (places : ℕ × ℕ) (most x : �
     each = subst (All IsTried) (sym noted.tries) so_far.each;
     tries = subst (AreTries most) (sym noted.tries) so_far.tries;
     variables =
-        IsCounting-noted (HasPair r place places) x l m noted.variable (record { first = a; second = b; fit = inl fit; access = access })
+        IsCounting-noted (HasOwn P r place places) x l m noted.variable (own, record { first = a; second = b; fit = inl fit; access = access })
         so_far.variables;
   }
 
   pub so_far_variable : (a b : ℕ) → IsFit r place places Open a b → is_access_at r.events x a ≡ true → IsVariableNoted x l m
-      → m.candidate ≡ l.candidate → m.tries ≡ l.tries → IsSoFar r place places most x m
+      → m.candidate ≡ l.candidate → m.tries ≡ l.tries → IsSoFar r place places most P x m
   so_far_variable a b fit access noted candidate tries = record {
     candidate = subst (λ o. IfSome o IsFound) (sym candidate) so_far.candidate;
     each = subst (λ (v : Vec Try Global). All IsTried v.items) (sym tries) so_far.each;
     tries = subst (λ (v : Vec Try Global). AreTries most v.items) (sym tries) so_far.tries;
     variables =
-        IsCounting-noted (HasPair r place places) x l m noted (record { first = a; second = b; fit = inr fit; access = access })
+        IsCounting-noted (HasOwn P r place places) x l m noted (own, record { first = a; second = b; fit = inr fit; access = access })
         so_far.variables;
   }
 
   pub so_far_open : (of : Between) (a b : ℕ) → x ≡ of.variable → IsOpenOf r place places of a b → IsOpenNoted most (record { between = of; pair = (b, a) }) l m
-      → IsSoFar r place places most x m
+      → IsSoFar r place places most P x m
   so_far_open of a b is opens noted = record {
     candidate = subst (λ o. IfSome o IsFound) (sym noted.candidate) so_far.candidate;
     each = λ k d lt. elim (noted.noted.each k d lt) [
@@ -195,8 +188,8 @@ module _ (r : Recording) (place : ℕ → ℕ) (places : ℕ × ℕ) (most x : �
     ];
     tries = noted.noted.tries;
     variables =
-        IsCounting-noted (HasPair r place places) x l m (subst (λ y. IsVariableNoted y l m) (sym is) noted.variable)
-        (record { first = a; second = b; fit = inr opens.fit; access = subst (λ y. is_access_at r.events y a ≡ true) (sym is) opens.of_these.variable })
+        IsCounting-noted (HasOwn P r place places) x l m (subst (λ y. IsVariableNoted y l m) (sym is) noted.variable)
+        (own, record { first = a; second = b; fit = inr opens.fit; access = subst (λ y. is_access_at r.events y a ≡ true) (sym is) opens.of_these.variable })
         so_far.variables;
   }
 

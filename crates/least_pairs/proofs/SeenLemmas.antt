@@ -16,7 +16,7 @@ use Rattle.least_pairs.specs.Windows.{of_lane}
 use Rattle.least_pairs.specs.declared.lanes.Lane.{Lane}
 use Rattle.least_pairs.specs.declared.lanes.Later.{Later}
 use Rattle.least_pairs.specs.declared.leasts.Search.{Search}
-use Rattle.least_notes.specs.declared.least.Least.{Least}
+use Rattle.least_pairs.specs.declared.least.Least.{Least}
 use Rattle.least_pairs.proofs.AlikeLemmas.{candidate_onward, open_onward, shares_alike}
 use Rattle.least_pairs.proofs.LaneFacts.{at_place}
 use Rattle.least_pairs.proofs.NotingLemmas.{known_is_open}

@@ -19,8 +19,8 @@ use Rattle.least_pairs.specs.declared.leasts.Search.{Search}
 use Rattle.least_pairs.specs.declared.leasts.Sought.{Sought}
 use Rattle.least_pairs.specs.declared.leasts.Sought.TheVariants.{Candidates, Opens}
 use Rattle.least_pairs.specs.declared.windows.Window.{Window}
-use Rattle.least_notes.specs.declared.least.Least.{Least}
-use Rattle.least_notes.specs.declared.tries.Between.{Between}
+use Rattle.least_pairs.specs.declared.least.Least.{Least}
+use Rattle.least_pairs.specs.declared.tries.Between.{Between}
 use Rattle.least_pairs.proofs.AlikeLemmas.{HasCandidate-more, HasOpen-more, candidate_onward, open_onward}
 use Rattle.least_pairs.proofs.BasicLemmas.{cases_le}
 use Rattle.least_pairs.proofs.LaneFacts.{at_place, ordered_from}

@@ -19,7 +19,7 @@ use Rattle.least_pairs.specs.declared.lanes.Lane.{Lane}
 use Rattle.least_pairs.specs.declared.lanes.Later.{Later}
 use Rattle.least_pairs.specs.declared.leasts.Search.{Search}
 use Rattle.least_pairs.proofs.AccessLemmas.{access_before, accesses_before}
-use Rattle.least_notes.specs.declared.least.Least.{Least}
+use Rattle.least_pairs.specs.declared.least.Least.{Least}
 use Rattle.least_pairs.proofs.HeldLemmas.{candidate_stays, open_stays, variable_stays}
 use Rattle.least_pairs.proofs.LaneFacts.{at_place}
 use Rattle.least_pairs.proofs.WindowLemmas.{only_left}

@@ -24,7 +24,7 @@ use Rattle.least_pairs.specs.Windows.{of_lane}
 use Rattle.least_pairs.specs.declared.lanes.Lane.{Lane}
 use Rattle.least_pairs.specs.declared.lanes.Later.{Later}
 use Rattle.least_pairs.specs.declared.leasts.Search.{Search}
-use Rattle.least_notes.specs.declared.tries.Between.{Between}
+use Rattle.least_pairs.specs.declared.tries.Between.{Between}
 use Rattle.least_pairs.proofs.LaneFacts.{at_place, lane_event, lane_thread}
 use Rattle.least_pairs.proofs.BasicLemmas.{access_is, access_one, cases_le}
 

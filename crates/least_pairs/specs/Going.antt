@@ -1,6 +1,6 @@
 -- What is known while the variables are gone through. No public clause cites this module. `r` is a recording, `place` tells the place of each
 -- event, `rows` are the rows of all pairs of places, `most` is how many open pairs are kept.
-use Rattle.std.specs.Prelude.{◌≡◌, ◌≢◌, ◌⊎◌, ℕ, ◌+◌, ◌<◌, ◌≤◌, ◌||◌, true, false, Bool, List, length, All, Some, slice_get, slice_index, Vec}
+use Rattle.std.specs.Prelude.{◌≡◌, ◌≢◌, ◌⊎◌, ℕ, ◌+◌, ◌%◌, ◌<◌, ◌≤◌, ◌||◌, true, false, Bool, List, length, All, Some, slice_get, slice_index, Vec}
 use Rattle.std.specs.declared.alloc.Global.{Global}
 use Rattle.rapid_text.specs.Recording.{Recording, IsWellFormed}
 use Rattle.trace_rules.specs.Rules.{IsDisciplined}
@@ -19,22 +19,22 @@ use Rattle.race_groups.specs.declared.kinds.Row.{Row}
 use Rattle.shb_clocks.specs.SharedRows.{len_of}
 use Rattle.least_pairs.specs.Lanes.{IsLater}
 use Rattle.least_pairs.specs.Making.{IsBegun}
-use Rattle.least_notes.specs.Noting.{HoldsTry, HoldsUp}
+use Rattle.least_pairs.specs.Taking.{HoldsTry, HoldsUp}
 use Rattle.least_pairs.specs.Noting.{IsMore, IsSoFar}
 use Rattle.least_pairs.specs.Pairs.{AreAt, AreGroups, IsOf, IsPair, is_access_at}
 use Rattle.least_pairs.specs.declared.lanes.Lane.{Lane}
 use Rattle.least_pairs.specs.declared.lanes.Later.{Later}
-use Rattle.least_notes.specs.declared.least.Least.{Least}
+use Rattle.least_pairs.specs.declared.least.Least.{Least}
 use Rattle.least_pairs.specs.declared.leasts.Search.{Search}
 use Rattle.least_pairs.specs.declared.leasts.Sought.{Sought}
 use Rattle.least_pairs.specs.declared.leasts.Sought.TheVariants.{Candidates, Opens}
 use Rattle.least_pairs.specs.declared.windows.Window.{Window}
-use Rattle.least_notes.specs.declared.tries.Between.{Between}
+use Rattle.least_pairs.specs.declared.tries.Between.{Between}
 
--- For each row, what was found so far.
-pub record AreSoFar (r : Recording) (place : ℕ → ℕ) (rows : List Row) (most x : ℕ) (leasts : List Least) : Type 0 where
+-- For each row, what was found so far of the variables with P.
+pub record AreSoFar (r : Recording) (place : ℕ → ℕ) (rows : List Row) (most : ℕ) (P : ℕ → Type 0) (x : ℕ) (leasts : List Least) : Type 0 where
   pub len : length leasts ≡ length rows
-  pub each : (at : ℕ) (row : Row) (l : Least) → slice_get rows at ≡ Some row → slice_get leasts at ≡ Some l → IsSoFar r place row.places most x l
+  pub each : (at : ℕ) (row : Row) (l : Least) → slice_get rows at ≡ Some row → slice_get leasts at ≡ Some l → IsSoFar r place row.places most P x l
 
 -- What was held of each row is held.
 pub record AreMore (most x : ℕ) (old new : List Least) : Type 0 where
@@ -86,10 +86,10 @@ abbrev pub AreAllTaken : Recording → (ℕ → ℕ) → List Row → ℕ → �
 AreAllTaken r place rows most x leasts =
     (a b : ℕ) → IsPair r.events a b → is_access_at r.events x a ≡ true → IsTaken r place rows most x leasts a b
 
--- all pairs of the variables below x
-abbrev pub AreHeldBelow : Recording → (ℕ → ℕ) → List Row → ℕ → ℕ → List Least → Type 0
-AreHeldBelow r place rows most x leasts =
-    (y a b : ℕ) → y < x → IsPair r.events a b → is_access_at r.events y a ≡ true → IsHeld r place rows most leasts a b
+-- all pairs of the variables below x with P
+abbrev pub AreHeldBelow : Recording → (ℕ → ℕ) → List Row → ℕ → (ℕ → Type 0) → ℕ → List Least → Type 0
+AreHeldBelow r place rows most P x leasts =
+    (y a b : ℕ) → y < x → P y → IsPair r.events a b → is_access_at r.events y a ≡ true → IsHeld r place rows most leasts a b
 
 -- an event of the lane is held with one of the later lane: as a candidate
 abbrev pub HoldsCandidate : (ℕ → ℕ) → List Row → ℕ → List Least → ℕ → ℕ → Type 0
@@ -112,12 +112,30 @@ pub record IsSound (s : Search) : Type 0 where
   pub width : s.rows.now.width ≡ length s.indexed.now.threads
   pub len : len_of s.rows.now ≡ length s.indexed.now.events
   pub some : 0 < s.most
+  pub turns : 0 < s.every
   pub no_candidate : s.has_candidates ≡ false → All (λ (row : Row). row.counts.candidates ≡ 0) s.groups.now.rows.items
   pub no_open : s.has_open ≡ false → All (λ (row : Row). row.counts.open_pairs ≡ 0) s.groups.now.rows.items
 
--- what was found so far, and what of that is held
-abbrev pub AreFound : Search → ℕ → List Least → Type 0
-AreFound s x leasts = AreSoFar s.indexed.now (slice_index s.places.now) s.groups.now.rows.items s.most x leasts
+-- the variables whose turn it is: their numbers leave this rest
+abbrev pub IsTurn : ℕ → ℕ → ℕ → Type 0
+IsTurn every from x = x % every ≡ from
+
+abbrev pub IsOwn : Search → ℕ → Type 0
+IsOwn s = IsTurn s.every s.from
+
+-- what was found so far of the variables whose turn it is
+abbrev pub AreFoundBelow : Search → ℕ → List Least → Type 0
+AreFoundBelow s x leasts = AreSoFar s.indexed.now (slice_index s.places.now) s.groups.now.rows.items s.most (IsOwn s) x leasts
+
+-- The same while one of these, x, is gone through.
+pub record AreFound (s : Search) (x : ℕ) (leasts : List Least) : Type 0 where
+  pub so_far : AreFoundBelow s x leasts
+  pub own : IsOwn s x
+
+-- All pairs of the variables with P were taken in.
+pub record AreFoundOf (s : Search) (P : ℕ → Type 0) (leasts : List Least) : Type 0 where
+  pub so_far : AreSoFar s.indexed.now (slice_index s.places.now) s.groups.now.rows.items s.most P (length s.indexed.now.variables) leasts
+  pub held : AreHeldBelow s.indexed.now (slice_index s.places.now) s.groups.now.rows.items s.most P (length s.indexed.now.variables) leasts
 
 abbrev pub HasCandidate : Search → ℕ → List Least → ℕ → ℕ → Type 0
 HasCandidate s x leasts = HoldsCandidate (slice_index s.places.now) s.groups.now.rows.items x leasts

@@ -7,3 +7,6 @@ pub mod Going
 pub mod Windows
 pub mod Uses
 pub mod Noted
+pub mod Order
+pub mod Taking
+pub mod Joining

@@ -2,7 +2,7 @@
 use Rattle.std.specs.Prelude.{◌≡◌, ℕ, ◌<◌, ◌≤◌, All, List, slice_index}
 use Rattle.least_pairs.specs.Going.{HasCandidate}
 use Rattle.least_pairs.specs.Pairs.{IsPair}
-use Rattle.least_notes.specs.declared.least.Least.{Least}
+use Rattle.least_pairs.specs.declared.least.Least.{Least}
 use Rattle.least_pairs.specs.declared.leasts.Search.{Search}
 use Rattle.least_pairs.specs.declared.noted.Note.{Note}
 use Rattle.least_pairs.specs.declared.noted.Noted.{Noted}

@@ -16,10 +16,10 @@ use Rattle.race_groups.specs.Groups.{is_between, IsCountOf}
 use Rattle.race_groups.specs.Kinds.{IsRow}
 use Rattle.race_groups.specs.declared.class.Class.{Class}
 use Rattle.race_groups.specs.declared.kinds.Row.{Row}
-use Rattle.least_notes.specs.Order.{IsAhead, IsUpTo}
-use Rattle.least_notes.specs.declared.least.Least.{Least}
-use Rattle.least_notes.specs.declared.tries.Between.{Between}
-use Rattle.least_notes.specs.declared.tries.Try.{Try}
+use Rattle.least_pairs.specs.Order.{IsAhead, IsUpTo}
+use Rattle.least_pairs.specs.declared.least.Least.{Least}
+use Rattle.least_pairs.specs.declared.tries.Between.{Between}
+use Rattle.least_pairs.specs.declared.tries.Try.{Try}
 use Rattle.least_pairs.specs.declared.wanted.Wanted.{Wanted}
 use Rattle.least_pairs.specs.declared.wanted.Wanted.TheVariants.{Candidate, Open, Any as AnyKind}
 

@@ -7,8 +7,8 @@ use Rattle.race_groups.specs.Found.{AreComplete, AreOnce}
 use Rattle.race_groups.specs.Kinds.{IsRow}
 use Rattle.race_groups.specs.declared.kinds.Row.{Row}
 use Rattle.least_pairs.specs.Lanes.{access_op}
-use Rattle.least_notes.specs.Noting.{HoldsUp}
-use Rattle.least_notes.specs.Order.{IsUpTo}
+use Rattle.least_pairs.specs.Taking.{HoldsUp}
+use Rattle.least_pairs.specs.Order.{IsUpTo}
 use Rattle.least_pairs.specs.Pairs.{AreAt, IsFit, IsPair, is_access_at}
 use Rattle.least_pairs.specs.declared.firsts.Places.{Places}
 use Rattle.least_pairs.specs.declared.uses.Of.{Of}

@@ -1,5 +1,5 @@
 -- What pairs of a lane's events with a later one are of. No public clause cites this module.
-use Rattle.least_notes.specs.declared.tries.Between.{Between}
+use Rattle.least_pairs.specs.declared.tries.Between.{Between}
 use Rattle.least_pairs.specs.declared.lanes.Lane.{Lane}
 use Rattle.least_pairs.specs.declared.lanes.Later.{Later}
 use Rattle.least_pairs.specs.declared.windows.Window.{Window}

@@ -1,18 +1,17 @@
 //! The least conflicting pair of each pair of places.
-ghost use Rattle.std.specs.Prelude.{◌≡◌, ◌∷◌, ◌++◌, [], ◌⊎◌, ◌≤◌, ℕ, true, filter, All, IfOk, IfSome, List, None, OnOk, Option, Some, length, slice_get, slice_index};
+ghost use Rattle.std.specs.Prelude.{◌≡◌, ◌∷◌, ◌++◌, [], ◌≤◌, ℕ, true, filter, All, IfOk, IfSome, List, None, OnOk, Option, Some, length, slice_get, slice_index};
 ghost use Rattle.event_index.specs.Lookups.{before};
 ghost use Rattle.race_groups.specs.declared.kinds.Row.{Row as Counted};
-ghost use Rattle.least_notes.specs.Noting.{HoldsUp};
 ghost use Rattle.least_pairs.specs.Pairs.{AreAt, AreGroups, IsLeastPair, IsPair, is_access_at};
 ghost use Rattle.least_pairs.specs.Uses.{AreFirsts, AreFirstsHeld, AreFirstsNoted, AreRuns, AreUses, AreUsesHeld, HoldsBetween, IsAsked, IsBehind, IsFirstHeld, IsPairBetween, IsPairOf, IsUse};
 ghost use Rattle.least_pairs.specs.declared.uses.Use.{Use as Other};
 ghost use Rattle.least_pairs.specs.declared.wanted.Wanted.TheVariants.{Any as AnyKind};
 
 use crate::lanes::accesses_of;
+use crate::tries::{Pair, lesser};
 use crate::uses::{Index, Of, Use, are_of_one_thread, is_writing, note_use, runs_of};
 use event_index::Indexed;
 use indexmap::IndexMap;
-use least_notes::{Pair, is_less};
 use race_groups::{Classes, Groups};
 use rapid_text::OutOfMemory;
 use std::alloc::Global;
@@ -217,18 +216,5 @@ fn pair_of(one: Of, other: Of) -> Option<Pair>
         Some((other.event, one.event))
     } else {
         Some((one.event, other.event))
-    }
-}
-
-// The lesser of two pairs, of which either may be none.
-fn lesser(one: Option<Pair>, other: Option<Pair>) -> Option<Pair>
-    ensures either { (result ≡ one) ⊎ (result ≡ other) }
-    ensures one { (p : ℕ × ℕ) → HoldsUp p one → HoldsUp p result }
-    ensures other { (p : ℕ × ℕ) → HoldsUp p other → HoldsUp p result }
-{
-    match (one, other) {
-        (Some(first), Some(second)) => { if is_less(first, second) { one } else { other } }
-        (Some(_), None) => one,
-        (None, _) => other,
     }
 }

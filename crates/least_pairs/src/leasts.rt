@@ -1,16 +1,18 @@
 //! For each pair of places its least candidate, its least open pairs, and how many variables have one of either.
-ghost use Rattle.std.specs.Prelude.{◌≡◌, ℕ, ◌<◌, All, IfOk, OnOk, Some, true, false, filter, length, slice_get, slice_index};
+ghost use Rattle.std.specs.Prelude.{◌≡◌, ℕ, ◌+◌, ◌<◌, All, IfOk, OnOk, Some, true, false, filter, length, slice_get, slice_index};
 ghost use Rattle.event_index.specs.Lookups.{before};
 ghost use Rattle.race_groups.specs.declared.kinds.Row.{Row as Counted};
-ghost use Rattle.least_pairs.specs.Going.{AreAllTaken, AreFound, AreHeldBelow, AreMore, IsSound};
+ghost use Rattle.least_pairs.specs.Going.{AreAllTaken, AreFound, AreFoundBelow, AreFoundOf, AreMore, IsOwn, IsSound};
+ghost use Rattle.least_pairs.specs.Lanes.{AreAccesses};
 ghost use Rattle.least_pairs.specs.Noted.{AreTrueNotes};
+ghost use Rattle.least_pairs.specs.Noting.{IsNothing};
 ghost use Rattle.least_pairs.specs.Pairs.{AreGroups, AreLeasts, is_access_at};
-ghost use Rattle.least_notes.specs.declared.least.Least.{Least as Found};
+ghost use Rattle.least_pairs.specs.declared.least.Least.{Least as Found};
 
 use crate::lanes::{Lanes, accesses_of};
+use crate::least::Least;
 use crate::noted::Noted;
 use event_index::Indexed;
-use least_notes::Least;
 use must_order::Must;
 use race_groups::{Classes, Groups};
 use rapid_text::OutOfMemory;
@@ -51,6 +53,8 @@ pub fn leasts_of(
         most,
         has_candidates: has_candidates(groups),
         has_open: has_open(groups),
+        every: 1,
+        from: 0,
     };
     let leasts = search.found(alloc)?;
     Ok(leasts)
@@ -76,36 +80,41 @@ pub(crate) struct Search<'a> {
     pub(crate) most: usize,
     pub(crate) has_candidates: bool,
     pub(crate) has_open: bool,
+    // How many workers share the variables.
+    pub(crate) every: usize,
+    // Which of them searches: that of the variables whose numbers leave this rest.
+    pub(crate) from: usize,
 }
 
 impl Search<'_> {
-    // What is found of each row.
-    fn found(&self, alloc: Global) -> Result<Vec<Least>, OutOfMemory>
+    /// What is found of each row, of the variables whose turn it is.
+    pub(crate) fn found(&self, alloc: Global) -> Result<Vec<Least>, OutOfMemory>
         requires sound { IsSound self.now }
-        ensures found { IfOk result (λ leasts. AreFound self.now (length self.now.indexed.now.variables) leasts.items) }
-        ensures held { IfOk result (λ leasts. AreHeldBelow self.now.indexed.now (slice_index self.now.places.now) self.now.groups.now.rows.items
-            self.now.most (length self.now.indexed.now.variables) leasts.items) }
+        ensures { IfOk result (λ leasts. AreFoundOf self.now (IsOwn self.now) leasts.items) }
     {
         let mut leasts = self.nothing(alloc)?;
         if self.has_none() {
             return Ok(leasts);
         }
-        self.all(alloc, leasts.as_mut_slice())?;
+        let accesses = accesses_of(alloc, self.indexed)?;
+        self.all(alloc, accesses.as_slice(), leasts.as_mut_slice())?;
         Ok(leasts)
     }
 
-    // Whether there is neither a candidate nor an open pair.
-    fn has_none(&self) -> bool
+    /// Whether there is neither a candidate nor an open pair.
+    pub(crate) fn has_none(&self) -> bool
         ensures candidates { result ≡ true → self.now.has_candidates ≡ false }
         ensures opens { result ≡ true → self.now.has_open ≡ false }
     {
         !self.has_candidates && !self.has_open
     }
 
-    // For each row, nothing yet.
-    fn nothing(&self, alloc: Global) -> Result<Vec<Least>, OutOfMemory>
+    /// For each row, nothing yet.
+    pub(crate) fn nothing(&self, alloc: Global) -> Result<Vec<Least>, OutOfMemory>
         requires sound { IsSound self.now }
-        ensures found { IfOk result (λ leasts. AreFound self.now 0 leasts.items) }
+        ensures found { IfOk result (λ leasts. AreFoundBelow self.now 0 leasts.items) }
+        ensures len { IfOk result (λ leasts. length leasts.items ≡ length self.now.groups.now.rows.items) }
+        ensures nothing { IfOk result (λ leasts. All IsNothing leasts.items) }
     {
         let mut leasts = Vec::with_capacity(alloc, self.groups.rows.len())?;
         for _row in 0..self.groups.rows.len() {
@@ -114,21 +123,61 @@ impl Search<'_> {
         Ok(leasts)
     }
 
-    // Goes through all variables.
-    fn all(&self, alloc: Global, leasts: &mut [Least]) -> Result<(), OutOfMemory>
+    /// Goes through all variables.
+    pub(crate) fn all(
+        &self,
+        alloc: Global,
+        accesses: &[Vec<u32>],
+        leasts: &mut [Least],
+    ) -> Result<(), OutOfMemory>
         requires sound { IsSound self.now }
-        requires found { AreFound self.now 0 leasts.old }
-        ensures found { OnOk result (AreFound self.now (length self.now.indexed.now.variables) leasts.new) }
-        ensures held { OnOk result (AreHeldBelow self.now.indexed.now (slice_index self.now.places.now) self.now.groups.now.rows.items self.now.most
-            (length self.now.indexed.now.variables) leasts.new) }
+        requires len { length accesses.now ≡ length self.now.indexed.now.variables }
+        requires accesses { AreAccesses self.now.indexed.now.events (length self.now.indexed.now.events) accesses.now }
+        requires found { AreFoundBelow self.now 0 leasts.old }
+        ensures { OnOk result (AreFoundOf self.now (IsOwn self.now) leasts.new) }
     {
-        let accesses = accesses_of(alloc, self.indexed)?;
         let mut noted = Noted::new(alloc, self.places, self.groups.rows.len())?;
         for variable in 0..self.indexed.variables() {
             let of_variable = accesses[variable as usize].as_slice();
-            self.variable(alloc, leasts, &mut noted, variable, of_variable)?;
+            self.in_turn(alloc, leasts, &mut noted, variable, of_variable)?;
         }
         Ok(())
+    }
+
+    // Goes through all accesses of the variable, where it is its turn.
+    fn in_turn(
+        &self,
+        alloc: Global,
+        leasts: &mut [Least],
+        noted: &mut Noted,
+        variable: u32,
+        accesses: &[u32],
+    ) -> Result<(), OutOfMemory>
+        requires sound { IsSound self.now }
+        requires variable { variable < length self.now.indexed.now.variables }
+        requires accesses { accesses.now ≡ filter (is_access_at self.now.indexed.now.events variable) (before (length self.now.indexed.now.events)) }
+        requires found { AreFoundBelow self.now variable leasts.old }
+        requires noted { AreTrueNotes self.now variable leasts.old noted.old }
+        ensures found { OnOk result (AreFoundBelow self.now (variable + 1) leasts.new) }
+        ensures more { OnOk result (AreMore self.now.most variable leasts.old leasts.new) }
+        ensures noted { OnOk result (AreTrueNotes self.now (variable + 1) leasts.new noted.new) }
+        ensures taken { OnOk result (IsOwn self.now variable → AreAllTaken self.now.indexed.now (slice_index self.now.places.now)
+            self.now.groups.now.rows.items self.now.most variable leasts.new) }
+    {
+        if !self.is_own(variable) {
+            return Ok(());
+        }
+        self.variable(alloc, leasts, noted, variable, accesses)?;
+        Ok(())
+    }
+
+    // Whether it is the turn of the variable.
+    fn is_own(&self, variable: u32) -> bool
+        requires sound { IsSound self.now }
+        ensures own { result ≡ true → IsOwn self.now variable }
+        ensures other { result ≡ false → ¬ IsOwn self.now variable }
+    {
+        variable as usize % self.every == self.from
     }
 
     // Goes through all accesses of the variable.
@@ -160,15 +209,15 @@ impl Search<'_> {
     }
 }
 
-// Whether some row has a candidate.
-fn has_candidates(groups: &Groups) -> bool
+/// Whether some row has a candidate.
+pub(crate) fn has_candidates(groups: &Groups) -> bool
     ensures { result ≡ false → All (λ (row : Counted). row.counts.candidates ≡ 0) groups.now.rows.items }
 {
     groups.rows.iter().any(|row| row.counts.candidates > 0)
 }
 
-// Whether some row has an open pair.
-fn has_open(groups: &Groups) -> bool
+/// Whether some row has an open pair.
+pub(crate) fn has_open(groups: &Groups) -> bool
     ensures { result ≡ false → All (λ (row : Counted). row.counts.open_pairs ≡ 0) groups.now.rows.items }
 {
     groups.rows.iter().any(|row| row.counts.open_pairs > 0)

@@ -3,15 +3,21 @@
 
 mod firsts;
 mod lanes;
+mod least;
 mod leasts;
 mod noted;
 mod noting;
 mod reach;
+mod sharing;
 mod sweep;
+mod tries;
 mod uses;
 mod wanted;
 mod windows;
 
 pub use firsts::firsts_of;
+pub use least::Least;
 pub use leasts::leasts_of;
+pub use sharing::{Counted, leasts_by_workers};
+pub use tries::{Between, Pair, Try};
 pub use wanted::Wanted;

@@ -11,10 +11,11 @@ ghost use Rattle.least_pairs.specs.Going.{AreFound, AreMore, Has, HasCandidate, 
 ghost use Rattle.least_pairs.specs.Noted.{AreTrueNotes};
 ghost use Rattle.least_pairs.specs.Pairs.{AreAt, IsOf, IsPair, is_access_at};
 
+use crate::least::Least;
 use crate::leasts::{Search, Sought};
 use crate::noted::{Note, Noted};
+use crate::tries::{Between, Try};
 use crate::windows::Two;
-use least_notes::{Between, Least, Try};
 use race_groups::are_sharing;
 use rapid_text::OutOfMemory;
 

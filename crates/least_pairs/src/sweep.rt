@@ -10,11 +10,12 @@ ghost use Rattle.least_pairs.specs.Windows.{of_window};
 ghost use Rattle.least_pairs.specs.declared.lanes.Lane.{Lane as Other};
 
 use crate::lanes::{Bunch, Lane, Later};
+use crate::least::Least;
 use crate::leasts::{Search, Sought};
 use crate::noted::Noted;
 use crate::reach::reach;
+use crate::tries::Between;
 use crate::windows::{Two, Window, are_clashing};
-use least_notes::{Between, Least};
 use rapid_text::OutOfMemory;
 
 /// How many events of a thread SHB keeps before an access, and how many are must-before it.

@@ -2,7 +2,7 @@
 ghost use Rattle.std.specs.Prelude.{◌≡◌, ℕ, ◌<◌, ◌≢◌, ◌⊎◌, ◌||◌, true, false, length};
 
 use crate::lanes::{Lane, Later};
-use least_notes::Between;
+use crate::tries::Between;
 
 /// The events of a lane from one place up to another, and an access that they are compared with.
 #[derive(Clone, Copy)]

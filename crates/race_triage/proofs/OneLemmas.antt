@@ -34,9 +34,9 @@ use Rattle.race_groups.specs.Kinds.{IsRowAt}
 use Rattle.race_groups.specs.declared.kinds.Counts.{Counts}
 use Rattle.race_groups.specs.declared.kinds.Row.{Row}
 use Rattle.race_groups.proofs.BuildLemmas.{length-cons}
-use Rattle.least_notes.specs.Order.{IsAhead, IsUpTo}
-use Rattle.least_notes.specs.declared.tries.Between.{Between}
-use Rattle.least_notes.specs.declared.tries.Try.{Try}
+use Rattle.least_pairs.specs.Order.{IsAhead, IsUpTo}
+use Rattle.least_pairs.specs.declared.tries.Between.{Between}
+use Rattle.least_pairs.specs.declared.tries.Try.{Try}
 use Rattle.least_pairs.specs.Pairs.{AreFirstTries, HasPair, IsLeastPair, IsOf, IsOpenOf}
 use Rattle.least_pairs.specs.declared.wanted.Wanted.{Wanted}
 use Rattle.least_pairs.specs.declared.wanted.Wanted.TheVariants.{Candidate as CandidatePair, Open as OpenPair, Any as AnyPair}

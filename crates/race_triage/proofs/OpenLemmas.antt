@@ -6,8 +6,8 @@ use Rattle.rapid_text.specs.Recording.{Recording}
 use Rattle.race_groups.specs.Kinds.{IsRow}
 use Rattle.race_groups.specs.declared.kinds.Row.{Row}
 use Rattle.least_pairs.specs.Pairs.{AreFirstTries, AreLeasts, IsFit, IsLeastPair}
-use Rattle.least_notes.specs.declared.least.Least.{Least}
-use Rattle.least_notes.specs.declared.tries.Try.{Try}
+use Rattle.least_pairs.specs.declared.least.Least.{Least}
+use Rattle.least_pairs.specs.declared.tries.Try.{Try}
 use Rattle.least_pairs.specs.declared.wanted.Wanted.TheVariants.{Open}
 use Rattle.least_pairs.proofs.CallerLemmas.{first_is_least, none_to_try, take_tries}
 use Rattle.race_triage.specs.Verdicts.{AreOpenPairs, IsFirstFound}

@@ -1,15 +1,17 @@
 //! What is counted of each pair of places, and its least pairs of events.
-ghost use Rattle.std.specs.Prelude.{◌≡◌, ◌<◌, ◌≤◌, All, Err, count_by, IfOk, Some, length, slice_get, slice_index};
+ghost use Rattle.std.specs.Prelude.{◌≡◌, ℕ, ◌<◌, ◌≤◌, All, Err, count_by, IfOk, Some, length, max, slice_get, slice_index};
 ghost use Rattle.race_groups.specs.Classes.{AreClasses, AreLocks, AreMembers};
 ghost use Rattle.race_groups.specs.Found.{AreComplete, AreOnce, AreTooMany, HaveConflict};
 ghost use Rattle.race_groups.specs.Kinds.{IsRow};
+ghost use Rattle.race_groups.specs.declared.kinds.Row.{Row as Counts};
+ghost use Rattle.least_pairs.specs.Pairs.{AreLeasts};
+ghost use Rattle.least_pairs.specs.declared.least.Least.{Least as Told};
 ghost use Rattle.race_triage.specs.Tables.{AreTables};
 ghost use Rattle.race_triage.specs.Verdicts.{IsFoundIn, budget_for, has_tries};
 
 use crate::tables::Tables;
 use crate::verdicts::{Effort, MAX_PLACES, TriageRefusal};
-use least_notes::{Least, Pair};
-use least_pairs::{firsts_of, leasts_of};
+use least_pairs::{Counted, Least, Pair, firsts_of, leasts_by_workers, leasts_of};
 use pair_findings::BUDGET;
 use race_groups::{Classes, Groups, Row, RowsRefusal, groups_by_workers, groups_of};
 use rapid_text::OutOfMemory;
@@ -58,10 +60,11 @@ pub(crate) fn found_of<'a>(tables: Tables<'a>, effort: Effort) -> Result<Found<'
 {
     let classes = Classes::of(tables.alloc, tables.indexed, tables.places)?;
     let groups = counted(tables, &classes)?;
-    Ok(found_in(tables, &classes, groups, effort)?)
+    let leasts = leasts_in(tables, &classes, &groups, effort)?;
+    Ok(found_in(tables, &classes, groups, leasts, effort)?)
 }
 
-/// The same by so many workers, which share the counting; by this thread where there are fewer than two.
+/// The same by so many workers, which share the counting and the least pairs; by this thread where there are fewer than two.
 pub(crate) fn found_by_workers<'a, R: Threads + Sync>(
     rt: &R,
     tables: Tables<'a>,
@@ -81,14 +84,86 @@ pub(crate) fn found_by_workers<'a, R: Threads + Sync>(
     }
     let classes = Classes::of(tables.alloc, tables.indexed, tables.places)?;
     let groups = counted_by_workers(rt, tables, &classes, effort.workers)?;
-    Ok(found_in(tables, &classes, groups, effort)?)
+    let leasts = leasts_by(rt, tables, &classes, &groups, effort)?;
+    Ok(found_in(tables, &classes, groups, leasts, effort)?)
 }
 
-// The same, once all pairs are counted.
+// The least pairs of each row.
+fn leasts_in(
+    tables: Tables<'_>,
+    classes: &Classes,
+    groups: &Groups,
+    effort: Effort,
+) -> Result<Vec<Least>, OutOfMemory>
+    requires tables { AreTables tables }
+    requires classes { AreClasses tables.indexed.now.events (slice_index tables.places.now) classes.now.numbers.items classes.now.infos.items }
+    requires locks { AreLocks tables.indexed.now.events classes.now.lists.keys classes.now.numbers.items classes.now.infos.items }
+    requires rows { All (IsRow tables.indexed.now (slice_index tables.places.now)) groups.now.rows.items }
+    requires complete { AreComplete tables.indexed.now.events (slice_index tables.places.now) groups.now.rows.items }
+    requires once { AreOnce groups.now.rows.items }
+    ensures len { IfOk result (λ leasts. length leasts.items ≡ length groups.now.rows.items) }
+    ensures leasts { IfOk result (λ leasts. (at : ℕ) (row : Counts) (l : Told) → slice_get groups.now.rows.items at ≡ Some row
+        → slice_get leasts.items at ≡ Some l
+        → AreLeasts tables.entry.indexed.now (slice_index tables.entry.places.now) row.places (max effort.tries 1) l) }
+{
+    let leasts = leasts_of(
+        tables.alloc,
+        tables.indexed,
+        tables.places,
+        tables.clocks,
+        tables.must,
+        classes,
+        groups,
+        most_of(effort),
+    )?;
+    Ok(leasts)
+}
+
+// The same by so many workers.
+fn leasts_by<R: Threads + Sync>(
+    rt: &R,
+    tables: Tables<'_>,
+    classes: &Classes,
+    groups: &Groups,
+    effort: Effort,
+) -> Result<Vec<Least>, OutOfMemory>
+    requires tables { AreTables tables }
+    requires classes { AreClasses tables.indexed.now.events (slice_index tables.places.now) classes.now.numbers.items classes.now.infos.items }
+    requires locks { AreLocks tables.indexed.now.events classes.now.lists.keys classes.now.numbers.items classes.now.infos.items }
+    requires rows { All (IsRow tables.indexed.now (slice_index tables.places.now)) groups.now.rows.items }
+    requires complete { AreComplete tables.indexed.now.events (slice_index tables.places.now) groups.now.rows.items }
+    requires once { AreOnce groups.now.rows.items }
+    ensures len { IfOk result (λ leasts. length leasts.items ≡ length groups.now.rows.items) }
+    ensures leasts { IfOk result (λ leasts. (at : ℕ) (row : Counts) (l : Told) → slice_get groups.now.rows.items at ≡ Some row
+        → slice_get leasts.items at ≡ Some l
+        → AreLeasts tables.entry.indexed.now (slice_index tables.entry.places.now) row.places (max effort.tries 1) l) }
+{
+    let counted = Counted {
+        indexed: tables.indexed,
+        places: tables.places,
+        clocks: tables.clocks,
+        must: tables.must,
+        classes,
+        groups,
+        most: most_of(effort),
+    };
+    let leasts = leasts_by_workers(rt, tables.alloc, counted, effort.workers as usize)?;
+    Ok(leasts)
+}
+
+// How many of the least open pairs of a row are kept: one at least, so that the least one is among them.
+fn most_of(effort: Effort) -> usize
+    ensures { result ≡ max effort.tries 1 }
+{
+    effort.tries.max(1) as usize
+}
+
+// The same, once all pairs are counted and the least ones are found.
 fn found_in<'a>(
     tables: Tables<'a>,
     classes: &Classes,
     groups: Groups,
+    leasts: Vec<Least>,
     effort: Effort,
 ) -> Result<Found<'a>, OutOfMemory>
     requires tables { AreTables tables }
@@ -99,6 +174,9 @@ fn found_in<'a>(
     requires there { All (λ row. HaveConflict tables.indexed.now.events (slice_index tables.places.now) row.places) groups.rows.items }
     requires once { AreOnce groups.rows.items }
     requires few { length groups.rows.items ≤ MAX_PLACES }
+    requires leasts_len { length leasts.items ≡ length groups.rows.items }
+    requires leasts { (at : ℕ) (row : Counts) (l : Told) → slice_get groups.rows.items at ≡ Some row → slice_get leasts.items at ≡ Some l
+        → AreLeasts tables.indexed.now (slice_index tables.places.now) row.places (max effort.tries 1) l }
     ensures found { IfOk result IsFoundIn }
     ensures tables { IfOk result (λ found. found.tables ≡ tables.entry) }
     ensures effort { IfOk result (λ found. found.effort ≡ effort) }
@@ -106,18 +184,6 @@ fn found_in<'a>(
     ensures few { IfOk result (λ found. length found.groups.rows.items ≤ MAX_PLACES) }
 {
     let budget = budget_of(groups.rows.as_slice());
-    // One at least, so that the least open pair is among them.
-    let most = effort.tries.max(1) as usize;
-    let leasts = leasts_of(
-        tables.alloc,
-        tables.indexed,
-        tables.places,
-        tables.clocks,
-        tables.must,
-        classes,
-        &groups,
-        most,
-    )?;
     let firsts = if effort.apart {
         firsts_of(
             tables.alloc,

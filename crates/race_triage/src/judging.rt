@@ -12,7 +12,7 @@ use crate::found::Found;
 use crate::places::small;
 use crate::tables::Tables;
 use crate::verdicts::{Effort, Outcome, Verdict};
-use least_notes::{Least, Pair, Try};
+use least_pairs::{Least, Pair, Try};
 use race_groups::{Row, is_apart};
 use rapid_text::OutOfMemory;
 

@@ -1,8 +1,9 @@
-use Rattle.std.proofs.Common.{length, ap, ◌∙◌, subst, slice_index}
+use Rattle.std.proofs.Common.{length, ap, ◌∙◌, subst, slice_index, arith}
 use Rattle.rapid_text.specs.Recording.{Recording}
 use Rattle.shb_clocks.specs.SharedRows.{count_of}
 use Rattle.must_order.specs.Telling.{TellsMust}
 use Rattle.race_groups.proofs.OrderCutLemmas.{IsCutOf-known, IsCutOf-forced, thread_named}
+use Rattle.least_pairs.specs.Going.{IsTurn}
 use Rattle.least_pairs.proofs.EndLemmas.{AreLeasts-from}
 use Rattle.least_pairs.proofs.leasts.leasts_of.Goals as goal
 
@@ -24,6 +25,7 @@ found-requires c =
         width = wide;
         len = c.rows.ensures.len ∙ ap (λ (m : Recording). length m.events) c.requires.must;
         some = c.requires.most;
+        turns = omega arith;
         no_candidate = c.has_candidates.ensures;
         no_open = c.has_open.ensures;
       };
@@ -32,4 +34,4 @@ found-requires c =
 pub returns-clause-leasts : goal.returns-clause-leasts
 returns-clause-leasts c = λ at row l is found.
     AreLeasts-from c.args.indexed.now c.len-len.ensures.well_formed (slice_index c.args.places.now) c.args.groups.now.rows.items c.requires.groups.rows_are c.requires.groups.once
-    c.args.most c.in_ok-leasts.leasts.items c.in_ok-leasts.ensures.found c.in_ok-leasts.ensures.held at row l is found
+    c.args.most (IsTurn 1 0) (λ y. omega arith) c.in_ok-leasts.leasts.items c.in_ok-leasts.ensures.so_far c.in_ok-leasts.ensures.held at row l is found

@@ -1,8 +1,7 @@
-use Rattle.std.proofs.Common.{◌≡◌, ℕ, List, count_by, Option, Vec, length, max, sym, ap, ◌∙◌, subst, slice_index}
+use Rattle.std.proofs.Common.{ℕ, List, count_by, Option, Vec, length, sym, ap, ◌∙◌}
 use Rattle.std.specs.List.{slice_get}
 use Rattle.std.specs.declared.alloc.Global.{Global}
 use Rattle.std.proofs.lemmas.Bool.{true≢false}
-use Rattle.least_pairs.specs.Pairs.{AreLeasts}
 use Rattle.race_groups.specs.declared.kinds.Row.{Row}
 use Rattle.race_triage.specs.Verdicts.{budget_for, has_tries}
 use Rattle.race_triage.proofs.found.found_in.Goals as goal
@@ -10,9 +9,6 @@ use Rattle.race_triage.proofs.found.found_in.Goals.{then-effort+in_ok-firsts, el
 
 pub returns-clause-found : goal.returns-clause-found
 returns-clause-found c =
-    let r = c.args.tables.indexed.now in
-    let place = slice_index c.args.tables.places.now in
-    let most : c.max-most.result ≡ max c.args.effort.tries 1 = c.max-most.ensures in
     record {
       tables = c.requires.tables;
       is = record {
@@ -27,8 +23,8 @@ returns-clause-found c =
           complete = c.requires.complete;
           is = c.budget_of-budget.ensures ∙ ap (λ (rows : List Row). budget_for (count_by has_tries rows)) c.as_slice.ensures.value;
         };
-        leasts_len = c.in_ok-leasts.ensures.len;
-        leasts = λ at row l here there. subst (λ (n : ℕ). AreLeasts r place row.places n l) most (c.in_ok-leasts.ensures.leasts at row l here there);
+        leasts_len = c.requires.leasts_len;
+        leasts = c.requires.leasts;
         firsts_len = λ told. elim c.if-effort.branch [
           | then-effort+in_ok-firsts w ↦ ap (λ (v : Vec (Option (ℕ × ℕ)) Global). length v.items) w.firsts-is ∙ w.in_ok-firsts.ensures.len
           | else-effort w ↦ absurd (true≢false (sym told ∙ w.if-effort.false))

@@ -1,10 +1,10 @@
 use Rattle.std.proofs.Common.{slice_index}
-use Rattle.least_pairs.specs.Going.{AreFound, AreHeldBelow}
+use Rattle.least_pairs.specs.Going.{AreFoundBelow, AreHeldBelow, IsOwn}
 use Rattle.least_pairs.specs.Noted.{AreTrueNotes}
 use Rattle.least_pairs.proofs.leasts.Search.all.Given as goal
 
 abbrev pub invariant-loop-variable : goal.invariant-loop-variable
 invariant-loop-variable l =
-    AreFound l.self l.variable l.leasts
-    × AreHeldBelow l.self.indexed.now (slice_index l.self.places.now) l.self.groups.now.rows.items l.self.most l.variable l.leasts
+    AreFoundBelow l.self l.variable l.leasts
+    × AreHeldBelow l.self.indexed.now (slice_index l.self.places.now) l.self.groups.now.rows.items l.self.most (IsOwn l.self) l.variable l.leasts
     × AreTrueNotes l.self l.variable l.leasts l.noted

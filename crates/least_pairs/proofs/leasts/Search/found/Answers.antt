@@ -1,8 +1,9 @@
 use Rattle.std.proofs.Common.{ℕ, length, slice_index, refl, inl, inr, ◌⊎◌}
 use Rattle.must_order.specs.Kinds.{IsKind}
 use Rattle.must_order.specs.declared.kind.Kind.TheVariants.{Candidate, Open}
+use Rattle.least_pairs.specs.Going.{IsOwn}
 use Rattle.least_pairs.specs.Pairs.{IsPair}
-use Rattle.least_pairs.proofs.NextLemmas.{AreSoFar-none}
+use Rattle.least_pairs.proofs.NextLemmas.{AreSoFar-none, no_variable}
 use Rattle.least_pairs.proofs.NoneLemmas.{no_candidate_pair, no_open_pair}
 use Rattle.least_pairs.proofs.leasts.Search.found.Goals as goal
 
@@ -13,13 +14,16 @@ no_pair c a b pair either = elim either [
   | inr kind ↦ no_open_pair c.args.self.now c.requires.sound a b pair (c.if-has_none.ensures.opens refl) kind
 ]
 
-pub returns-then-has_none-clause-found : goal.returns-then-has_none-clause-found
-returns-then-has_none-clause-found c =
+pub returns-then-has_none : goal.returns-then-has_none
+returns-then-has_none c =
     let s = c.args.self.now in
-    AreSoFar-none s.indexed.now (slice_index s.places.now) s.groups.now.rows.items s.most c.in_ok-leasts.leasts.items (no_pair c) (length s.indexed.now.variables) c.in_ok-leasts.ensures.found
-
-pub returns-then-has_none-clause-held : goal.returns-then-has_none-clause-held
-returns-then-has_none-clause-held c = λ y a b lt pair access. record {
-  candidate = λ kind. absurd (no_pair c a b pair (inl kind));
-  opens = λ of these kind. absurd (no_pair c a b pair (inr kind));
-}
+    let place = slice_index s.places.now in
+    record {
+      so_far =
+          AreSoFar-none s.indexed.now place s.groups.now.rows.items s.most (IsOwn s) c.in_ok-leasts.leasts.items
+          (λ places y has. no_variable s.indexed.now place (no_pair c) places y has.1) (length s.indexed.now.variables) c.in_ok-leasts.ensures.found;
+      held = λ y a b lt own pair access. record {
+        candidate = λ kind. absurd (no_pair c a b pair (inl kind));
+        opens = λ of these kind. absurd (no_pair c a b pair (inr kind));
+      };
+    }

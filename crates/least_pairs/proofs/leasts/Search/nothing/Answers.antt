@@ -1,5 +1,6 @@
 use Rattle.std.proofs.Common.{slice_index, arith}
-use Rattle.least_pairs.proofs.NotingLemmas.{AreSoFar-none}
+use Rattle.least_pairs.specs.Going.{IsOwn}
+use Rattle.least_pairs.proofs.NotingLemmas.{AreSoFar-start}
 use Rattle.least_pairs.proofs.leasts.Search.nothing.Goals as goal
 
 pub returns : goal.returns
@@ -7,7 +8,9 @@ returns c =
     let s = c.args.self.now in
     record {
       found =
-          AreSoFar-none s.indexed.now (slice_index s.places.now) s.groups.now.rows.items s.most c.loop-row.leasts.items
+          AreSoFar-start s.indexed.now (slice_index s.places.now) s.groups.now.rows.items s.most (IsOwn s) c.loop-row.leasts.items
           (omega (arith, c.loop-row.invariant.0, c.loop-row-test.false))
           c.loop-row.invariant.1;
+      len = omega (arith, c.loop-row.invariant.0, c.loop-row-test.false);
+      nothing = c.loop-row.invariant.1;
     }

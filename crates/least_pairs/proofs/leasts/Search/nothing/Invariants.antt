@@ -1,5 +1,5 @@
 use Rattle.std.proofs.Common.{◌≡◌, length, All}
-use Rattle.least_pairs.proofs.NotingLemmas.{IsNothing}
+use Rattle.least_pairs.specs.Noting.{IsNothing}
 use Rattle.least_pairs.proofs.leasts.Search.nothing.Given as goal
 
 abbrev pub invariant-loop-row : goal.invariant-loop-row

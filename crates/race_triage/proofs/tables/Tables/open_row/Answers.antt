@@ -2,7 +2,7 @@ use Rattle.std.proofs.Common.{◌≡◌, ◌≢◌, ℕ, List, Option, Some, IfS
 use Rattle.std.specs.List.{slice_index_or}
 use Rattle.std.proofs.lemmas.Bool.{eqb-false, eqb-true}
 use Rattle.least_pairs.specs.Pairs.{IsFit, IsLeastPair}
-use Rattle.least_notes.specs.declared.tries.Try.{Try}
+use Rattle.least_pairs.specs.declared.tries.Try.{Try}
 use Rattle.least_pairs.specs.declared.wanted.Wanted.TheVariants.{Open}
 use Rattle.race_triage.specs.Verdicts.{AreMissed, AreOpenPairs, IsFirstFound, IsShownFirst}
 use Rattle.race_triage.specs.declared.verdicts.Outcome.{Outcome}

@@ -1,6 +1,6 @@
 -- The order of pairs.
 use Rattle.std.proofs.Common.{ℕ, refl, ◌∙◌, arith, inl, inr}
-use Rattle.least_notes.specs.Order.{IsUpTo}
+use Rattle.least_pairs.specs.Order.{IsUpTo}
 
 pub IsUpTo-refl : (p : ℕ × ℕ) → IsUpTo p p
 IsUpTo-refl p = inr (refl, omega arith)

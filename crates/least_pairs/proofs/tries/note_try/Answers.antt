@@ -1,7 +1,7 @@
 use Rattle.std.proofs.Common.{refl, ap, ◌∙◌}
-use Rattle.least_notes.proofs.TryLemmas.{IsRoomMade, room_read, room_read_none, try_put, try_passed}
-use Rattle.least_notes.proofs.tries.note_try.Goals as goal
-use Rattle.least_notes.proofs.tries.note_try.Goals.{in-Some+else-is_less, in_default}
+use Rattle.least_pairs.proofs.TryLemmas.{IsRoomMade, room_read, room_read_none, try_put, try_passed}
+use Rattle.least_pairs.proofs.tries.note_try.Goals as goal
+use Rattle.least_pairs.proofs.tries.note_try.Goals.{in-Some+else-is_less, in_default}
 
 pub returns-then-at-most : goal.returns-then-at-most
 returns-then-at-most c =

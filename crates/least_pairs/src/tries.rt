@@ -1,8 +1,9 @@
 //! The least open pairs of a pair of places, by variable and two threads.
-ghost use Rattle.std.specs.Prelude.{◌≡◌, ◌≢◌, ℕ, ◌<◌, ◌≤◌, ◌↔◌, All, IfSome, IsTrue, None, OnOk, length, slice_index_or};
-ghost use Rattle.least_notes.specs.Noting.{AreTries, IsTryNoted};
-ghost use Rattle.least_notes.specs.Order.{IsAhead, IsUpTo};
-ghost use Rattle.least_notes.specs.declared.tries.Try.{Try as Other};
+ghost use Rattle.std.specs.Prelude.{◌≡◌, ◌≢◌, ◌⊎◌, ℕ, ◌<◌, ◌≤◌, ◌↔◌, All, IfSome, IsTrue, None, OnOk, length, slice_index_or};
+ghost use Rattle.least_pairs.specs.Joining.{AreTriesJoined};
+ghost use Rattle.least_pairs.specs.Taking.{AreTries, HoldsUp, IsTryNoted};
+ghost use Rattle.least_pairs.specs.Order.{IsAhead, IsUpTo};
+ghost use Rattle.least_pairs.specs.declared.tries.Try.{Try as Other};
 
 use rapid_text::OutOfMemory;
 
@@ -30,7 +31,7 @@ pub struct Try {
 }
 
 /// Whether the first pair stands before the second.
-pub fn is_less(first: Pair, second: Pair) -> bool
+pub(crate) fn is_less(first: Pair, second: Pair) -> bool
     ensures { IsTrue result ↔ IsAhead first second }
 {
     if first.0 == second.0 {
@@ -38,6 +39,32 @@ pub fn is_less(first: Pair, second: Pair) -> bool
     } else {
         first.0 < second.0
     }
+}
+
+/// The lesser of two pairs, of which either may be none.
+pub(crate) fn lesser(one: Option<Pair>, other: Option<Pair>) -> Option<Pair>
+    ensures either { (result ≡ one) ⊎ (result ≡ other) }
+    ensures one { (p : ℕ × ℕ) → HoldsUp p one → HoldsUp p result }
+    ensures other { (p : ℕ × ℕ) → HoldsUp p other → HoldsUp p result }
+{
+    match (one, other) {
+        (Some(first), Some(second)) => { if is_less(first, second) { one } else { other } }
+        (Some(_), None) => one,
+        (None, _) => other,
+    }
+}
+
+/// Takes in the open pairs of a list.
+pub(crate) fn join_tries(tries: &mut Vec<Try>, most: usize, part: &[Try]) -> Result<(), OutOfMemory>
+    requires tries { AreTries most tries.old.items }
+    requires part { AreTries most part.now }
+    requires most { 0 < most }
+    ensures { OnOk result (AreTriesJoined most part.now tries.old.items tries.new.items) }
+{
+    for at in 0..part.len() {
+        note_try(tries, most, part[at])?;
+    }
+    Ok(())
 }
 
 /// Takes in an open pair: of each variable and two threads the least stays, and of these the first `most`.

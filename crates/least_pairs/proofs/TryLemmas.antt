@@ -5,11 +5,11 @@ use Rattle.std.proofs.lemmas.Bool.{cases_eq, cases_lt}
 use Rattle.std.proofs.lemmas.List.Edits.{length-insert, get_or-insert_below, get_or-insert_at, get_or-insert_above, length-remove, get_or-remove_below, get_or-remove_above}
 use Rattle.std.proofs.lemmas.List.Elements.{Contains-get_or, All-contains, All-contains_itself, All-weaker, at_from_Contains, at_read}
 use Rattle.std.proofs.lemmas.List.Quantifiers.{all_pairs_remove}
-use Rattle.least_notes.specs.Noting.{AreTries, HoldsTry, IsTryNoted}
-use Rattle.least_notes.specs.Order.{IsAhead, IsUpTo}
-use Rattle.least_notes.specs.declared.tries.Between.{Between}
-use Rattle.least_notes.specs.declared.tries.Try.{Try}
-use Rattle.least_notes.proofs.OrderLemmas.{IsUpTo-trans}
+use Rattle.least_pairs.specs.Taking.{AreTries, HoldsTry, IsTryNoted}
+use Rattle.least_pairs.specs.Order.{IsAhead, IsUpTo}
+use Rattle.least_pairs.specs.declared.tries.Between.{Between}
+use Rattle.least_pairs.specs.declared.tries.Try.{Try}
+use Rattle.least_pairs.proofs.OrderLemmas.{IsUpTo-trans}
 
 -- what does not stand before a pair has it before itself, or is it
 up_to_not_ahead : (p q : ℕ × ℕ) → ¬ IsAhead p q → IsUpTo q p

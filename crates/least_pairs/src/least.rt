@@ -1,9 +1,10 @@
 //! What is found of a pair of places, and how one pair of events more is taken in.
-ghost use Rattle.std.specs.Prelude.{◌≡◌, ◌<◌, ◌⊎◌, ℕ, [], OnOk, Some, None};
-ghost use Rattle.least_notes.specs.Noting.{AreTries, IsCandidateNoted, IsOpenNoted, IsVariableNoted};
-ghost use Rattle.least_notes.specs.Order.{IsUpTo};
+ghost use Rattle.std.specs.Prelude.{◌≡◌, ◌+◌, ◌<◌, ◌≤◌, ◌⊎◌, ℕ, [], OnOk, Some, None};
+ghost use Rattle.least_pairs.specs.Joining.{IsJoined};
+ghost use Rattle.least_pairs.specs.Taking.{AreTries, IsCandidateNoted, IsOpenNoted, IsVariableNoted};
+ghost use Rattle.least_pairs.specs.Order.{IsUpTo};
 
-use crate::tries::{Pair, Try, is_less, note_try};
+use crate::tries::{Pair, Try, is_less, join_tries, lesser, note_try};
 use rapid_text::OutOfMemory;
 use std::alloc::Global;
 
@@ -22,7 +23,7 @@ pub struct Least {
 
 impl Least {
     /// Nothing is found yet.
-    pub fn new(alloc: Global) -> Least
+    pub(crate) fn new(alloc: Global) -> Least
         ensures variables { result.variables ≡ 0 }
         ensures candidate { result.candidate ≡ None }
         ensures tries { result.tries.items ≡ [] }
@@ -37,7 +38,7 @@ impl Least {
     }
 
     /// The variable has a candidate or an open pair. Variables are told one after the other: one that was the last to be counted is not counted again.
-    pub fn note_variable(&mut self, variable: u32)
+    pub(crate) fn note_variable(&mut self, variable: u32)
         requires { self.old.variables < 4294967295 }
         ensures noted { IsVariableNoted variable self.old self.new }
         ensures candidate { self.new.candidate ≡ self.old.candidate }
@@ -50,16 +51,16 @@ impl Least {
     }
 
     /// Takes in a candidate of the variable.
-    pub fn note_candidate(&mut self, variable: u32, pair: Pair)
+    pub(crate) fn note_candidate(&mut self, variable: u32, pair: Pair)
         requires { self.old.variables < 4294967295 }
         ensures { IsCandidateNoted variable pair self.old self.new }
     {
         self.note_variable(variable);
-        self.candidate = Some(lesser(self.candidate, pair));
+        self.candidate = Some(lesser_pair(self.candidate, pair));
     }
 
     /// Takes in an open pair, of which at most `most` are kept.
-    pub fn note_open(&mut self, most: usize, new: Try) -> Result<(), OutOfMemory>
+    pub(crate) fn note_open(&mut self, most: usize, new: Try) -> Result<(), OutOfMemory>
         requires variables { self.old.variables < 4294967295 }
         requires tries { AreTries most self.old.tries.items }
         requires most { 0 < most }
@@ -68,10 +69,25 @@ impl Least {
         self.note_variable(new.between.variable);
         note_try(&mut self.tries, most, new)
     }
+
+    /// Takes in what was found of other variables.
+    pub(crate) fn join(&mut self, most: usize, part: &Least) -> Result<(), OutOfMemory>
+        requires room { self.old.variables + part.now.variables ≤ 4294967295 }
+        requires tries { AreTries most self.old.tries.items }
+        requires part { AreTries most part.now.tries.items }
+        requires most { 0 < most }
+        ensures { OnOk result (IsJoined most part.now self.old self.new) }
+    {
+        self.variables += part.variables;
+        self.last = None;
+        self.candidate = lesser(self.candidate, part.candidate);
+        join_tries(&mut self.tries, most, part.tries.as_slice())?;
+        Ok(())
+    }
 }
 
 // The lesser of a pair and of the one that is known.
-fn lesser(known: Option<Pair>, pair: Pair) -> Pair
+fn lesser_pair(known: Option<Pair>, pair: Pair) -> Pair
     ensures one { (result ≡ pair) ⊎ (Some result ≡ known) }
     ensures up { IsUpTo result pair }
     ensures known { (q : ℕ × ℕ) → known ≡ Some q → IsUpTo result q }

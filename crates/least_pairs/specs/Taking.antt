@@ -1,10 +1,10 @@
 -- How one pair of events more is taken in among what is found of a pair of places. Pairs are given by their later event and then by their
 -- earlier one. All notions are this project's own.
 use Rattle.std.specs.Prelude.{◌≡◌, ◌≢◌, ◌⊎◌, ℕ, suc, ◌≤◌, List, length, All, AllPairs, Any, Contains, Option, Some}
-use Rattle.least_notes.specs.Order.{IsUpTo}
-use Rattle.least_notes.specs.declared.least.Least.{Least}
-use Rattle.least_notes.specs.declared.tries.Between.{Between}
-use Rattle.least_notes.specs.declared.tries.Try.{Try}
+use Rattle.least_pairs.specs.Order.{IsUpTo}
+use Rattle.least_pairs.specs.declared.least.Least.{Least}
+use Rattle.least_pairs.specs.declared.tries.Between.{Between}
+use Rattle.least_pairs.specs.declared.tries.Try.{Try}
 
 -- pairs in rising order, no two of one variable and two threads, and no more than `most`
 pub record AreTries (most : ℕ) (tries : List Try) : Type 0 where
