@@ -9,6 +9,7 @@ use crate::facts::{Fact, fact_in};
 use crate::lines::cut_line;
 use crate::members::{access_in, is_kind, number_of, text_of};
 use crate::parts::{Part, Parts};
+use crate::presorting::presort;
 use crate::scan::Known;
 use rapid_text::OutOfMemory;
 use serde_json::Value;
@@ -221,6 +222,7 @@ pub fn cells_of<'b>(alloc: Global, rows: &'b [Row<'_>]) -> Result<Vec<Cell<'b>>,
     ensures { IfOk result (λ cells. AreSorted (map row_said rows.now) cells.items) }
 {
     let mut cells = unsorted(alloc, rows)?;
+    presort(alloc, &mut cells)?;
     cells.sort()?;
     Ok(cells)
 }

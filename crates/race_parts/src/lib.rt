@@ -10,6 +10,7 @@ mod merging;
 mod objects;
 mod pairs;
 mod parts;
+mod presorting;
 mod rows;
 mod scan;
 mod text;

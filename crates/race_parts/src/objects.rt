@@ -8,7 +8,7 @@ ghost use Rattle.race_parts.specs.Texts.{is_new, run_count};
 
 use crate::cells::{Cell, cell_at, is_same};
 use crate::parts::Parts;
-use crate::text::{run_count, unmet_of};
+use crate::text::{run_counts, unmet_of};
 use rapid_text::OutOfMemory;
 use serde_json::{Map, Value, put};
 use std::alloc::{AllocError, Global};
@@ -246,14 +246,12 @@ fn tally_of(parts: usize, cell: Cell<'_>, cells: &[Cell<'_>], at: usize) -> Tall
     ensures apart { result.apart ≡ run_count cell.entry 2 (drop at cells.now) }
     ensures unmet { result.unmet ≡ parts - result.races - result.undecided - result.apart }
 {
-    let races = run_count(cell, 0, cells, at);
-    let undecided = run_count(cell, 1, cells, at);
-    let apart = run_count(cell, 2, cells, at);
+    let counts = run_counts(cell, cells, at);
     Tally {
-        races,
-        undecided,
-        apart,
-        unmet: unmet_of(parts, races, undecided, apart),
+        races: counts.races,
+        undecided: counts.undecided,
+        apart: counts.apart,
+        unmet: unmet_of(parts, counts.races, counts.undecided, counts.apart),
     }
 }
 

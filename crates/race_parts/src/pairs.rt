@@ -4,7 +4,7 @@ ghost use Rattle.race_parts.specs.Pairs.{line_by, pair_shown, pair_told, pairs_b
 ghost use Rattle.race_parts.specs.Texts.{run_count};
 
 use crate::cells::{Cell, Row, cell_at};
-use crate::text::{is_head, run_count};
+use crate::text::{is_head, run_counts};
 use rapid_text::OutOfMemory;
 use std::alloc::Global;
 
@@ -85,13 +85,14 @@ fn pair_of<'a>(rows: &'a [Row<'_>], cell: Cell<'a>, cells: &[Cell<'a>], at: usiz
     requires { at ≤ length cells.now }
     ensures { pair_shown result ≡ pair_told rows.now cell.entry (drop at cells.now) }
 {
+    let counts = run_counts(cell, cells, at);
     Pair {
         line: line_at(rows, cell.number),
         part: cell.part,
         rank: cell.rank,
-        races: run_count(cell, 0, cells, at),
-        undecided: run_count(cell, 1, cells, at),
-        apart: run_count(cell, 2, cells, at),
+        races: counts.races,
+        undecided: counts.undecided,
+        apart: counts.apart,
     }
 }
 

@@ -3,7 +3,7 @@ ghost use Rattle.std.specs.Prelude.{◌≡◌, ◌-◌, ◌≤◌, ◌++◌, IfO
 ghost use Rattle.serde_json.specs.Find.{as_str};
 ghost use Rattle.race_parts.specs.Members.{said_number};
 ghost use Rattle.serde_json.specs.View.{view};
-ghost use Rattle.race_parts.specs.Texts.{access_text, apart_text, begin_text, block_text, blocks_text, count_line, counts_text, end_text, event_text, head_text, hold_line, heads_count, hold_lines, holds_text, how_text, is_head, merged_words, named_text, number_text, part_text, race_text, row_text, row_text_at, run_count, shown, sizes_text, tallies_text, tally_text, text_in, undecided_text, words_text};
+ghost use Rattle.race_parts.specs.Texts.{access_text, apart_text, begin_text, block_text, blocks_text, count_line, counts_text, end_text, event_text, head_text, hold_line, heads_count, hold_lines, holds_text, how_text, is_head, merged_words, named_text, number_text, one_if, part_text, race_text, row_text, row_text_at, run_count, shown, sizes_text, tallies_text, tally_text, text_in, undecided_text, words_text};
 
 use crate::cells::{Cell, Row, cell_at, event_in, is_same};
 use crate::facts::data_of;
@@ -12,6 +12,14 @@ use itoa::Buffer;
 use rapid_text::OutOfMemory;
 use serde_json::Value;
 use std::alloc::Global;
+
+/// Counts of what is a race, undecided and apart.
+#[derive(Clone, Copy)]
+pub(crate) struct Counts {
+    pub(crate) races: usize,
+    pub(crate) undecided: usize,
+    pub(crate) apart: usize,
+}
 
 /// Appends the words.
 fn append_words(out: &mut Vec<u8>, words: &[u8]) -> Result<(), OutOfMemory>
@@ -246,24 +254,41 @@ fn append_row(out: &mut Vec<u8>, row: &Value) -> Result<(), OutOfMemory>
     Ok(())
 }
 
-/// How many of the cells from this place on say this of the same places, up to the first of other places.
-pub(crate) fn run_count(cell: Cell<'_>, rank: u8, cells: &[Cell<'_>], from: usize) -> usize
+/// How many of the cells from this place on say what of the same places, up to the first of other places.
+pub(crate) fn run_counts(cell: Cell<'_>, cells: &[Cell<'_>], from: usize) -> Counts
     requires { from ≤ length cells.now }
-    ensures { result ≡ run_count cell.entry rank (drop from cells.now) }
+    ensures races { result.races ≡ run_count cell.entry 0 (drop from cells.now) }
+    ensures undecided { result.undecided ≡ run_count cell.entry 1 (drop from cells.now) }
+    ensures apart { result.apart ≡ run_count cell.entry 2 (drop from cells.now) }
 {
-    let mut count = 0;
+    let (mut races, mut undecided, mut apart) = (0, 0, 0);
     let mut at = from;
     'cells: while at < cells.len() {
         let next = cell_at(cells, at);
         if !is_same(&cell, &next) {
-            return count;
+            return Counts {
+                races,
+                undecided,
+                apart,
+            };
         }
-        if next.rank == rank {
-            count += 1;
-        }
+        races += one_if(next.rank == 0);
+        undecided += one_if(next.rank == 1);
+        apart += one_if(next.rank == 2);
         at += 1;
     }
-    count
+    Counts {
+        races,
+        undecided,
+        apart,
+    }
+}
+
+/// 1 if it is so.
+fn one_if(is: bool) -> usize
+    ensures { result ≡ one_if is }
+{
+    if is { 1 } else { 0 }
 }
 
 /// In how many parts two places are not met, that are a race, undecided and apart in so many.
@@ -334,10 +359,8 @@ fn append_tallies(
     requires { at ≤ length cells.now }
     ensures { OnOk result (out.new.items ≡ out.old.items ++ tallies_text parts cell.entry (drop at cells.now)) }
 {
-    let races = run_count(cell, 0, cells, at);
-    let undecided = run_count(cell, 1, cells, at);
-    let apart = run_count(cell, 2, cells, at);
-    append_tally(out, parts, races, undecided, apart)
+    let counts = run_counts(cell, cells, at);
+    append_tally(out, parts, counts.races, counts.undecided, counts.apart)
 }
 
 /// Appends the block of the cell at this place, which is the first of its places.
@@ -362,9 +385,12 @@ fn append_block(
 pub(crate) fn is_head(before: Option<Cell<'_>>, rank: u8, cell: Cell<'_>) -> bool
     ensures { result ≡ is_head before.entry rank cell.entry }
 {
+    if cell.rank != rank {
+        return false;
+    }
     match before {
-        Some(before) => !is_same(&before, &cell) && cell.rank == rank,
-        None => cell.rank == rank,
+        Some(before) => !is_same(&before, &cell),
+        None => true,
     }
 }
 
@@ -414,14 +440,6 @@ pub fn races_in(cells: &[Cell<'_>]) -> usize
     ensures { result ≡ heads_count 0 None cells.now }
 {
     heads_count(cells, 0)
-}
-
-/// The counts of pairs of places.
-#[derive(Clone, Copy)]
-struct Counts {
-    races: usize,
-    undecided: usize,
-    apart: usize,
 }
 
 /// Appends the lines of the counts.
