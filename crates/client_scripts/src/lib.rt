@@ -15,7 +15,8 @@ pub use fault_texts::{fault_text, script_words};
 pub use loading::{load, read_input, read_trace};
 pub use replaying::{replay, replay_joint};
 pub use script_language::{
-    CommandVerb, Script, ScriptCall, ScriptCause, ScriptRefusal, Verb, read_script,
+    CommandVerb, GivenCall, PlainCall, Script, ScriptCall, ScriptCause, ScriptRefusal, Verb,
+    read_script,
 };
 pub use seats::run_seat;
 pub use sink::{FromWrite, Sink, write_all};

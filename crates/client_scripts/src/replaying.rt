@@ -19,7 +19,7 @@ use crate::source::Source;
 use event_index::Indexed;
 use inverse_log::{Bench, Call, Refusal};
 use rapid_text::{OutOfMemory, TextKeyed};
-use script_language::{Script, read_script};
+use script_language::{GivenCall, PlainCall, Script, read_script};
 use std::alloc::Global;
 use std::sync::Arc;
 
@@ -28,10 +28,10 @@ const FULL: usize = 65_536;
 
 /// Makes a call and appends the line of its answer; says whether the answer is a reply. A look at a schedule prints its
 /// events where they are, and copies no list.
-fn make_call(
+fn make_plain(
     bench: &mut Bench,
     client: u32,
-    call: &Call,
+    call: &PlainCall<'_>,
     out: &mut Vec<u8>,
 ) -> Result<bool, OutOfMemory>
     requires low { 1 ≤ client }
@@ -42,13 +42,16 @@ fn make_call(
     ensures accepted { IfOk result (λ accepted. accepted ≡ is_ok (answer_of bench.old.trace bench.old.log client call.now)) }
     ensures log { OnOk result (bench.new.log ≡ log_after bench.old.trace bench.old.log client call.now) }
 {
-    if let Call::Show(name) = call {
-        if let Some(events) = bench.shown(name) {
+    if let Some(name) = call.shown() {
+        if let Some(events) = bench.shown(&name) {
             report::shown(events, out)?;
             return Ok(true);
         }
     }
-    tell_answer(bench, client, call, out)
+    let made = call.made();
+    let told = tell_answer(bench, client, &made, out);
+    drop(made);
+    told
 }
 
 /// The same by the answer as a value.
@@ -93,10 +96,11 @@ fn make_call_at(
     ensures made { IfOk result
         (λ accepted. MakesCall bench.old.trace script.now at bench.old.log accepted out.old.items bench.new.log out.new.items) }
 {
-    let call = script.call(at);
-    let made = make_call(bench, script.client(at), call.get(), out);
-    drop(call);
-    made
+    let client = script.client(at);
+    match script.given(at) {
+        GivenCall::Plain(call) => make_plain(bench, client, &call, out),
+        GivenCall::Lent(call) => tell_answer(bench, client, call, out),
+    }
 }
 
 /// Writes the bytes that were kept back, and keeps none.

@@ -1,5 +1,5 @@
 -- Calls that are kept, while more names and more calls are put behind those that they are kept by.
-use Rattle.std.proofs.Common.{◌≡◌, ℕ, ◌+◌, ◌≤◌, List, [], ◌∷◌, ◌++◌, map, length, take, drop, get_or, refl, sym, ap, ◌∙◌, arith, subst, length-append, length-drop, append-nil}
+use Rattle.std.proofs.Common.{◌≡◌, ◌≢◌, ℕ, ◌+◌, ◌≤◌, List, [], ◌∷◌, ◌++◌, map, length, take, drop, get_or, refl, sym, ap, ◌∙◌, arith, subst, length-append, length-drop, append-nil}
 use Rattle.std.specs.List.{All}
 use Rattle.std.proofs.lemmas.List.{take-append-le, drop-append-le, map-append}
 use Rattle.std.proofs.lemmas.List.Elements.{All-head, All-tail, All-weaker, All-push}
@@ -87,3 +87,19 @@ calls-pushed names now owned owned_now kept k asked n o h is =
     map-append (asked_of now owned_now) kept (k ∷ [])
     ∙ ap (λ front. front ++ asked_of now owned_now k ∷ []) (calls-grown names now owned owned_now kept n o h)
     ∙ ap (λ a. map (asked_of names owned) kept ++ a ∷ []) is
+
+-- a call that owns no memory does not depend on one that does
+pub same_own : (form : Form) (name to : List ℕ) (n : ℕ) (own other : Call) → form ≢ Owned → call_in form name to n own ≡ call_in form name to n other
+same_own Fresh name to n own other plain = refl
+same_own Add name to n own other plain = refl
+same_own Back name to n own other plain = refl
+same_own Swap name to n own other plain = refl
+same_own Branch name to n own other plain = refl
+same_own Drop name to n own other plain = refl
+same_own Adopt name to n own other plain = refl
+same_own UndoForm name to n own other plain = refl
+same_own UndoAt name to n own other plain = refl
+same_own Show name to n own other plain = refl
+same_own ListForm name to n own other plain = refl
+same_own Races name to n own other plain = refl
+same_own Owned name to n own other plain = absurd (plain refl)

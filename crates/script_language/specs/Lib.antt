@@ -3,6 +3,7 @@ pub mod Kept
 pub mod Limits
 pub mod LineWords
 pub mod LinesLeft
+pub mod Plain
 pub mod Questions
 pub mod Reading
 pub mod ScriptCalls

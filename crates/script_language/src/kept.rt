@@ -223,7 +223,7 @@ fn name_at(names: &[u8], at: usize, len: u8) -> Name
 }
 
 /// The name of a kept call.
-fn first_name(names: &[u8], kept: &Kept) -> Name
+pub(crate) fn first_name(names: &[u8], kept: &Kept) -> Name
     requires within { kept.now.at + kept.now.name ≤ length names.now }
     requires named { is_name (name_in names.now kept.now) ≡ true }
     ensures { result ≡ name_in names.now kept.now }
@@ -241,6 +241,7 @@ fn second_name(names: &[u8], kept: &Kept) -> Name
 }
 
 /// A kept call that owns no memory, made anew.
+#[inline(always)]
 pub(crate) fn made(names: &[u8], kept: &Kept) -> Call
     requires form { kept.now.form ≢ Owned }
     requires within { kept.now.at + kept.now.name + kept.now.to ≤ length names.now }

@@ -5,6 +5,7 @@ mod calls;
 mod kept;
 mod lines;
 mod number;
+mod plain;
 mod question;
 mod reading;
 mod refusal;
@@ -14,6 +15,7 @@ mod verb;
 
 pub use calls::read_line;
 pub use lines::Lines;
+pub use plain::{GivenCall, PlainCall};
 pub use question::{Question, QuestionWord, read_question};
 pub use reading::read_script;
 pub use refusal::{ScriptCause, ScriptRefusal};

@@ -2,10 +2,11 @@
 ghost use Rattle.std.specs.Prelude.{◌≡◌, ◌<◌, ◌≤◌, ◌==◌, [], ◌∷◌, ◌++◌, not, find, option_map, slice_get, length, OnOk, Some};
 ghost use Rattle.dependence.specs.Limits.{client_limit};
 ghost use Rattle.inverse_log.specs.declared.call.Call.{Call as CallValue};
-ghost use Rattle.script_language.specs.ScriptCalls.{call_given};
+ghost use Rattle.script_language.specs.ScriptCalls.{call_given, call_there};
 ghost use Rattle.script_language.specs.Simple.{simple_call, IsSimple};
 
 use crate::kept::{Form, Kept, keep, keep_simple, made};
+use crate::plain::{GivenCall, PlainCall};
 use crate::simple::Simple;
 use inverse_log::Call;
 use rapid_text::OutOfMemory;
@@ -129,6 +130,18 @@ impl Script {
         match kept.form {
             Form::Owned => ScriptCall::Lent(&self.owned[kept.at]),
             _ => ScriptCall::Made(made(&self.names, kept)),
+        }
+    }
+
+    /// The same, not made yet where it owns no memory.
+    pub fn given(&self, at: usize) -> GivenCall<'_>
+        requires { at < length self.now }
+        ensures { option_map (λ asked. asked.call) (slice_get self.now at) ≡ Some (call_there result) }
+    {
+        let kept = &self.kept[at];
+        match kept.form {
+            Form::Owned => GivenCall::Lent(&self.owned[kept.at]),
+            _ => GivenCall::Plain(PlainCall::of(&self.names, kept)),
         }
     }
 

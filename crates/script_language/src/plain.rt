@@ -1,0 +1,70 @@
+//! Calls that own no memory, as a script gives them before they are made.
+ghost use Rattle.std.specs.Prelude.{◌≡◌, ◌≢◌, ◌+◌, ◌≤◌, length, IfSome};
+ghost use Rattle.inverse_log.specs.declared.call.Call.{Call as CallValue};
+ghost use Rattle.script_language.specs.Kept.{name_in, to_in, call_in, HasNames};
+ghost use Rattle.script_language.specs.declared.kept.Form.TheVariants.{Owned};
+
+use crate::kept::{Form, Kept, first_name, made};
+use inverse_log::Call;
+use moves::Name;
+use std::marker::Model;
+
+/// A call that owns no memory, as its script keeps it. Contracts see it as the call.
+///
+/// A call has some 140 bytes, so it is made once, where it is used, and not handed on.
+#[derive(Drop)]
+pub struct PlainCall<'a> {
+    // the bytes of all names
+    names: &'a [u8],
+    kept: &'a Kept,
+}
+
+impl<'a> Model for PlainCall<'a> {
+    ghost use Rattle.inverse_log.specs.declared.call.Call.{Call};
+    ghost use Rattle.script_language.specs.Plain.{plain_call, IsPlain};
+
+    ghost Value = { Call };
+
+    ghost view = { plain_call };
+
+    ghost invariant = { IsPlain };
+}
+
+impl<'a> PlainCall<'a> {
+    /// The call that is kept so.
+    pub(crate) fn of(names: &'a [u8], kept: &'a Kept) -> PlainCall<'a>
+        requires form { kept.now.form ≢ Owned }
+        requires within { kept.now.at + kept.now.name + kept.now.to ≤ length names.now }
+        requires named { HasNames kept.now.form (name_in names.now kept.now) (to_in names.now kept.now) }
+        ensures { (own : CallValue) → result ≡ call_in kept.now.form (name_in names.now kept.now) (to_in names.now kept.now) kept.now.number own }
+    {
+        PlainCall { names, kept }
+    }
+
+    /// The call, made. It takes no memory.
+    #[inline(always)]
+    pub fn made(&self) -> Call
+        ensures { result ≡ self.now }
+    {
+        made(self.names, self.kept)
+    }
+
+    /// The schedule that the call shows, if it is a call `Show`.
+    pub fn shown(&self) -> Option<Name>
+        ensures { IfSome result (λ name. self.now ≡ CallValue.Show name) }
+    {
+        match self.kept.form {
+            Form::Show => Some(first_name(self.names, self.kept)),
+            _ => None,
+        }
+    }
+}
+
+/// A call of a script: one that is not made yet, or lent where it owns memory. Either takes no memory.
+#[derive(Drop)]
+pub enum GivenCall<'a> {
+    /// A call that owns no memory.
+    Plain(PlainCall<'a>),
+    /// A call that the script keeps.
+    Lent(&'a Call),
+}
