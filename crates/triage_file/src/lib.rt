@@ -13,7 +13,7 @@ mod writing;
 pub use choosing::{add_triaged, is_met};
 pub use fields::hides;
 pub use files::{Refusal, entries_of, read_triage};
-pub use matching::is_match;
+pub use matching::{are_sides, has_variables, is_match, is_named};
 pub use mistakes::Mistake;
 pub use spots::Spot;
 pub use toml::{Table, Value};

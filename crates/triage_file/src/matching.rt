@@ -4,7 +4,7 @@ ghost use Rattle.std.specs.List.{list_any};
 ghost use Rattle.rapid_text.specs.Recording.{IsNamedOp};
 ghost use Rattle.toml.specs.Data.{as_str};
 ghost use Rattle.toml.specs.View.{view};
-ghost use Rattle.triage_file.specs.Matching.{are_named, are_sides, fits_function, fits_line, fits_variables, function_of, has_function, is_at, is_free, is_line_by, is_match, is_named, is_named_by, is_number, is_same_text, is_side, line_of, name_by_op, path_of, use_at};
+ghost use Rattle.triage_file.specs.Matching.{are_named, are_sides, fits_function, fits_line, fits_variables, function_of, has_function, has_variables, is_at, is_free, is_line_by, is_match, is_named, is_named_by, is_number, is_same_text, is_side, line_of, name_by_op, path_of, use_at};
 
 use crate::fields::{has, list_of, number_at, said_at};
 use event_index::Indexed;
@@ -110,8 +110,8 @@ fn is_side(entry: &Value, side: usize, location: &[u8]) -> bool
         && fits_line(entry, side, location)
 }
 
-/// Whether two accesses are those of the entry, in its order or in the other.
-fn are_sides(entry: &Value, one: &[u8], other: &[u8]) -> bool
+/// Whether accesses at two locations are those of the entry, in its order or in the other, but for their variable.
+pub fn are_sides(entry: &Value, one: &[u8], other: &[u8]) -> bool
     ensures { result ≡ are_sides (view entry.now) one.now other.now }
 {
     (is_side(entry, 0, one) && is_side(entry, 1, other))
@@ -172,8 +172,15 @@ fn has_text_in(items: &[Value], name: &[u8]) -> bool
     has_text(items, name)
 }
 
+/// Whether the entry has variables.
+pub fn has_variables(entry: &Value) -> bool
+    ensures { result ≡ has_variables (view entry.now) }
+{
+    has(entry, "variables")
+}
+
 /// Whether the entry names this variable.
-fn is_named(entry: &Value, name: &[u8]) -> bool
+pub fn is_named(entry: &Value, name: &[u8]) -> bool
     ensures { result ≡ is_named (view entry.now) name.now }
 {
     has_text_in(list_of(entry, "variables"), name)
