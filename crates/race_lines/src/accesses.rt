@@ -8,7 +8,7 @@ use rapid_text::{Op, RawTrace};
 use source_places::{cut_at_arrow, location_of};
 
 /// The place of a location: what comes before its calls, or a question mark.
-fn spot(location: &[u8]) -> &[u8]
+pub fn spot(location: &[u8]) -> &[u8]
     ensures { result.now ≡ spot location.now }
 {
     let (place, _) = cut_at_arrow(location);

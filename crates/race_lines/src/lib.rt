@@ -6,5 +6,5 @@ mod blocks;
 mod calls;
 mod lines;
 
-pub use accesses::{spot_of, thread_of, variable_of, verb_of};
+pub use accesses::{spot, spot_of, thread_of, variable_of, verb_of};
 pub use lines::triage_lines;

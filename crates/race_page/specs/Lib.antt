@@ -7,3 +7,4 @@ pub mod Own
 pub mod Pages
 pub mod Raced
 pub mod Rows
+pub mod Shell

@@ -15,7 +15,8 @@ use std::alloc::Global;
 /// What stands at the end of the page.
 const END: &[u8] = b"<section>
 <h2>What the words mean</h2>
-<p>A part is the report of one trace, or of one window of a trace. Events have the numbers of that trace.</p>
+<p>A part is the report of one trace, or of one window that <code>triage --windows</code> cuts from a trace. Events have
+their numbers in that trace, and not in the window.</p>
 <p>Race: a schedule of the part, a correct reordering of its trace, brings the two accesses next to each other. The row
 is that of the part with the shortest schedule.</p>
 <p>Undecided: no part has a schedule for the pair, and the search of one was not complete.</p>

@@ -38,7 +38,7 @@ summary{cursor:pointer}
 :focus-visible{outline:3px solid var(--mark);outline-offset:1px}
 @media (max-width:40rem){
 body,details,th,td{padding:.25rem}
-.seen{float:none;display:block;margin:0 0 .25rem}
+.seen{float:none;display:inline-block;margin:0 0 .25rem}
 .wide{padding:0}
 }
 @media (prefers-color-scheme:dark){

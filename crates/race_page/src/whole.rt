@@ -5,7 +5,6 @@ ghost use Rattle.race_page.specs.Pages.{IsEnd, IsPage};
 ghost use Rattle.race_page.specs.Rows.{all_rows, followed_in, rows_of, sort_rows};
 
 use crate::about::About;
-use crate::commands::shell_word;
 use crate::ending::append_end;
 use crate::followed::write_beside;
 use crate::heading::{append_begin, file_of};
@@ -15,6 +14,7 @@ use crate::page::Page;
 use crate::piece::{Item, Piece};
 use crate::rows::write_rows;
 use crate::selecting::of_sort;
+use crate::shell::word_of;
 use crate::shown::Sort;
 use must_order::Analysis;
 use race_triage::{Chosen, Verdict, Verdicts};
@@ -133,7 +133,7 @@ fn write_told(
     ensures trace { page.new.trace ≡ page.old.trace }
     ensures rows { OnOk result (page.new.rows ≡ page.old.rows ++ all_rows page.old.trace (followed_in about.entry) apart told.now) }
 {
-    match shell_word(page.allocator(), about.name) {
+    match word_of(page.allocator(), about.name) {
         Ok(word) => write_sections(
             page,
             piece,

@@ -6,10 +6,10 @@ ghost use Rattle.race_sarif.specs.Words.{access_words, apart_words, both_words, 
 
 use crate::accesses::{Access, access_at};
 use event_index::Indexed;
+use race_lines::spot;
 use race_triage::{Outcome, Verdict};
 use rapid_text::OutOfMemory;
 use report::{Piece, append_pieces};
-use source_places::cut_at_arrow;
 
 /// The rank of what was found.
 pub(crate) fn outcome_rank(outcome: Outcome) -> u8
@@ -68,14 +68,6 @@ pub(crate) fn rule_number(rank: u8) -> u64
         1 => 1,
         _ => 2,
     }
-}
-
-/// The place of a location, or a question mark.
-fn spot(location: &[u8]) -> &[u8]
-    ensures { result.now ≡ spot location.now }
-{
-    let (place, _) = cut_at_arrow(location);
-    if place.is_empty() { b"?" } else { place }
 }
 
 /// Appends what the thread of an access does, and where.
