@@ -100,7 +100,6 @@ fn command<'a>(alloc: Global, words: &Words, limits: Limits) -> Result<Command<'
 fn program<'a>(alloc: Global) -> Result<Command<'a>, AllocError> {
     titled(alloc, &program_words())
         .version(VERSION)
-        .disable_help_subcommand(true)
         .bin_name(NAME)
 }
 

@@ -9,9 +9,9 @@ use crate::task::{
     TriageTask,
 };
 use crate::told::{Told, refused, told_of};
-use crate::values::{STANDARD, Unread, check_inputs, day, named, number, share_input};
+use crate::values::{STANDARD, Unread, check_inputs, day, is_number, named, number, share_input};
 use clap::ArgMatches;
-use clap::error::Error;
+use clap::error::{Error, ErrorKind};
 use std::alloc::{AllocError, Global};
 
 /// The word of this name, which `clap` has seen to be there.
@@ -329,6 +329,31 @@ fn matches<'a>(
     }
 }
 
+/// Whether the words are those of `triage`, and the number of `--windows` is a word of its own, which `clap` takes for another.
+fn has_loose_number(words: &[String]) -> bool {
+    let mut is_triage = false;
+    let mut is_behind = false;
+    for word in words {
+        if is_triage && is_behind && is_number(word.as_str()) {
+            return true;
+        }
+        is_triage = is_triage || word.as_str() == "triage";
+        is_behind = word.as_str() == "--windows";
+    }
+    false
+}
+
+/// Why such words are refused.
+const LOOSE: &str = "`--windows` takes its number after `=`, as in `--windows=1000`";
+
+/// What is said of words that `clap` does not take.
+fn untaken(alloc: Global, words: &[String], limits: Limits, error: &Error) -> Told {
+    if error.kind() == ErrorKind::UnknownArgument && has_loose_number(words) {
+        return refused(alloc, limits, LOOSE);
+    }
+    told_of(alloc, error)
+}
+
 /// What the words ask for, of which the first is the program's name, or what is said in its place. The numbers of a task are within
 /// the limits.
 pub fn task_of<'a>(alloc: Global, words: &'a [String], limits: Limits) -> Result<Task<'a>, Told>
@@ -336,7 +361,7 @@ pub fn task_of<'a>(alloc: Global, words: &'a [String], limits: Limits) -> Result
 {
     let given = match matches(alloc, words, limits) {
         Ok(given) => given,
-        Err(error) => return Err(told_of(alloc, &error)),
+        Err(error) => return Err(untaken(alloc, words, limits, &error)),
     };
     match task_in(alloc, &given, limits) {
         Ok(task) => Ok(task),

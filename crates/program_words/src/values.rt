@@ -19,7 +19,7 @@ impl From<AllocError> for Unread {
 }
 
 /// Whether the word is one or more decimal digits.
-fn is_number(word: &str) -> bool {
+pub(crate) fn is_number(word: &str) -> bool {
     !word.is_empty() && word.as_bytes().iter().all(|byte| byte.is_ascii_digit())
 }
 
@@ -97,12 +97,27 @@ fn day_of(word: &[u8]) -> Option<u32> {
             day = with_digit(day, word[at])?;
         }
     }
-    let (month, date) = (day / 100 % 100, day % 100);
-    if 1 <= month && month <= 12 && 1 <= date && date <= 31 {
+    let date = day % 100;
+    if 1 <= date && date <= days_of(day / 10_000, day / 100 % 100) {
         Some(day)
     } else {
         None
     }
+}
+
+/// How many days a month has; none if no month has this number.
+fn days_of(year: u32, month: u32) -> u32 {
+    match month {
+        2 => { if is_leap(year) { 29 } else { 28 } }
+        4 | 6 | 9 | 11 => 30,
+        1 | 3 | 5 | 7 | 8 | 10 | 12 => 31,
+        _ => 0,
+    }
+}
+
+/// Whether the year has a day more.
+fn is_leap(year: u32) -> bool {
+    year % 4 == 0 && (year % 100 != 0 || year % 400 == 0)
 }
 
 /// The number with one more digit.

@@ -73,6 +73,7 @@ fn print_whole(
     let mut writer = FromWrite::new(io::writer(rt));
     let mut reader = FromRead::new(pieces.bytes());
     cut_window(rt.alloc(), &mut reader, task.from, task.most, &mut writer)?;
+    pieces.tell_mark(rt, task.trace);
     Ok(finish(rt, &mut writer))
 }
 
@@ -84,7 +85,10 @@ fn print_long(
 ) -> Result<ExitCode, BenchFault> {
     let mut windows = Windows::new(rt.alloc(), pieces, task.most);
     match windows.at(rt.alloc(), u64::from(task.from))? {
-        Some(window) => Ok(print_text(rt, window.text.as_slice())),
+        Some(window) => {
+            windows.tell_mark(rt, task.trace);
+            Ok(print_text(rt, window.text.as_slice()))
+        }
         None => Err(BenchFault::NoSuchEvent),
     }
 }

@@ -3,7 +3,7 @@ ghost use Rattle.std.specs.Prelude.{◌≡◌, ◌<◌, ◌≤◌, All, false, v
 
 use crate::input::{Input, Watched, input_at, inputs_at};
 use crate::notes::are_wanted;
-use crate::telling::{say, tell_files, tell_joint, tell_pair, tell_replay};
+use crate::telling::{say, say_marked, tell_files, tell_joint, tell_mark, tell_pair, tell_replay};
 use calls::{
     BEST_ROOM, BenchFault, MAX_SCRIPTS, Running, info, replay, replay_joint, threads_with_room,
 };
@@ -19,6 +19,22 @@ use std::thread::Threads;
 pub(crate) fn finish<W: io::Write>(rt: &HostRuntime, writer: &mut FromWrite<W>) -> ExitCode {
     match writer.flush() {
         Ok(()) => ExitCode::SUCCESS,
+        Err(_) => tell_replay(rt, ReplayFault::Write),
+    }
+}
+
+/// The same after a trace was read from an input at this path.
+fn finish_read<W: io::Write>(
+    rt: &HostRuntime,
+    writer: &mut FromWrite<W>,
+    input: &Input,
+    path: &str,
+) -> ExitCode {
+    match writer.flush() {
+        Ok(()) => {
+            tell_mark(rt, input, path);
+            ExitCode::SUCCESS
+        }
         Err(_) => tell_replay(rt, ReplayFault::Write),
     }
 }
@@ -44,6 +60,9 @@ fn replay_watched<R: io::Read + Drop>(rt: &HostRuntime, input: &mut Watched<R>) 
             if !input.has_divider() && are_wanted(rt) {
                 say(rt, b"note: there is no line `---`, so there is no script\n");
             }
+            if input.has_mark() {
+                say_marked(rt, "-");
+            }
             ExitCode::SUCCESS
         }
         Err(fault) => tell_joint(rt, fault, &input.kept, input.is_whole),
@@ -55,7 +74,7 @@ pub(crate) fn info_of_file(rt: &HostRuntime, trace: &str) -> ExitCode {
     let mut writer = FromWrite::new(io::writer(rt));
     let mut input = input_at(rt, trace);
     match info(rt.alloc(), &mut input, &mut writer) {
-        Ok(()) => finish(rt, &mut writer),
+        Ok(()) => finish_read(rt, &mut writer, &input, trace),
         Err(fault) => tell_files(rt, fault, &[trace]),
     }
 }
@@ -74,7 +93,7 @@ pub(crate) fn explain_in_file(rt: &HostRuntime, pair: &PairTask<'_>, all: bool) 
     let mut input = input_at(rt, pair.trace);
     let (one, other) = (name_of(pair.one), name_of(pair.other));
     match explain(rt.alloc(), &mut input, one, other, all, &mut writer) {
-        Ok(()) => finish(rt, &mut writer),
+        Ok(()) => finish_read(rt, &mut writer, &input, pair.trace),
         Err(fault) => tell_pair(rt, fault, pair),
     }
 }
@@ -100,7 +119,7 @@ pub(crate) fn witness_in_file(
     let form = form_of(form);
     let (one, other) = (name_of(pair.one), name_of(pair.other));
     match witness(rt.alloc(), &mut input, one, other, form, &mut writer) {
-        Ok(()) => finish(rt, &mut writer),
+        Ok(()) => finish_read(rt, &mut writer, &input, pair.trace),
         Err(fault) => tell_pair(rt, fault, pair),
     }
 }
@@ -111,7 +130,7 @@ pub(crate) fn replay_files(rt: &HostRuntime, trace: &str, script: &str) -> ExitC
     let mut trace_file = input_at(rt, trace);
     let mut script_file = input_at(rt, script);
     match replay(rt.alloc(), &mut trace_file, &mut script_file, &mut writer) {
-        Ok(_) => finish(rt, &mut writer),
+        Ok(_) => finish_read(rt, &mut writer, &trace_file, trace),
         Err(fault) => tell_files(rt, BenchFault::from(fault), &[trace, script]),
     }
 }
@@ -135,7 +154,10 @@ fn run_scripts<R: Threads + Wait + Sync + Clone + Send + Drop + 'static>(
         room: task.room.unwrap_or(BEST_ROOM),
     };
     match threads_with_room(starts, rt.alloc(), trace, scripts, running, &mut writer) {
-        Ok(()) => finish(rt, &mut writer),
+        Ok(()) => {
+            let path = task.paths.first().unwrap_or(&"");
+            finish_read(rt, &mut writer, trace, path)
+        }
         Err(fault) => tell_files(rt, fault, &task.paths),
     }
 }

@@ -2,6 +2,7 @@
 //! as they pass.
 ghost use Rattle.std.specs.Prelude.{◌≡◌, All, IfOk, false, length, vec_len};
 
+use crate::marked::{Head, after};
 use client_scripts::{Failed, FromRead, Source};
 use std::alloc::{AllocError, Global};
 use std::fs::File;
@@ -25,6 +26,14 @@ enum Stream {
 pub(crate) struct Input {
     stream: Stream,
     failed: bool,
+    head: Head,
+}
+
+impl Input {
+    /// Whether the bytes that were read begin with a UTF-8 byte order mark.
+    pub(crate) fn has_mark(&self) -> bool {
+        self.head == Head::Mark
+    }
 }
 
 impl Source for Input {
@@ -41,6 +50,9 @@ impl Source for Input {
             Stream::Missing => Err(Failed),
         };
         self.failed = self.failed || read.is_err();
+        if let Ok(count) = read {
+            self.head = after(self.head, buf, count);
+        }
         read
     }
 }
@@ -68,6 +80,7 @@ pub(crate) fn input_at(rt: &HostRuntime, path: &str) -> Input
     Input {
         stream: stream_at(rt, path),
         failed: false,
+        head: Head::Empty,
     }
 }
 
@@ -149,6 +162,11 @@ impl<R: io::Read + Drop> Watched<R> {
             is_divided: false,
             line: Line::Blank,
         })
+    }
+
+    /// Whether the bytes begin with a UTF-8 byte order mark.
+    pub(crate) fn has_mark(&self) -> bool {
+        after(Head::Empty, self.kept.as_slice(), self.kept.len()) == Head::Mark
     }
 
     /// Whether there was a line `---`.

@@ -47,6 +47,10 @@ pub(crate) fn likeness_of(text: &[u8]) -> Option<Likeness> {
     None
 }
 
+/// What a note says of a trace that is read although it begins with a byte order mark, after the file's name.
+pub(crate) const MARKED: &[u8] =
+    b" begins with a UTF-8 byte order mark, which is read as part of the first thread's name: remove it";
+
 /// What a note says of it, after the file's name.
 pub(crate) fn words_of(likeness: Likeness) -> &'static [u8] {
     match likeness {

@@ -4,6 +4,7 @@ ghost use Rattle.std.specs.Prelude.{◌≡◌, IfSome, false};
 use crate::coding::{lines_of, root_of};
 use crate::input::{Input, input_at};
 use crate::seen::Seen;
+use crate::telling::tell_mark;
 use client_scripts::{Sink, read_trace};
 use event_index::Indexed;
 use program_words::{RacesForm, TriageTask};
@@ -91,7 +92,11 @@ fn list_plain<R: Threads + Sync, K: Sink, W: Watch + Sync>(
         lines: none,
     };
     let asked = asked_of(listing, sources);
-    triage(crew, rt.alloc(), &mut reader, known, asked, writer)
+    let listed = triage(crew, rt.alloc(), &mut reader, known, asked, writer);
+    if listed.is_ok() {
+        tell_mark(rt, &reader, listing.task.trace);
+    }
+    listed
 }
 
 /// The same with the code in this folder.
@@ -107,6 +112,7 @@ fn list_in<R: Threads + Sync, K: Sink, W: Watch + Sync>(
     let mut reader = input_at(rt, listing.task.trace);
     match read_trace(rt.alloc(), &mut reader) {
         Ok(indexed) => {
+            tell_mark(rt, &reader, listing.task.trace);
             crew.watch.read(indexed.len());
             list_code(rt, crew, listing, &indexed, folder, writer)
         }

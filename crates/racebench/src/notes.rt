@@ -1,15 +1,16 @@
 //! Notes: what stands after the line of a fault and says more of it, each in a line of its own.
 
-use crate::likeness::{likeness_of, words_of};
 use crate::lines::{
-    before_gap, behind_divider, behind_line, command_of, first_line, first_word, is_divider,
-    line_of,
+    before_gap, behind_divider, behind_line, command_of, first_line, first_word, line_of,
 };
 use crate::quoted::{append_name, append_quote, append_shown};
+use crate::trace_notes::{
+    append_length_note, append_rule_notes, append_text_notes, append_trace_notes,
+};
 use calls::BenchFault;
 use client_scripts::{FromRead, ReadCause, ReplayFault, ScriptCause, ScriptRefusal, read_all};
 use program_words::{LISTED_BEHIND, overview};
-use rapid_text::{OutOfMemory, trim};
+use rapid_text::{OutOfMemory, TextRefusal, trim};
 use std::env;
 use std::fs::{File, metadata};
 use std::io::IsTerminal;
@@ -125,28 +126,6 @@ fn append_script_notes(
     Ok(())
 }
 
-/// Appends the note that says what else the text of a refused trace looks like.
-fn append_likeness(out: &mut Vec<u8>, name: &str, text: &[u8]) -> Result<(), OutOfMemory> {
-    match likeness_of(text) {
-        Some(likeness) => append_named(out, name, words_of(likeness)),
-        None => Ok(()),
-    }
-}
-
-/// Appends the notes on a refused line of a trace: the line, and what the text looks like.
-fn append_text_notes(
-    out: &mut Vec<u8>,
-    name: &str,
-    text: &[u8],
-    is_whole: bool,
-    number: u64,
-) -> Result<(), OutOfMemory> {
-    if let Some(line) = line_of(text, is_whole, number) {
-        append_quote(out, name, number, line)?;
-    }
-    append_likeness(out, name, text)
-}
-
 /// Appends the notes on a fault of a joint text, of which these are the first bytes.
 pub(crate) fn append_joint_notes(
     out: &mut Vec<u8>,
@@ -159,9 +138,11 @@ pub(crate) fn append_joint_notes(
             append_named(out, STANDARD_INPUT, unread_words(true, *why))
         }
         ReplayFault::Text(refusal) => {
-            append_text_notes(out, STANDARD_INPUT, text, is_whole, refusal.line)
+            append_text_notes(out, STANDARD_INPUT, text, is_whole, refusal)
         }
-        ReplayFault::Rule(_) => append_likeness(out, STANDARD_INPUT, text),
+        ReplayFault::Rule(refusal) => {
+            append_rule_notes(out, STANDARD_INPUT, text, is_whole, refusal.event)
+        }
         ReplayFault::Write => append_write_note(out, STANDARD_OUTPUT),
         ReplayFault::Script(refusal) => match behind_divider(text) {
             Some(script) => append_script_notes(out, SCRIPT, script, is_whole, refusal),
@@ -215,40 +196,54 @@ fn can_be_opened(rt: &HostRuntime, path: &str) -> bool {
     }
 }
 
-/// Appends the notes on a refused line of a trace that is to stand alone, of which this is the whole text.
-fn append_trace_notes(
-    out: &mut Vec<u8>,
-    path: &str,
-    text: &[u8],
-    number: u64,
-) -> Result<(), OutOfMemory> {
-    append_text_notes(out, path, text, true, number)?;
-    let at_divider = match line_of(text, true, number) {
-        Some(line) => is_divider(line),
-        None => false,
-    };
-    if at_divider {
-        out.extend_from_slice(
-            b"note: `---` begins the script of a joint text; here the trace stands alone\n",
-        )?;
-    }
-    Ok(())
-}
-
-/// Appends the notes on a refused line of the trace in a file, or on a broken rule of it.
+/// Appends the notes on a refused line of the trace in a file.
 fn append_trace_file_notes(
     rt: &HostRuntime,
     out: &mut Vec<u8>,
     path: &str,
-    line: Option<u64>,
+    refusal: &TextRefusal,
 ) -> Result<(), OutOfMemory> {
-    let Some(text) = bytes_again(rt, path) else {
-        return Ok(());
-    };
-    match line {
-        Some(number) => append_trace_notes(out, path, &text, number),
-        None => append_likeness(out, path, &text),
+    match bytes_again(rt, path) {
+        Some(text) => append_trace_notes(out, path, &text, refusal),
+        None => Ok(()),
     }
+}
+
+/// Appends the notes on an event that breaks a rule of the trace in a file.
+fn append_rule_file_notes(
+    rt: &HostRuntime,
+    out: &mut Vec<u8>,
+    path: &str,
+    event: u32,
+) -> Result<(), OutOfMemory> {
+    match bytes_again(rt, path) {
+        Some(text) => append_rule_notes(out, path, &text, true, event),
+        None => Ok(()),
+    }
+}
+
+/// Appends the notes on a line of the log in a file, which is no call that is accepted there.
+pub(crate) fn append_log_notes(
+    rt: &HostRuntime,
+    out: &mut Vec<u8>,
+    path: &str,
+    number: u64,
+) -> Result<(), OutOfMemory> {
+    if let Some(text) = bytes_again(rt, path) {
+        if let Some(line) = line_of(&text, true, number) {
+            append_quote(out, path, number, line)?;
+        }
+    }
+    append_named(out, path, b" is not what `racebench session` writes")
+}
+
+/// Appends the note on a log of another trace.
+pub(crate) fn append_other_log_note(out: &mut Vec<u8>, path: &str) -> Result<(), OutOfMemory> {
+    append_named(
+        out,
+        path,
+        b" was made with another trace: take that trace, or another name for the log",
+    )
 }
 
 /// Appends the notes on a refused line of the script in a file.
@@ -273,10 +268,11 @@ pub(crate) fn append_file_notes(
 ) -> Result<(), OutOfMemory> {
     match fault {
         BenchFault::Replay(ReplayFault::Text(refusal)) => {
-            append_trace_file_notes(rt, out, path_of(paths, 1), Some(refusal.line))
+            append_trace_file_notes(rt, out, path_of(paths, 1), refusal)?;
+            append_length_note(out, refusal)
         }
-        BenchFault::Replay(ReplayFault::Rule(_)) => {
-            append_trace_file_notes(rt, out, path_of(paths, 1), None)
+        BenchFault::Replay(ReplayFault::Rule(refusal)) => {
+            append_rule_file_notes(rt, out, path_of(paths, 1), refusal.event)
         }
         BenchFault::Replay(ReplayFault::Script(refusal)) => {
             append_script_file_notes(rt, out, path_of(paths, 2), refusal)

@@ -2,6 +2,7 @@
 ghost use Rattle.std.specs.Prelude.{◌≤◌, length};
 
 use crate::input::Input;
+use crate::telling::tell_mark;
 use client_scripts::{LIMIT, ReadCause, ReplayFault, Source};
 use memchr::memchr;
 use rapid_text::{trim, trim_start};
@@ -106,6 +107,11 @@ impl Pieces {
         }
     }
 
+    /// Says of the trace at this path that it begins with a byte order mark, if it does.
+    pub(crate) fn tell_mark(&self, rt: &HostRuntime, path: &str) {
+        tell_mark(rt, &self.input, path);
+    }
+
     /// What was read and not taken yet.
     pub(crate) fn bytes(&self) -> &[u8] {
         self.bytes.as_slice()
@@ -180,10 +186,16 @@ impl Pieces {
 
     /// The same, or as many of these lines as are kept at once with those before this place.
     pub(crate) fn span_kept(&mut self, start: usize, events: usize) -> Result<Span, ReplayFault> {
-        let mut span = Span {
+        let none = Span {
             end: start,
             events: 0,
         };
+        self.span_more(none, events)
+    }
+
+    /// The same, where these first lines were found before.
+    pub(crate) fn span_more(&mut self, found: Span, events: usize) -> Result<Span, ReplayFault> {
+        let mut span = found;
         for _ in 0..READS {
             if span.events >= events {
                 return Ok(span);
@@ -192,7 +204,7 @@ impl Pieces {
                 Ok(Some(end)) => span = self.with_line(span, end),
                 Ok(None) => return Ok(span),
                 Err(fault) => {
-                    if is_full(fault) && (start > 0 || span.events > 0) {
+                    if is_full(fault) && (found.end > 0 || span.events > 0) {
                         return Ok(span);
                     }
                     return Err(fault);

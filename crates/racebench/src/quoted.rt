@@ -40,9 +40,31 @@ pub(crate) fn append_quote(
     number: u64,
     line: &[u8],
 ) -> Result<(), OutOfMemory> {
+    append_quoted(out, b"line ", name, number, line)
+}
+
+/// Appends the note that quotes the line of an event, which has this number in an input.
+pub(crate) fn append_event(
+    out: &mut Vec<u8>,
+    name: &str,
+    number: u64,
+    line: &[u8],
+) -> Result<(), OutOfMemory> {
+    append_quoted(out, b"event ", name, number, line)
+}
+
+/// Appends the note that quotes a line, of which this word and number say which it is.
+fn append_quoted(
+    out: &mut Vec<u8>,
+    word: &[u8],
+    name: &str,
+    number: u64,
+    line: &[u8],
+) -> Result<(), OutOfMemory> {
     let line = trim(line);
     let shown = line.len().min(MAX_LINE_SHOWN);
-    out.extend_from_slice(b"note: line ")?;
+    out.extend_from_slice(b"note: ")?;
+    out.extend_from_slice(word)?;
     append_number(out, number)?;
     out.extend_from_slice(b" of ")?;
     append_name(out, name)?;

@@ -5,7 +5,7 @@ use crate::doing::finish;
 use crate::input::input_at;
 use crate::notes::is_plain;
 use crate::output::Output;
-use crate::telling::{tell_log, tell_session};
+use crate::telling::{tell_log, tell_mark, tell_session};
 use client_scripts::{FromRead, FromWrite, ReadCause, ReplayFault, Sink, read_trace};
 use event_index::Indexed;
 use kept_host::Host;
@@ -161,7 +161,10 @@ fn log_at(rt: &HostRuntime, path: &str, head: &[u8]) -> Result<File, SessionFaul
 fn trace_at(rt: &HostRuntime, path: &str) -> Result<Indexed, SessionFault> {
     let mut input = input_at(rt, path);
     match read_trace(rt.alloc(), &mut input) {
-        Ok(indexed) => Ok(indexed),
+        Ok(indexed) => {
+            tell_mark(rt, &input, path);
+            Ok(indexed)
+        }
         Err(fault) => Err(SessionFault::from(fault)),
     }
 }

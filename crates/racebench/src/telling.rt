@@ -1,8 +1,11 @@
 //! What the program says where it stops short of what the words ask for, and the status that it ends with then.
 
+use crate::input::Input;
+use crate::likeness::MARKED;
 use crate::notes::{
     STANDARD_OUTPUT, append_confirmed_notes, append_file_notes, append_joint_notes,
-    append_triaged_note, append_write_note, are_wanted,
+    append_log_notes, append_named, append_other_log_note, append_triaged_note, append_write_note,
+    are_wanted,
 };
 use crate::pair_notes::append_pair_note;
 use crate::quoted::append_name;
@@ -157,8 +160,15 @@ fn append_in_pair(
     pair: &PairTask<'_>,
 ) -> Result<(), OutOfMemory> {
     append_fault(out, &Fault::Pair(*fault))?;
-    if *fault == PairFault::NoSuchPair && are_wanted(rt) {
-        append_pair_note(rt, out, pair)?;
+    if !are_wanted(rt) {
+        return Ok(());
+    }
+    match fault {
+        PairFault::NoSuchPair => append_pair_note(rt, out, pair)?,
+        PairFault::NotShown(_) => {
+            out.extend_from_slice(b"note: `racebench explain` of the same two says why\n")?
+        }
+        PairFault::Replay(_) => {}
     }
     Ok(())
 }
@@ -205,7 +215,29 @@ pub(crate) fn tell_session(
             tell_joint(rt, ReplayFault::Read { input: 1, why }, &[], true)
         }
         SessionFault::Replay(fault) => tell_files(rt, BenchFault::from(fault), &[trace, log]),
-        fault => tell(rt, Fault::Session(fault)),
+        fault => {
+            let mut lines = Vec::new(rt.alloc());
+            let made = append_in_session(rt, &mut lines, fault, log);
+            end(rt, &lines, made, ExitCode::FAILURE)
+        }
+    }
+}
+
+/// Appends the line that tells a fault of the log at this path, and its notes.
+fn append_in_session(
+    rt: &HostRuntime,
+    out: &mut Vec<u8>,
+    fault: SessionFault,
+    log: &str,
+) -> Result<(), OutOfMemory> {
+    append_fault(out, &Fault::Session(fault))?;
+    if !are_wanted(rt) {
+        return Ok(());
+    }
+    match fault {
+        SessionFault::LogLine { line } => append_log_notes(rt, out, log, line),
+        SessionFault::OtherTrace => append_other_log_note(out, log),
+        SessionFault::Replay(_) => Ok(()),
     }
 }
 
@@ -375,6 +407,23 @@ pub(crate) fn tell_blockless(rt: &HostRuntime, path: &str) -> Result<(), OutOfMe
     line.extend_from_slice(b" has no block `race`: no race is known\n")?;
     say(rt, &line);
     Ok(())
+}
+
+/// Says of a trace that was read, which has this name, that it begins with a byte order mark.
+pub(crate) fn say_marked(rt: &HostRuntime, name: &str) {
+    if are_wanted(rt) {
+        let mut line = Vec::new(rt.alloc());
+        if append_named(&mut line, name, MARKED).is_ok() {
+            say(rt, &line);
+        }
+    }
+}
+
+/// Says of a trace that this input gave that it begins with a byte order mark, if it does.
+pub(crate) fn tell_mark(rt: &HostRuntime, input: &Input, path: &str) {
+    if input.has_mark() {
+        say_marked(rt, path);
+    }
 }
 
 /// Prints the help that the words ask for.

@@ -3,7 +3,7 @@ ghost use Rattle.std.specs.Prelude.{◌≡◌, false};
 
 use crate::coding::is_folder;
 use crate::cutting::{append_counts, append_padded};
-use crate::input::{Input, input_at};
+use crate::input::{Input, input_at, is_standard};
 use crate::kept::Kept;
 use crate::logging::write_log_in;
 use crate::numbering::{Place, moved};
@@ -15,6 +15,7 @@ use crate::windows::Windows;
 use calls::{BenchFault, MergeFault, Parts, read_part, write_merged, write_merged_json};
 use client_scripts::{FromRead, FromWrite, ReplayFault, Sink, write_all};
 use program_words::{RacesForm, TriageTask};
+use race_page::append_shell_word;
 use rapid_text::OutOfMemory;
 use std::alloc::Global;
 use std::io::IsTerminal;
@@ -156,7 +157,7 @@ impl Report<'_> {
     // The name of the part that a window is: with `racebench cut` before it, it prints the window.
     fn name_of(&self, alloc: Global, number: u64) -> Result<Vec<u8>, OutOfMemory> {
         let mut name = Vec::new(alloc);
-        name.extend_from_slice(self.task.trace.as_bytes())?;
+        append_trace(&mut name, self.task.trace)?;
         name.extend_from_slice(b" --windows ")?;
         append_number(&mut name, u64::from(self.most))?;
         name.extend_from_slice(b" --window ")?;
@@ -191,6 +192,15 @@ impl Report<'_> {
         }
         Ok(())
     }
+}
+
+/// Appends the path of a trace as one word for a shell. `-` is standard input.
+fn append_trace(out: &mut Vec<u8>, path: &str) -> Result<(), OutOfMemory> {
+    if is_standard(path) {
+        out.extend_from_slice(path.as_bytes())?;
+        return Ok(());
+    }
+    append_shell_word(out, path.as_bytes())
 }
 
 /// Says how far the work is: on a terminal, or if that is asked for.
@@ -385,7 +395,10 @@ fn list_windows<R: Threads + Sync>(
         Err(_) => return tell_stop(rt, Stop::Part, task),
     };
     match judged {
-        Ok(()) => status_of(rt, task, races, report.count),
+        Ok(()) => {
+            windows.tell_mark(rt, task.trace);
+            status_of(rt, task, races, report.count)
+        }
         Err(stop) => tell_stop(rt, stop, task),
     }
 }

@@ -19,6 +19,8 @@ pub(crate) struct Windows {
     fault: Option<BenchFault>,
     is_done: bool,
     short: u64,
+    // The lines at the front that were found for the window before, if they were.
+    found: Option<Span>,
 }
 
 /// Half of so many, rounded up.
@@ -31,6 +33,16 @@ fn half_of(count: usize) -> usize {
 struct Spans {
     first: Span,
     all: Span,
+}
+
+impl Spans {
+    /// The lines that the next window has too, once the others are taken.
+    fn rest(self) -> Span {
+        Span {
+            end: self.all.end.saturating_sub(self.first.end),
+            events: self.all.events.saturating_sub(self.first.events),
+        }
+    }
 }
 
 /// The fault of a line that is refused.
@@ -48,7 +60,13 @@ impl Windows {
             fault: None,
             is_done: false,
             short: 0,
+            found: None,
         }
+    }
+
+    /// Says of the trace at this path that it begins with a byte order mark, if it does.
+    pub(crate) fn tell_mark(&self, rt: &HostRuntime, path: &str) {
+        self.pieces.tell_mark(rt, path);
     }
 
     /// How many windows have fewer events than were asked for, although more follow.
@@ -102,7 +120,7 @@ impl Windows {
     // The lines of a window of so many events, or of as many as are kept at once.
     fn spans(&mut self, most: u32) -> Result<Spans, ReplayFault> {
         let half = half_of(most as usize);
-        let first = self.pieces.span_kept(0, half)?;
+        let first = self.first_span(half)?;
         if first.events < half {
             return self.spans_of(first);
         }
@@ -117,6 +135,21 @@ impl Windows {
             return self.spans_of(all);
         }
         Ok(Spans { first, all })
+    }
+
+    // The lines of so many events at the front, or of as many as are kept at once.
+    fn first_span(&mut self, half: usize) -> Result<Span, ReplayFault> {
+        let found = self.found;
+        self.found = None;
+        match found {
+            Some(span) => {
+                if span.events > half {
+                    return self.pieces.span_kept(0, half);
+                }
+                self.pieces.span_more(span, half)
+            }
+            None => self.pieces.span_kept(0, half),
+        }
     }
 
     // The same of these lines, half of which the next window has.
@@ -241,6 +274,9 @@ impl Windows {
         } else {
             let end = self.step(spans, covered)?;
             self.go_on(alloc, end)?;
+            if end == spans.first.end {
+                self.found = Some(spans.rest());
+            }
         }
         Ok(Some(window))
     }

@@ -1,0 +1,80 @@
+//! Notes on a trace whose text is refused, or which breaks a rule: its line, and what to do.
+
+use crate::likeness::{likeness_of, words_of};
+use crate::lines::{first_line, is_divider, line_of};
+use crate::notes::append_named;
+use crate::pieces::{from, start_of_event};
+use crate::quoted::{append_event, append_quote};
+use rapid_text::{OutOfMemory, TextCause, TextRefusal};
+
+/// Appends the note that says what else the text of a refused trace looks like.
+fn append_likeness(out: &mut Vec<u8>, name: &str, text: &[u8]) -> Result<(), OutOfMemory> {
+    match likeness_of(text) {
+        Some(likeness) => append_named(out, name, words_of(likeness)),
+        None => Ok(()),
+    }
+}
+
+/// What to do with a trace that is too long.
+const LONG: &[u8] =
+    b"note: `racebench triage --windows` reads a trace of any length, and `racebench cut` prints a part of it\n";
+
+/// Appends the note on a trace that is too long, if it is.
+pub(crate) fn append_length_note(
+    out: &mut Vec<u8>,
+    refusal: &TextRefusal,
+) -> Result<(), OutOfMemory> {
+    if refusal.why == TextCause::TooManyEvents {
+        out.extend_from_slice(LONG)?;
+    }
+    Ok(())
+}
+
+/// Appends the notes on a refused line of a trace: the line, and what the text looks like.
+pub(crate) fn append_text_notes(
+    out: &mut Vec<u8>,
+    name: &str,
+    text: &[u8],
+    is_whole: bool,
+    refusal: &TextRefusal,
+) -> Result<(), OutOfMemory> {
+    if let Some(line) = line_of(text, is_whole, refusal.line) {
+        append_quote(out, name, refusal.line, line)?;
+    }
+    append_likeness(out, name, text)
+}
+
+/// Appends the notes on an event that breaks a rule: its line, and what the text looks like.
+pub(crate) fn append_rule_notes(
+    out: &mut Vec<u8>,
+    name: &str,
+    text: &[u8],
+    is_whole: bool,
+    event: u32,
+) -> Result<(), OutOfMemory> {
+    let number = u64::from(event);
+    if let Some(line) = first_line(from(text, start_of_event(text, number)), is_whole) {
+        append_event(out, name, number, line)?;
+    }
+    append_likeness(out, name, text)
+}
+
+/// Appends the notes on a refused line of a trace that is to stand alone, of which this is the whole text.
+pub(crate) fn append_trace_notes(
+    out: &mut Vec<u8>,
+    path: &str,
+    text: &[u8],
+    refusal: &TextRefusal,
+) -> Result<(), OutOfMemory> {
+    append_text_notes(out, path, text, true, refusal)?;
+    let at_divider = match line_of(text, true, refusal.line) {
+        Some(line) => is_divider(line),
+        None => false,
+    };
+    if at_divider {
+        out.extend_from_slice(
+            b"note: `---` begins the script of a joint text; here the trace stands alone\n",
+        )?;
+    }
+    Ok(())
+}
