@@ -1,0 +1,4 @@
+pub mod FilterLemmas
+pub mod ListedLemmas
+pub mod MetLemmas
+pub mod SplitLemmas
