@@ -19,7 +19,7 @@ _racebench() {
         explain) flags="--all --help -h" ;;
         witness) flags="--script --std --svg --help -h" ;;
         cut) flags="--windows --window --into --help -h" ;;
-        merge) flags="--apart --json --page --sarif --source --fail --help -h" ;;
+        merge) flags="--known --only --hide --apart --json --page --sarif --source --triage --today --fail --help -h" ;;
     esac
     if [[ " --workers --client --tries --only --hide --windows --window " == *" ${COMP_WORDS[COMP_CWORD - 1]} "* ]]; then
         COMPREPLY=() # a number or a text

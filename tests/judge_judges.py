@@ -63,7 +63,7 @@ ARGUMENTS = {"judge_pages": ["docs/EXPLAIN.md"], "judge_record": ["tests/recorde
 NOTHING = {
     "judge_pages": ["CHANGELOG.md"],
     "judge_record": ["no such case"],
-    **{f"judge_{name}": ["0"] for name in "cut merge merged_sarif places questions sarif triage triage_file windows".split()},
+    **{f"judge_{name}": ["0"] for name in "cut left merge merged_sarif places questions sarif triage triage_file windows".split()},
 }
 
 

@@ -150,12 +150,12 @@ class Judge:
             if found != wanted:
                 raise Wrong(f"merge {words} {flags} prints\n{found.decode()}and not\n{wanted.decode()}")
 
-    def page(self, words, parts):
-        """The page of these words has the rows of the parts."""
+    def page(self, words, parts, pairs=None):
+        """The page of these words has the rows of the parts, or of these pairs of them."""
         with_apart = bool(self.seen["page"] % 2)
         found = self.printed([*words, "--page", *(["--apart"] if with_apart else [])])
         root = judge_page.read(found)
-        pairs = plain.merged_pairs(parts)
+        pairs = plain.merged_pairs(parts) if pairs is None else pairs
         kinds = [pair.told["kind"] for pair in pairs]
         races, count = kinds.count("race"), len(parts)
         begin = f"{races or 'No'} race{'' if races == 1 else 's'} in {count} part{'' if count == 1 else 's'}"

@@ -127,6 +127,10 @@ class Judge(judge_sarif.Judge):
         """Judges the log of the parts; its results."""
         run = self.run_of(["merge", *parts, "--sarif", *flags, *(["--source", folder] if folder else [])])
         pairs = [pair for pair in plain.merged_pairs(parts) if flags or pair.rank < 2]
+        return self.check_run(run, parts, pairs, folder)
+
+    def check_run(self, run, parts, pairs, folder):
+        """The run has a result for each of these pairs of the parts."""
         self.equal(len(run["results"]), len(pairs), "the number of results")
         self.tally["no results"] += not pairs
         for result, pair in zip(run["results"], pairs):

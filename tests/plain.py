@@ -788,14 +788,18 @@ def merged_pairs(parts: Mapping[str, Sequence[Told]]) -> list[Shown]:
 
 def merged(parts: Mapping[str, Sequence[Told]], with_apart: bool) -> str:
     """What `merge` prints of the parts, each a name with the objects of its lines, the counts first."""
-    pairs = merged_pairs(parts)
-    lines = [f"parts {len(parts)}"]
+    return merged_of(merged_pairs(parts), len(parts), with_apart)
+
+
+def merged_of(pairs: Sequence[Shown], parts: int, with_apart: bool) -> str:
+    """What `merge` prints of these pairs of so many parts."""
+    lines = [f"parts {parts}"]
     lines += [f"{word} {sum(pair.rank == rank for pair in pairs)}" for rank, word in enumerate(["races", "undecided", "apart"])]
     for pair in pairs:
         if with_apart or pair.rank < 2:
             lines += block(pair.told)
             races, undecided, apart = pair.counts
-            lines.append(f"    parts race {races} undecided {undecided} apart {apart} unmet {len(parts) - sum(pair.counts)}")
+            lines.append(f"    parts race {races} undecided {undecided} apart {apart} unmet {parts - sum(pair.counts)}")
             lines.append(f"    part {pair.part}")
     return "".join(line + "\n" for line in lines)
 

@@ -289,6 +289,7 @@ const MERGE: Words = Words {
   racebench triage a.std --json > a.json
   racebench triage b.std --json > b.json
   racebench merge a.json b.json
+  racebench merge a.json b.json --known before.txt --fail
 
 For each pair of locations the report counts the parts in which it is a race, and shows the race
 with the shortest schedule. With `--json` the report may itself be merged again. The order of the
@@ -298,6 +299,21 @@ parts means nothing, and a part that comes twice counts once.",
             name: "PART",
             kind: Kind::SeveralNeeded,
             help: Some("Output of `triage --json` or `merge --json`; `-` is standard input"),
+        },
+        Word {
+            name: "known",
+            kind: Kind::Text("FILE"),
+            help: Some("Leave out the races in FILE, which `triage` or `merge` printed before"),
+        },
+        Word {
+            name: "only",
+            kind: Kind::Texts("TEXT"),
+            help: Some("Show only blocks that mention TEXT (repeatable)"),
+        },
+        Word {
+            name: "hide",
+            kind: Kind::Texts("TEXT"),
+            help: Some("Hide blocks that mention TEXT (repeatable)"),
         },
         Word {
             name: "apart",
@@ -327,9 +343,21 @@ parts means nothing, and a part that comes twice counts once.",
             ),
         },
         Word {
+            name: "triage",
+            kind: Kind::Text("FILE"),
+            help: Some("Leave out the races that the triage file FILE (TOML) has decided"),
+        },
+        Word {
+            name: "today",
+            kind: Kind::Text("DATE"),
+            help: Some(
+                "With --triage, the date that entries expire by, as 2027-12-31; today if not given",
+            ),
+        },
+        Word {
             name: "fail",
             kind: Kind::Flag(&[]),
-            help: Some("Exit with status 3 if there is a race"),
+            help: Some("Exit with status 3 if a race is printed"),
         },
     ],
 };

@@ -140,22 +140,14 @@ fn windows_of(given: &ArgMatches<'_>, limits: Limits) -> Result<Option<u32>, Unr
             return Err(Unread::Refused(ALONE));
         }
     }
-    for flag in ["known", "confirmed", "triage"] {
-        if given.get_str(flag).is_some() {
-            return Err(Unread::Refused(ALONE));
-        }
-    }
-    for flag in ["only", "hide"] {
-        if given.get_strs(flag).is_some() {
-            return Err(Unread::Refused(ALONE));
-        }
+    if given.get_str("confirmed").is_some() {
+        return Err(Unread::Refused(ALONE));
     }
     Ok(Some(number(word, 1, limits.events, WINDOWS)?))
 }
 
 /// Why other flags are refused beside `--windows`.
-const ALONE: &str =
-    "`--windows` does not go with `--lines`, `--init-triage`, `--known`, `--confirmed`, `--triage`, `--only`, `--hide`";
+const ALONE: &str = "`--windows` does not go with `--lines`, `--init-triage`, `--confirmed`";
 
 /// What `triage` is asked for.
 fn triage<'a>(
@@ -266,17 +258,40 @@ fn merged_form(given: &ArgMatches<'_>) -> RacesForm {
     }
 }
 
+/// The parts, and these files.
+fn inputs<'a>(
+    alloc: Global,
+    parts: &[&'a str],
+    known: Option<&'a str>,
+    decided: Option<&'a str>,
+) -> Result<Vec<&'a str>, AllocError> {
+    let mut inputs = Vec::from_slice(alloc, parts)?;
+    inputs.push(known.unwrap_or(""))?;
+    inputs.push(decided.unwrap_or(""))?;
+    Ok(inputs)
+}
+
 /// What `merge` is asked for.
 fn merge<'a>(alloc: Global, given: &ArgMatches<'a>) -> Result<MergeTask<'a>, Unread> {
     let parts = texts(alloc, given, "PART")?;
-    check_inputs(&parts)?;
+    let known = given.get_str("known");
+    let decided = given.get_str("triage");
+    check_inputs(&inputs(alloc, &parts, known, decided)?)?;
     let source = given.get_str("source");
     check_source(given, source)?;
+    let today = day(given.get_str("today"), decided.is_some())?;
+    let only = texts(alloc, given, "only")?;
+    let hide = texts(alloc, given, "hide")?;
     Ok(MergeTask {
         parts,
+        known,
+        only,
+        hide,
         apart: given.get_flag("apart"),
         form: merged_form(given),
         source,
+        triage: decided,
+        today,
         fail: given.get_flag("fail"),
     })
 }

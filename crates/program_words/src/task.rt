@@ -153,12 +153,22 @@ pub struct CutTask<'a> {
 pub struct MergeTask<'a> {
     /// The paths of the parts, at least one.
     pub parts: Vec<&'a str>,
+    /// The path of what was printed before, whose races are left out.
+    pub known: Option<&'a str>,
+    /// Texts of which a block has to hold one, where there are any.
+    pub only: Vec<&'a str>,
+    /// Texts of which a block may hold none.
+    pub hide: Vec<&'a str>,
     /// Whether blocks are printed of what is apart.
     pub apart: bool,
-    /// In which form: text, an object a line, or a log.
+    /// In which form: text, an object a line, a page, or a log.
     pub form: RacesForm,
     /// The path of the folder of the code, for a log.
     pub source: Option<&'a str>,
+    /// The path of the triage file, whose races are left out.
+    pub triage: Option<&'a str>,
+    /// The day on which its entries must be in force, a number such as 20271231; nothing for today.
+    pub today: Option<u32>,
     /// Whether a race that is printed makes the status 3.
     pub fail: bool,
 }

@@ -10,6 +10,7 @@ mod doing;
 mod front;
 mod input;
 mod kept;
+mod leaving;
 mod likeness;
 mod lines;
 mod listing;

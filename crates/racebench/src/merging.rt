@@ -2,6 +2,9 @@
 
 use crate::coding::is_folder;
 use crate::input::input_at;
+use crate::leaving::{
+    Decided, Printed, is_any, read_decided, tell_decided, wanted_of, write_decided,
+};
 use crate::logging::print_log;
 use crate::quoted::{append_name, append_number};
 use crate::telling::{say, tell_files, tell_folder, tell_replay, tell_triage};
@@ -95,11 +98,55 @@ pub(crate) fn status_at(races: u64, fail: bool) -> ExitCode {
 }
 
 /// Prints what is told of the parts.
-fn print_merged(rt: &HostRuntime, parts: &Parts, task: &MergeTask<'_>) -> ExitCode {
+fn print_merged(
+    rt: &HostRuntime,
+    parts: &Parts,
+    task: &MergeTask<'_>,
+    decided: &Decided,
+) -> ExitCode {
+    if is_any(wanted_of(task)) {
+        return print_decided(rt, parts, task, decided);
+    }
     match task.form {
         RacesForm::Sarif => print_log(rt, parts, task),
         RacesForm::Page => print_page(rt, parts, task),
         form => print_lines(rt, parts, task, form),
+    }
+}
+
+/// Prints it without what is left out.
+fn print_decided(
+    rt: &HostRuntime,
+    parts: &Parts,
+    task: &MergeTask<'_>,
+    decided: &Decided,
+) -> ExitCode {
+    let mut writer = FromWrite::new(io::writer(rt));
+    let printed = Printed {
+        apart: task.apart,
+        form: task.form,
+        source: task.source,
+    };
+    match write_decided(rt, parts, decided, wanted_of(task), printed, &mut writer) {
+        Ok(races) => match writer.flush() {
+            Ok(()) => status_after(rt, parts, task, decided, races),
+            Err(_) => tell_replay(rt, ReplayFault::Write),
+        },
+        Err(fault) => tell_triage(rt, fault, &[]),
+    }
+}
+
+/// The status after so many races were printed. What the files that leave races out are not about is told.
+fn status_after(
+    rt: &HostRuntime,
+    parts: &Parts,
+    task: &MergeTask<'_>,
+    decided: &Decided,
+    races: u64,
+) -> ExitCode {
+    match tell_decided(rt, parts, decided, wanted_of(task)) {
+        Ok(()) => status_at(races, task.fail),
+        Err(_) => tell_replay(rt, ReplayFault::OutOfMemory),
     }
 }
 
@@ -139,10 +186,18 @@ pub(crate) fn merge_files(rt: &HostRuntime, task: &MergeTask<'_>) -> ExitCode {
     }
 }
 
-/// Merges the reports in files into one.
+/// Merges the reports in files into one, after what is left out was read.
 fn merge_read(rt: &HostRuntime, task: &MergeTask<'_>) -> ExitCode {
+    match read_decided(rt, wanted_of(task)) {
+        Ok(decided) => merge_decided(rt, task, &decided),
+        Err(status) => status,
+    }
+}
+
+/// Merges the reports in files into one.
+fn merge_decided(rt: &HostRuntime, task: &MergeTask<'_>, decided: &Decided) -> ExitCode {
     match read_parts(rt, &task.parts) {
-        Ok(parts) => print_merged(rt, &parts, task),
+        Ok(parts) => print_merged(rt, &parts, task, decided),
         Err((fault, file)) => tell_merge(rt, fault, file, &task.parts),
     }
 }

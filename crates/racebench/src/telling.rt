@@ -290,12 +290,7 @@ pub(crate) fn tell_confirmed(
 }
 
 /// Tells a fault of the triage file that the task names, which is input 4.
-pub(crate) fn tell_triaged(
-    rt: &HostRuntime,
-    fault: TriagedFault,
-    task: &TriageTask<'_>,
-) -> ExitCode {
-    let path = task.triage.unwrap_or("");
+pub(crate) fn tell_triaged(rt: &HostRuntime, fault: TriagedFault, path: &str) -> ExitCode {
     match fault {
         TriagedFault::Replay(fault) => {
             tell_files(rt, BenchFault::from(fault), &["", "", "", path])

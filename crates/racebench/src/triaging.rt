@@ -192,7 +192,7 @@ fn list_decided<R: Threads + Wait + Sync>(
     };
     match read_triaged(rt.alloc(), &mut input_at(rt, path), today) {
         Ok(table) => list_followed(rt, starts, task, followed, Some(entries_of(&table))),
-        Err(fault) => tell_triaged(rt, fault, task),
+        Err(fault) => tell_triaged(rt, fault, path),
     }
 }
 

@@ -5,6 +5,9 @@ use crate::coding::is_folder;
 use crate::cutting::{append_counts, append_padded};
 use crate::input::{Input, input_at, is_standard};
 use crate::kept::Kept;
+use crate::leaving::{
+    Decided, Printed, is_any, read_decided, tell_decided, wanted_in, write_decided,
+};
 use crate::logging::write_log_in;
 use crate::numbering::{Place, moved};
 use crate::pieces::Pieces;
@@ -62,6 +65,7 @@ impl From<MergeFault> for Stop {
 #[derive(Drop)]
 struct Report<'a> {
     task: &'a TriageTask<'a>,
+    decided: &'a Decided,
     most: u32,
     parts: Parts,
     count: u64,
@@ -256,6 +260,9 @@ fn write_report<K: Sink>(
     requires { K.has_failed writer.old ≡ false }
 {
     let task = report.task;
+    if is_any(wanted_in(task)) {
+        return write_chosen(rt, windows, report, writer);
+    }
     match task.form {
         RacesForm::Json => write_merged_json(rt.alloc(), &report.parts, writer),
         RacesForm::Page => {
@@ -266,6 +273,52 @@ fn write_report<K: Sink>(
         }
         _ => write_lines(rt.alloc(), windows, report, writer),
     }
+}
+
+/// Writes the same without what is left out.
+fn write_chosen<K: Sink>(
+    rt: &HostRuntime,
+    windows: &Windows,
+    report: &Report<'_>,
+    writer: &mut K,
+) -> Result<u64, MergeFault>
+    requires { K.has_failed writer.old ≡ false }
+{
+    match report.task.form {
+        RacesForm::Json | RacesForm::Page | RacesForm::Sarif => write_rest(rt, report, writer),
+        _ => {
+            let mut head = Vec::new(rt.alloc());
+            append_counts(&mut head, windows, report.count)?;
+            match write_all(writer, head.as_slice()) {
+                Ok(()) => write_rest(rt, report, writer),
+                Err(_) => Err(MergeFault::Replay(ReplayFault::Write)),
+            }
+        }
+    }
+}
+
+/// Writes what is told of the windows without what is left out.
+fn write_rest<K: Sink>(
+    rt: &HostRuntime,
+    report: &Report<'_>,
+    writer: &mut K,
+) -> Result<u64, MergeFault>
+    requires { K.has_failed writer.old ≡ false }
+{
+    let task = report.task;
+    let printed = Printed {
+        apart: task.apart,
+        form: task.form,
+        source: task.source,
+    };
+    told_of(write_decided(
+        rt,
+        &report.parts,
+        report.decided,
+        wanted_in(task),
+        printed,
+        writer,
+    ))
 }
 
 /// The answer, as the calls on merged reports have it.
@@ -364,7 +417,19 @@ pub(crate) fn triage_windows<R: Threads + Sync>(
 ) -> ExitCode {
     match task.source {
         Some(folder) if !is_folder(rt, folder) => tell_folder(rt, folder),
-        _ => list_windows(rt, starts, task, most),
+        _ => match read_decided(rt, wanted_in(task)) {
+            Ok(decided) => list_windows(rt, starts, task, most, &decided),
+            Err(status) => status,
+        },
+    }
+}
+
+/// The status after so many races were printed. What the files that leave races out are not about is told.
+fn status_after(rt: &HostRuntime, report: &Report<'_>, races: u64) -> ExitCode {
+    let task = report.task;
+    match tell_decided(rt, &report.parts, report.decided, wanted_in(task)) {
+        Ok(()) => status_of(rt, task, races, report.count),
+        Err(_) => tell_replay(rt, ReplayFault::OutOfMemory),
     }
 }
 
@@ -374,11 +439,13 @@ fn list_windows<R: Threads + Sync>(
     starts: &R,
     task: &TriageTask<'_>,
     most: u32,
+    decided: &Decided,
 ) -> ExitCode {
     let pieces = Pieces::new(rt.alloc(), input_at(rt, task.trace));
     let mut windows = Windows::new(rt.alloc(), pieces, most);
     let mut report = Report {
         task,
+        decided,
         most,
         parts: Parts::new(rt.alloc()),
         count: 0,
@@ -397,7 +464,7 @@ fn list_windows<R: Threads + Sync>(
     match judged {
         Ok(()) => {
             windows.tell_mark(rt, task.trace);
-            status_of(rt, task, races, report.count)
+            status_after(rt, &report, races)
         }
         Err(stop) => tell_stop(rt, stop, task),
     }

@@ -1,0 +1,279 @@
+//! What `merge` and `triage --windows` leave out of a merged report.
+ghost use Rattle.std.specs.Prelude.{◌≡◌, false};
+
+use crate::coding::{lines_of_cells, root_of, tell_codeless};
+use crate::input::input_at;
+use crate::seen::Seen;
+use crate::telling::{tell_blockless, tell_dateless, tell_files, tell_marks, tell_triaged};
+use crate::today::today_of;
+use calls::{BenchFault, Parts};
+use client_scripts::{Sink, read_input};
+use program_words::{MergeTask, RacesForm, TriageTask};
+use race_parts::{Cell, Row, cells_of, rows_of};
+use rapid_text::OutOfMemory;
+use std::process::ExitCode;
+use std::sync::atomic::AtomicU64;
+use toml::{Table, Value};
+use triage_calls::{
+    Choice, Filters, Hears, MergedAsked, MergedForm, Silent, SourceLine, Sources, TriageFault,
+    entries_of, has_block, hides, is_met, read_triaged, write_left,
+};
+
+/// The number of the text of known races in faults.
+const KNOWN: u32 = 2;
+
+/// What is asked for, of which pairs of locations are left out.
+#[derive(Clone, Copy)]
+pub(crate) struct Wanted<'a> {
+    known: Option<&'a str>,
+    triage: Option<&'a str>,
+    today: Option<u32>,
+    only: &'a [&'a str],
+    hide: &'a [&'a str],
+}
+
+/// What `merge` is asked for.
+pub(crate) fn wanted_of<'a>(task: &'a MergeTask<'_>) -> Wanted<'a> {
+    Wanted {
+        known: task.known,
+        triage: task.triage,
+        today: task.today,
+        only: task.only.as_slice(),
+        hide: task.hide.as_slice(),
+    }
+}
+
+/// What `triage --windows` is asked for.
+pub(crate) fn wanted_in<'a>(task: &'a TriageTask<'_>) -> Wanted<'a> {
+    Wanted {
+        known: task.known,
+        triage: task.triage,
+        today: task.today,
+        only: task.only.as_slice(),
+        hide: task.hide.as_slice(),
+    }
+}
+
+/// Whether anything may be left out.
+pub(crate) fn is_any(wanted: Wanted<'_>) -> bool {
+    wanted.known.is_some()
+        || wanted.triage.is_some()
+        || !wanted.only.is_empty()
+        || !wanted.hide.is_empty()
+}
+
+/// What was read of it: the text of known races, and the triage file.
+#[derive(Drop)]
+pub(crate) struct Decided {
+    known: Option<Vec<u8>>,
+    table: Option<Table>,
+}
+
+/// The text of known races, if one is named. A fault is told.
+fn known_at(rt: &HostRuntime, path: Option<&str>) -> Result<Option<Vec<u8>>, ExitCode> {
+    let Some(path) = path else {
+        return Ok(None);
+    };
+    match read_input(rt.alloc(), &mut input_at(rt, path), KNOWN) {
+        Ok(text) => Ok(Some(text)),
+        Err(fault) => Err(tell_files(rt, BenchFault::from(fault), &["", path])),
+    }
+}
+
+/// The triage file, if one is named. A fault is told.
+fn table_at(rt: &HostRuntime, wanted: Wanted<'_>) -> Result<Option<Table>, ExitCode> {
+    let Some(path) = wanted.triage else {
+        return Ok(None);
+    };
+    let Some(today) = today_of(rt, wanted.today) else {
+        return Err(tell_dateless(rt));
+    };
+    match read_triaged(rt.alloc(), &mut input_at(rt, path), today) {
+        Ok(table) => Ok(Some(table)),
+        Err(fault) => Err(tell_triaged(rt, fault, path)),
+    }
+}
+
+/// Reads what is left out. A fault is told.
+pub(crate) fn read_decided(rt: &HostRuntime, wanted: Wanted<'_>) -> Result<Decided, ExitCode> {
+    match table_at(rt, wanted) {
+        Ok(table) => decided_with(rt, wanted, table),
+        Err(status) => Err(status),
+    }
+}
+
+/// The same with this triage file.
+fn decided_with(
+    rt: &HostRuntime,
+    wanted: Wanted<'_>,
+    table: Option<Table>,
+) -> Result<Decided, ExitCode> {
+    match known_at(rt, wanted.known) {
+        Ok(known) => Ok(Decided { known, table }),
+        Err(status) => Err(status),
+    }
+}
+
+/// The text of known races, if there is one.
+fn text_in(decided: &Decided) -> Option<&[u8]> {
+    match &decided.known {
+        Some(text) => Some(text.as_slice()),
+        None => None,
+    }
+}
+
+/// The entries of the triage file, if there is one.
+fn entries_in(decided: &Decided) -> Option<&[Value]> {
+    match &decided.table {
+        Some(table) => Some(entries_of(table)),
+        None => None,
+    }
+}
+
+/// What leaves pairs of locations out.
+fn choice_of<'a>(decided: &'a Decided, wanted: Wanted<'a>) -> Choice<'a> {
+    Choice {
+        known: text_in(decided),
+        entries: entries_in(decided),
+        filters: Filters {
+            only: wanted.only,
+            hide: wanted.hide,
+        },
+    }
+}
+
+/// How a merged report is printed.
+#[derive(Clone, Copy)]
+pub(crate) struct Printed<'a> {
+    pub(crate) apart: bool,
+    pub(crate) form: RacesForm,
+    pub(crate) source: Option<&'a str>,
+}
+
+/// What is asked for in this form.
+fn asked_of<'a>(choice: Choice<'a>, apart: bool, form: MergedForm<'a>) -> MergedAsked<'a> {
+    MergedAsked {
+        choice,
+        apart,
+        form,
+    }
+}
+
+/// The lines of the code in this folder at the places of the parts.
+fn code_of(rt: &HostRuntime, parts: &Parts, root: &[u8]) -> Result<Vec<SourceLine>, TriageFault> {
+    let rows = rows_of(rt.alloc(), parts)?;
+    let cells = cells_of(rt.alloc(), &rows)?;
+    Ok(lines_of_cells(rt, &cells, root)?)
+}
+
+/// Writes what is told of the parts as a log, with the code in this folder.
+fn write_log_of<K: Sink>(
+    rt: &HostRuntime,
+    parts: &Parts,
+    choice: Choice<'_>,
+    apart: bool,
+    folder: &str,
+    writer: &mut K,
+) -> Result<u64, TriageFault>
+    requires { K.has_failed writer.old ≡ false }
+{
+    let root = root_of(rt.alloc(), folder)?;
+    let lines = code_of(rt, parts, root.as_slice())?;
+    let sources = Sources {
+        root: root.as_slice(),
+        lines: lines.as_slice(),
+    };
+    let asked = asked_of(choice, apart, MergedForm::Sarif { sources });
+    let races = write_left(rt.alloc(), parts, asked, writer)?;
+    if lines.is_empty() {
+        tell_codeless(rt, folder)?;
+    }
+    Ok(races)
+}
+
+/// The form of a log without code, or another one.
+fn form_of<'a>(form: RacesForm) -> MergedForm<'a> {
+    match form {
+        RacesForm::Json => MergedForm::Json,
+        RacesForm::Page => MergedForm::Page,
+        RacesForm::Sarif => MergedForm::Sarif {
+            sources: Sources {
+                root: b"",
+                lines: &[],
+            },
+        },
+        _ => MergedForm::Text,
+    }
+}
+
+/// Writes what is told of the parts. Answers how many races are told of.
+pub(crate) fn write_decided<K: Sink>(
+    rt: &HostRuntime,
+    parts: &Parts,
+    decided: &Decided,
+    wanted: Wanted<'_>,
+    printed: Printed<'_>,
+    writer: &mut K,
+) -> Result<u64, TriageFault>
+    requires { K.has_failed writer.old ≡ false }
+{
+    let choice = choice_of(decided, wanted);
+    match (printed.form, printed.source) {
+        (RacesForm::Sarif, Some(folder)) => {
+            write_log_of(rt, parts, choice, printed.apart, folder, writer)
+        }
+        (form, _) => {
+            let asked = asked_of(choice, printed.apart, form_of(form));
+            write_left(rt.alloc(), parts, asked, writer)
+        }
+    }
+}
+
+/// Notes which of the entries are about a race of these cells.
+fn mark_all(
+    rt: &HostRuntime,
+    rows: &[Row<'_>],
+    cells: &[Cell<'_>],
+    entries: &[Value],
+    marks: &[AtomicU64],
+) -> Result<(), OutOfMemory> {
+    let seen = Seen::new(&Silent, marks);
+    for at in 0..entries.len() {
+        let is_met = is_met(rt.alloc(), rows, cells, &entries[at])?;
+        seen.met(at, hides(&entries[at]), is_met);
+    }
+    Ok(())
+}
+
+/// Says which entries of the triage file at this path are about no race, and which `fixed` ones are about a race.
+fn tell_entries(
+    rt: &HostRuntime,
+    parts: &Parts,
+    entries: &[Value],
+    path: &str,
+) -> Result<(), OutOfMemory> {
+    let rows = rows_of(rt.alloc(), parts)?;
+    let cells = cells_of(rt.alloc(), &rows)?;
+    let mut marks = Vec::new(rt.alloc());
+    for _entry in entries {
+        marks.push(AtomicU64::new(0))?;
+    }
+    mark_all(rt, &rows, &cells, entries, marks.as_slice())?;
+    tell_marks(rt, path, marks.as_slice())
+}
+
+/// Says what `triage` says after its output: of entries, and of a text of known races without a block.
+pub(crate) fn tell_decided(
+    rt: &HostRuntime,
+    parts: &Parts,
+    decided: &Decided,
+    wanted: Wanted<'_>,
+) -> Result<(), OutOfMemory> {
+    if let Some(entries) = entries_in(decided) {
+        tell_entries(rt, parts, entries, wanted.triage.unwrap_or(""))?;
+    }
+    match text_in(decided) {
+        Some(text) if !has_block(text) => tell_blockless(rt, wanted.known.unwrap_or("")),
+        _ => Ok(()),
+    }
+}

@@ -1,0 +1,321 @@
+#!/usr/bin/env python3
+"""Judges `--known`, `--triage`, `--only` and `--hide` of `merge` and of `triage --windows` by a second answer.
+
+Draws lists of parts, texts of known races, triage files and filters. Of the pairs of locations that tests/plain.py
+finds those stay that this file says; then the text, the JSON, the page and the log must have exactly these, standard
+error must name the entries that are about no race, and `--fail` must end with 3 only if a race is printed. The JSON is
+merged again, and must have all parts whole. `triage --windows` must print what `merge` prints of its windows.
+
+    judge_left.py PROGRAM [LISTS [SEED]]      so many lists of parts, the first of this seed
+
+Says what is wrong, if something is, and ends with status 1 then, also if a kind was never met.
+"""
+
+import collections
+import json
+import os
+import random
+import sys
+import tempfile
+
+sys.dont_write_bytecode = True
+import by_chance
+import judge_merge
+import judge_merged_sarif
+import judge_triage_file
+import judging
+import plain
+import running
+from judging import Wrong
+from judge_triage_file import side_of
+
+LISTS = 120
+DAY = judge_triage_file.TODAY.isoformat()
+REACHED = [
+    "known",
+    "known and undecided",
+    "known alone",
+    "undecided that is named",
+    "decided",
+    "other variable",
+    "several variables",
+    "unmet",
+    "fixed",
+    "hidden",
+    "only",
+    "without a block",
+    "failed",
+    "not failed",
+    "merged again",
+    "windows",
+    "page",
+]
+
+
+def places_of(pair):
+    """The two locations of a pair, the lesser first."""
+    return tuple(sorted(access["location"].encode() for access in pair.told["accesses"]))
+
+
+def named_in(text):
+    """The pairs of locations that the blocks `race` of a text name."""
+    found, lines = set(), None
+    for line in text.split("\n"):
+        if line.startswith("race "):
+            lines = []
+        elif lines is not None and line.startswith("  ") and not line.startswith("   "):
+            lines.append(line.strip(" \t\r"))
+            if len(lines) == 2:
+                found.add(tuple(sorted(told.split("|", 2)[2].strip(" \t\r").encode() for told in lines)))
+                lines = None
+    return found
+
+
+def is_about(entry, pair, parts):
+    """Whether the entry is about the races of a pair: each of them is on one variable, which the entry names."""
+    one, other = (access["location"] for access in pair.told["accesses"])
+    fits = judge_triage_file.fits
+    if not (fits(entry, 0, one) and fits(entry, 1, other) or fits(entry, 0, other) and fits(entry, 1, one)):
+        return False
+    if "variables" not in entry:
+        return True
+    rows = [row for objects in parts.values() for row in objects[1:] if places_in(row) == places_of(pair)]
+    rows = [row for row in rows if row["kind"] == "race"]
+    return all(row["variables"] == 1 and row["accesses"][0]["variable"] in entry["variables"] for row in rows)
+
+
+def places_in(row):
+    return tuple(sorted(access["location"].encode() for access in row["accesses"]))
+
+
+class Wanted:
+    """What is left out: a text of known races, the entries of a triage file, and filters."""
+
+    def __init__(self, chance, parts, seen):
+        pairs = plain.merged_pairs(parts)
+        self.known = known_text(chance, pairs) if chance.random() < 0.6 else None
+        entries = [drawn_entry(chance, pairs) for _ in range(chance.randint(1, 3))]
+        self.entries = entries if chance.random() < 0.6 else None
+        self.only = [drawn_word(chance, pairs) for _ in range(chance.choice([0, 0, 1, 2]))]
+        self.hide = [drawn_word(chance, pairs) for _ in range(chance.choice([0, 0, 1, 2]))]
+        self.seen = seen
+
+    def words(self):
+        """The flags, after the files that they name were written."""
+        words = [word for text in self.only for word in ("--only", text)]
+        words += [word for text in self.hide for word in ("--hide", text)]
+        if self.known is not None:
+            judge_merge.write("known.txt", self.known.encode())
+            words += ["--known", "known.txt"]
+        if self.entries is not None:
+            judge_merge.write("triage.toml", judge_triage_file.text_of(self.entries).encode())
+            words += ["--triage", "triage.toml", "--today", DAY]
+        return words
+
+    def keeps(self, pair):
+        """Whether the filters keep the block of a pair."""
+        lines = [
+            f"{access['thread']}|{access['operation']}({access['variable']})|{access['location']}"
+            for access in pair.told["accesses"]
+        ]
+        has = lambda text: any(text in line for line in lines)
+        return not any(map(has, self.hide)) and (not self.only or any(map(has, self.only)))
+
+    def left(self, parts):
+        """The pairs that stay, and how many are known and hidden; None if that is not told."""
+        named = named_in(self.known or "")
+        known, kept = [], []
+        for pair in plain.merged_pairs(parts):
+            is_named = places_of(pair) in named
+            decided = any(entry["verdict"] != "fixed" and is_about(entry, pair, parts) for entry in self.entries or [])
+            if pair.rank == 0 and (is_named or decided):
+                known.append(pair)
+                self.seen["known and undecided"] += pair.counts[1] > 0
+                self.seen["known"] += is_named
+                self.seen["decided"] += decided
+            else:
+                kept.append(pair)
+                self.seen["undecided that is named"] += is_named
+        stay = [pair for pair in kept if self.keeps(pair)]
+        self.seen["hidden"] += len(kept) > len(stay) and bool(self.hide)
+        self.seen["only"] += len(kept) > len(stay) and bool(self.only)
+        self.seen["known alone"] += bool(known) and all(pair.rank for pair in stay)
+        told = self.known is not None or self.entries is not None
+        return stay, len(known) if told else None, len(kept) - len(stay) if self.only or self.hide else None
+
+    def notes(self, parts):
+        """What standard error must have."""
+        lines = []
+        races = [pair for pair in plain.merged_pairs(parts) if pair.rank == 0]
+        for number, entry in enumerate(self.entries or [], 1):
+            met = any(is_about(entry, pair, parts) for pair in races)
+            bare = {key: value for key, value in entry.items() if key != "variables"}
+            near = [pair for pair in races if is_about(bare, pair, parts)] if not met else []
+            self.seen["other variable"] += bool(near)
+            self.seen["several variables"] += any(pair.told["variables"] > 1 for pair in near)
+            if entry["verdict"] == "fixed" and met:
+                lines.append(f"racebench: triage.toml: entry {number} says fixed, and there is a race\n")
+                self.seen["fixed"] += 1
+            if entry["verdict"] != "fixed" and not met:
+                lines.append(f"racebench: triage.toml: entry {number} is about no race\n")
+                self.seen["unmet"] += 1
+        if self.known is not None and not named_in(self.known):
+            lines.append("racebench: known.txt has no block `race`: no race is known\n")
+            self.seen["without a block"] += 1
+        return "".join(lines).encode()
+
+
+def known_text(chance, pairs):
+    """A text with the blocks of some pairs, of which some say that they are races."""
+    blocks = []
+    for pair in chance.sample(pairs, chance.randint(0, len(pairs))):
+        told = dict(pair.told)
+        accesses = chance.sample(told["accesses"], 2)
+        head, *lines = plain.block({**told, "accesses": accesses})
+        if chance.random() < 0.3:
+            head = "race " + head
+        blocks.append("\n".join([head, *lines, *chance.choice([[], ["    part b.json"], ["known 3"]])]) + "\n")
+    return "races 3\n" * chance.randint(0, 1) + "".join(blocks)
+
+
+def drawn_entry(chance, pairs):
+    """An entry that resembles a pair, or anything."""
+    pair = chance.choice(pairs) if pairs and chance.random() < 0.9 else None
+    accesses = pair.told["accesses"] if pair else [{"location": place} for place in chance.sample(judge_merge.PLACES, 2)]
+    locations = [access["location"] for access in accesses]
+    sides = [side_of(location) for location in locations]
+    if chance.random() < 0.4:
+        sides.reverse()
+    entry = {"paths": [path for path, _, _ in sides]}
+    if chance.random() < 0.6:
+        entry["functions"] = [function if chance.random() < 0.9 else "" for _, _, function in sides]
+    if chance.random() < 0.5:
+        entry["variables"] = chance.sample(["x", "y", "<i>x"], chance.randint(1, 3))
+    if chance.random() < 0.8:
+        entry["lines"] = [int(line or 0) + chance.choice([0, 0, 0, 0, 1]) for _, line, _ in sides]
+    return entry | {"verdict": chance.choice(judge_triage_file.VERDICTS)}
+
+
+def drawn_word(chance, pairs):
+    """A text that a block may have."""
+    if not pairs:
+        return "x"
+    access = chance.choice(chance.choice(pairs).told["accesses"])
+    return chance.choice(["(x)", "T1|", "w(", access["location"][:5] or "T2", access["variable"], "nowhere"])
+
+
+class Judge(judge_merge.Judge):
+    def __init__(self, run):
+        super().__init__(run)
+        self.sarif = judge_merged_sarif.Judge(run.program)
+        self.sarif.tally = collections.Counter()
+
+    def ends(self, words, status, out, err):
+        """The program ends so."""
+        found = running.ended(self.program, words)
+        if found != (status, out, err):
+            said, wanted = (found[1] + found[2]).decode(), (out + err).decode()
+            raise Wrong(f"{words} ends with {found[0]}, and prints\n{said}and not\n{wanted}")
+
+    def texts(self, parts, wanted, words):
+        """The text, with its notes and its status."""
+        stay, known, hidden = wanted.left(parts)
+        races = any(pair.rank == 0 for pair in stay)
+        counts = [("known", known), ("hidden", hidden)]
+        tail = "".join(f"{word} {count}\n" for word, count in counts if count is not None)
+        for flags in [[], ["--apart"], ["--fail"]]:
+            text = plain.merged_of(stay, len(parts), "--apart" in flags) + tail
+            status = 3 if races and "--fail" in flags else 0
+            self.ends(["merge", *parts, *words, *flags], status, text.encode(), wanted.notes(parts))
+        self.seen["failed" if races else "not failed"] += 1
+
+    def lines(self, parts, wanted, words):
+        """The JSON: what stays, how much is left out, and all parts whole."""
+        stay, known, hidden = wanted.left(parts)
+        head = {"kind": "merged", "parts": len(parts), "pairs": len(stay), "version": 1}
+        head |= {name: count for name, count in [("known", known), ("hidden", hidden)] if count is not None}
+        _, out, err = running.ended(self.program, ["merge", *parts, *words, "--json"])
+        objects = [json.loads(line) for line in out.decode().splitlines()]
+        if err != wanted.notes(parts) or not out.startswith(judge_merge.line(head).encode()):
+            raise Wrong(f"the first line is {objects[0]} and not {head}; {err.decode()}")
+        whole = running.printed(self.program, ["merge", *parts, "--json"]).split(b"\n")
+        if out.split(b"\n")[1 : 1 + len(parts)] != whole[1 : 1 + len(parts)]:
+            raise Wrong("the parts are not whole")
+        named = {places_of(pair) for pair in stay}
+        ends = lambda line: tuple(json.loads(line)[name].encode() for name in ("first", "second"))
+        pairs = [line for line in whole[1 + len(parts) : -1] if ends(line) in named]
+        if out.split(b"\n")[1 + len(parts) : -1] != pairs:
+            raise Wrong(f"the pairs are {objects[1 + len(parts) :]} and not {pairs}")
+        judge_merge.write("left.json", out)
+        if running.printed(self.program, ["merge", "left.json", "--json"]).split(b"\n") != whole:
+            raise Wrong("what was left out is not there when the report is merged again")
+        self.seen["merged again"] += 1
+
+    def logs(self, parts, wanted, words):
+        """The log: a result for each pair that stays."""
+        stay, _, _ = wanted.left(parts)
+        for flags in [[], ["--apart"]]:
+            _, out, err = running.ended(self.program, ["merge", *parts, *words, *flags, "--sarif"])
+            if err != wanted.notes(parts):
+                raise Wrong(f"with the log standard error has {err.decode()}")
+            shown = [pair for pair in stay if flags or pair.rank < 2]
+            self.sarif.check_run(json.loads(out)["runs"][0], parts, shown, "")
+
+    def printed(self, words):
+        """As in judge_merge, but for the notes."""
+        status, out, err = running.ended(self.program, ["merge", *words])
+        if status != 0 or any(not line.startswith(b"racebench: ") for line in err.splitlines()):
+            raise Wrong(f"merge {words} ends with {status}: {err.decode()}")
+        return out
+
+    def windows(self, chance):
+        """`triage --windows` prints what `merge` prints of the report of its windows."""
+        running.write("trace", by_chance.trace(chance, chance.choice([8, 14, 20])).text())
+        most = f"--windows={chance.choice([4, 6, 9])}"
+        report = running.printed(self.program, ["triage", "trace", most, "--json"])
+        judge_merge.write("windows.json", report)
+        objects = [json.loads(line) for line in report.splitlines()]
+        texts = {part["name"]: part["text"] for part in objects if part["kind"] == "part"}
+        parts = {name: [json.loads(line) for line in text.splitlines()] for name, text in texts.items()}
+        words = Wanted(chance, parts, self.seen).words()
+        if not words:
+            return
+        for flags in [[], ["--apart"], ["--json"], ["--page"], ["--sarif"], ["--fail"]]:
+            status, out, err = running.ended(self.program, ["triage", "trace", most, *words, *flags])
+            wanted = running.ended(self.program, ["merge", "windows.json", *words, *flags])
+            if flags in ([], ["--apart"], ["--fail"]):
+                out = out.split(b"\n", 4)[4]
+            if "--fail" in flags and not parts:
+                wanted = (4, wanted[1], wanted[2] + b"racebench: the trace has no events: nothing was judged\n")
+            if (status, out, err) != wanted:
+                said = (out + err).decode()
+                raise Wrong(f"triage {most} {words} {flags} ends with {status}, and prints\n{said}and not\n{wanted}")
+        self.seen["windows"] += 1
+
+    def judge(self, seed):
+        chance = random.Random(seed)
+        parts = self.list_of(chance, seed)
+        for _ in range(3):
+            wanted = Wanted(chance, parts, self.seen)
+            words = wanted.words()
+            if words:
+                self.texts(parts, wanted, words)
+                self.lines(parts, wanted, words)
+                self.logs(parts, wanted, words)
+                self.page([*parts, *words], parts, wanted.left(parts)[0])
+        self.windows(chance)
+
+
+def judged(run):
+    judge = Judge(run)
+    for seed in run.seeds():
+        with tempfile.TemporaryDirectory() as folder, judging.about(f"seed {seed}"):
+            os.chdir(folder)
+            judge.judge(seed)
+            os.chdir("/")
+    counts = ", ".join(f"{what} {count}" for what, count in sorted(run.tally.items()))
+    return f"{run.numbers[0]} lists of parts: {counts}"
+
+
+if __name__ == "__main__":
+    sys.exit(judging.main("left", judged, REACHED, {"LISTS": LISTS, "SEED": 0}))
