@@ -161,7 +161,9 @@ def lacks_a_slice(run, wanted):
 
 def has_disk_fault(run, wanted, kind):
     """Whether a call on the log's file that failed is told, after the answers of the turns before."""
-    is_told = has_fault(run, b"write failed", b"note: ") or (kind == "flock" and has_fault(run, b"read failed"))
+    is_told = has_fault(run, b"write failed", b"note: ") or (
+        kind == "flock" and has_fault(run, b"read failed", b"note: ")
+    )
     return is_told and wanted.out.startswith(run.out)
 
 
