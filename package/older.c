@@ -1,11 +1,14 @@
 /* What the program takes of the C library 2.34, for systems with 2.28 to 2.33. tools/older puts it beside the program.
  *
  * The start code of the toolchain hands over no function that runs the constructors, since 2.34 finds them itself. It
- * also asks the C library, from 2.33 on, what the processor can do. */
+ * also asks the C library, from 2.33 on, what the processor can do, and from 2.30 on what is in a folder. */
 #define _GNU_SOURCE
 #include <dlfcn.h>
 #include <link.h>
 #include <stddef.h>
+#include <sys/syscall.h>
+#include <sys/types.h>
+#include <unistd.h>
 
 __asm__(".symver dlvsym, dlvsym@GLIBC_2.2.5");
 
@@ -25,6 +28,9 @@ const struct leaf *__x86_get_cpuid_feature_leaf(unsigned index) {
     told->cpuid[3] = told->active[3] = d;
     return told;
 }
+
+/* Reads the entries of a folder, which the C library has from 2.30 on. */
+ssize_t getdents64(int folder, void *entries, size_t size) { return syscall(SYS_getdents64, folder, entries, size); }
 
 typedef int started(int, char **, char **);
 typedef void constructor(int, char **, char **);
