@@ -273,7 +273,6 @@ class Judge(judge_merge.Judge):
         running.write("trace", by_chance.trace(chance, chance.choice([8, 14, 20])).text())
         most = f"--windows={chance.choice([4, 6, 9])}"
         report = running.printed(self.program, ["triage", "trace", most, "--json"])
-        judge_merge.write("windows.json", report)
         objects = [json.loads(line) for line in report.splitlines()]
         texts = {part["name"]: part["text"] for part in objects if part["kind"] == "part"}
         parts = {name: [json.loads(line) for line in text.splitlines()] for name, text in texts.items()}
@@ -281,6 +280,11 @@ class Judge(judge_merge.Judge):
         if not words:
             return
         for flags in [[], ["--apart"], ["--json"], ["--page"], ["--sarif"], ["--fail"]]:
+            if flags == ["--apart"]:
+                apart = running.printed(self.program, ["triage", "trace", most, "--json", *flags])
+                judge_merge.write("windows.json", apart)
+            else:
+                judge_merge.write("windows.json", report)
             status, out, err = running.ended(self.program, ["triage", "trace", most, *words, *flags])
             wanted = running.ended(self.program, ["merge", "windows.json", *words, *flags])
             if flags in ([], ["--apart"], ["--fail"]):
