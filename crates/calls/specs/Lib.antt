@@ -9,3 +9,5 @@ pub mod ScriptInputs
 pub mod Searches
 pub mod Threads
 pub mod Told
+pub mod pair
+pub mod triage

@@ -21,6 +21,10 @@ mod threads_call;
 mod merge_call;
 mod merge_fault;
 
+// On one pair of events, and on all pairs.
+pub mod pair;
+pub mod triage;
+
 pub use client_scripts::{replay, replay_joint};
 pub use cut_call::cut_window;
 pub use fault::{BenchFault, bench_fault_text};

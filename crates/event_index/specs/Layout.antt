@@ -6,7 +6,7 @@ use Rattle.trace_rules.specs.Rules.{IsDisciplined}
 use Rattle.event_index.specs.Events.{is_of_thread, is_fork_at}
 pub use Rattle.event_index.specs.Tables.{IsTable}
 pub use Rattle.event_index.specs.Lookups.{count_before}
-use Rattle.event_index.specs.Lookups.{before, events_of, place_of, last_writer, fork_of, base_of, section_end, start_of}
+use Rattle.event_index.specs.Lookups.{before, events_of, place_of, last_write, last_writer, fork_of, base_of, section_end, start_of}
 use Rattle.event_index.specs.declared.indexed.Indexed.TheInside.{Inside}
 use Rattle.event_index.specs.declared.tables.Tables.{Tables}
 
@@ -44,3 +44,31 @@ pub record IsSound (s : Inside) : Type 0 where
   pub well_formed : IsWellFormed s.trace
   pub disciplined : IsDisciplined s.trace.events
   pub tables : AreTables s.trace s.tables
+
+-- the table holds what f gives for each event of the trace
+abbrev pub TellsEvents : {X : Type 0} → (List Event → ℕ → X) → Recording → List X → Type 0
+TellsEvents f r table = IsTable (f r.events) (length r.events) table
+
+-- it holds what f gives for each thread
+abbrev pub TellsThreads : {X : Type 0} → (List Event → ℕ → X) → Recording → List X → Type 0
+TellsThreads f r table = IsTable (f r.events) (length r.threads) table
+
+-- how many events the thread has
+abbrev pub total_of : List Event → ℕ → ℕ
+total_of T = count_before T (length T)
+
+-- where the events of each thread begin in the row of all, and where the last end
+abbrev pub AreStarts : Recording → List ℕ → Type 0
+AreStarts r starts = IsTable (start_of r.events) (length r.threads + 1) starts
+
+-- the row of all events, thread by thread
+abbrev pub AreGrouped : Recording → List ℕ → List ℕ → Type 0
+AreGrouped r grouped starts = IsGrouped (events_of r.events) (length r.threads) grouped starts
+
+-- how many of the first e events each thread has
+abbrev pub AreCountsBefore : Recording → ℕ → List ℕ → Type 0
+AreCountsBefore r e counts = IsTable (count_before r.events e) (length r.threads) counts
+
+-- the last write of each variable among the first e events
+abbrev pub AreLastWrites : Recording → ℕ → List (Option ℕ) → Type 0
+AreLastWrites r e last = IsTable (λ x. last_write r.events x (before e)) (length r.variables) last

@@ -1,9 +1,8 @@
 //! The events of all threads in one row, thread by thread.
-ghost use Rattle.std.specs.Prelude.{◌≡◌, ◌+◌, ◌<◌, length, IfOk};
+ghost use Rattle.std.specs.Prelude.{◌+◌, ◌<◌, length, IfOk};
 ghost use Rattle.rapid_text.specs.Recording.{IsWellFormed};
-ghost use Rattle.event_index.specs.Lookups.{place_of, events_of};
-ghost use Rattle.event_index.specs.Layout.{IsTable, IsGrouped, IsFilled, count_before};
-ghost use Rattle.event_index.specs.Lookups.{start_of};
+ghost use Rattle.event_index.specs.Lookups.{place_of};
+ghost use Rattle.event_index.specs.Layout.{IsFilled, total_of, AreStarts, TellsEvents, TellsThreads, AreGrouped};
 
 use rapid_text::{OutOfMemory, RawTrace};
 use std::alloc::Global;
@@ -15,9 +14,8 @@ pub(crate) fn starts_of(
     raw: &RawTrace,
     counts: &[u32],
 ) -> Result<Vec<u32>, OutOfMemory>
-    requires counts { IsTable (count_before raw.now.events (length raw.now.events)) (length raw.now.threads) counts.now }
-    ensures { IfOk result
-        (λ starts. IsTable (start_of raw.now.events) (length raw.now.threads + 1) starts.items) }
+    requires counts { TellsThreads total_of raw.now counts.now }
+    ensures { IfOk result (λ starts. AreStarts raw.now starts.items) }
 {
     let threads = raw.threads() as usize;
     let mut starts = Vec::with_capacity(alloc, threads + 1)?;
@@ -37,10 +35,9 @@ pub(crate) fn grouped_of(
     places: &[u32],
     starts: &[u32],
 ) -> Result<Vec<u32>, OutOfMemory>
-    requires places { IsTable (place_of raw.now.events) (length raw.now.events) places.now }
-    requires starts { IsTable (start_of raw.now.events) (length raw.now.threads + 1) starts.now }
-    ensures { IfOk result
-        (λ grouped. IsGrouped (events_of raw.now.events) (length raw.now.threads) grouped.items starts.now) }
+    requires places { TellsEvents place_of raw.now places.now }
+    requires starts { AreStarts raw.now starts.now }
+    ensures { IfOk result (λ grouped. AreGrouped raw.now grouped.items starts.now) }
 {
     let mut grouped = vec![in alloc; 0u32; raw.len() as usize]?;
     for event in 0..raw.len() {
@@ -53,8 +50,8 @@ pub(crate) fn grouped_of(
 fn put(grouped: &mut Vec<u32>, raw: &RawTrace, places: &[u32], starts: &[u32], event: u32)
     requires well_formed { IsWellFormed raw.now }
     requires event { event < length raw.now.events }
-    requires places { IsTable (place_of raw.now.events) (length raw.now.events) places.now }
-    requires starts { IsTable (start_of raw.now.events) (length raw.now.threads + 1) starts.now }
+    requires places { TellsEvents place_of raw.now places.now }
+    requires starts { AreStarts raw.now starts.now }
     requires filled { IsFilled raw.now.events (length raw.now.threads) event grouped.old.items }
     ensures { IsFilled raw.now.events (length raw.now.threads) (event + 1) grouped.new.items }
 {

@@ -1,16 +1,15 @@
 //! Tables that are made in one pass over the events, with what each thread or variable had last.
 ghost use Rattle.std.specs.Prelude.{◌≡◌, ◌+◌, ◌<◌, length, IfOk};
 ghost use Rattle.rapid_text.specs.Recording.{IsWellFormed};
-ghost use Rattle.event_index.specs.Lookups.{place_of, last_writer, last_write, before, fork_of, base_of};
-ghost use Rattle.event_index.specs.Layout.{IsTable, fork_before, count_before, last_before};
+ghost use Rattle.event_index.specs.Lookups.{place_of, last_writer, before, fork_of, base_of};
+ghost use Rattle.event_index.specs.Layout.{IsTable, fork_before, last_before, total_of, AreCountsBefore, TellsEvents, TellsThreads, AreLastWrites};
 
 use rapid_text::{Op, OutOfMemory, RawTrace};
 use std::alloc::Global;
 
 /// For each thread the event that forks it.
 pub(crate) fn forks_of(alloc: Global, raw: &RawTrace) -> Result<Vec<Option<u32>>, OutOfMemory>
-    ensures { IfOk result
-        (λ forks. IsTable (fork_of raw.now.events) (length raw.now.threads) forks.items) }
+    ensures { IfOk result (λ forks. TellsThreads fork_of raw.now forks.items) }
 {
     let mut forks = vec![in alloc; None; raw.threads() as usize]?;
     for event in 0..raw.len() {
@@ -33,8 +32,7 @@ fn note_fork(forks: &mut Vec<Option<u32>>, raw: &RawTrace, event: u32)
 
 /// For each event the write that it sees.
 pub(crate) fn writers_of(alloc: Global, raw: &RawTrace) -> Result<Vec<Option<u32>>, OutOfMemory>
-    ensures { IfOk result
-        (λ writers. IsTable (last_writer raw.now.events) (length raw.now.events) writers.items) }
+    ensures { IfOk result (λ writers. TellsEvents last_writer raw.now writers.items) }
 {
     let mut writers = Vec::with_capacity(alloc, raw.len() as usize)?;
     let mut last = vec![in alloc; None; raw.variables() as usize]?;
@@ -47,9 +45,9 @@ pub(crate) fn writers_of(alloc: Global, raw: &RawTrace) -> Result<Vec<Option<u32
 // The write that the event sees. Takes the event into the last writes of the events before it.
 fn seen_by(last: &mut Vec<Option<u32>>, raw: &RawTrace, event: u32) -> Option<u32>
     requires event { event < length raw.now.events }
-    requires table { IsTable (λ x. last_write raw.now.events x (before event)) (length raw.now.variables) last.old.items }
+    requires table { AreLastWrites raw.now event last.old.items }
     ensures seen { result ≡ last_writer raw.now.events event }
-    ensures table { IsTable (λ x. last_write raw.now.events x (before (event + 1))) (length raw.now.variables) last.new.items }
+    ensures table { AreLastWrites raw.now (event + 1) last.new.items }
 {
     match raw.event(event).op {
         Op::Read(variable) => last[variable as usize],
@@ -63,10 +61,8 @@ fn seen_by(last: &mut Vec<Option<u32>>, raw: &RawTrace, event: u32) -> Option<u3
 
 /// For each event its place in its thread, and for each thread how many events it has.
 pub(crate) fn places_of(alloc: Global, raw: &RawTrace) -> Result<(Vec<u32>, Vec<u32>), OutOfMemory>
-    ensures places { IfOk result
-        (λ made. IsTable (place_of raw.now.events) (length raw.now.events) made.0.items) }
-    ensures counts { IfOk result
-        (λ made. IsTable (count_before raw.now.events (length raw.now.events)) (length raw.now.threads) made.1.items) }
+    ensures places { IfOk result (λ made. TellsEvents place_of raw.now made.0.items) }
+    ensures counts { IfOk result (λ made. TellsThreads total_of raw.now made.1.items) }
 {
     let mut places = Vec::with_capacity(alloc, raw.len() as usize)?;
     let mut counts = vec![in alloc; 0u32; raw.threads() as usize]?;
@@ -80,9 +76,9 @@ pub(crate) fn places_of(alloc: Global, raw: &RawTrace) -> Result<(Vec<u32>, Vec<
 fn count_in(counts: &mut Vec<u32>, raw: &RawTrace, event: u32) -> u32
     requires well_formed { IsWellFormed raw.now }
     requires event { event < length raw.now.events }
-    requires table { IsTable (count_before raw.now.events event) (length raw.now.threads) counts.old.items }
+    requires table { AreCountsBefore raw.now event counts.old.items }
     ensures place { result ≡ place_of raw.now.events event }
-    ensures table { IsTable (count_before raw.now.events (event + 1)) (length raw.now.threads) counts.new.items }
+    ensures table { AreCountsBefore raw.now (event + 1) counts.new.items }
 {
     let thread = raw.event(event).thread as usize;
     let place = counts[thread];
@@ -96,9 +92,8 @@ pub(crate) fn bases_of(
     raw: &RawTrace,
     forks: &[Option<u32>],
 ) -> Result<Vec<Option<u32>>, OutOfMemory>
-    requires forks { IsTable (fork_of raw.now.events) (length raw.now.threads) forks.now }
-    ensures { IfOk result
-        (λ bases. IsTable (base_of raw.now.events) (length raw.now.events) bases.items) }
+    requires forks { TellsThreads fork_of raw.now forks.now }
+    ensures { IfOk result (λ bases. TellsEvents base_of raw.now bases.items) }
 {
     let mut bases = Vec::with_capacity(alloc, raw.len() as usize)?;
     let mut last = vec![in alloc; None; raw.threads() as usize]?;
@@ -116,7 +111,7 @@ fn base_at(
     event: u32,
 ) -> Option<u32>
     requires event { event < length raw.now.events }
-    requires forks { IsTable (fork_of raw.now.events) (length raw.now.threads) forks.now }
+    requires forks { TellsThreads fork_of raw.now forks.now }
     requires table { IsTable (last_before raw.now.events event) (length raw.now.threads) last.old.items }
     ensures base { result ≡ base_of raw.now.events event }
     ensures table { IsTable (last_before raw.now.events (event + 1)) (length raw.now.threads) last.new.items }

@@ -3,7 +3,7 @@ ghost use Rattle.std.specs.Prelude.{◌≡◌, ◌+◌, ◌<◌, length, replica
 ghost use Rattle.rapid_text.specs.declared.event.Op.TheVariants.{Acquire, Release};
 ghost use Rattle.trace_rules.specs.Rules.{IsDisciplined};
 ghost use Rattle.event_index.specs.Lookups.{section_end};
-ghost use Rattle.event_index.specs.Layout.{IsTable};
+ghost use Rattle.event_index.specs.Layout.{TellsEvents};
 ghost use Rattle.event_index.specs.Open.{AreOpen, HasOp};
 
 use rapid_text::{Op, OutOfMemory, RawTrace};
@@ -23,8 +23,7 @@ pub(crate) struct Open {
 /// For each event the release that ends its critical section.
 pub(crate) fn sections_of(alloc: Global, raw: &RawTrace) -> Result<Vec<Option<u32>>, OutOfMemory>
     requires { IsDisciplined raw.now.events }
-    ensures { IfOk result
-        (λ sections. IsTable (section_end raw.now.events) (length raw.now.events) sections.items) }
+    ensures { IfOk result (λ sections. TellsEvents section_end raw.now sections.items) }
 {
     let mut known = nothing_open(alloc, raw)?;
     for event in 0..raw.len() {

@@ -5,3 +5,6 @@ pub mod Accesses
 pub mod Chains
 pub mod Sections
 pub mod Told
+pub mod findings
+pub mod places
+pub mod picture

@@ -1,9 +1,9 @@
 //! Which later event waits for one of a schedule, and why.
 use crate::event_lines::{op_of, thread_of};
 use event_index::Indexed;
-use in_order::needs_of;
 use rapid_text::{Op, OutOfMemory};
 use std::alloc::Global;
+use witness_search::trace_order::needs_of;
 
 /// For each place of the list the first later event of another thread that waits for the event there.
 pub fn waiters_of(

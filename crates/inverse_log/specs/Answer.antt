@@ -22,7 +22,7 @@ use Rattle.inverse_log.specs.declared.refusal.Refusal.{Refusal}
 use Rattle.inverse_log.specs.declared.refusal.Refusal.TheVariants.{Move, NothingToUndo, RestsOn, NotReordering, NotShown, LogFull, OutOfMemory, NoSuchEntry, NotOwn, NotLive, BadBatch, InBatch}
 use Rattle.inverse_log.specs.declared.reply.Reply.{Reply}
 use Rattle.inverse_log.specs.declared.reply.Reply.TheVariants.{Done, Undone, Proposed as ProposedAs, Shown, Listing, Shows}
-use Rattle.inverse_log.specs.Log.{Live, client_of, is_own, live_at, board_of, rows_of, last_live, blocker_of, rests_on}
+use Rattle.inverse_log.specs.Log.{Benched, Live, client_of, is_own, live_at, board_of, rows_of, last_live, blocker_of, rests_on}
 use Rattle.inverse_log.specs.Pairs.{shown_pairs}
 
 -- A call that would add an entry is refused first of all where the log holds 1,000,000.
@@ -139,3 +139,7 @@ Grown L c M = (M ≡ L) ⊎ ((e : Entry) × (M ≡ L ++ e ∷ []) × (client_of 
 -- all entries are this client's
 abbrev pub IsAlone : ℕ → List Entry → Type 0
 IsAlone c L = All (λ (e : Entry). client_of e ≡ c) L
+
+-- what a bench answers if client c asks to see the schedule of this name
+abbrev pub show_answer : Benched → ℕ → List ℕ → Result Reply Refusal
+show_answer bench c x = answer_of bench.trace bench.log c (Show x)

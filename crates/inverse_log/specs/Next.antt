@@ -1,7 +1,8 @@
 -- How the pairs that a schedule shows are looked for: only the next event of a thread can be one of a pair. No
 -- public clause cites this module. `T` is the events of a trace, `P` those of a schedule.
-use Rattle.std.specs.Prelude.{ℕ, ◌&&◌, nat_lt, Bool, false, List, slice_get, Option, Some, None}
+use Rattle.std.specs.Prelude.{ℕ, ◌&&◌, nat_lt, Bool, false, List, filter, length, slice_get, Option, Some, None}
 use Rattle.rapid_text.specs.declared.event.Event.{Event}
+use Rattle.event_index.specs.Lookups.{before}
 use Rattle.schedule.specs.Refusals.{same_option, next_of}
 
 abbrev pub next_by : List Event → List ℕ → ℕ → Option Event → Bool
@@ -19,3 +20,7 @@ next_below_by T P t e None = false
 -- whether it does, and its thread is below t
 abbrev pub is_next_below : List Event → List ℕ → ℕ → ℕ → Bool
 is_next_below T P t e = next_below_by T P t e (slice_get T e)
+
+-- the events that are each the next of their thread after P, rising
+abbrev pub next_events : List Event → List ℕ → List ℕ
+next_events T P = filter (is_next T P) (before (length T))

@@ -12,3 +12,7 @@ pairs_of (x ∷ xs) = map (λ y. (x, y)) xs ++ pairs_of xs
 -- the pairs of events that P shows, the earlier event first, in rising order
 abbrev pub shown_pairs : List Event → List ℕ → List (ℕ × ℕ)
 shown_pairs T P = filter (λ p. does_show T P p.0 p.1) (pairs_of (before (length T)))
+
+-- of the pairs of `first` with these later events those that P shows
+abbrev pub pairs_with : List Event → List ℕ → ℕ → List ℕ → List (ℕ × ℕ)
+pairs_with T P first later = filter (λ p. does_show T P p.0 p.1) (map (λ y. (first, y)) later)

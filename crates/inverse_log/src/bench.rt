@@ -1,12 +1,11 @@
 //! The bench: a workspace and its board, and the log of what clients did to them.
-ghost use Rattle.std.specs.Prelude.{◌≡◌, ◌<◌, ◌≤◌, ◌++◌, ◌∷◌, [], ℕ, All, length, slice_get, Some, None, true, Ok, Err, OnOk, OnErr, IfOk, IfErr, IfSome, IfNone};
+ghost use Rattle.std.specs.Prelude.{◌≡◌, ◌<◌, ◌≤◌, ◌++◌, ◌∷◌, [], All, length, slice_get, Some, None, true, Ok, Err, OnOk, OnErr, IfOk, IfErr};
 ghost use Rattle.dependence.specs.Limits.{client_limit};
 ghost use Rattle.std.specs.Arc.{arc_value};
-ghost use Rattle.inverse_log.specs.Answer.{Called, IsLegal, answer_of, is_batch};
-ghost use Rattle.inverse_log.specs.Kept.{IsJudged, IsLive, live_there, IsUnblocked, IsUndone};
+ghost use Rattle.inverse_log.specs.Answer.{Called, IsLegal, is_batch};
 ghost use Rattle.inverse_log.specs.Headline.{IsFoldOfLive, IsSound};
 ghost use Rattle.inverse_log.specs.Limits.{entry_limit};
-ghost use Rattle.inverse_log.specs.Log.{blocker_of, board_of, edits_of};
+ghost use Rattle.inverse_log.specs.Log.{board_of, edits_of};
 ghost use Rattle.inverse_log.specs.Steps.{single_at};
 
 use crate::call::Call;
@@ -14,23 +13,21 @@ use crate::compact::CompactCommand;
 use crate::counted::Counted;
 use crate::entry::Entry;
 use crate::kept::{Held, Kept, Spare};
-use crate::parts::{
-    add_entry, add_held, add_nothing, commands_at, enter, first_blocker, is_batch, is_own, leave,
-    make_room, put_back, refused, single_at, take_out,
-};
-use crate::proposals::judge;
-use crate::races::shown_pairs;
+use crate::parts::{add_entry, add_held, enter, is_batch, leave, make_room, refused};
 use crate::refusal::Refusal;
 use crate::reply::Reply;
 use dependence::{Clients, Touches};
-use event_index::{EventList, Indexed};
-use moves::{Board, Command, Commands, MoveRefusal, Name, Workspace};
+use event_index::Indexed;
+use moves::{Board, Command, Commands, Workspace};
 use rapid_text::{OutOfMemory, TextKeyed};
-use schedule::Schedule;
 use std::alloc::Global;
 use std::marker::Model;
 use std::slice;
 use std::sync::Arc;
+
+mod asking;
+mod proposing;
+mod undoing;
 
 /// The most entries of a log.
 const MAX_ENTRIES: u64 = 1_000_000;
@@ -314,221 +311,5 @@ impl Bench {
             },
         );
         Ok(Reply::Done(number))
-    }
-
-    fn undo(&mut self, client: u32) -> Result<Reply, Refusal>
-        requires low { 1 ≤ client }
-        requires high { client ≤ client_limit }
-        ensures trace { self.new.trace ≡ self.old.trace }
-        ensures call { Called self.old.trace self.old.log client Call.Undo result self.new.log }
-    {
-        let number = self.log.len() as u64;
-        if number >= MAX_ENTRIES {
-            return Err(Refusal::LogFull);
-        }
-        let Some(entry) = self.clients.last(client) else {
-            return Err(Refusal::NothingToUndo);
-        };
-        self.undo_live(client, entry)
-    }
-
-    fn undo_at(&mut self, client: u32, entry: u64) -> Result<Reply, Refusal>
-        requires low { 1 ≤ client }
-        requires high { client ≤ client_limit }
-        ensures trace { self.new.trace ≡ self.old.trace }
-        ensures call { Called self.old.trace self.old.log client (Call.UndoAt entry) result self.new.log }
-    {
-        let number = self.log.len() as u64;
-        if number >= MAX_ENTRIES {
-            return Err(Refusal::LogFull);
-        }
-        if entry >= number {
-            return Err(Refusal::NoSuchEntry);
-        }
-        if !is_own(&self.log, client, entry) {
-            return Err(Refusal::NotOwn);
-        }
-        if !self.clients.contains(client, entry) {
-            return Err(Refusal::NotLive);
-        }
-        self.undo_live(client, entry)
-    }
-
-    // Takes back a client's live entry, or tells what blocks it.
-    fn undo_live(&mut self, client: u32, entry: u64) -> Result<Reply, Refusal>
-        requires client { client ≤ client_limit }
-        requires room { length self.old.log < entry_limit }
-        requires live { IsLive self.old.log (live_there self.old.log client entry) }
-        requires legal { blocker_of self.old.log (live_there self.old.log client entry) ≡ None
-            → IsLegal self.old.trace (self.old.log ++ Entry.Undid client entry ∷ []) }
-        ensures trace { self.new.trace ≡ self.old.trace }
-        ensures undone { IsUndone self.old.log client (live_there self.old.log client entry) result self.new.log }
-    {
-        let number = self.log.len() as u64;
-        let single = single_at(&self.log, entry);
-        let commands = commands_at(&self.log, entry, &single);
-        if let Some(rests) = first_blocker(&self.touches, entry, commands) {
-            return Err(Refusal::RestsOn {
-                entry: rests.0,
-                name: rests.1,
-            });
-        }
-        let Ok(()) = self.take_back(client, entry, &single) else {
-            return Err(Refusal::OutOfMemory);
-        };
-        Ok(Reply::Undone { number, entry })
-    }
-
-    // Takes back a client's live entry that nothing blocks. `single` is its command, where it did a single one.
-    fn take_back(
-        &mut self,
-        client: u32,
-        entry: u64,
-        single: &Option<Command>,
-    ) -> Result<(), OutOfMemory>
-        requires client { client ≤ client_limit }
-        requires single { single.now ≡ single_at self.old.log entry }
-        requires room { length self.old.log < entry_limit }
-        requires free { IsUnblocked self.old.log (live_there self.old.log client entry) }
-        requires legal { IsLegal self.old.trace (self.old.log ++ Entry.Undid client entry ∷ []) }
-        ensures trace { self.new.trace ≡ self.old.trace }
-        ensures ok { OnOk result (self.new.log ≡ self.old.log ++ Entry.Undid client entry ∷ []) }
-        ensures err { OnErr result (self.new.log ≡ self.old.log) }
-    {
-        let Ok(()) = make_room(self.alloc, &mut self.log, &mut self.steps, &mut self.spare) else {
-            return Err(OutOfMemory);
-        };
-        let held = take_out(&mut self.steps, entry);
-        let commands = commands_at(&self.log, entry, single);
-        let Err(held) = self.rows.take_back(&self.indexed, commands, held) else {
-            leave(
-                &mut self.touches,
-                &mut self.clients,
-                client,
-                commands,
-                entry,
-            );
-            add_nothing(&mut self.steps);
-            add_entry(&mut self.log, Entry::Undid { client, entry });
-            return Ok(());
-        };
-        put_back(&mut self.steps, &mut self.spare, entry, held);
-        Err(OutOfMemory)
-    }
-
-    fn propose(
-        &mut self,
-        client: u32,
-        first: u32,
-        second: u32,
-        events: &[u32],
-    ) -> Result<Reply, Refusal>
-        requires low { 1 ≤ client }
-        requires high { client ≤ client_limit }
-        ensures trace { self.new.trace ≡ self.old.trace }
-        ensures call { Called self.old.trace self.old.log client (Call.Propose first second events.now) result self.new.log }
-    {
-        let number = self.log.len() as u64;
-        if number >= MAX_ENTRIES {
-            return Err(Refusal::LogFull);
-        }
-        let schedule = match judge(self.alloc, &self.indexed, first, second, events) {
-            Ok(schedule) => schedule,
-            Err(why) => return Err(why),
-        };
-        match self.put_proposal(client, first, second, events, schedule) {
-            Ok(proposal) => Ok(Reply::Proposed { number, proposal }),
-            Err(_) => Err(Refusal::OutOfMemory),
-        }
-    }
-
-    // Puts a list that shows its pair on the board, where the log has room, and tells its number there.
-    fn put_proposal(
-        &mut self,
-        client: u32,
-        first: u32,
-        second: u32,
-        events: &[u32],
-        schedule: Schedule,
-    ) -> Result<u64, OutOfMemory>
-        requires low { 1 ≤ client }
-        requires high { client ≤ client_limit }
-        requires room { length self.old.log < entry_limit }
-        requires judged { IsJudged self.old.trace first second events.now (Ok schedule) }
-        ensures trace { self.new.trace ≡ self.old.trace }
-        ensures number { IfOk result (λ proposal. proposal ≡ length (board_of self.old.trace self.old.log)) }
-        ensures ok { OnOk result (self.new.log ≡ self.old.log ++ Entry.Proposed client first second events.now ∷ []) }
-        ensures err { OnErr result (self.new.log ≡ self.old.log) }
-    {
-        let Ok(()) = make_room(self.alloc, &mut self.log, &mut self.steps, &mut self.spare) else {
-            return Err(OutOfMemory);
-        };
-        let Ok(events) = EventList::of(self.alloc, events) else {
-            return Err(OutOfMemory);
-        };
-        let proposal = self.board.len() as u64;
-        let Ok(()) = self.board.push(first, second, schedule) else {
-            return Err(OutOfMemory);
-        };
-        add_nothing(&mut self.steps);
-        add_entry(
-            &mut self.log,
-            Entry::Proposed {
-                client,
-                first,
-                second,
-                events,
-            },
-        );
-        Ok(proposal)
-    }
-
-    /// The events of this schedule, as a call `Show` answers them. They are lent, so this takes no memory.
-    pub fn shown(&self, name: &Name) -> Option<&[u32]>
-        ensures none { (c : ℕ) → IfNone result
-            (answer_of self.now.trace self.now.log c (Call.Show name.now) ≡ Err (Refusal.Move MoveRefusal.NoSuchSchedule)) }
-        ensures some { (c : ℕ) → IfSome result
-            (λ events. answer_of self.now.trace self.now.log c (Call.Show name.now) ≡ Ok (Reply.Shown events.now)) }
-    {
-        match self.rows.workspace().get(name) {
-            Some(schedule) => Some(schedule.events()),
-            None => None,
-        }
-    }
-
-    fn show(&self, client: u32, name: &Name) -> Result<Reply, Refusal>
-        ensures { Called self.now.trace self.now.log client (Call.Show name.now) result self.now.log }
-    {
-        let _ = client;
-        let Some(events) = self.shown(name) else {
-            return Err(Refusal::Move(MoveRefusal::NoSuchSchedule));
-        };
-        let Ok(events) = EventList::of(self.alloc, events) else {
-            return Err(Refusal::OutOfMemory);
-        };
-        Ok(Reply::Shown(events))
-    }
-
-    fn list(&self, client: u32) -> Result<Reply, Refusal>
-        ensures { Called self.now.trace self.now.log client Call.List result self.now.log }
-    {
-        let _ = client;
-        let Ok(names) = self.rows.workspace().names(self.alloc) else {
-            return Err(Refusal::OutOfMemory);
-        };
-        Ok(Reply::Listing(names))
-    }
-
-    fn races(&self, client: u32, name: &Name) -> Result<Reply, Refusal>
-        ensures { Called self.now.trace self.now.log client (Call.Races name.now) result self.now.log }
-    {
-        let _ = client;
-        let Some(schedule) = self.rows.workspace().get(name) else {
-            return Err(Refusal::Move(MoveRefusal::NoSuchSchedule));
-        };
-        let Ok(pairs) = shown_pairs(self.alloc, &self.indexed, schedule) else {
-            return Err(Refusal::OutOfMemory);
-        };
-        Ok(Reply::Shows(pairs))
     }
 }

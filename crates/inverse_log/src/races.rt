@@ -1,9 +1,7 @@
 //! The pairs that a schedule shows.
-ghost use Rattle.std.specs.Prelude.{◌≡◌, ◌++◌, length, filter, map, IfOk, OnOk};
-ghost use Rattle.event_index.specs.Lookups.{before};
-ghost use Rattle.schedule.specs.Shows.{does_show};
-ghost use Rattle.inverse_log.specs.Next.{is_next};
-ghost use Rattle.inverse_log.specs.Pairs.{shown_pairs};
+ghost use Rattle.std.specs.Prelude.{◌≡◌, ◌++◌, IfOk, OnOk};
+ghost use Rattle.inverse_log.specs.Next.{next_events};
+ghost use Rattle.inverse_log.specs.Pairs.{shown_pairs, pairs_with};
 
 use event_index::{Indexed, Pairs};
 use rapid_text::OutOfMemory;
@@ -38,8 +36,8 @@ fn add_pairs(
     later: &[u32],
 ) -> Result<(), OutOfMemory>
     requires { schedule.now.trace ≡ indexed.now }
-    ensures { OnOk result (pairs.new
-        ≡ pairs.old ++ filter (λ p. does_show indexed.now.events schedule.now.events p.0 p.1) (map (λ y. (first, y)) later.now)) }
+    ensures { OnOk result (pairs.new ≡ pairs.old ++ pairs_with indexed.now.events schedule.now.events first
+        later.now) }
 {
     for second in later {
         if schedule.shows(indexed, first, *second) {
@@ -56,8 +54,7 @@ fn next_events(
     schedule: &Schedule,
 ) -> Result<Vec<u32>, OutOfMemory>
     requires { schedule.now.trace ≡ indexed.now }
-    ensures { IfOk result (λ next. next.items
-        ≡ filter (is_next indexed.now.events schedule.now.events) (before (length indexed.now.events))) }
+    ensures { IfOk result (λ next. next.items ≡ next_events indexed.now.events schedule.now.events) }
 {
     let next = sorted_next(alloc, indexed, schedule)?;
     let mut events = Vec::new(alloc);
@@ -75,8 +72,7 @@ fn sorted_next(
     schedule: &Schedule,
 ) -> Result<BTreeSet<u32>, OutOfMemory>
     requires { schedule.now.trace ≡ indexed.now }
-    ensures { IfOk result (λ next. next.keys
-        ≡ filter (is_next indexed.now.events schedule.now.events) (before (length indexed.now.events))) }
+    ensures { IfOk result (λ next. next.keys ≡ next_events indexed.now.events schedule.now.events) }
 {
     let mut next = BTreeSet::new(alloc);
     for thread in 0..indexed.threads() {

@@ -1,10 +1,10 @@
 //! The log: opened, and grown by blocks.
-ghost use Rattle.std.specs.Prelude.{◌≡◌, ◌≢◌, ◌⊎◌, ◌≤◌, ◌<◌, ◌+◌, ◌++◌, [], ◌∷◌, All, List, ℕ, length, take, drop, IfOk, OnOk, IfErr, IsErr, OnErr, IsErrOf, ◌^◌, Some, None, true, false};
-ghost use Rattle.kept_log.specs.Device.{Only, HasCause, AfterOthers};
+ghost use Rattle.std.specs.Prelude.{◌≡◌, ◌≢◌, ◌≤◌, ◌<◌, ◌+◌, ◌++◌, [], ◌∷◌, All, List, ℕ, length, take, drop, IfOk, OnOk, IfErr, IsErr, IsErrOf, ◌^◌, None, true, false};
+ghost use Rattle.kept_log.specs.Device.{Only, HasCause};
 ghost use Rattle.kept_log.specs.declared.device.DeviceError.TheVariants.{Shorter};
 ghost use Rattle.kept_log.specs.Lines.{IsLine, IsEnd, lines_text};
-ghost use Rattle.kept_log.specs.Log.{StandsFor, IsOldOrNew, EndsBehind, at_rest, lines_behind, head_of, lines_of, IsAtRest, IsKnown, IsLeft, BeginsWith};
-ghost use Rattle.kept_log.specs.Moments.{LeavesOnly};
+ghost use Rattle.kept_log.specs.Log.{EndsBehind, at_rest, lines_behind, head_of, lines_of, IsAtRest, IsKnown, IsLeft, lines_after, HasHead, LacksHead, HasNoLine, IsTextOf, rest_at, rest_of, StandsAt, StandsAfter, StandsIfHeaded, StandsForLog, BeginsWithLog, MayHaveBlock, lines_beyond, OthersLeave, IsKept, IsTooMuch, IsFoundOnce, IsDiskFailure};
+ghost use Rattle.kept_log.specs.Moments.{LeavesOnly, LeavesAlso};
 
 use crate::lines::lines_end;
 use crate::steps::{cut_through, write_through};
@@ -76,12 +76,12 @@ fn settle<D: Device>(device: &mut D, at: usize, text: &[u8]) -> Result<usize, De
     ensures len { IfOk result (λ len. len ≡ length (lines_text (lines_behind at (D.seen device.old)))) }
     ensures within { IfOk result (λ len. at + len ≤ length (D.seen device.old)) }
     ensures are_lines { OnOk result (All IsLine (lines_behind at (D.seen device.old))) }
-    ensures at_rest { OnOk result (D.seen device.new ≡ at_rest (take at (D.seen device.old)) (lines_behind at (D.seen device.old))) }
+    ensures at_rest { OnOk result (D.seen device.new ≡ rest_at at (D.seen device.old)) }
     ensures durable { OnOk result (Only (D.seen device.new) (D.may_leave device.new)) }
 
     // A crash at any moment, and a failed call, leave the same lines.
-    ensures view { StandsFor (take at (D.seen device.old)) (lines_behind at (D.seen device.old)) (D.seen device.new) }
-    ensures any_moment { LeavesOnly D.Device device.old device.new (StandsFor (take at (D.seen device.old)) (lines_behind at (D.seen device.old))) }
+    ensures view { StandsAt at (D.seen device.old) (D.seen device.new) }
+    ensures any_moment { LeavesOnly D.Device device.old device.new (StandsAt at (D.seen device.old)) }
     ensures held { D.is_held device.new ≡ true }
     ensures found { D.found device.new ≡ D.found device.old }
     ensures cause { HasCause (D.faults device.old) (D.faults device.new) result }
@@ -103,8 +103,7 @@ pub fn create<D: Device>(alloc: Global, device: &mut D, head: &[u8]) -> Result<(
     ensures durable { OnOk result (Only (D.seen device.new) (D.may_leave device.new)) }
 
     // A crash at any moment leaves what it might have left before, or a file of no lines, whatever its head is.
-    ensures any_moment { LeavesOnly D.Device device.old device.new
-        (λ c. D.may_leave device.old c ⊎ (lines_behind (length head.now) c ≡ [])) }
+    ensures any_moment { LeavesAlso D.Device device.old device.new (HasNoLine head.now) }
     ensures held { D.is_held device.new ≡ true }
     ensures found { D.found device.new ≡ D.found device.old }
     ensures cause { HasCause (D.faults device.old) (D.faults device.new) result }
@@ -143,22 +142,22 @@ fn find<D: Device>(device: &mut D, head: &[u8], bytes: &[u8]) -> Result<usize, O
 
     ensures held { D.is_held device.new ≡ true }
     ensures found { D.found device.new ≡ D.found device.old }
-    ensures begins { OnOk result (take (length head.now) (D.seen device.old) ≡ head.now) }
+    ensures begins { OnOk result (HasHead head.now (D.seen device.old)) }
     ensures sound { OnOk result (D.faults device.new ≡ D.faults device.old) }
     ensures within { IfOk result (λ len. length head.now + len ≤ length (D.seen device.old)) }
-    ensures lines { IfOk result (λ len. take len (drop (length head.now) bytes.now) ≡ lines_text (lines_behind (length head.now) (D.seen device.old))) }
-    ensures len { IfOk result (λ len. len ≡ length (lines_text (lines_behind (length head.now) (D.seen device.old)))) }
-    ensures are_lines { OnOk result (All IsLine (lines_behind (length head.now) (D.seen device.old))) }
-    ensures at_rest { OnOk result (D.seen device.new ≡ at_rest head.now (lines_behind (length head.now) (D.seen device.old))) }
+    ensures lines { IfOk result (λ len. IsTextOf head.now bytes.now len (lines_after head.now (D.seen device.old))) }
+    ensures len { IfOk result (λ len. len ≡ length (lines_text (lines_after head.now (D.seen device.old)))) }
+    ensures are_lines { OnOk result (All IsLine (lines_after head.now (D.seen device.old))) }
+    ensures at_rest { OnOk result (D.seen device.new ≡ rest_of head.now (D.seen device.old)) }
     ensures durable { OnOk result (Only (D.seen device.new) (D.may_leave device.new)) }
 
-    ensures refused { IsErrOf result OpenError.Stranger → take (length head.now) (D.seen device.old) ≢ head.now }
-    ensures stranger { take (length head.now) (D.seen device.old) ≢ head.now → device.new ≡ device.old }
-    ensures view { take (length head.now) (D.seen device.old) ≡ head.now → StandsFor head.now (lines_behind (length head.now) (D.seen device.old)) (D.seen device.new) }
+    ensures refused { IsErrOf result OpenError.Stranger → LacksHead head.now (D.seen device.old) }
+    ensures stranger { LacksHead head.now (D.seen device.old) → device.new ≡ device.old }
+    ensures view { HasHead head.now (D.seen device.old) → StandsAfter head.now (D.seen device.old) (D.seen
+        device.new) }
 
     // A crash at any moment leaves what it might have left before, or the lines that are seen.
-    ensures any_moment { LeavesOnly D.Device device.old device.new
-        (λ c. D.may_leave device.old c ⊎ StandsFor head.now (lines_behind (length head.now) (D.seen device.old)) c) }
+    ensures any_moment { LeavesAlso D.Device device.old device.new (StandsAfter head.now (D.seen device.old)) }
 {
     if !bytes.starts_with(head) {
         return Err(OpenError::Stranger);
@@ -186,24 +185,22 @@ impl<D: Device> KeptLog<D> {
         ensures found_err { IfErr result (λ e. D.found e.1 ≡ D.found device) }
         ensures at_rest { IfOk result (λ opened. IsAtRest D.Device opened.0) }
         ensures head { IfOk result (λ opened. head_of D.Device opened.0 ≡ head.now) }
-        ensures lines { IfOk result (λ opened. lines_of D.Device opened.0 ≡ lines_behind (length head.now) (D.seen device)) }
-        ensures text { IfOk result (λ opened. take opened.1 (drop (length head.now) bytes.now) ≡ lines_text (lines_of D.Device opened.0)) }
-        ensures begins { OnOk result (take (length head.now) (D.seen device) ≡ head.now) }
+        ensures lines { IfOk result (λ r. lines_of D.Device r.0 ≡ lines_after head.now (D.seen device)) }
+        ensures text { IfOk result (λ r. IsTextOf head.now bytes.now r.1 (lines_of D.Device r.0)) }
+        ensures begins { OnOk result (HasHead head.now (D.seen device)) }
         ensures sound { IfOk result (λ opened. D.faults opened.0.device ≡ D.faults device) }
 
         // A file that begins otherwise is refused, and is left as it was.
-        ensures refused { IfErr result (λ e. e.0 ≡ OpenError.Stranger → take (length head.now) (D.seen device) ≢ head.now) }
-        ensures stranger { take (length head.now) (D.seen device) ≢ head.now → IfErr result (λ e. e.1 ≡ device) × IsErr result }
+        ensures refused { IfErr result (λ e. e.0 ≡ OpenError.Stranger → LacksHead head.now (D.seen device)) }
+        ensures stranger { LacksHead head.now (D.seen device) → IfErr result (λ e. e.1 ≡ device) × IsErr result }
 
         // A file that begins with the head has the same lines, also where a call failed.
-        ensures view { IfErr result (λ e. take (length head.now) (D.seen device) ≡ head.now
-            → StandsFor head.now (lines_behind (length head.now) (D.seen device)) (D.seen e.1)) }
+        ensures view { IfErr result (λ e. StandsIfHeaded head.now (D.seen device) (D.seen e.1)) }
 
         // A crash at any moment leaves what it might have left before, or the lines that are seen.
-        ensures any_moment { IfOk result (λ opened. LeavesOnly D.Device device opened.0.device
-            (λ c. D.may_leave device c ⊎ StandsFor head.now (lines_behind (length head.now) (D.seen device)) c)) }
-        ensures any_moment_err { IfErr result (λ e. LeavesOnly D.Device device e.1
-            (λ c. D.may_leave device c ⊎ StandsFor head.now (lines_behind (length head.now) (D.seen device)) c)) }
+        ensures any_moment { IfOk result (λ r. LeavesAlso D.Device device r.0.device (StandsAfter head.now
+            (D.seen device))) }
+        ensures any_moment_err { IfErr result (λ e. LeavesAlso D.Device device e.1 (StandsAfter head.now (D.seen device))) }
     {
         match find(&mut device, head, bytes) {
             Ok(len) => {
@@ -220,7 +217,7 @@ impl<D: Device> KeptLog<D> {
         requires known { IsKnown D.Device self.old }
 
         ensures held { OnOk result (D.is_held self.new.device ≡ true) }
-        ensures found { OnOk result (D.found self.new.device ≡ Some (D.seen self.new.device) ∷ D.found self.old.device) }
+        ensures found { OnOk result (IsFoundOnce D.Device self.old.device self.new.device) }
         ensures none_found { IfErr result (λ why. why ≢ Shorter → D.found self.new.device ≡ D.found self.old.device) }
         ensures shorter { IsErrOf result Shorter → D.found self.new.device ≡ None ∷ D.found self.old.device }
         ensures known { IsKnown D.Device self.new }
@@ -228,7 +225,7 @@ impl<D: Device> KeptLog<D> {
         ensures places { (self.new.start ≡ self.old.start) × (self.new.end ≡ self.old.end) }
         ensures bytes { IfOk result (λ bytes. drop self.new.end (D.seen self.new.device) ≡ bytes.items) }
         ensures fits { OnOk result (length (D.seen self.new.device) < 2 ^ 63) }
-        ensures any_moment { LeavesOnly D.Device self.old.device self.new.device (λ c. D.may_leave self.old.device c ⊎ AfterOthers self.old.end (D.may_leave self.old.device) c) }
+        ensures any_moment { LeavesAlso D.Device self.old.device self.new.device (OthersLeave D.Device self.old) }
         ensures cause { HasCause (D.faults self.old.device) (D.faults self.new.device) result }
     {
         self.device.take_over(alloc, self.end)
@@ -243,9 +240,9 @@ impl<D: Device> KeptLog<D> {
         ensures found { D.found self.new.device ≡ D.found self.old.device }
         ensures known { IsKnown D.Device self.new }
         ensures left { IsLeft D.Device self.new }
-        ensures same { (D.seen self.new.device ≡ D.seen self.old.device) × (self.new.start ≡ self.old.start) × (self.new.end ≡ self.old.end) }
-        ensures kept { (c : List ℕ) → D.may_leave self.new.device c → BeginsWith (head_of D.Device self.old) (lines_of D.Device self.old) c }
-        ensures any_moment { LeavesOnly D.Device self.old.device self.new.device (BeginsWith (head_of D.Device self.old) (lines_of D.Device self.old)) }
+        ensures same { IsKept D.Device self.old self.new }
+        ensures kept { (c : List ℕ) → D.may_leave self.new.device c → BeginsWithLog D.Device self.old c }
+        ensures any_moment { LeavesOnly D.Device self.old.device self.new.device (BeginsWithLog D.Device self.old) }
         ensures cause { HasCause (D.faults self.old.device) (D.faults self.new.device) result }
     {
         self.device.release(self.end)
@@ -262,16 +259,15 @@ impl<D: Device> KeptLog<D> {
         ensures held { D.is_held self.new.device ≡ true }
         ensures found { D.found self.new.device ≡ D.found self.old.device }
         ensures start { self.new.start ≡ self.old.start }
-        ensures text { IfOk result (λ len. take len text.now ≡ lines_text (lines_behind self.old.end (D.seen self.old.device))) }
+        ensures text { IfOk result (λ len. take len text.now ≡ lines_text (lines_beyond D.Device self.old)) }
         ensures at_rest { OnOk result (IsAtRest D.Device self.new) }
         ensures lines { OnOk result (lines_of D.Device self.new ≡ lines_of D.Device self.old) }
         ensures head { OnOk result (head_of D.Device self.new ≡ head_of D.Device self.old) }
 
         // A crash at any moment leaves what it might have left before, or the lines that are seen. A failed call
         // changes none of them.
-        ensures view { StandsFor (head_of D.Device self.old) (lines_of D.Device self.old) (D.seen self.new.device) }
-        ensures any_moment { LeavesOnly D.Device self.old.device self.new.device
-            (λ c. D.may_leave self.old.device c ⊎ StandsFor (head_of D.Device self.old) (lines_of D.Device self.old) c) }
+        ensures view { StandsForLog D.Device self.old (D.seen self.new.device) }
+        ensures any_moment { LeavesAlso D.Device self.old.device self.new.device (StandsForLog D.Device self.old) }
         ensures cause { HasCause (D.faults self.old.device) (D.faults self.new.device) result }
     {
         // What another process wrote, and was killed, may be on no disk yet.
@@ -296,16 +292,15 @@ impl<D: Device> KeptLog<D> {
         ensures head { OnOk result (head_of D.Device self.new ≡ head_of D.Device self.old) }
 
         // A crash at any moment, and a failed call, leave the lines from before, with those of the block or without.
-        ensures view { IsOldOrNew (head_of D.Device self.old) (lines_of D.Device self.old) block (D.seen self.new.device) }
+        ensures view { MayHaveBlock D.Device self.old block (D.seen self.new.device) }
         ensures known { IsKnown D.Device self.new }
-        ensures any_moment { LeavesOnly D.Device self.old.device self.new.device
-            (IsOldOrNew (head_of D.Device self.old) (lines_of D.Device self.old) block) }
+        ensures any_moment { LeavesOnly D.Device self.old.device self.new.device (MayHaveBlock D.Device self.old block) }
 
         // It doesn't give up by itself, and then nothing is changed.
         ensures memory { IsErrOf result AppendError.OutOfMemory → self.new ≡ self.old }
-        ensures failed { IsErrOf result (AppendError.Device DeviceError.Failed) → D.faults self.old.device < D.faults self.new.device }
+        ensures failed { IsDiskFailure result → D.faults self.old.device < D.faults self.new.device }
         ensures sound { OnOk result (D.faults self.new.device ≡ D.faults self.old.device) }
-        ensures full { IsErrOf result AppendError.Full → (2 ^ 60 < self.old.end + length (lines_text block)) × (self.new ≡ self.old) }
+        ensures full { IsErrOf result AppendError.Full → IsTooMuch self.old block × (self.new ≡ self.old) }
     {
         let mut text = block.into_text();
         if text.len() > MAX_LENGTH || self.end > MAX_LENGTH - text.len() {

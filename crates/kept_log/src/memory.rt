@@ -1,8 +1,8 @@
 //! A file in memory. Each call is done at once, so a crash leaves what is there. It keeps each past content.
-ghost use Rattle.std.specs.Prelude.{◌≡◌, ◌⊎◌, ◌≤◌, [], ◌∷◌, ◌++◌, length, drop, IfOk, OnOk, OnErr};
+ghost use Rattle.std.specs.Prelude.{◌≡◌, ◌⊎◌, ◌≤◌, length, drop, IfOk, OnOk, OnErr};
 ghost use Rattle.std.proofs.Common.{inl};
 ghost use Rattle.kept_log.specs.Device.{Holds};
-ghost use Rattle.kept_log.specs.Past.{HadBeen, only_bytes, newest_first};
+ghost use Rattle.kept_log.specs.Past.{HadBeen, only_bytes, newest_first, KeepsBytes};
 
 use crate::{Device, DeviceError};
 use std::alloc::{AllocError, Global};
@@ -62,7 +62,7 @@ fn replace(
 ) -> Result<(), AllocError>
     ensures ok { OnOk result (bytes.new.items ≡ next.items) }
     ensures err { OnErr result (bytes.new.items ≡ bytes.old.items) }
-    ensures past { OnOk result ((v : _) × (v.items ≡ bytes.old.items) × (past.new.items ≡ past.old.items ++ v ∷ [])) }
+    ensures past { OnOk result (KeepsBytes bytes.old.items past.old.items past.new.items) }
     ensures past_err { OnErr result (past.new.items ≡ past.old.items) }
 {
     past.push(bytes.to_vec(alloc)?)?;

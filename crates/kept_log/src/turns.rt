@@ -1,8 +1,8 @@
 //! Turns with a log that several processes share: each takes the lock, sees what others added, adds its own, and lets the lock go.
-ghost use Rattle.std.specs.Prelude.{◌≡◌, ◌≢◌, ◌+◌, ◌<◌, ◌^◌, ◌++◌, [], ◌∷◌, List, ℕ, None, true, length, IfOk, OnOk, IsErrOf};
+ghost use Rattle.std.specs.Prelude.{◌≡◌, ◌+◌, ◌<◌, ◌++◌, [], ◌∷◌, None, true, IfOk, OnOk, IsErrOf};
 ghost use Rattle.kept_log.specs.Moments.{LeavesOnly};
-ghost use Rattle.kept_log.specs.Lines.{kept_lines, lines_text};
-ghost use Rattle.kept_log.specs.Log.{IsOldOrNew, IsAtRest, IsLeft, BeginsWith, HasTurn, IsAsFound, head_of, lines_of};
+ghost use Rattle.kept_log.specs.Lines.{kept_lines};
+ghost use Rattle.kept_log.specs.Log.{IsAtRest, IsLeft, HasTurn, IsAsFound, head_of, lines_of, BeginsWithLog, MayHaveBlock, HasGained, IsTooMuch, IsDiskFailure};
 ghost use Rattle.kept_log.specs.declared.device.DeviceError.TheVariants.{Shorter};
 ghost use Rattle.kept_log.specs.declared.turns.EnterError.TheVariants.{Unread};
 
@@ -27,7 +27,7 @@ impl<D: Device> KeptLog<D> {
         ensures held { OnOk result (D.is_held self.new.device ≡ true) }
         ensures at_rest { OnOk result (IsAtRest D.Device self.new) }
         ensures head { OnOk result (head_of D.Device self.new ≡ head_of D.Device self.old) }
-        ensures lines { IfOk result (λ text. lines_of D.Device self.new ≡ lines_of D.Device self.old ++ kept_lines text.items) }
+        ensures lines { IfOk result (λ text. HasGained D.Device self.old self.new (kept_lines text.items)) }
 
         // What others wrote is not lost: the lines are those that stood in the file when the lock was taken, also at an error.
         ensures turn { OnOk result (HasTurn D.Device self.old self.new []) }
@@ -40,7 +40,7 @@ impl<D: Device> KeptLog<D> {
         ensures shorter { IsErrOf result (Unread Shorter) → D.found self.new.device ≡ None ∷ D.found self.old.device }
 
         // A crash at any moment leaves a file whose lines begin with those that were known.
-        ensures any_moment { LeavesOnly D.Device self.old.device self.new.device (BeginsWith (head_of D.Device self.old) (lines_of D.Device self.old)) }
+        ensures any_moment { LeavesOnly D.Device self.old.device self.new.device (BeginsWithLog D.Device self.old) }
     {
         let text = match self.take_over(alloc) {
             Ok(text) => text,
@@ -65,14 +65,13 @@ impl<D: Device> KeptLog<D> {
         ensures lines { OnOk result (lines_of D.Device self.new ≡ lines_of D.Device self.old ++ block) }
 
         // A crash at any moment, and a failed call, leave the lines from before, with those of the block or without.
-        ensures view { IsOldOrNew (head_of D.Device self.old) (lines_of D.Device self.old) block (D.seen self.new.device) }
-        ensures any_moment { LeavesOnly D.Device self.old.device self.new.device
-            (IsOldOrNew (head_of D.Device self.old) (lines_of D.Device self.old) block) }
+        ensures view { MayHaveBlock D.Device self.old block (D.seen self.new.device) }
+        ensures any_moment { LeavesOnly D.Device self.old.device self.new.device (MayHaveBlock D.Device self.old block) }
         // It doesn't give up by itself, and then nothing is changed.
         ensures memory { IsErrOf result AppendError.OutOfMemory → self.new ≡ self.old }
-        ensures failed { IsErrOf result (AppendError.Device DeviceError.Failed) → D.faults self.old.device < D.faults self.new.device }
+        ensures failed { IsDiskFailure result → D.faults self.old.device < D.faults self.new.device }
         ensures sound { OnOk result (D.faults self.new.device ≡ D.faults self.old.device) }
-        ensures full { IsErrOf result AppendError.Full → (2 ^ 60 < self.old.end + length (lines_text block)) × (self.new ≡ self.old) }
+        ensures full { IsErrOf result AppendError.Full → IsTooMuch self.old block × (self.new ≡ self.old) }
     {
         if block.is_empty() {
             return Ok(());

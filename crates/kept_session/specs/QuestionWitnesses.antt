@@ -4,9 +4,9 @@ use Rattle.rapid_text.specs.Recording.{Recording}
 use Rattle.event_index.specs.Relations.{IsConflicting}
 use Rattle.explain_report.specs.declared.verdict.How.{How}
 use Rattle.explain_report.specs.declared.verdict.How.TheVariants.{Candidate, Beyond, Turned}
-use Rattle.pair_findings.specs.Findings.{IsFinding, IsNeverShown}
-use Rattle.pair_findings.specs.declared.finding.Finding.{Finding}
-use Rattle.pair_findings.specs.declared.finding.Finding.TheVariants.{Race, Forced, Guarded, Undecided}
+use Rattle.explain_report.specs.findings.Findings.{IsFinding, IsNeverShown}
+use Rattle.explain_report.specs.declared.findings.finding.Finding.{Finding}
+use Rattle.explain_report.specs.declared.findings.finding.Finding.TheVariants.{Race, Forced, Guarded, Undecided}
 use Rattle.report.specs.Pieces.{spaced}
 
 -- how a race was found

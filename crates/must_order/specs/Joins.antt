@@ -1,7 +1,8 @@
 -- What is kept of the joins that the rule of sections asked for, so that reasons can be told. No public clause cites this
 -- module. `T` is the events of a trace; `js` is all joins, in the order in which they were made, and `starts` tells
 -- for each event how many joins were made before it was looked at.
-use Rattle.std.specs.Prelude.{◌≡◌, ◌⊎◌, ℕ, ◌+◌, ◌<◌, ◌≤◌, Bool, true, List, length, All, slice_get, slice_index, Some}
+use Rattle.std.specs.Prelude.{◌≡◌, ◌⊎◌, ℕ, ◌+◌, ◌<◌, ◌≤◌, Bool, true, Vec, List, [], ◌∷◌, ◌++◌, length, All, slice_get, slice_index, Option, Some}
+use Rattle.std.specs.Global.{Global}
 use Rattle.rapid_text.specs.declared.event.Event.{Event}
 use Rattle.event_index.specs.Lookups.{base_of}
 use Rattle.must_order.specs.Layout.{source_of}
@@ -9,7 +10,9 @@ use Rattle.must_order.specs.MustBefore.{EndsFirst, IsMustBefore}
 use Rattle.must_order.specs.Chains.{IsChain, IsLedFrom}
 use Rattle.must_order.specs.declared.chains.Chain.{Chain}
 use Rattle.must_order.specs.declared.chains.Reason.TheVariants.{Ended}
+use Rattle.must_order.specs.declared.chains.Step.{Step}
 use Rattle.must_order.specs.declared.joins.Join.{Join}
+use Rattle.must_order.specs.declared.joins.Joins.{Joins}
 
 -- one of the joins from number `low` up to `high` is of e, and d is must-before the release that it joined
 pub record IsJoined (T : List Event) (js : List Join) (low high d e : ℕ) : Type 0 where
@@ -69,3 +72,55 @@ pub record AreTold (T : List Event) (js : List Join) (needed : List Bool) (at : 
       (i : ℕ) (c : Chain) → slice_get cs i ≡ Some c
       → All (λ s. (p : ℕ) → s.reason ≡ Ended p → IsLedFrom cs (i + 1) p s.to ⊎ IsNeeded js needed at p s.to) c.steps.items
   pub marks : length needed ≡ length js
+
+-- the joins of the first i events
+abbrev pub AreJoinsOf : List Event → ℕ → Joins → Type 0
+AreJoinsOf T i joins = AreJoins T i joins.list.items joins.starts.items
+
+-- the joins of all events
+abbrev pub AreAllJoins : List Event → Joins → Type 0
+AreAllJoins T joins = AreJoins T (length T) joins.list.items joins.starts.items
+
+-- one of the joins below this number that were made for e leads there from d
+abbrev pub IsJoinedBelow : List Event → Joins → ℕ → ℕ → ℕ → Type 0
+IsJoinedBelow T joins high d e = IsJoined T joins.list.items (slice_index joins.starts.items e) high d e
+
+-- what leads from d to e is among the joins below this number
+abbrev pub IsLedBelow : List Event → Joins → ℕ → ℕ → ℕ → Type 0
+IsLedBelow T joins high d e = IsLed T joins.list.items (slice_index joins.starts.items e) high d e
+
+-- it is among all joins so far
+abbrev pub IsLedBy : List Event → Joins → ℕ → ℕ → Type 0
+IsLedBy T joins d e = IsLed T joins.list.items (slice_index joins.starts.items e) (length joins.list.items) d e
+
+-- something leads to e from each event that is must-before it
+abbrev pub AreLed : List Event → Joins → ℕ → Type 0
+AreLed T joins e = (d : ℕ) → IsMustBefore T d e → (d ≡ e) ⊎ IsLedBy T joins d e
+
+-- one more join was made, of this event, acquire and release
+abbrev pub AddsJoin : Joins → Joins → ℕ → ℕ → ℕ → Type 0
+AddsJoin old new e a r = new.list.items ≡ old.list.items ++ record { event = e; acquire = a; release = r } ∷ []
+
+-- the join is of e, and d is must-before its release
+abbrev pub LeadsTo : List Event → ℕ → ℕ → Join → Type 0
+LeadsTo T d e join = (join.event ≡ e) × IsMustBefore T d join.release
+
+-- if the step ends a section, a join below this number is marked for it
+abbrev pub NeedsJoin : Joins → Vec Bool Global → ℕ → ℕ → Step → Type 0
+NeedsJoin joins needed high e step = (p : ℕ) → step.reason ≡ Ended p → IsNeeded joins.list.items needed.items high p e
+
+-- the chains so far, with these joins and marks
+abbrev pub AreToldBy : List Event → Joins → Vec Bool Global → ℕ → Vec Chain Global → Type 0
+AreToldBy T joins needed at chains = AreTold T joins.list.items needed.items at chains.items
+
+-- the step comes to e from this earlier event
+abbrev pub StepsFrom : Option ℕ → ℕ → Step → Type 0
+StepsFrom from e step = (from ≡ Some step.from) × (step.to ≡ e) × (step.from < e)
+
+-- the step comes to e from an earlier event which d is must-before
+abbrev pub StepsOn : List Event → ℕ → ℕ → Step → Type 0
+StepsOn T d e step = (step.to ≡ e) × (step.from < e) × IsMustBefore T d step.from
+
+-- d is not must-before this event
+abbrev pub IsNotBefore : List Event → ℕ → Option ℕ → Type 0
+IsNotBefore T d other = (o : ℕ) → other ≡ Some o → ¬ IsMustBefore T d o

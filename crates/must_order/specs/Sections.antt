@@ -1,6 +1,7 @@
 -- Which acquires find their lock free, and what is kept of them in a pass over the events. No public clause cites this
 -- module. `T` is the events of a trace.
-use Rattle.std.specs.Prelude.{◌≡◌, ℕ, Bool, true, false, ◌==◌, ◌&&◌, ◌<◌, ◌≤◌, List, length, take, filter, reverse, find, slice_get, Option, Some, None, option_map, All, Contains}
+use Rattle.std.specs.Prelude.{◌≡◌, ◌≢◌, ℕ, Bool, true, false, ◌==◌, ◌&&◌, ◌<◌, ◌≤◌, Vec, List, [], length, take, filter, reverse, find, slice_get, slice_index, Option, Some, None, option_map, All, Contains}
+use Rattle.std.specs.Global.{Global}
 use Rattle.rapid_text.specs.Operations.{is_acquire}
 use Rattle.rapid_text.specs.Recording.{Recording}
 use Rattle.rapid_text.specs.declared.event.Event.{Event}
@@ -10,7 +11,7 @@ use Rattle.event_index.specs.Events.{op_at, thread_at}
 use Rattle.event_index.specs.Lookups.{before, section_end}
 use Rattle.must_order.specs.declared.sections.Sections.{Sections}
 use Rattle.must_order.specs.Layout.{IsCounted}
-use Rattle.must_order.specs.MustBefore.{EndsFirst}
+use Rattle.must_order.specs.MustBefore.{EndsFirst, IsInSection}
 
 abbrev pub outer_by : List Event → ℕ → ℕ → Option Event → Bool
 outer_by T l e None = false
@@ -56,3 +57,39 @@ IsSettledBy T e row l u = (p r : ℕ) (s : EndsFirst T p r e) → s.lock ≡ l �
 abbrev pub IsSettledWithin : List Event → ℕ → (ℕ → ℕ) → ℕ → Type 0
 IsSettledWithin T e row p =
     (l t : ℕ) → op_at T p ≡ Some (Acquire l) → thread_at T p ≡ Some t → thread_at T e ≡ Some t → IsOpenAt T e p → IsSettledOn T e row l
+
+-- event e ends the section of the acquire at this place among those that are kept
+abbrev pub EndsHeld : List Event → Sections → ℕ → ℕ → Type 0
+EndsHeld T s e at = (at < length s.held.items) × (section_end T (slice_index s.held.items at) ≡ Some e)
+
+-- it ends none of their sections
+abbrev pub EndsNone : List Event → Sections → ℕ → Type 0
+EndsNone T s e = (k : ℕ) → k < length s.held.items → section_end T (slice_index s.held.items k) ≢ Some e
+
+-- if e acquires a lock, the row counts the ends of its sections that have to end before e
+abbrev pub IsSettledAt : List Event → ℕ → (ℕ → ℕ) → Type 0
+IsSettledAt T e row = (l : ℕ) → op_at T e ≡ Some (Acquire l) → IsSettledOn T e row l
+
+-- e lies in a section of the lock
+abbrev pub LiesInSection : List Event → ℕ → ℕ → Type 0
+LiesInSection T e l = (t : ℕ) → thread_at T e ≡ Some t → IsInSection T e t l
+
+-- the first lists are empty
+abbrev pub AreEmptyLists : List (Vec ℕ Global) → ℕ → Type 0
+AreEmptyLists lists count = (m : ℕ) → m < count → option_map (λ w. w.items) (slice_get lists m) ≡ Some []
+
+-- o is p, an acquire of thread t, with the end of its section, which comes after `last`
+abbrev pub EndsLater : List Event → ℕ → ℕ → ℕ → ℕ × ℕ → Type 0
+EndsLater T p t last o = (o.0 ≡ p) × (thread_at T p ≡ Some t) × (section_end T p ≡ Some o.1) × (last < o.1)
+
+-- if p is of thread t, its section ends at `last` or before, if it ends
+abbrev pub EndsBy : List Event → ℕ → ℕ → ℕ → Type 0
+EndsBy T p t last = thread_at T p ≡ Some t → (r : ℕ) → section_end T p ≡ Some r → r ≤ last
+
+-- e lies in the section that its thread began at p
+abbrev pub LiesIn : List Event → ℕ → ℕ → Type 0
+LiesIn T p e = (thread_at T p ≡ thread_at T e) × IsOpenAt T e p
+
+-- it does not, if p is of its thread
+abbrev pub LiesOutside : List Event → ℕ → ℕ → Type 0
+LiesOutside T p e = thread_at T p ≡ thread_at T e → ¬ IsOpenAt T e p

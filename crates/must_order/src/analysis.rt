@@ -2,7 +2,7 @@
 ghost use Rattle.std.specs.Prelude.{◌≡◌, ◌≢◌, ◌<◌, ◌↔◌, ℕ, None, IfSome, length, IsTrue, IfOk};
 ghost use Rattle.shb_clocks.specs.Candidates.{IsCandidatePair};
 ghost use Rattle.must_order.specs.Chains.{AreReasons};
-ghost use Rattle.must_order.specs.Held.{IsHeldFrom, AreLocksHeld};
+ghost use Rattle.must_order.specs.Held.{IsHeldFrom, AreHeldAt, IsGuard, HasNoGuard};
 ghost use Rattle.must_order.specs.MustBefore.{IsForced, IsHeldBefore, IsMustBefore, IsSharedBefore};
 
 use crate::chains::Chain;
@@ -105,9 +105,9 @@ impl<'a> Analysis<'a> {
     pub fn guard(&self, first: u32, second: u32) -> Option<u32>
         requires first { first < length self.now.events }
         requires second { second < length self.now.events }
-        ensures found { IfSome result (λ l. (l < length self.now.locks) × IsSharedBefore self.now.events first second l) }
+        ensures found { IfSome result (IsGuard self.now first second) }
         ensures least { IfSome result (λ l. (k : ℕ) → k < l → ¬ IsSharedBefore self.now.events first second k) }
-        ensures none { result ≡ None → (k : ℕ) → k < length self.now.locks → ¬ IsSharedBefore self.now.events first second k }
+        ensures none { result ≡ None → HasNoGuard self.now first second }
     {
         self.must.guard(self.indexed, first, second)
     }
@@ -125,7 +125,7 @@ impl<'a> Analysis<'a> {
     /// The locks that the event's thread holds before it, in rising order.
     pub fn locks_held(&self, alloc: Global, event: u32) -> Result<Vec<u32>, OutOfMemory>
         requires event { event < length self.now.events }
-        ensures held { IfOk result (λ locks. AreLocksHeld self.now.events event (length self.now.locks) locks.items) }
+        ensures held { IfOk result (λ locks. AreHeldAt self.now event locks.items) }
     {
         self.must.locks_held(alloc, self.indexed, event)
     }
@@ -139,7 +139,7 @@ impl<'a> Analysis<'a> {
     ) -> Result<Option<Vec<Chain>>, OutOfMemory>
         requires first { first < length self.now.events }
         requires second { second < length self.now.events }
-        ensures some { IfOk result (λ chains. IfSome chains (λ cs. AreReasons self.now.events first second cs.items)) }
+        ensures some { IfOk result (λ r. IfSome r (λ cs. AreReasons self.now.events first second cs.items)) }
         ensures none { IfOk result (λ chains. chains ≡ None → ¬ IsMustBefore self.now.events first second) }
         ensures exact { IfOk result (λ chains. IsMustBefore self.now.events first second → chains ≢ None) }
     {

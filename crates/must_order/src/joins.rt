@@ -1,7 +1,7 @@
 //! The joins that the rule of sections asked for, in the order in which they were made.
-ghost use Rattle.std.specs.Prelude.{◌≡◌, ◌⊎◌, ◌<◌, ◌+◌, ◌++◌, ◌∷◌, [], ℕ, length, IfOk, OnOk, slice_index};
-ghost use Rattle.must_order.specs.Joins.{IsLed, AreJoins};
-ghost use Rattle.must_order.specs.MustBefore.{EndsFirst, IsMustBefore};
+ghost use Rattle.std.specs.Prelude.{◌≡◌, ◌<◌, ◌+◌, IfOk, OnOk};
+ghost use Rattle.must_order.specs.Joins.{AreJoinsOf, IsLedBy, AreLed, AddsJoin};
+ghost use Rattle.must_order.specs.MustBefore.{EndsFirst};
 
 use event_index::Indexed;
 use rapid_text::OutOfMemory;
@@ -25,7 +25,7 @@ pub(crate) struct Joins {
 impl Joins {
     /// Before the first event.
     pub(crate) fn new(alloc: Global, indexed: &Indexed) -> Result<Joins, OutOfMemory>
-        ensures { IfOk result (λ joins. AreJoins indexed.now.events 0 joins.list.items joins.starts.items) }
+        ensures { IfOk result (λ joins. AreJoinsOf indexed.now.events 0 joins) }
     {
         let mut starts = Vec::with_capacity(alloc, indexed.len() as usize + 1)?;
         starts.push(0)?;
@@ -43,14 +43,13 @@ impl Joins {
         acquire: u32,
         release: u32,
     ) -> Result<(), OutOfMemory>
-        requires known { AreJoins indexed.now.events event self.old.list.items self.old.starts.items }
+        requires known { AreJoinsOf indexed.now.events event self.old }
         requires ends { EndsFirst indexed.now.events acquire release event }
         requires earlier { release < event }
-        requires led { IsLed indexed.now.events self.old.list.items (slice_index self.old.starts.items event) (length self.old.list.items) acquire event }
-        ensures known { OnOk result (AreJoins indexed.now.events event self.new.list.items self.new.starts.items) }
+        requires led { IsLedBy indexed.now.events self.old acquire event }
+        ensures known { OnOk result (AreJoinsOf indexed.now.events event self.new) }
         ensures starts { OnOk result (self.new.starts.items ≡ self.old.starts.items) }
-        ensures list { OnOk result (self.new.list.items
-            ≡ self.old.list.items ++ record { event = event; acquire = acquire; release = release } ∷ []) }
+        ensures list { OnOk result (AddsJoin self.old self.new event acquire release) }
     {
         self.list.push(Join {
             event,
@@ -62,10 +61,9 @@ impl Joins {
 
     /// The event has no more joins.
     pub(crate) fn end(&mut self, indexed: &Indexed, event: u32) -> Result<(), OutOfMemory>
-        requires known { AreJoins indexed.now.events event self.old.list.items self.old.starts.items }
-        requires led { (d : ℕ) → IsMustBefore indexed.now.events d event
-            → (d ≡ event) ⊎ IsLed indexed.now.events self.old.list.items (slice_index self.old.starts.items event) (length self.old.list.items) d event }
-        ensures { OnOk result (AreJoins indexed.now.events (event + 1) self.new.list.items self.new.starts.items) }
+        requires known { AreJoinsOf indexed.now.events event self.old }
+        requires led { AreLed indexed.now.events self.old event }
+        ensures { OnOk result (AreJoinsOf indexed.now.events (event + 1) self.new) }
     {
         self.starts.push(self.list.len())?;
         Ok(())

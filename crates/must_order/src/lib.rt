@@ -8,6 +8,7 @@ mod joins;
 mod kind;
 mod laws;
 mod must;
+mod owed;
 mod reasons;
 mod rows;
 mod sections;

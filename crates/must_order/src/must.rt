@@ -1,11 +1,11 @@
 //! Must-before of a trace's events.
 ghost use Rattle.std.specs.Prelude.{◌≡◌, ◌≢◌, ◌<◌, ◌↔◌, ℕ, None, IfSome, length, IsTrue, IfOk};
 ghost use Rattle.must_order.specs.Chains.{AreReasons};
-ghost use Rattle.must_order.specs.Held.{IsHeldFrom, AreLocksHeld};
+ghost use Rattle.must_order.specs.Held.{IsHeldFrom, AreHeldAt, IsGuard, HasNoGuard};
 ghost use Rattle.must_order.specs.Kinds.{IsKind};
 ghost use Rattle.must_order.specs.MustBefore.{IsForced, IsHeldBefore, IsMustBefore, IsSharedBefore};
 ghost use Rattle.must_order.specs.Sections.{AreSections};
-ghost use Rattle.must_order.specs.Telling.{TellsMust};
+ghost use Rattle.must_order.specs.Telling.{TellsMust, width_of};
 ghost use Rattle.shb_clocks.specs.SharedRows.{len_of, count_of};
 
 use crate::chains::Chain;
@@ -80,7 +80,7 @@ impl Must {
     /// must-before it or are it.
     pub fn rows(&self) -> &SharedRows
         ensures len { len_of result.now ≡ length self.now.events }
-        ensures width { result.now.width ≡ length self.now.threads }
+        ensures width { width_of result.now ≡ length self.now.threads }
         ensures tells { TellsMust self.now.events (length self.now.threads) (count_of result.now) }
     {
         &self.counts
@@ -104,9 +104,9 @@ impl Must {
         requires trace { self.now ≡ indexed.now }
         requires first { first < length self.now.events }
         requires second { second < length self.now.events }
-        ensures found { IfSome result (λ l. (l < length self.now.locks) × IsSharedBefore self.now.events first second l) }
+        ensures found { IfSome result (IsGuard self.now first second) }
         ensures least { IfSome result (λ l. (k : ℕ) → k < l → ¬ IsSharedBefore self.now.events first second k) }
-        ensures none { result ≡ None → (k : ℕ) → k < length self.now.locks → ¬ IsSharedBefore self.now.events first second k }
+        ensures none { result ≡ None → HasNoGuard self.now first second }
     {
         guard_of(&self.sections, indexed, first, second)
     }
@@ -132,7 +132,7 @@ impl Must {
     ) -> Result<Vec<u32>, OutOfMemory>
         requires trace { self.now ≡ indexed.now }
         requires event { event < length self.now.events }
-        ensures held { IfOk result (λ locks. AreLocksHeld self.now.events event (length self.now.locks) locks.items) }
+        ensures held { IfOk result (λ locks. AreHeldAt self.now event locks.items) }
     {
         locks_of(alloc, &self.sections, indexed, event)
     }
@@ -150,7 +150,7 @@ impl Must {
         requires trace { self.now ≡ indexed.now }
         requires first { first < length self.now.events }
         requires second { second < length self.now.events }
-        ensures some { IfOk result (λ chains. IfSome chains (λ cs. AreReasons self.now.events first second cs.items)) }
+        ensures some { IfOk result (λ r. IfSome r (λ cs. AreReasons self.now.events first second cs.items)) }
         ensures none { IfOk result (λ chains. chains ≡ None → ¬ IsMustBefore self.now.events first second) }
         ensures exact { IfOk result (λ chains. IsMustBefore self.now.events first second → chains ≢ None) }
     {
@@ -190,7 +190,7 @@ fn locks_of(
 ) -> Result<Vec<u32>, OutOfMemory>
     requires known { AreSections indexed.now (length indexed.now.events) sections.now }
     requires event { event < length indexed.now.events }
-    ensures { IfOk result (λ locks. AreLocksHeld indexed.now.events event (length indexed.now.locks) locks.items) }
+    ensures { IfOk result (λ locks. AreHeldAt indexed.now event locks.items) }
 {
     let mut locks = Vec::new(alloc);
     for lock in 0..indexed.locks() {
@@ -203,9 +203,9 @@ fn guard_of(sections: &Sections, indexed: &Indexed, first: u32, second: u32) -> 
     requires known { AreSections indexed.now (length indexed.now.events) sections.now }
     requires first { first < length indexed.now.events }
     requires second { second < length indexed.now.events }
-    ensures found { IfSome result (λ l. (l < length indexed.now.locks) × IsSharedBefore indexed.now.events first second l) }
+    ensures found { IfSome result (IsGuard indexed.now first second) }
     ensures least { IfSome result (λ l. (k : ℕ) → k < l → ¬ IsSharedBefore indexed.now.events first second k) }
-    ensures none { result ≡ None → (k : ℕ) → k < length indexed.now.locks → ¬ IsSharedBefore indexed.now.events first second k }
+    ensures none { result ≡ None → HasNoGuard indexed.now first second }
 {
     for lock in 0..indexed.locks() {
         if sections.is_shared(indexed, first, second, lock) {

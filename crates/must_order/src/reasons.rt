@@ -2,7 +2,7 @@
 ghost use Rattle.std.specs.Prelude.{◌≡◌, ◌≢◌, ◌⊎◌, ◌+◌, ◌<◌, ◌≤◌, ◌↔◌, ℕ, None, Some, length, IfOk, OnOk, IfSome, IsTrue, All, [], slice_get, slice_index};
 ghost use Rattle.event_index.specs.Lookups.{base_of};
 ghost use Rattle.must_order.specs.Chains.{IsReason, IsChain, AreReasons};
-ghost use Rattle.must_order.specs.Joins.{IsLed, IsJoined, AreJoins, AreTold, IsNeeded, KeepsMarks};
+ghost use Rattle.must_order.specs.Joins.{KeepsMarks, AreAllJoins, IsJoinedBelow, IsLedBelow, LeadsTo, NeedsJoin, AreToldBy, StepsFrom, StepsOn, IsNotBefore};
 ghost use Rattle.must_order.specs.Layout.{source_of};
 ghost use Rattle.must_order.specs.MustBefore.{IsMustBefore};
 ghost use Rattle.must_order.specs.declared.chains.Reason.TheVariants.{Ended};
@@ -18,7 +18,7 @@ use std::alloc::Global;
 // The step to the event from its base.
 fn base_step(indexed: &Indexed, event: u32) -> Option<Step>
     requires event { event < length indexed.now.events }
-    ensures some { IfSome result (λ s. (base_of indexed.now.events event ≡ Some s.from) × (s.to ≡ event) × (s.from < event)) }
+    ensures some { IfSome result (StepsFrom (base_of indexed.now.events event) event) }
     ensures reason { IfSome result (λ s. IsReason indexed.now.events s.from event s.reason) }
     ensures plain { IfSome result (λ s. (p : ℕ) → s.reason ≢ Ended p) }
     ensures none { result ≡ None → base_of indexed.now.events event ≡ None }
@@ -61,7 +61,7 @@ fn source_reason(indexed: &Indexed, event: u32, source: u32) -> Reason
 // The step to the event from its source.
 fn source_step(indexed: &Indexed, event: u32) -> Option<Step>
     requires event { event < length indexed.now.events }
-    ensures some { IfSome result (λ s. (source_of indexed.now.events event ≡ Some s.from) × (s.to ≡ event) × (s.from < event)) }
+    ensures some { IfSome result (StepsFrom (source_of indexed.now.events event) event) }
     ensures reason { IfSome result (λ s. IsReason indexed.now.events s.from event s.reason) }
     ensures plain { IfSome result (λ s. (p : ℕ) → s.reason ≢ Ended p) }
     ensures none { result ≡ None → source_of indexed.now.events event ≡ None }
@@ -80,11 +80,11 @@ fn link_back(must: &Must, indexed: &Indexed, first: u32, event: u32) -> Option<S
     requires trace { must.now ≡ indexed.now }
     requires first { first < length indexed.now.events }
     requires event { event < length indexed.now.events }
-    ensures some { IfSome result (λ s. (s.to ≡ event) × (s.from < event) × IsMustBefore indexed.now.events first s.from) }
+    ensures some { IfSome result (StepsOn indexed.now.events first event) }
     ensures reason { IfSome result (λ s. IsReason indexed.now.events s.from event s.reason) }
     ensures plain { IfSome result (λ s. (p : ℕ) → s.reason ≢ Ended p) }
-    ensures base { result ≡ None → (b : ℕ) → base_of indexed.now.events event ≡ Some b → ¬ IsMustBefore indexed.now.events first b }
-    ensures source { result ≡ None → (s : ℕ) → source_of indexed.now.events event ≡ Some s → ¬ IsMustBefore indexed.now.events first s }
+    ensures base { result ≡ None → IsNotBefore indexed.now.events first (base_of indexed.now.events event) }
+    ensures source { result ≡ None → IsNotBefore indexed.now.events first (source_of indexed.now.events event) }
 {
     if let Some(step) = base_step(indexed, event) {
         if must.before(first, step.from) {
@@ -104,7 +104,7 @@ fn leads_through(must: &Must, indexed: &Indexed, join: Join, first: u32, event: 
     requires trace { must.now ≡ indexed.now }
     requires first { first < length indexed.now.events }
     requires release { join.release < length indexed.now.events }
-    ensures { IsTrue result ↔ ((join.event ≡ event) × IsMustBefore indexed.now.events first join.release) }
+    ensures { IsTrue result ↔ LeadsTo indexed.now.events first event join }
 {
     if join.event != event {
         return false;
@@ -122,13 +122,13 @@ fn join_back(
     high: usize,
 ) -> usize
     requires trace { must.now ≡ indexed.now }
-    requires known { AreJoins indexed.now.events (length indexed.now.events) joins.now.list.items joins.now.starts.items }
+    requires known { AreAllJoins indexed.now.events joins.now }
     requires first { first < length indexed.now.events }
     requires event { event < length indexed.now.events }
     requires high { high ≤ length joins.now.list.items }
-    requires joined { IsJoined indexed.now.events joins.now.list.items (slice_index joins.now.starts.items event) high first event }
+    requires joined { IsJoinedBelow indexed.now.events joins.now high first event }
     ensures below { result < high }
-    ensures found { IfSome (slice_get joins.now.list.items result) (λ j. (j.event ≡ event) × IsMustBefore indexed.now.events first j.release) }
+    ensures found { IfSome (slice_get joins.now.list.items result) (LeadsTo indexed.now.events first event) }
 {
     for at in joins.starts[event as usize]..high {
         if leads_through(must, indexed, joins.list[at], first, event) {
@@ -149,17 +149,17 @@ fn step_back(
     high: usize,
 ) -> Step
     requires trace { must.now ≡ indexed.now }
-    requires known { AreJoins indexed.now.events (length indexed.now.events) joins.now.list.items joins.now.starts.items }
+    requires known { AreAllJoins indexed.now.events joins.now }
     requires marks { length needed.old.items ≡ length joins.now.list.items }
     requires first { first < length indexed.now.events }
     requires event { event < length indexed.now.events }
     requires high { high ≤ length joins.now.list.items }
-    requires led { IsLed indexed.now.events joins.now.list.items (slice_index joins.now.starts.items event) high first event }
+    requires led { IsLedBelow indexed.now.events joins.now high first event }
     ensures to { result.to ≡ event }
     ensures earlier { result.from < event }
     ensures before { IsMustBefore indexed.now.events first result.from }
     ensures reason { IsReason indexed.now.events result.from event result.reason }
-    ensures section { (p : ℕ) → result.reason ≡ Ended p → IsNeeded joins.now.list.items needed.new.items high p event }
+    ensures section { NeedsJoin joins.now needed.new high event result }
     ensures marks { KeepsMarks needed.old.items needed.new.items }
 {
     if let Some(step) = link_back(must, indexed, first, event) {
@@ -187,17 +187,16 @@ fn chain_of(
     limit: usize,
 ) -> Result<Chain, OutOfMemory>
     requires trace { must.now ≡ indexed.now }
-    requires known { AreJoins indexed.now.events (length indexed.now.events) joins.now.list.items joins.now.starts.items }
+    requires known { AreAllJoins indexed.now.events joins.now }
     requires marks { length needed.old.items ≡ length joins.now.list.items }
     requires first { first < length indexed.now.events }
     requires last { last < length indexed.now.events }
     requires low { slice_index joins.now.starts.items last ≤ limit }
     requires high { limit ≤ length joins.now.list.items }
-    requires led { (first ≡ last) ⊎ IsLed indexed.now.events joins.now.list.items (slice_index joins.now.starts.items last) limit first last }
+    requires led { (first ≡ last) ⊎ IsLedBelow indexed.now.events joins.now limit first last }
     ensures ends { IfOk result (λ c. (c.first ≡ first) × (c.last ≡ last)) }
     ensures chain { IfOk result (IsChain indexed.now.events) }
-    ensures sections { IfOk result (λ c. All (λ s. (p : ℕ) → s.reason ≡ Ended p
-        → IsNeeded joins.now.list.items needed.new.items limit p s.to) c.steps.items) }
+    ensures sections { IfOk result (λ c. All (λ s. NeedsJoin joins.now needed.new limit s.to s) c.steps.items) }
     ensures marks { OnOk result (KeepsMarks needed.old.items needed.new.items) }
 {
     let mut steps = Vec::new(alloc);
@@ -224,10 +223,10 @@ fn justify(
     at: usize,
 ) -> Result<(), OutOfMemory>
     requires trace { must.now ≡ indexed.now }
-    requires known { AreJoins indexed.now.events (length indexed.now.events) joins.now.list.items joins.now.starts.items }
+    requires known { AreAllJoins indexed.now.events joins.now }
     requires at { at < length joins.now.list.items }
-    requires told { AreTold indexed.now.events joins.now.list.items needed.old.items (at + 1) chains.old.items }
-    ensures told { OnOk result (AreTold indexed.now.events joins.now.list.items needed.new.items at chains.new.items) }
+    requires told { AreToldBy indexed.now.events joins.now needed.old (at + 1) chains.old }
+    ensures told { OnOk result (AreToldBy indexed.now.events joins.now needed.new at chains.new) }
     ensures begins { OnOk result (slice_get chains.new.items 0 ≡ slice_get chains.old.items 0) }
 {
     if !needed[at] {
@@ -258,7 +257,7 @@ pub(crate) fn chains_of(
     last: u32,
 ) -> Result<Vec<Chain>, OutOfMemory>
     requires trace { must.now ≡ indexed.now }
-    requires known { AreJoins indexed.now.events (length indexed.now.events) joins.now.list.items joins.now.starts.items }
+    requires known { AreAllJoins indexed.now.events joins.now }
     requires first { first < length indexed.now.events }
     requires last { last < length indexed.now.events }
     requires before { IsMustBefore indexed.now.events first last }
@@ -282,7 +281,7 @@ fn add_chains(
     last: u32,
 ) -> Result<(), OutOfMemory>
     requires trace { must.now ≡ indexed.now }
-    requires known { AreJoins indexed.now.events (length indexed.now.events) joins.now.list.items joins.now.starts.items }
+    requires known { AreAllJoins indexed.now.events joins.now }
     requires first { first < length indexed.now.events }
     requires last { last < length indexed.now.events }
     requires before { IsMustBefore indexed.now.events first last }
@@ -314,7 +313,7 @@ fn add_marked(
     last: u32,
 ) -> Result<(), OutOfMemory>
     requires trace { must.now ≡ indexed.now }
-    requires known { AreJoins indexed.now.events (length indexed.now.events) joins.now.list.items joins.now.starts.items }
+    requires known { AreAllJoins indexed.now.events joins.now }
     requires marks { length needed.old.items ≡ length joins.now.list.items }
     requires first { first < length indexed.now.events }
     requires last { last < length indexed.now.events }

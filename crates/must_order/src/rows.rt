@@ -1,12 +1,10 @@
 //! The rows of counts, made in one pass over the events.
-ghost use Rattle.std.specs.Prelude.{◌≡◌, ◌≢◌, ◌↔◌, ◌⊎◌, ◌+◌, ◌<◌, ◌≤◌, length, IfOk, OnOk, IfSome, IsTrue, slice_index, max, ℕ, true, false, None};
+ghost use Rattle.std.specs.Prelude.{◌≡◌, ◌↔◌, ◌+◌, ◌<◌, ◌≤◌, length, IfOk, OnOk, IfSome, IsTrue, true, false, None};
 ghost use Rattle.rapid_text.specs.Recording.{IsWellFormed};
 ghost use Rattle.trace_rules.specs.Rules.{IsDisciplined};
-ghost use Rattle.shb_clocks.specs.Layout.{AreThreads};
-ghost use Rattle.shb_clocks.specs.SharedRows.{len_of, rows_in, thread_of, count_of};
-ghost use Rattle.must_order.specs.Joins.{IsLed, AreJoins};
-ghost use Rattle.must_order.specs.Layout.{AreCounts, IsRow, IsBegun, IsClosed, IsFresh, LearnsNothing, source_of, row_count};
-ghost use Rattle.must_order.specs.MustBefore.{IsMustBefore};
+ghost use Rattle.shb_clocks.specs.SharedRows.{len_of, rows_in, thread_of};
+ghost use Rattle.must_order.specs.Joins.{AreJoinsOf, AreAllJoins, AreLed};
+ghost use Rattle.must_order.specs.Layout.{IsRow, IsBegun, IsClosed, IsFresh, LearnsNothing, source_of, row_in, AreCountsOf, AreAllThreads, IsAlike, IsCopied, IsRaised};
 ghost use Rattle.must_order.specs.Sections.{AreSections, IsOwed};
 
 use crate::joins::Joins;
@@ -18,8 +16,7 @@ use std::alloc::Global;
 
 /// For each event its thread.
 pub(crate) fn threads_of(alloc: Global, indexed: &Indexed) -> Result<Vec<u32>, OutOfMemory>
-    ensures threads { IfOk result
-        (λ threads. AreThreads indexed.now.events (length indexed.now.events) threads.items) }
+    ensures threads { IfOk result (λ threads. AreAllThreads indexed.now.events threads.items) }
     ensures well_formed { IsWellFormed indexed.now }
     ensures disciplined { IsDisciplined indexed.now.events }
 {
@@ -44,10 +41,8 @@ pub(crate) struct Rows {
 pub(crate) fn rows_of(alloc: Global, indexed: &Indexed) -> Result<Rows, OutOfMemory>
     ensures width { IfOk result (λ rows. rows.counts.width ≡ length indexed.now.threads) }
     ensures len { IfOk result (λ rows. len_of rows.counts ≡ length indexed.now.events) }
-    ensures counts { IfOk result
-        (λ rows. AreCounts indexed.now.events (length indexed.now.threads) rows.counts) }
-    ensures joins { IfOk result
-        (λ rows. AreJoins indexed.now.events (length indexed.now.events) rows.joins.list.items rows.joins.starts.items) }
+    ensures counts { IfOk result (λ rows. AreCountsOf indexed.now rows.counts) }
+    ensures joins { IfOk result (λ rows. AreAllJoins indexed.now.events rows.joins) }
     ensures known { IfOk result (λ rows. AreSections indexed.now (length indexed.now.events) rows.sections) }
 {
     let mut rows = Rows::new(alloc, indexed)?;
@@ -63,7 +58,7 @@ impl Rows {
         ensures width { IfOk result (λ rows. rows.counts.width ≡ length indexed.now.threads) }
         ensures len { IfOk result (λ rows. len_of rows.counts ≡ 0) }
         ensures few { IfOk result (λ rows. rows_in rows.counts ≡ 0) }
-        ensures joins { IfOk result (λ rows. AreJoins indexed.now.events 0 rows.joins.list.items rows.joins.starts.items) }
+        ensures joins { IfOk result (λ rows. AreJoinsOf indexed.now.events 0 rows.joins) }
         ensures known { IfOk result (λ rows. AreSections indexed.now 0 rows.sections) }
     {
         Ok(Rows {
@@ -78,13 +73,12 @@ impl Rows {
         requires width { self.old.counts.width ≡ length indexed.now.threads }
         requires len { len_of self.old.counts ≡ 0 }
         requires few { rows_in self.old.counts ≡ 0 }
-        requires joins { AreJoins indexed.now.events 0 self.old.joins.list.items self.old.joins.starts.items }
+        requires joins { AreJoinsOf indexed.now.events 0 self.old.joins }
         requires known { AreSections indexed.now 0 self.old.sections }
         ensures width { OnOk result (self.new.counts.width ≡ length indexed.now.threads) }
         ensures len { OnOk result (len_of self.new.counts ≡ length indexed.now.events) }
-        ensures counts { OnOk result (AreCounts indexed.now.events (length indexed.now.threads) self.new.counts) }
-        ensures joins { OnOk result
-            (AreJoins indexed.now.events (length indexed.now.events) self.new.joins.list.items self.new.joins.starts.items) }
+        ensures counts { OnOk result (AreCountsOf indexed.now self.new.counts) }
+        ensures joins { OnOk result (AreAllJoins indexed.now.events self.new.joins) }
         ensures known { OnOk result (AreSections indexed.now (length indexed.now.events) self.new.sections) }
     {
         let mut row = Vec::new(alloc);
@@ -102,13 +96,12 @@ impl Rows {
         requires width { self.old.counts.width ≡ length indexed.now.threads }
         requires len { len_of self.old.counts ≡ 0 }
         requires few { rows_in self.old.counts ≡ 0 }
-        requires joins { AreJoins indexed.now.events 0 self.old.joins.list.items self.old.joins.starts.items }
+        requires joins { AreJoinsOf indexed.now.events 0 self.old.joins }
         requires known { AreSections indexed.now 0 self.old.sections }
         ensures width { OnOk result (self.new.counts.width ≡ length indexed.now.threads) }
         ensures len { OnOk result (len_of self.new.counts ≡ length indexed.now.events) }
-        ensures counts { OnOk result (AreCounts indexed.now.events (length indexed.now.threads) self.new.counts) }
-        ensures joins { OnOk result
-            (AreJoins indexed.now.events (length indexed.now.events) self.new.joins.list.items self.new.joins.starts.items) }
+        ensures counts { OnOk result (AreCountsOf indexed.now self.new.counts) }
+        ensures joins { OnOk result (AreAllJoins indexed.now.events self.new.joins) }
         ensures known { OnOk result (AreSections indexed.now (length indexed.now.events) self.new.sections) }
     {
         row.resize(indexed.threads() as usize, 0)?;
@@ -144,7 +137,7 @@ fn keep_row(
     requires width { counts.old.width ≡ length indexed.now.threads }
     requires len { len_of counts.old ≡ event }
     requires few { rows_in counts.old ≤ event }
-    requires counts { AreCounts indexed.now.events (length indexed.now.threads) counts.old }
+    requires counts { AreCountsOf indexed.now counts.old }
     requires spare { length spare.old.items ≡ length indexed.now.threads }
     requires wide { length row.now ≡ length indexed.now.threads }
     requires row { IsRow indexed.now.events event row.now }
@@ -152,7 +145,7 @@ fn keep_row(
     ensures width { OnOk result (counts.new.width ≡ length indexed.now.threads) }
     ensures len { OnOk result (len_of counts.new ≡ event + 1) }
     ensures few { OnOk result (rows_in counts.new ≤ event + 1) }
-    ensures counts { OnOk result (AreCounts indexed.now.events (length indexed.now.threads) counts.new) }
+    ensures counts { OnOk result (AreCountsOf indexed.now counts.new) }
 {
     let thread = indexed.event(event).thread;
     let own = row[thread as usize];
@@ -178,8 +171,7 @@ fn alike_base(
     ensures spare { length spare.new.items ≡ length spare.old.items }
     ensures within { IfSome result (λ b. b < len_of counts.now) }
     ensures thread { IfSome result (λ b. thread_of counts.now b ≡ thread) }
-    ensures alike { IfSome result
-        (λ b. (t : ℕ) → t < counts.now.width → t ≢ thread → count_of counts.now b t ≡ slice_index row.now t) }
+    ensures alike { IfSome result (IsAlike counts.now row.now thread) }
 {
     let Some(base) = base else {
         return None;
@@ -207,8 +199,7 @@ fn are_alike(
     requires thread { thread < counts.now.width }
     requires event { event < len_of counts.now }
     ensures spare { length spare.new.items ≡ length spare.old.items }
-    ensures alike { result ≡ true
-        → (t : ℕ) → t < counts.now.width → t ≢ thread → count_of counts.now event t ≡ slice_index row.now t }
+    ensures alike { result ≡ true → IsAlike counts.now row.now thread event }
 {
     counts.copy(event, spare);
     spare[thread as usize] = row[thread as usize];
@@ -248,10 +239,10 @@ fn begin_row(row: &mut Vec<u32>, counts: &SharedRows, indexed: &Indexed, event: 
     requires row { length row.old.items ≡ length indexed.now.threads }
     requires width { counts.now.width ≡ length indexed.now.threads }
     requires len { len_of counts.now ≡ event }
-    requires counts { AreCounts indexed.now.events (length indexed.now.threads) counts.now }
+    requires counts { AreCountsOf indexed.now counts.now }
     ensures len { length row.new.items ≡ length indexed.now.threads }
-    ensures begun { IsBegun indexed.now.events event (λ t. slice_index row.new.items t) }
-    ensures fresh { IsFresh indexed.now.events event (λ t. slice_index row.new.items t) }
+    ensures begun { IsBegun indexed.now.events event (row_in row.new.items) }
+    ensures fresh { IsFresh indexed.now.events event (row_in row.new.items) }
 {
     let own = indexed.event(event).thread as usize;
     copy_row(row, counts, indexed.base(event));
@@ -274,16 +265,15 @@ fn close_row(
     requires row { length row.old.items ≡ length indexed.now.threads }
     requires width { counts.now.width ≡ length indexed.now.threads }
     requires len { len_of counts.now ≡ event }
-    requires counts { AreCounts indexed.now.events (length indexed.now.threads) counts.now }
-    requires begun { IsBegun indexed.now.events event (λ t. slice_index row.old.items t) }
-    requires fresh { IsFresh indexed.now.events event (λ t. slice_index row.old.items t) }
+    requires counts { AreCountsOf indexed.now counts.now }
+    requires begun { IsBegun indexed.now.events event (row_in row.old.items) }
+    requires fresh { IsFresh indexed.now.events event (row_in row.old.items) }
     requires known { AreSections indexed.now event sections.now }
-    requires joins { AreJoins indexed.now.events event joins.old.list.items joins.old.starts.items }
+    requires joins { AreJoinsOf indexed.now.events event joins.old }
     ensures len { OnOk result (length row.new.items ≡ length indexed.now.threads) }
     ensures row { OnOk result (IsRow indexed.now.events event row.new.items) }
-    ensures joins { OnOk result (AreJoins indexed.now.events event joins.new.list.items joins.new.starts.items) }
-    ensures led { OnOk result ((d : ℕ) → IsMustBefore indexed.now.events d event
-        → (d ≡ event) ⊎ IsLed indexed.now.events joins.new.list.items (slice_index joins.new.starts.items event) (length joins.new.list.items) d event) }
+    ensures joins { OnOk result (AreJoinsOf indexed.now.events event joins.new) }
+    ensures led { OnOk result (AreLed indexed.now.events joins.new event) }
 {
     let mut owed = first_owed(row.as_slice(), indexed, event, sections);
     while let Some(section) = owed {
@@ -299,12 +289,12 @@ fn first_owed(row: &[u32], indexed: &Indexed, event: u32, sections: &Sections) -
     requires rules { IsDisciplined indexed.now.events }
     requires event { event < length indexed.now.events }
     requires row { length row.now ≡ length indexed.now.threads }
-    requires begun { IsBegun indexed.now.events event (λ t. slice_index row.now t) }
-    requires fresh { IsFresh indexed.now.events event (λ t. slice_index row.now t) }
+    requires begun { IsBegun indexed.now.events event (row_in row.now) }
+    requires fresh { IsFresh indexed.now.events event (row_in row.now) }
     requires known { AreSections indexed.now event sections.now }
-    ensures owed { IfSome result (IsOwed indexed.now.events event (λ t. slice_index row.now t)) }
+    ensures owed { IfSome result (IsOwed indexed.now.events event (row_in row.now)) }
     ensures earlier { IfSome result (λ owed. owed.1 < event) }
-    ensures none { result ≡ None → IsClosed indexed.now.events event (λ t. slice_index row.now t) }
+    ensures none { result ≡ None → IsClosed indexed.now.events event (row_in row.now) }
 {
     if learns(indexed, event) {
         return sections.owed(indexed, row, event);
@@ -329,8 +319,7 @@ fn copy_row(row: &mut Vec<u32>, counts: &SharedRows, event: Option<u32>)
     requires width { length row.old.items ≡ counts.now.width }
     requires within { IfSome event (λ e. e < len_of counts.now) }
     ensures len { length row.new.items ≡ length row.old.items }
-    ensures counts { (t : ℕ) → t < length row.old.items
-        → slice_index row.new.items t ≡ row_count counts.now event t }
+    ensures counts { IsCopied counts.now event row.old.items row.new.items }
 {
     match event {
         None => row.fill(0),
@@ -343,8 +332,7 @@ fn raise_row(row: &mut Vec<u32>, counts: &SharedRows, event: Option<u32>)
     requires width { length row.old.items ≡ counts.now.width }
     requires within { IfSome event (λ e. e < len_of counts.now) }
     ensures len { length row.new.items ≡ length row.old.items }
-    ensures counts { (t : ℕ) → t < length row.old.items
-        → slice_index row.new.items t ≡ max (slice_index row.old.items t) (row_count counts.now event t) }
+    ensures counts { IsRaised counts.now event row.old.items row.new.items }
 {
     if let Some(event) = event {
         counts.raise(event, row);

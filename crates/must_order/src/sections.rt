@@ -1,13 +1,11 @@
 //! The sections of locks among the events seen so far.
-ghost use Rattle.std.specs.Prelude.{◌≡◌, ◌≢◌, ◌<◌, ◌≤◌, ◌+◌, ◌⊎◌, ℕ, [], true, false, length, None, Some, IfOk, OnOk, IfSome, IsTrue, option_map, slice_get, slice_index, ◌↔◌};
+ghost use Rattle.std.specs.Prelude.{◌≡◌, ◌<◌, ◌≤◌, ◌+◌, ℕ, [], true, false, length, None, Some, IfOk, OnOk, IfSome, IsTrue, ◌↔◌};
 ghost use Rattle.rapid_text.specs.declared.event.Op.TheVariants.{Acquire, Release};
 ghost use Rattle.trace_rules.specs.Rules.{IsDisciplined};
-ghost use Rattle.event_index.specs.Events.{op_at, thread_at};
-ghost use Rattle.event_index.specs.Lookups.{section_end, place_of};
+ghost use Rattle.event_index.specs.Events.{op_at};
 ghost use Rattle.must_order.specs.Held.{IsHeldFrom, AreLocksHeld};
-ghost use Rattle.must_order.specs.Layout.{IsBegun, IsClosed};
-ghost use Rattle.must_order.specs.MustBefore.{IsInSection, IsHeldBefore, IsSharedBefore};
-ghost use Rattle.must_order.specs.Sections.{is_outer, last_outer, AreSections, IsOpenAt, IsOwed, IsSettledOn, IsSettledBy, IsSettledWithin};
+ghost use Rattle.must_order.specs.MustBefore.{IsHeldBefore, IsSharedBefore};
+ghost use Rattle.must_order.specs.Sections.{is_outer, last_outer, AreSections, IsOpenAt, EndsHeld, EndsNone, AreEmptyLists, LiesIn, LiesOutside};
 
 use event_index::Indexed;
 use rapid_text::{Op, OutOfMemory};
@@ -153,10 +151,8 @@ impl Sections {
     fn ended_by(&self, indexed: &Indexed, event: u32) -> Option<usize>
         requires known { AreSections indexed.now event self.now }
         requires event { event < length indexed.now.events }
-        ensures found { IfSome result (λ at. (at < length self.now.held.items)
-            × (section_end indexed.now.events (slice_index self.now.held.items at) ≡ Some event)) }
-        ensures none { result ≡ None → (k : ℕ) → k < length self.now.held.items
-            → section_end indexed.now.events (slice_index self.now.held.items k) ≢ Some event }
+        ensures found { IfSome result (EndsHeld indexed.now.events self.now event) }
+        ensures none { result ≡ None → EndsNone indexed.now.events self.now event }
     {
         for at in 0..self.held.len() {
             if indexed.section(self.held[at]) == Some(event) {
@@ -184,8 +180,14 @@ impl Sections {
         }
     }
 
-    // The last of the first `end` events that found the lock free. `seen` is how many events were taken in.
-    fn last_before(&self, indexed: &Indexed, seen: u32, lock: u32, end: u32) -> Option<u32>
+    /// The last of the first `end` events that found the lock free. `seen` is how many events were taken in.
+    pub(crate) fn last_before(
+        &self,
+        indexed: &Indexed,
+        seen: u32,
+        lock: u32,
+        end: u32,
+    ) -> Option<u32>
         requires known { AreSections indexed.now seen self.now }
         requires lock { lock < length indexed.now.locks }
         requires end { end ≤ seen }
@@ -200,143 +202,13 @@ impl Sections {
             Some(begun[count - 1])
         }
     }
-
-    /// An acquire and the end of its section, which has to end before the event: the row counts the one and not the other.
-    pub(crate) fn owed(&self, indexed: &Indexed, row: &[u32], event: u32) -> Option<(u32, u32)>
-        requires rules { IsDisciplined indexed.now.events }
-        requires event { event < length indexed.now.events }
-        requires known { AreSections indexed.now event self.now }
-        requires row { length row.now ≡ length indexed.now.threads }
-        requires begun { IsBegun indexed.now.events event (λ t. slice_index row.now t) }
-        ensures owed { IfSome result (IsOwed indexed.now.events event (λ t. slice_index row.now t)) }
-        ensures earlier { IfSome result (λ owed. owed.1 < event) }
-        ensures none { result ≡ None → IsClosed indexed.now.events event (λ t. slice_index row.now t) }
-    {
-        for at in 0..self.held.len() {
-            if let Some(owed) = self.owed_within(indexed, row, event, self.held[at]) {
-                return Some(owed);
-            }
-        }
-        self.owed_at(indexed, row, event)
-    }
-
-    /// The same of the lock that the event acquires, if it does.
-    pub(crate) fn owed_at(&self, indexed: &Indexed, row: &[u32], event: u32) -> Option<(u32, u32)>
-        requires event { event < length indexed.now.events }
-        requires known { AreSections indexed.now event self.now }
-        requires row { length row.now ≡ length indexed.now.threads }
-        requires begun { IsBegun indexed.now.events event (λ t. slice_index row.now t) }
-        ensures owed { IfSome result (IsOwed indexed.now.events event (λ t. slice_index row.now t)) }
-        ensures earlier { IfSome result (λ owed. owed.1 < event) }
-        ensures none { result ≡ None → (l : ℕ) → op_at indexed.now.events event ≡ Some (Acquire l)
-            → IsSettledOn indexed.now.events event (λ t. slice_index row.now t) l }
-    {
-        match indexed.event(event).op {
-            Op::Acquire(lock) => self.owed_on(indexed, row, event, lock),
-            Op::Read(_) => None,
-            Op::Write(_) => None,
-            Op::Release(_) => None,
-            Op::Fork(_) => None,
-            Op::Join(_) => None,
-        }
-    }
-
-    // The same of the lock of an acquire, if the event lies in its section.
-    fn owed_within(
-        &self,
-        indexed: &Indexed,
-        row: &[u32],
-        event: u32,
-        begun: u32,
-    ) -> Option<(u32, u32)>
-        requires event { event < length indexed.now.events }
-        requires known { AreSections indexed.now event self.now }
-        requires row { length row.now ≡ length indexed.now.threads }
-        requires begun { IsBegun indexed.now.events event (λ t. slice_index row.now t) }
-        requires earlier { begun < event }
-        ensures owed { IfSome result (IsOwed indexed.now.events event (λ t. slice_index row.now t)) }
-        ensures earlier { IfSome result (λ owed. owed.1 < event) }
-        ensures none { result ≡ None → IsSettledWithin indexed.now.events event (λ t. slice_index row.now t) begun }
-    {
-        let taken = indexed.event(begun);
-        if taken.thread != indexed.event(event).thread {
-            return None;
-        }
-        if !is_open_at(indexed, begun, event) {
-            return None;
-        }
-        match taken.op {
-            Op::Acquire(lock) => self.owed_on(indexed, row, event, lock),
-            Op::Read(_) => None,
-            Op::Write(_) => None,
-            Op::Release(_) => None,
-            Op::Fork(_) => None,
-            Op::Join(_) => None,
-        }
-    }
-
-    // The same of one lock, in a section of which the event lies.
-    fn owed_on(&self, indexed: &Indexed, row: &[u32], event: u32, lock: u32) -> Option<(u32, u32)>
-        requires event { event < length indexed.now.events }
-        requires known { AreSections indexed.now event self.now }
-        requires row { length row.now ≡ length indexed.now.threads }
-        requires begun { IsBegun indexed.now.events event (λ t. slice_index row.now t) }
-        requires lock { lock < length indexed.now.locks }
-        requires inside { (t : ℕ) → thread_at indexed.now.events event ≡ Some t
-            → IsInSection indexed.now.events event t lock }
-        ensures owed { IfSome result (IsOwed indexed.now.events event (λ t. slice_index row.now t)) }
-        ensures earlier { IfSome result (λ owed. owed.1 < event) }
-        ensures none { result ≡ None → IsSettledOn indexed.now.events event (λ t. slice_index row.now t) lock }
-    {
-        for thread in 0..indexed.threads() {
-            if let Some(owed) = self.owed_by(indexed, row, event, lock, thread) {
-                return Some(owed);
-            }
-        }
-        None
-    }
-
-    // The same of one lock and one thread.
-    fn owed_by(
-        &self,
-        indexed: &Indexed,
-        row: &[u32],
-        event: u32,
-        lock: u32,
-        thread: u32,
-    ) -> Option<(u32, u32)>
-        requires event { event < length indexed.now.events }
-        requires known { AreSections indexed.now event self.now }
-        requires row { length row.now ≡ length indexed.now.threads }
-        requires begun { IsBegun indexed.now.events event (λ t. slice_index row.now t) }
-        requires lock { lock < length indexed.now.locks }
-        requires inside { (t : ℕ) → thread_at indexed.now.events event ≡ Some t
-            → IsInSection indexed.now.events event t lock }
-        requires thread { thread < length indexed.now.threads }
-        ensures owed { IfSome result (IsOwed indexed.now.events event (λ t. slice_index row.now t)) }
-        ensures earlier { IfSome result (λ owed. owed.1 < event) }
-        ensures none { result ≡ None → IsSettledBy indexed.now.events event (λ t. slice_index row.now t) lock thread }
-    {
-        let own = indexed.event(event).thread;
-        if own == thread {
-            return None;
-        }
-        if row[thread as usize] == 0 {
-            return None;
-        }
-        let last = last_counted(indexed, row, event, thread);
-        match self.last_before(indexed, event, lock, last + 1) {
-            None => None,
-            Some(begun) => end_after(indexed, begun, thread, last),
-        }
-    }
 }
 
 // Adds so many empty lists.
 fn add_lists(alloc: Global, lists: &mut Vec<Vec<u32>>, count: u32) -> Result<(), OutOfMemory>
     requires { lists.old.items ≡ [] }
     ensures len { OnOk result (length lists.new.items ≡ count) }
-    ensures empty { OnOk result ((m : ℕ) → m < count → option_map (λ w. w.items) (slice_get lists.new.items m) ≡ Some []) }
+    ensures empty { OnOk result (AreEmptyLists lists.new.items count) }
 {
     lists.reserve(count as usize)?;
     for _list in 0..count {
@@ -345,45 +217,8 @@ fn add_lists(alloc: Global, lists: &mut Vec<Vec<u32>>, count: u32) -> Result<(),
     Ok(())
 }
 
-// The last event of another thread that the row counts.
-fn last_counted(indexed: &Indexed, row: &[u32], event: u32, thread: u32) -> u32
-    requires rules { IsDisciplined indexed.now.events }
-    requires event { event < length indexed.now.events }
-    requires row { length row.now ≡ length indexed.now.threads }
-    requires begun { IsBegun indexed.now.events event (λ t. slice_index row.now t) }
-    requires thread { thread < length indexed.now.threads }
-    requires other { thread_at indexed.now.events event ≢ Some thread }
-    requires some { 0 < slice_index row.now thread }
-    ensures place { place_of indexed.now.events result + 1 ≡ slice_index row.now thread }
-    ensures of { thread_at indexed.now.events result ≡ Some thread }
-    ensures earlier { result < event }
-{
-    indexed.thread_events(thread)[row[thread as usize] as usize - 1]
-}
-
-// The acquire and the end of its section, where it is one of the thread and ends after the event `last`.
-fn end_after(indexed: &Indexed, begun: u32, thread: u32, last: u32) -> Option<(u32, u32)>
-    requires begun { begun < length indexed.now.events }
-    ensures found { IfSome result (λ owed. (owed.0 ≡ begun) × (thread_at indexed.now.events begun ≡ Some thread)
-        × (section_end indexed.now.events begun ≡ Some owed.1) × (last < owed.1)) }
-    ensures none { result ≡ None → thread_at indexed.now.events begun ≡ Some thread
-        → (r : ℕ) → section_end indexed.now.events begun ≡ Some r → r ≤ last }
-{
-    if indexed.event(begun).thread != thread {
-        return None;
-    }
-    match indexed.section(begun) {
-        None => None,
-        Some(release) => if last < release {
-            Some((begun, release))
-        } else {
-            None
-        },
-    }
-}
-
-// Whether no event before this one ends the section of the acquire.
-fn is_open_at(indexed: &Indexed, acquire: u32, event: u32) -> bool
+/// Whether no event before this one ends the section of the acquire.
+pub(crate) fn is_open_at(indexed: &Indexed, acquire: u32, event: u32) -> bool
     requires acquire { acquire < length indexed.now.events }
     ensures { IsTrue result ↔ IsOpenAt indexed.now.events event acquire }
 {
@@ -397,10 +232,8 @@ fn is_open_at(indexed: &Indexed, acquire: u32, event: u32) -> bool
 fn is_held_from(indexed: &Indexed, begun: u32, event: u32) -> bool
     requires begun { begun < length indexed.now.events }
     requires event { event < length indexed.now.events }
-    ensures within { result ≡ true → (thread_at indexed.now.events begun ≡ thread_at indexed.now.events event)
-        × IsOpenAt indexed.now.events event begun }
-    ensures outside { result ≡ false → thread_at indexed.now.events begun ≡ thread_at indexed.now.events event
-        → ¬ IsOpenAt indexed.now.events event begun }
+    ensures within { result ≡ true → LiesIn indexed.now.events begun event }
+    ensures outside { result ≡ false → LiesOutside indexed.now.events begun event }
 {
     if indexed.event(begun).thread != indexed.event(event).thread {
         return false;

@@ -1,5 +1,6 @@
 //! The commands of the program, each with its words, as a table: what help says of them, and what `clap` is told of them.
 
+use crate::pair_commands::{EXPLAIN, WITNESS};
 use crate::words::{Kind, Most, TRACE, Word, Words};
 use crate::workspace_commands::{LOG, REPLAY, SESSION, THREADS};
 
@@ -31,18 +32,6 @@ pub(crate) const COMMANDS: [CommandName; 10] = [
     CommandName::Cut,
     CommandName::Merge,
 ];
-
-const FIRST: Word = Word {
-    name: "A",
-    kind: Kind::Needed,
-    help: Some("Event, counted from 0, or a location such as count.c:7"),
-};
-
-const SECOND: Word = Word {
-    name: "B",
-    kind: Kind::Needed,
-    help: Some("Event, counted from 0, or a location such as count.c:7"),
-};
 
 const INFO: Words = Words {
     name: "info",
@@ -184,63 +173,6 @@ locations may race.",
     ],
 };
 
-const EXPLAIN: Words = Words {
-    name: "explain",
-    about: "Explain a pair of events: how it races, or what keeps it apart",
-    example: "For example
-
-  racebench explain trace.std 7 12
-  racebench explain trace.std count.c:7 count.c:13
-
-Events are counted from 0, in the order of the trace. A location is a file and a line, or a part
-that only one line has. Of two locations, `explain` takes the pair of events that `triage` reports.
-The first line is the verdict: `race`, with a schedule after which both are next in their threads;
-`apart`, with what keeps the two apart in every correct reordering of this trace; or `undecided`. Apart is about this trace only: each read keeps
-the write that it saw, and in another run it may see another one.",
-    words: &[
-        TRACE,
-        FIRST,
-        SECOND,
-        Word {
-            name: "all",
-            kind: Kind::Flag(&[]),
-            help: Some("Print all runs of the schedule, not only the last ten"),
-        },
-    ],
-};
-
-const WITNESS: Words = Words {
-    name: "witness",
-    about: "Print the schedule that shows a pair of events",
-    example: "For example
-
-  racebench witness trace.std 7 12
-  racebench witness trace.std count.c:7 count.c:13
-
-Each line has the number of an event and its line of the trace. After these events, in this order,
-both events of the pair are next in their threads.",
-    words: &[
-        TRACE,
-        FIRST,
-        SECOND,
-        Word {
-            name: "script",
-            kind: Kind::Flag(&[]),
-            help: Some("Print a script that builds the schedule"),
-        },
-        Word {
-            name: "std",
-            kind: Kind::Flag(&["script"]),
-            help: Some("Print the schedule, and then the pair, as a trace"),
-        },
-        Word {
-            name: "svg",
-            kind: Kind::Flag(&["script", "std"]),
-            help: Some("Print a picture of the schedule, as SVG"),
-        },
-    ],
-};
-
 const CUT: Words = Words {
     name: "cut",
     about: "Print a window of a trace, as a trace of its own",
@@ -357,7 +289,7 @@ parts means nothing, and a part that comes twice counts once.",
         Word {
             name: "fail",
             kind: Kind::Flag(&[]),
-            help: Some("Exit with status 3 if a race is printed"),
+            help: Some("Exit with status 3 if a race is printed, or 4 if no part has events"),
         },
     ],
 };

@@ -3,6 +3,7 @@
 
 mod building;
 mod commands;
+mod pair_commands;
 mod program;
 mod reading;
 mod task;
@@ -10,6 +11,7 @@ mod told;
 mod values;
 mod words;
 mod workspace_commands;
+mod workspace_reading;
 
 pub use program::{LISTED_BEHIND, overview};
 pub use reading::task_of;

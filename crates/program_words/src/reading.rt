@@ -1,91 +1,22 @@
 //! What the words ask for, read from what `clap` found in them.
 ghost use Rattle.std.specs.Prelude.{IfOk};
-ghost use Rattle.program_words.specs.Tasks.{IsWithin, IsCutWithin, IsSessionWithin, IsThreadsWithin, IsTriageWithin};
+ghost use Rattle.program_words.specs.Tasks.{IsWithin, IsCutWithin, IsTriageWithin};
 
 use crate::building::words_taken;
 use crate::commands::{CommandName, command_of};
 use crate::task::{
-    CutTask, Limits, MergeTask, PairTask, RacesForm, ScheduleForm, SessionTask, Task, ThreadsTask,
-    TriageTask,
+    CutTask, Limits, MergeTask, PairTask, RacesForm, ScheduleForm, Task, TriageTask,
 };
 use crate::told::{Told, refused, told_of};
-use crate::values::{STANDARD, Unread, check_inputs, day, is_number, named, number, share_input};
+use crate::values::{Unread, check_inputs, day, is_number, named, number};
+use crate::workspace_reading::{replay, session, threads};
 use clap::ArgMatches;
 use clap::error::{Error, ErrorKind};
 use std::alloc::{AllocError, Global};
 
 /// The word of this name, which `clap` has seen to be there.
-fn word<'a>(given: &ArgMatches<'a>, name: &str) -> &'a str {
+pub(crate) fn word<'a>(given: &ArgMatches<'a>, name: &str) -> &'a str {
     given.get_str(name).unwrap_or("")
-}
-
-/// The two files that `replay` is asked for.
-fn replay<'a>(given: &ArgMatches<'a>, limits: Limits) -> Result<Task<'a>, Unread>
-    ensures { IfOk result (IsWithin limits) }
-{
-    let trace = word(given, "TRACE");
-    let script = word(given, "SCRIPT");
-    check_inputs(&[trace, script])?;
-    Ok(Task::Replay(trace, script))
-}
-
-/// What `session` is asked for.
-fn session<'a>(given: &ArgMatches<'a>, limits: Limits) -> Result<SessionTask<'a>, Unread>
-    ensures { IfOk result (IsSessionWithin limits) }
-{
-    let client = match given.get_str("client") {
-        Some(word) => Some(number(
-            word,
-            1,
-            limits.clients,
-            "`--client` takes a number in decimal digits",
-        )?),
-        None => None,
-    };
-    let trace = word(given, "TRACE");
-    let log = word(given, "LOG");
-    if share_input(&[STANDARD, trace, log]) {
-        return Err(Unread::Refused("`-` is standard input, which holds the lines of the session"));
-    }
-    Ok(SessionTask { trace, log, client })
-}
-
-/// The paths that `threads` is given, that of the trace first.
-fn paths<'a>(alloc: Global, given: &ArgMatches<'a>) -> Result<Vec<&'a str>, AllocError> {
-    let mut paths = Vec::new(alloc);
-    paths.push(word(given, "TRACE"))?;
-    paths.extend_from_slice(given.get_strs("SCRIPT").unwrap_or(&[]))?;
-    Ok(paths)
-}
-
-/// What `threads` is asked for.
-fn threads<'a>(
-    alloc: Global,
-    given: &ArgMatches<'a>,
-    limits: Limits,
-) -> Result<ThreadsTask<'a>, Unread>
-    ensures { IfOk result (IsThreadsWithin limits) }
-{
-    let workers = number(
-        word(given, "workers"),
-        0,
-        limits.workers,
-        "`--workers` takes a number in decimal digits",
-    )?;
-    let room = match given.get_str("room") {
-        Some(word) => word.parse::<u32>().ok(),
-        None => None,
-    };
-    let paths = paths(alloc, given)?;
-    if paths.len() < 2 {
-        return Err(Unread::Refused("there is no script"));
-    }
-    check_inputs(&paths)?;
-    Ok(ThreadsTask {
-        paths,
-        workers,
-        room,
-    })
 }
 
 /// The texts that a flag is given.

@@ -20,7 +20,7 @@ module _ (T : List Event) where
       let passes : (found.0.thread == t) ≡ true = eq-eqb found.0.thread t found.2 in
       count_more (λ w. w.thread == t) T a found.0 found.1 ∙ ap (λ x. count_before T a t + cond x 1 0) passes
 
-  reached_is : (a b t : ℕ) → thread_at T a ≡ Some t → place_of T a < count_before T b t → a < b
+  pub reached_is : (a b t : ℕ) → thread_at T a ≡ Some t → place_of T a < count_before T b t → a < b
   reached_is a b t at low =
       elim (cases_lt a b) [
         | inl fine ↦ fine

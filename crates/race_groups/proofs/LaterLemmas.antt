@@ -12,7 +12,6 @@ use Rattle.race_groups.specs.Counting.{AreFronts, IsFront, later_by, later_count
 use Rattle.race_groups.specs.Cuts.{is_under}
 use Rattle.race_groups.specs.Ends.{nothing}
 use Rattle.race_groups.specs.declared.class.Class.{Class}
-use Rattle.race_groups.specs.declared.counting.Front.{Front}
 use Rattle.race_groups.proofs.SumLemmas.{sum_by_each, sum_by_zero}
 use Rattle.race_groups.proofs.WalkLemmas.{share_of}
 use Rattle.race_groups.proofs.WholeLemmas.{none_added, share_whole}
@@ -54,11 +53,11 @@ later_nothing T keeps classes infos u p q b = none (slice_get infos (slice_index
         ∙ sum_by_zero (before (length T))
 
 -- The fronts of one cut that are the ends of event b: their counts add all that the event has.
-module _ (r : Recording) (formed : IsWellFormed r) (n : ℕ) (classes : List ℕ) (u : ℕ) (end : ℕ → ℕ → ℕ) (i : ℕ) (front : Front) (are : IsFront r.events (length r.threads) n classes u end i front) (b : ℕ)
-    (moved : AreFronts (length r.threads) u (end b) front.fronts.items) where
+module _ (r : Recording) (formed : IsWellFormed r) (n : ℕ) (classes : List ℕ) (u : ℕ) (end : ℕ → ℕ → ℕ) (i : ℕ) (fronts counts : List ℕ) (are : IsFront r.events (length r.threads) n classes u end i fronts counts) (b : ℕ)
+    (moved : AreFronts (length r.threads) u (end b) fronts) where
   pub later_whole : (infos : List Class) (keeps : Class → Class → Bool) (j : Class) → length classes ≡ length r.events → All (λ c. c < length infos) classes → n ≡ length infos
       → slice_get infos (slice_index classes b) ≡ Some j → (p q : ℕ)
-      → sum_by (share_of keeps p q j infos (slice_index front.counts.items)) (before (length infos)) ≡ later_count r.events keeps classes infos u end p q b
+      → sum_by (share_of keeps p q j infos (slice_index counts)) (before (length infos)) ≡ later_count r.events keeps classes infos u end p q b
   later_whole infos keeps j len within size at p q =
-      share_whole r formed keeps p q j classes front.fronts.items front.counts.items infos u (end b) len within (are.len ∙ size) are.counts moved
+      share_whole r formed keeps p q j classes fronts counts infos u (end b) len within (are.len ∙ size) are.counts moved
       ∙ sym (ap (later_by r.events keeps classes infos u (end b) p q) at)

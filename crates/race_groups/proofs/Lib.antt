@@ -34,6 +34,7 @@ pub mod FoundLemmas
 pub mod OrderCutLemmas
 pub mod HeldLemmas
 pub mod PartLemmas
+pub mod PassedLemmas
 pub mod TellLemmas
 pub mod TotalGroupLemmas
 pub mod ApartLemmas

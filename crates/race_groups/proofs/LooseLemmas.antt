@@ -9,7 +9,6 @@ use Rattle.race_groups.specs.Basis.{loose_of}
 use Rattle.race_groups.specs.Counting.{AreFronts, IsFront}
 use Rattle.race_groups.specs.Ends.{counted_before, known_before, lower_of, nothing, upper_of}
 use Rattle.race_groups.specs.Rows.{Part, of_all, of_candidates, of_ordered, of_guarded, by_part}
-use Rattle.race_groups.specs.declared.counting.Front.{Front}
 use Rattle.race_groups.proofs.MonotoneLemmas.{front_count-mono, share_parted}
 use Rattle.race_groups.proofs.SumLemmas.{sum_by_each, sum_by_zero}
 use Rattle.std.proofs.lemmas.Bool.{cases_eq}
@@ -64,14 +63,14 @@ loose_none earlier known forced c first second of_ordered = omega (arith, second
 loose_none earlier known forced c first second of_guarded = omega (arith, second)
 
 -- the counts before fronts that are the ends of one cut are no more than those of another that reaches further
-pub fronts_nested : (T : List Event) (threads n : ℕ) (classes : List ℕ) (u : ℕ) (end further : ℕ → ℕ → ℕ) (i b : ℕ) (front more : Front)
-    → IsFront T threads n classes u end i front → IsFront T threads n classes u further i more
-    → AreFronts threads u (end b) front.fronts.items → AreFronts threads u (further b) more.fronts.items
-    → ((t : ℕ) → t < threads → end b t ≤ further b t) → (c : ℕ) → c < n → slice_index front.counts.items c ≤ slice_index more.counts.items c
-fronts_nested T threads n classes u end further i b front more is also at to le c lt =
-    let each = front_count-mono T threads classes front.fronts.items more.fronts.items c
+pub fronts_nested : (T : List Event) (threads n : ℕ) (classes : List ℕ) (u : ℕ) (end further : ℕ → ℕ → ℕ) (i b : ℕ) (fronts counts more more_counts : List ℕ)
+    → IsFront T threads n classes u end i fronts counts → IsFront T threads n classes u further i more more_counts
+    → AreFronts threads u (end b) fronts → AreFronts threads u (further b) more
+    → ((t : ℕ) → t < threads → end b t ≤ further b t) → (c : ℕ) → c < n → slice_index counts c ≤ slice_index more_counts c
+fronts_nested T threads n classes u end further i b fronts counts more more_counts is also at to le c lt =
+    let each = front_count-mono T threads classes fronts more c
     (λ t low. elim (cases_eq t u) [
-      | inl same ↦ let none = ap (slice_index front.fronts.items) same in omega (arith, none, at.1)
+      | inl same ↦ let none = ap (slice_index fronts) same in omega (arith, none, at.1)
       | inr ne ↦ let here = at.0 t low ne in let there = to.0 t low ne in let less = le t low in omega (arith, here, there, less)
     ])
     in

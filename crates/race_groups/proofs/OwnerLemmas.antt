@@ -10,7 +10,6 @@ use Rattle.event_index.specs.Lookups.{before, events_of}
 use Rattle.event_index.proofs.CallerLemmas.{events_of-thread}
 use Rattle.race_groups.specs.Counting.{IsFront, class_count, front_count}
 use Rattle.race_groups.specs.Owners.{AreOwners}
-use Rattle.race_groups.specs.declared.counting.Front.{Front}
 use Rattle.race_groups.proofs.SumLemmas.{sum_by_same, sum_by_each, sum_by_zero}
 
 module _ (T : List Event) (threads : ℕ) (classes owners : List ℕ) (are : AreOwners T threads classes owners) (u c : ℕ) (lt : u < threads) (own : slice_index owners c ≡ u) where
@@ -42,12 +41,12 @@ module _ (T : List Event) (threads : ℕ) (classes owners : List ℕ) (are : Are
       ∙ sum_by_zero (before threads)
 
 -- nothing is counted of a thread's own classes
-pub own_nothing : (r : Recording) (n : ℕ) (classes : List ℕ) (u : ℕ) (end : ℕ → ℕ → ℕ) (i : ℕ) (front : Front) → IsFront r.events (length r.threads) n classes u end i front
+pub own_nothing : (r : Recording) (n : ℕ) (classes : List ℕ) (u : ℕ) (end : ℕ → ℕ → ℕ) (i : ℕ) (fronts counts : List ℕ) → IsFront r.events (length r.threads) n classes u end i fronts counts
     → (owners : List ℕ) → AreOwners r.events (length r.threads) classes owners → u < length r.threads
-    → (c : ℕ) → c < n → slice_index owners c ≡ u → slice_index front.counts.items c ≡ 0
-own_nothing r n classes u end i front are owners owned lt c low own =
+    → (c : ℕ) → c < n → slice_index owners c ≡ u → slice_index counts c ≡ 0
+own_nothing r n classes u end i fronts counts are owners owned lt c low own =
     are.counts.counted c (omega (arith, low, are.len))
-    ∙ front_none r.events (length r.threads) classes owners owned u c lt own front.fronts.items are.own
+    ∙ front_none r.events (length r.threads) classes owners owned u c lt own fronts are.own
 
 -- a walk passes by places whose terms are 0
 pub sum_by_passed : (f : ℕ → ℕ) (cs : List ℕ) (i n : ℕ) → i ≤ n → n ≤ length cs → ((k : ℕ) → i ≤ k → k < n → f (slice_index cs k) ≡ 0) → sum_by f (take n cs) ≡ sum_by f (take i cs)

@@ -7,8 +7,8 @@ use Rattle.race_groups.specs.Counts.{keeps}
 use Rattle.race_groups.specs.Rows.{Part, count_at}
 use Rattle.race_groups.specs.declared.class.Class.{Class}
 use Rattle.race_groups.specs.declared.classes.Classes.{Classes}
-use Rattle.race_groups.specs.declared.fronts.Fronts.{Fronts}
 use Rattle.race_groups.specs.declared.rows.Sums.{Sums}
+use Rattle.race_groups.specs.declared.shares.Loose.{Loose}
 
 -- so much of a part from the class of this number: where its events clash with those of class j, and the places are p and q
 abbrev pub added_of : Classes → Class → Part → ℕ → ℕ → ℕ → ℕ → ℕ
@@ -24,6 +24,6 @@ AreGrown classes j amounts members old new =
 abbrev pub HasRoomFor : {S : Type 0} → (Part → ℕ → ℕ) → List ℕ → IndexMap (ℕ × ℕ) Sums S → Type 0
 HasRoomFor amounts members rows = (k : Part) (p q : ℕ) → p ≤ q → count_at k rows p q + sum_by (amounts k) members < 2 ^ 64
 
--- what each class adds to a part, from what comes below the fronts
-abbrev pub loose_in : Fronts → Part → ℕ → ℕ
-loose_in fronts = loose_of fronts.earlier.counts.items fronts.known.counts.items fronts.forced.counts.items
+-- what each class adds to a part, from what is loose
+abbrev pub loose_in : Loose → Part → ℕ → ℕ
+loose_in loose = loose_of loose.earlier.now loose.known.now loose.forced.now

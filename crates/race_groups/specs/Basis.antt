@@ -16,6 +16,7 @@ use Rattle.race_groups.specs.Rows.{Part, by_part, count_at, AreRows}
 use Rattle.race_groups.specs.Totals.{total_sum}
 use Rattle.race_groups.specs.Turns.{in_turn, turns_of}
 use Rattle.race_groups.specs.declared.basis.Basis.{Basis}
+use Rattle.race_groups.specs.declared.below.Below.{Below}
 use Rattle.race_groups.specs.declared.class.Class.{Class}
 use Rattle.race_groups.specs.declared.counting.Front.{Front}
 use Rattle.race_groups.specs.declared.fronts.Fronts.{Fronts}
@@ -145,10 +146,10 @@ abbrev pub HasRoom : {S : Type 0} → ℕ → IndexMap (ℕ × ℕ) Sums S → T
 HasRoom n rows = (k : Part) (p q : ℕ) → p ≤ q → count_at k rows p q + n ≤ 2 ^ 42
 
 -- nothing comes before the fronts yet
-pub record AreBlank (b : Basis) (fronts : Fronts) : Type 0 where
-  pub earlier : IsBlank (length b.indexed.now.threads) (length b.classes.now.infos.items) fronts.earlier
-  pub known : IsBlank (length b.indexed.now.threads) (length b.classes.now.infos.items) fronts.known
-  pub forced : IsBlank (length b.indexed.now.threads) (length b.classes.now.infos.items) fronts.forced
+pub record AreBlank (b : Basis) (below : Below) : Type 0 where
+  pub earlier : IsBlank (length b.indexed.now.threads) (length b.classes.now.infos.items) below.earlier
+  pub known : IsBlank (length b.indexed.now.threads) (length b.classes.now.infos.items) below.known
+  pub forced : IsBlank (length b.indexed.now.threads) (length b.classes.now.infos.items) below.forced
 
 -- The counts are how many events of each class come below the cuts of thread u's events of class j, together.
 pub record IsBelow (b : Basis) (u j : ℕ) (end : ℕ → ℕ → ℕ) (front : Front) : Type 0 where
@@ -156,21 +157,21 @@ pub record IsBelow (b : Basis) (u j : ℕ) (end : ℕ → ℕ → ℕ) (front : 
   pub counted : (c : ℕ) → c < length b.classes.now.infos.items → slice_index front.counts.items c
       ≡ below_sum b.indexed.now.events (length b.indexed.now.threads) b.classes.now.numbers.items u end j c (events_of b.indexed.now.events u)
 
-pub record AreBelow (b : Basis) (u j : ℕ) (fronts : Fronts) : Type 0 where
-  pub earlier : IsBelow b u j (count_before b.indexed.now.events) fronts.earlier
-  pub known : IsBelow b u j (known_before b.indexed.now.events) fronts.known
-  pub forced : IsBelow b u j (counted_before b.forced.now b.indexed.now.events) fronts.forced
+pub record AreBelow (b : Basis) (u j : ℕ) (below : Below) : Type 0 where
+  pub earlier : IsBelow b u j (count_before b.indexed.now.events) below.earlier
+  pub known : IsBelow b u j (known_before b.indexed.now.events) below.known
+  pub forced : IsBelow b u j (counted_before b.forced.now b.indexed.now.events) below.forced
 
 -- Of each class, how many events come below the three cuts, each of them within the one before it; none of a class of which thread u has all
 -- events.
-pub record AreLoose (b : Basis) (u : ℕ) (fronts : Fronts) : Type 0 where
-  pub earlier_len : length fronts.earlier.counts.items ≡ length b.classes.now.infos.items
-  pub known_len : length fronts.known.counts.items ≡ length b.classes.now.infos.items
-  pub forced_len : length fronts.forced.counts.items ≡ length b.classes.now.infos.items
-  pub under : (c : ℕ) → c < length b.classes.now.infos.items → slice_index fronts.known.counts.items c ≤ slice_index fronts.earlier.counts.items c
-  pub within : (c : ℕ) → c < length b.classes.now.infos.items → slice_index fronts.forced.counts.items c ≤ slice_index fronts.known.counts.items c
-  pub own : (c : ℕ) → c < length b.classes.now.infos.items → slice_index b.conflicts.now.owners.items c ≡ u → slice_index fronts.earlier.counts.items c ≡ 0
-  pub few : (c : ℕ) → c < length b.classes.now.infos.items → slice_index fronts.earlier.counts.items c ≤ 1099511627776
+pub record AreLoose (b : Basis) (u : ℕ) (earlier known forced : List ℕ) : Type 0 where
+  pub earlier_len : length earlier ≡ length b.classes.now.infos.items
+  pub known_len : length known ≡ length b.classes.now.infos.items
+  pub forced_len : length forced ≡ length b.classes.now.infos.items
+  pub under : (c : ℕ) → c < length b.classes.now.infos.items → slice_index known c ≤ slice_index earlier c
+  pub within : (c : ℕ) → c < length b.classes.now.infos.items → slice_index forced c ≤ slice_index known c
+  pub own : (c : ℕ) → c < length b.classes.now.infos.items → slice_index b.conflicts.now.owners.items c ≡ u → slice_index earlier c ≡ 0
+  pub few : (c : ℕ) → c < length b.classes.now.infos.items → slice_index earlier c ≤ 1099511627776
 
 -- what each class adds to a part, from what comes below the three cuts
 abbrev pub loose_of : List ℕ → List ℕ → List ℕ → Part → ℕ → ℕ

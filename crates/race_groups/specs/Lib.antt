@@ -19,3 +19,4 @@ pub mod Adding
 pub mod Waiting
 pub mod ClassTables
 pub mod GroupRows
+pub mod least_pairs

@@ -55,10 +55,11 @@ fn add_later(
 {
     let class = class_of(basis.classes, basis.indexed.thread_events(thread)[at]);
     let Some(variable) = variable_of(class.op) else {
+        fronts.pass(basis, thread, at);
         return Ok(());
     };
     fronts.advance(basis, thread, at);
-    add_loose(rows, fronts, basis, variable, class, thread)?;
+    add_loose(rows, fronts.loose(), basis, variable, class, thread)?;
     Ok(())
 }
 
@@ -86,6 +87,7 @@ fn add_light(
     let classes = basis.classes;
     let event = basis.indexed.thread_events(thread)[at];
     if flags[classes.numbers[event as usize] as usize] == 1 {
+        fronts.pass(basis, thread, at);
         return Ok(());
     }
     add_later(rows, fronts, basis, thread, at)?;

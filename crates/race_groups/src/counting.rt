@@ -115,7 +115,7 @@ fn move_on(counts: &mut [u64], fronts: &mut [u32], classed: Classed<'_>, thread:
     fronts[thread as usize] = to;
 }
 
-// Moves the fronts of all other threads on to the ends of a later event.
+// Moves the fronts of all other threads on to the ends of a later event. Most are there already.
 fn advance<C: Cut>(
     counts: &mut [u64],
     fronts: &mut [u32],
@@ -137,7 +137,9 @@ fn advance<C: Cut>(
         if thread != later.thread {
             let from = fronts[thread as usize];
             let to = cut.end(later.event, thread, from);
-            move_on(counts, fronts, classed, thread, to);
+            if from < to {
+                move_on(counts, fronts, classed, thread, to);
+            }
         }
     }
 }

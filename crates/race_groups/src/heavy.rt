@@ -9,8 +9,8 @@ ghost use Rattle.race_groups.specs.Owners.{AreRuns};
 ghost use Rattle.race_groups.specs.Rows.{AreMore, AreRows};
 
 use crate::basis::Basis;
+use crate::below::Below;
 use crate::classes::variable_of;
-use crate::fronts::Fronts;
 use crate::loose::add_loose;
 use crate::owners::owner_of;
 use crate::rows::{GrowingRows, RowsRefusal};
@@ -34,17 +34,17 @@ fn add_class(
     ensures ok { OnOk result (AreAdded basis.entry (class_of basis.entry thread class) rows.old rows.new) }
     ensures rows { OnOk result (AreRows rows.new) }
 {
-    let mut fronts = Fronts::new(alloc, basis)?;
-    match add_sums(rows, &mut fronts, basis, thread, class) {
+    let mut below = Below::new(alloc, basis)?;
+    match add_sums(rows, &mut below, basis, thread, class) {
         Ok(()) => Ok(()),
         Err(refused) => Err(refused),
     }
 }
 
-// The same, with fronts before which nothing comes.
+// The same, with sums below which nothing comes yet.
 fn add_sums(
     rows: &mut GrowingRows,
-    fronts: &mut Fronts,
+    below: &mut Below,
     basis: Basis<'_>,
     thread: u32,
     class: u32,
@@ -52,7 +52,7 @@ fn add_sums(
     requires basis { IsBasis basis }
     requires thread { thread < length basis.indexed.now.threads }
     requires class { class < length basis.classes.now.infos.items }
-    requires fronts { AreBlank basis fronts.old }
+    requires below { AreBlank basis below.old }
     requires rows { AreRows rows.old }
     requires room { HasRoom 0 rows.old }
     ensures ok { OnOk result (AreAdded basis.entry (class_of basis.entry thread class) rows.old rows.new) }
@@ -62,8 +62,8 @@ fn add_sums(
     let Some(variable) = variable_of(info.op) else {
         return Ok(());
     };
-    fronts.sum_up(basis, thread, class);
-    add_loose(rows, fronts, basis, variable, info, thread)?;
+    below.sum_up(basis, thread, class);
+    add_loose(rows, below.loose(), basis, variable, info, thread)?;
     Ok(())
 }
 

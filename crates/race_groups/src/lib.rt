@@ -3,6 +3,7 @@
 
 mod apart;
 mod basis;
+mod below;
 mod class;
 mod classes;
 mod counted;
@@ -15,8 +16,10 @@ mod guesses;
 mod heavy;
 mod holding;
 mod kinds;
+pub mod least_pairs;
 mod loose;
 mod owners;
+mod passing;
 mod rows;
 mod runs;
 mod shares;

@@ -8,7 +8,6 @@ ghost use Rattle.race_groups.specs.Rows.{AreRows};
 
 use crate::basis::Basis;
 use crate::class::Class;
-use crate::fronts::Fronts;
 use crate::rows::GrowingRows;
 use crate::shares::Loose;
 use crate::walk::add_members;
@@ -18,27 +17,22 @@ use rapid_text::OutOfMemory;
 /// Adds the pairs of an event of the class `later`, or of several of them, with those of other threads.
 pub(crate) fn add_loose(
     rows: &mut GrowingRows,
-    fronts: &Fronts,
+    loose: Loose<'_>,
     basis: Basis<'_>,
     variable: u32,
     later: Class,
     thread: u32,
 ) -> Result<(), OutOfMemory>
     requires basis { IsBasis basis }
-    requires loose { AreLoose basis thread fronts.now }
+    requires loose { AreLoose basis thread loose.earlier.now loose.known.now loose.forced.now }
     requires member { variable < length basis.classes.now.members.items }
     requires access { is_access variable later.op ≡ true }
     requires rows { AreRows rows.old }
     requires room { HasRoom 0 rows.old }
-    ensures ok { OnOk result (AreGrown basis.entry.classes.now later (loose_in fronts.now)
+    ensures ok { OnOk result (AreGrown basis.entry.classes.now later (loose_in loose.entry)
         (before (length basis.entry.classes.now.infos.items)) rows.old rows.new) }
     ensures rows { OnOk result (AreRows rows.new) }
 {
-    let loose = Loose {
-        earlier: fronts.earlier.counts.as_slice(),
-        known: fronts.known.counts.as_slice(),
-        forced: fronts.forced.counts.as_slice(),
-    };
     let walk = conflicting(basis.classes, basis.conflicts, variable, later.op);
     add_members(rows, &loose, basis.classes, walk, later, thread)?;
     Ok(())

@@ -4,7 +4,7 @@ use Rattle.serde_json.specs.Data.{Data}
 use Rattle.serde_json.specs.Find.{as_array, get}
 use Rattle.serde_json.specs.View.{items_of, items_view, view}
 use Rattle.serde_json.specs.declared.value.Value.{Value}
-use Rattle.race_page.specs.MergedRows.{list_locks, lock_items, lock_names, lock_text, locks_by, locks_cell, locks_listed, locks_text}
+use Rattle.race_page.specs.MergedTable.{list_locks, lock_items, lock_names, lock_text, locks_by, locks_cell, locks_listed, locks_text}
 
 items_are : (vs : List Value) → lock_items (items_of (map view vs)) ≡ lock_names vs
 items_are [] = refl

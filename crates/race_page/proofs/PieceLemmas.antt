@@ -4,7 +4,7 @@ use Rattle.markup.specs.Escaped.{escaped}
 use Rattle.rapid_text.specs.Recording.{Recording}
 use Rattle.schedule.specs.Reordering.{IsCorrectReordering}
 use Rattle.schedule.specs.Shows.{Shows}
-use Rattle.pair_picture.specs.Pictures.{IsFigure}
+use Rattle.explain_report.specs.picture.Pictures.{IsFigure}
 use Rattle.race_page.specs.Own.{begin_text, end_text, part_text, row_text}
 use Rattle.race_page.specs.Pages.{IsDrawn, AreParts, IsPiece}
 use Rattle.race_page.specs.declared.own.Part.{Part}

@@ -1,6 +1,8 @@
--- With what a page begins. Its first line says how many races are told, and the file's name. All notions here are this project's own.
-use Rattle.std.specs.Prelude.{◌≡◌, ◌==◌, ℕ, false, cond, List, ◌∷◌, ◌++◌, ◌⊎◌, All, codes, decimal}
+-- With what a page begins. Its first line says how many races are told, the file's name, and what was left out. All notions here are this project's own.
+use Rattle.std.specs.Prelude.{◌≡◌, ◌==◌, ℕ, false, cond, List, ◌∷◌, ◌++◌, ◌⊎◌, All, codes, decimal, nat_eq, [], Option, Some, None}
+use Rattle.std.specs.List.{concat}
 use Rattle.markup.specs.Escaped.{escaped}
+use Rattle.race_page.specs.declared.merged_head.LeftOut.{LeftOut}
 use Rattle.race_page.specs.declared.style.TheConstants.{BODY, TOP}
 
 -- no byte is a slash
@@ -19,14 +21,36 @@ race_word n = cond (n == 1) (codes " race") (codes " races")
 abbrev pub races_words : ℕ → List ℕ
 races_words n = cond (n == 0) (codes "No races") (decimal n ++ race_word n)
 
--- the title of the window: "6 races in pdsh.std"
-abbrev pub title_text : ℕ → List ℕ → List ℕ
-title_text races file = codes "<title>" ++ races_words races ++ codes " in " ++ escaped file ++ codes "</title>\n"
+-- how many known races were left out, if there is such a number
+abbrev pub known_word : ℕ → List ℕ
+known_word n = cond (nat_eq n 1) (codes " known race") (codes " known races")
+
+abbrev pub known_text : Option ℕ → List ℕ
+known_text None = []
+known_text (Some n) = concat (codes "; " ∷ decimal n ∷ known_word n ∷ codes " left out" ∷ [])
+
+-- how many pairs of locations filters left out, if there is such a number
+abbrev pub hidden_word : ℕ → List ℕ
+hidden_word n = cond (nat_eq n 1) (codes " pair") (codes " pairs")
+
+abbrev pub hidden_text : Option ℕ → List ℕ
+hidden_text None = []
+hidden_text (Some n) = concat (codes "; " ∷ decimal n ∷ hidden_word n ∷ codes " left out by --only and --hide" ∷ [])
+
+-- what was left out
+abbrev pub left_text : LeftOut → List ℕ
+left_text left = known_text left.known ++ hidden_text left.hidden
+
+-- the title of the window: "6 races in pdsh.std", and what was left out
+abbrev pub title_text : ℕ → List ℕ → LeftOut → List ℕ
+title_text races file left = codes "<title>" ++ races_words races ++ codes " in " ++ escaped file ++ left_text left ++ codes "</title>\n"
 
 -- the first line of the page: the same
-abbrev pub heading_text : ℕ → List ℕ → List ℕ
-heading_text races file = codes "<header>\n<h1>" ++ races_words races ++ codes " in <bdi>" ++ escaped file ++ codes "</bdi></h1>\n</header>\n<main>\n"
+abbrev pub heading_text : ℕ → List ℕ → LeftOut → List ℕ
+heading_text races file left =
+    codes "<header>\n<h1>" ++ races_words races ++ codes " in <bdi>" ++ escaped file ++ codes "</bdi>" ++ left_text left
+    ++ codes "</h1>\n</header>\n<main>\n"
 
 -- with what a page begins: the head, which has the policy, how the page looks, and the first line
-abbrev pub page_begin : ℕ → List ℕ → List ℕ
-page_begin races file = TOP.now ++ title_text races file ++ BODY.now ++ heading_text races file
+abbrev pub page_begin : ℕ → List ℕ → LeftOut → List ℕ
+page_begin races file left = TOP.now ++ title_text races file left ++ BODY.now ++ heading_text races file left

@@ -2,7 +2,10 @@ pub mod Counts
 pub mod Heads
 pub mod Marks
 pub mod Merged
+pub mod MergedHead
 pub mod MergedRows
+pub mod MergedTable
+pub mod MergedTally
 pub mod Own
 pub mod Pages
 pub mod Raced

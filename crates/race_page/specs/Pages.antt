@@ -4,13 +4,15 @@ use Rattle.markup.specs.Escaped.{escaped}
 use Rattle.rapid_text.specs.Recording.{Recording}
 use Rattle.schedule.specs.Reordering.{IsCorrectReordering}
 use Rattle.schedule.specs.Shows.{Shows}
-use Rattle.pair_picture.specs.Pictures.{IsFigure}
+use Rattle.explain_report.specs.picture.Pictures.{IsFigure}
 use Rattle.race_triage.specs.Texts.{AreTotals}
+use Rattle.race_triage.specs.declared.chosen.Chosen.{Chosen}
 use Rattle.race_triage.specs.declared.totals.Totals.{Totals}
 use Rattle.race_triage.specs.declared.verdicts.Verdict.{Verdict}
 use Rattle.race_page.specs.Counts.{counts_text}
 use Rattle.race_page.specs.Heads.{IsFileOf, page_begin}
 use Rattle.race_page.specs.Own.{begin_text, end_text, part_text, row_text}
+use Rattle.race_page.specs.declared.merged_head.LeftOut.{LeftOut}
 use Rattle.race_page.specs.declared.own.Part.{Part}
 use Rattle.race_page.specs.declared.own.Tag.{Tag}
 use Rattle.race_page.specs.declared.shown.Shown.{Shown}
@@ -54,13 +56,13 @@ pub record IsEnd (r : Recording) (vs : List Verdict) (text : List ℕ) : Type 0 
   pub ended : IsPiece behind
 
 -- The text is a page of the trace at this path with these rows; `vs` are the verdicts on all pairs of locations. It begins with the head, which has
--- the policy, and with its first line, which says how many races are told and of which file. At its end stand the counts of the whole trace.
-pub record IsPage (r : Recording) (vs : List Verdict) (races : ℕ) (path text : List ℕ) (rows : List Shown) : Type 0 where
+-- the policy, and with its first line, which says how many races are told, of which file, and what was left out. At its end stand the counts of the whole trace.
+pub record IsPage (r : Recording) (vs : List Verdict) (races : ℕ) (left : LeftOut) (path text : List ℕ) (rows : List Shown) : Type 0 where
   pub file : List ℕ
   pub named : IsFileOf path file
   pub parts : List ℕ
   pub end : List ℕ
-  pub printed : text ≡ page_begin races file ++ parts ++ end
+  pub printed : text ≡ page_begin races file left ++ parts ++ end
   pub made : AreParts r parts rows
   pub closed : IsEnd r vs end
 
@@ -69,3 +71,10 @@ pub record Made : Type 0 where
   pub trace : Recording
   pub text : List ℕ
   pub rows : List Shown
+
+-- what was left out of what is told
+abbrev pub left_of : Chosen → LeftOut
+left_of chosen = record {
+  known = chosen.known;
+  hidden = chosen.hidden;
+}

@@ -4,7 +4,7 @@ use Rattle.std.specs.List.{filter}
 use Rattle.followed_races.specs.Choosing.{told_at}
 use Rattle.followed_races.specs.declared.entries.Followed.{Followed}
 use Rattle.rapid_text.specs.Recording.{Recording}
-use Rattle.source_places.specs.Located.{location_at}
+use Rattle.explain_report.specs.places.Located.{location_at}
 use Rattle.race_page.specs.declared.about.About.{About}
 use Rattle.race_triage.specs.declared.verdicts.Outcome.{Outcome}
 use Rattle.race_triage.specs.declared.verdicts.Outcome.TheVariants.{Race as RaceOutcome, Undecided as UndecidedOutcome, Apart as ApartOutcome}

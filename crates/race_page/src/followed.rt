@@ -5,9 +5,9 @@ use crate::piece::{Item, Piece};
 use crate::selecting::entry_of;
 use crate::shown::{Seen, Shown};
 use event_index::Indexed;
+use explain_report::places::cut_at_arrow;
 use followed_races::Followed;
 use rapid_text::OutOfMemory;
-use source_places::cut_at_arrow;
 
 const BESIDE: &[u8] =
     b"The word beside a race is what following it on the real program came to, once with each access first. Runs showed it, \

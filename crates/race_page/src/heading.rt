@@ -1,7 +1,9 @@
-//! With what a page begins. Its first line says how many races are told, and of which file.
+//! With what a page begins. Its first line says how many races are told, of which file, and what was left out.
 ghost use Rattle.std.specs.Prelude.{◌≡◌, ◌++◌, ◌∷◌, None, IfSome, OnOk, decimal};
 ghost use Rattle.race_page.specs.Heads.{HasNoSlash, IsFileOf, heading_text, page_begin, race_word, races_words, title_text};
+ghost use Rattle.race_page.specs.declared.merged_head.LeftOut.{LeftOut};
 
+use crate::merged_head::{LeftOut, append_left};
 use crate::style::{BODY, TOP};
 use itoa::Buffer;
 use markup::escape;
@@ -28,36 +30,54 @@ fn cut_last_slash(path: &[u8]) -> Option<(&[u8], &[u8])>
 }
 
 /// Appends with what a page begins.
-pub(crate) fn append_begin(out: &mut Vec<u8>, races: u64, file: &[u8]) -> Result<(), OutOfMemory>
-    ensures { OnOk result (out.new.items ≡ out.old.items ++ page_begin races file.now) }
+pub(crate) fn append_begin(
+    out: &mut Vec<u8>,
+    races: u64,
+    file: &[u8],
+    left: LeftOut,
+) -> Result<(), OutOfMemory>
+    ensures { OnOk result (out.new.items ≡ out.old.items ++ page_begin races file.now left) }
 {
     out.extend_from_slice(TOP)?;
-    append_title(out, races, file)?;
+    append_title(out, races, file, left)?;
     out.extend_from_slice(BODY)?;
-    append_heading(out, races, file)
+    append_heading(out, races, file, left)
 }
 
 /// Appends the title of the window.
-fn append_title(out: &mut Vec<u8>, races: u64, file: &[u8]) -> Result<(), OutOfMemory>
-    ensures { OnOk result (out.new.items ≡ out.old.items ++ title_text races file.now) }
+fn append_title(
+    out: &mut Vec<u8>,
+    races: u64,
+    file: &[u8],
+    left: LeftOut,
+) -> Result<(), OutOfMemory>
+    ensures { OnOk result (out.new.items ≡ out.old.items ++ title_text races file.now left) }
 {
     out.extend_from_slice(b"<title>")?;
     append_races(out, races)?;
     out.extend_from_slice(b" in ")?;
     escape(file, out)?;
+    append_left(out, left)?;
     out.extend_from_slice(b"</title>\n")?;
     Ok(())
 }
 
 /// Appends the first line of the page.
-fn append_heading(out: &mut Vec<u8>, races: u64, file: &[u8]) -> Result<(), OutOfMemory>
-    ensures { OnOk result (out.new.items ≡ out.old.items ++ heading_text races file.now) }
+fn append_heading(
+    out: &mut Vec<u8>,
+    races: u64,
+    file: &[u8],
+    left: LeftOut,
+) -> Result<(), OutOfMemory>
+    ensures { OnOk result (out.new.items ≡ out.old.items ++ heading_text races file.now left) }
 {
     out.extend_from_slice(b"<header>\n<h1>")?;
     append_races(out, races)?;
     out.extend_from_slice(b" in <bdi>")?;
     escape(file, out)?;
-    out.extend_from_slice(b"</bdi></h1>\n</header>\n<main>\n")?;
+    out.extend_from_slice(b"</bdi>")?;
+    append_left(out, left)?;
+    out.extend_from_slice(b"</h1>\n</header>\n<main>\n")?;
     Ok(())
 }
 

@@ -12,7 +12,10 @@ mod leftovers;
 mod marks;
 mod meanings;
 mod merged;
+mod merged_head;
 mod merged_rows;
+mod merged_table;
+mod merged_tally;
 mod own;
 mod page;
 mod piece;
@@ -29,6 +32,7 @@ mod words;
 
 pub use about::About;
 pub use merged::merged_page;
+pub use merged_head::LeftOut;
 pub use own::{Part, Tag};
 pub use rows::{MOST_PICTURES, MOST_ROWS};
 pub use shell::append_shell_word;

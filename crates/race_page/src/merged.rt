@@ -1,13 +1,12 @@
 //! The page of a merged report: a row for each pair of locations, with what the parts say of it.
 ghost use Rattle.std.specs.Prelude.{◌≡◌, ◌++◌, IfOk, OnErr, OnOk, take};
 ghost use Rattle.std.specs.List.{filter};
-ghost use Rattle.race_page.specs.Merged.{apart_section, first_text, has_rank, head_text, heading_of, kept_text, lead_text, left_text, merged_begin, merged_text, none_text, opening_text, section_text, title_text};
+ghost use Rattle.race_page.specs.Merged.{apart_section, has_rank, heading_of, kept_text, lead_text, left_text, merged_text, none_text, opening_text, section_text};
 
-use crate::heading::append_races;
 use crate::marks::{Mark, append_marks};
+use crate::merged_head::{LeftOut, append_begin};
 use crate::merged_rows::append_rows;
 use crate::rows::MOST_ROWS;
-use crate::style::{BODY, TOP};
 use race_parts::Pair;
 use rapid_text::OutOfMemory;
 use std::alloc::Global;
@@ -28,20 +27,21 @@ is that of the part with the shortest schedule.</p>
 </html>
 ";
 
-/// Appends a page (HTML) of a merged report of so many parts. Its first line says how many races there are in how many parts. Then there is a
-/// row for each race, each pair of locations that is undecided, and if `apart` is true each that is apart: of each sort the first 2,000 of `pairs`.
-/// If memory is refused `out` stays as it was.
+/// Appends a page (HTML) of a merged report of so many parts. Its first line says how many races there are in how many parts, and what was left
+/// out. Then there is a row for each race, each pair of locations that is undecided, and if `apart` is true each that is apart: of each sort the
+/// first 2,000 of `pairs`. If memory is refused `out` stays as it was.
 pub fn merged_page(
     parts: usize,
     pairs: &[Pair<'_>],
     apart: bool,
+    left: LeftOut,
     out: &mut Vec<u8>,
 ) -> Result<(), OutOfMemory>
-    ensures ok { OnOk result (out.new.items ≡ out.old.items ++ merged_text parts pairs.now apart) }
+    ensures ok { OnOk result (out.new.items ≡ out.old.items ++ merged_text parts pairs.now apart left) }
     ensures err { OnErr result (out.new.items ≡ out.old.items) }
 {
     let mut text = Vec::new(*out.allocator());
-    append_page(&mut text, parts, pairs, apart)?;
+    append_page(&mut text, parts, pairs, apart, left)?;
     out.extend_from_slice(text.as_slice())?;
     Ok(())
 }
@@ -52,29 +52,40 @@ fn append_page(
     parts: usize,
     pairs: &[Pair<'_>],
     apart: bool,
+    left: LeftOut,
 ) -> Result<(), OutOfMemory>
-    ensures { OnOk result (out.new.items ≡ out.old.items ++ merged_text parts pairs.now apart) }
+    ensures { OnOk result (out.new.items ≡ out.old.items ++ merged_text parts pairs.now apart left) }
 {
-    append_races_of(out, parts, pairs)?;
+    append_races_of(out, parts, pairs, left)?;
     append_rank(out, parts, pairs, 1)?;
     append_apart(out, parts, pairs, apart)?;
     append_marks(out, &[Mark::Own(END)])
 }
 
 /// Appends the beginning of the page, and the races.
-fn append_races_of(out: &mut Vec<u8>, parts: usize, pairs: &[Pair<'_>]) -> Result<(), OutOfMemory>
-    ensures { OnOk result (out.new.items ≡ out.old.items ++ lead_text parts (filter (has_rank 0) pairs.now)) }
+fn append_races_of(
+    out: &mut Vec<u8>,
+    parts: usize,
+    pairs: &[Pair<'_>],
+    left: LeftOut,
+) -> Result<(), OutOfMemory>
+    ensures { OnOk result (out.new.items ≡ out.old.items ++ lead_text parts (filter (has_rank 0) pairs.now) left) }
 {
     let races = of_rank(*out.allocator(), pairs, 0)?;
-    append_lead(out, parts, races.as_slice())
+    append_lead(out, parts, races.as_slice(), left)
 }
 
 /// Appends the beginning of the page, and these races.
 #[tactic(auto, unfolding(crate::specs::Merged::lead_text))]
-fn append_lead(out: &mut Vec<u8>, parts: usize, races: &[Pair<'_>]) -> Result<(), OutOfMemory>
-    ensures { OnOk result (out.new.items ≡ out.old.items ++ lead_text parts races.now) }
+fn append_lead(
+    out: &mut Vec<u8>,
+    parts: usize,
+    races: &[Pair<'_>],
+    left: LeftOut,
+) -> Result<(), OutOfMemory>
+    ensures { OnOk result (out.new.items ≡ out.old.items ++ lead_text parts races.now left) }
 {
-    append_begin(out, races.len() as u64, parts as u64)?;
+    append_begin(out, races.len() as u64, parts as u64, left)?;
     append_section(out, parts, races, 0)
 }
 
@@ -118,48 +129,6 @@ fn of_rank<'a>(alloc: Global, pairs: &[Pair<'a>], rank: u8) -> Result<Vec<Pair<'
         }
     }
     Ok(kept)
-}
-
-/// Appends the beginning of the page.
-#[tactic(auto, unfolding(crate::specs::Merged::merged_begin))]
-fn append_begin(out: &mut Vec<u8>, races: u64, parts: u64) -> Result<(), OutOfMemory>
-    ensures { OnOk result (out.new.items ≡ out.old.items ++ merged_begin races parts) }
-{
-    append_head(out, races, parts)?;
-    append_first(out, races, parts)
-}
-
-/// Appends the head of the page, and how the page looks.
-fn append_head(out: &mut Vec<u8>, races: u64, parts: u64) -> Result<(), OutOfMemory>
-    ensures { OnOk result (out.new.items ≡ out.old.items ++ head_text races parts) }
-{
-    append_marks(out, &[Mark::Own(TOP), Mark::Own(b"<title>")])?;
-    append_title(out, races, parts)?;
-    append_marks(out, &[Mark::Own(b"</title>\n"), Mark::Own(BODY)])
-}
-
-/// Appends the first line of the page.
-fn append_first(out: &mut Vec<u8>, races: u64, parts: u64) -> Result<(), OutOfMemory>
-    ensures { OnOk result (out.new.items ≡ out.old.items ++ first_text races parts) }
-{
-    append_marks(out, &[Mark::Own(b"<header>\n<h1>")])?;
-    append_title(out, races, parts)?;
-    append_marks(out, &[Mark::Own(b"</h1>\n</header>\n<main>\n")])
-}
-
-/// Appends how many races there are in how many parts.
-fn append_title(out: &mut Vec<u8>, races: u64, parts: u64) -> Result<(), OutOfMemory>
-    ensures { OnOk result (out.new.items ≡ out.old.items ++ title_text races parts) }
-{
-    append_races(out, races)?;
-    append_marks(
-        out,
-        &[
-            Mark::Own(b" in "),
-            Mark::Number(parts),
-            Mark::Own(if parts == 1 { b" part" } else { b" parts" }),
-        ],
-    )
 }
 
 /// Appends the section of these pairs, which are of this rank.
@@ -240,7 +209,7 @@ fn append_left(out: &mut Vec<u8>, count: usize) -> Result<(), OutOfMemory>
             &[
                 Mark::Own(b"<p>Left out here: "),
                 Mark::Number((count - MOST_ROWS) as u64),
-                Mark::Own(b". Without --page all are told, as text.</p>\n"),
+                Mark::Own(b". Without --page, racebench prints all of them as text.</p>\n"),
             ],
         )
     } else {

@@ -1,6 +1,6 @@
 //! The row of a race with its schedule: its picture, and its runs in words.
 ghost use Rattle.std.specs.Prelude.{◌≡◌, ◌++◌, ◌∷◌, [], OnOk};
-ghost use Rattle.pair_findings.specs.Findings.{IsFinding};
+ghost use Rattle.explain_report.specs.findings.Findings.{IsFinding};
 ghost use Rattle.schedule.specs.Reordering.{IsCorrectReordering};
 ghost use Rattle.schedule.specs.Shows.{Shows};
 
@@ -11,8 +11,8 @@ use crate::piece::{Item, Piece};
 use crate::shown::Shown;
 use crate::words::lines;
 use event_index::Indexed;
+use explain_report::findings::{Finding, find};
 use explain_report::{How, Verdict, explain_text, runs_of};
-use pair_findings::{Finding, find};
 use rapid_text::OutOfMemory;
 use std::alloc::Global;
 

@@ -1,16 +1,16 @@
 //! Of which sort a verdict is, and its row.
 ghost use Rattle.std.specs.Prelude.{◌≡◌, [], Some, IfOk, OnOk, option_map};
 ghost use Rattle.std.specs.List.{filter};
-ghost use Rattle.source_places.specs.Located.{location_at};
+ghost use Rattle.explain_report.specs.places.Located.{location_at};
 ghost use Rattle.race_page.specs.Rows.{entry_on, entry_seen, followed_in, is_of, is_sort, order_seen, outcome_sort, row_of, seen_on, sort_seen};
 
 use crate::about::About;
 use crate::shown::{Seen, Shown, Sort};
 use event_index::Indexed;
+use explain_report::places::location_of;
 use followed_races::{Followed, told_of};
 use race_triage::{Outcome, Verdict};
 use rapid_text::OutOfMemory;
-use source_places::location_of;
 use std::alloc::Global;
 
 /// Of which sort a verdict is.

@@ -1,7 +1,8 @@
 //! The whole page.
 ghost use Rattle.std.specs.Prelude.{◌≡◌, ◌++◌, [], List, ℕ, OnErr, OnOk};
 ghost use Rattle.race_triage.specs.declared.verdicts.Verdict.{Verdict as Told};
-ghost use Rattle.race_page.specs.Pages.{IsEnd, IsPage};
+ghost use Rattle.race_page.specs.Pages.{IsEnd, IsPage, left_of};
+ghost use Rattle.race_page.specs.declared.merged_head.LeftOut.{LeftOut};
 ghost use Rattle.race_page.specs.Rows.{all_rows, followed_in, rows_of, sort_rows};
 
 use crate::about::About;
@@ -9,6 +10,7 @@ use crate::ending::append_end;
 use crate::followed::write_beside;
 use crate::heading::{append_begin, file_of};
 use crate::leftovers::write_left_out;
+use crate::merged_head::LeftOut;
 use crate::own::Tag;
 use crate::page::Page;
 use crate::piece::{Item, Piece};
@@ -21,7 +23,7 @@ use race_triage::{Chosen, Verdict, Verdicts};
 use rapid_text::OutOfMemory;
 
 /// Appends a page (HTML) of these verdicts, of which some are chosen. Its first line is `6 races in pdsh.std`: how many are chosen, and `name` without
-/// folders. Then there is a row for each chosen race, each pair of places that is undecided, and where `apart` is true each that is apart; of each sort the
+/// folders. With known races or filters it goes on with how many pairs of places these left out. Then there is a row for each chosen race, each pair of places that is undecided, and where `apart` is true each that is apart; of each sort the
 /// first 2,000, and a picture for each of the first 200 races. Then come the eleven counts of the whole trace, and what the words mean. The page tells how
 /// many were left out. `about` has the trace's name, and how its races came out when they were followed on the real program: that stands beside each race.
 /// Where memory is refused `out` stays as it was.
@@ -34,9 +36,9 @@ pub fn page_text(
     out: &mut Vec<u8>,
 ) -> Result<(), OutOfMemory>
     // What is appended is a page with a row for each of the chosen verdicts, of each sort the first 2,000, and no others. The first line has the number of
-    // chosen races, with those that have no row, and the file's name.
+    // chosen races, with those that have no row, the file's name, and what was left out.
     ensures ok { OnOk result ((text : List ℕ) × (out.new.items ≡ out.old.items ++ text)
-        × IsPage analysis.now verdicts.now.verdicts.items chosen.now.races about.entry.name.now text
+        × IsPage analysis.now verdicts.now.verdicts.items chosen.now.races (left_of chosen.now) about.entry.name.now text
         (all_rows analysis.now (followed_in about.entry) apart chosen.now.verdicts.items)) }
     ensures err { OnErr result (out.new.items ≡ out.old.items) }
 {
@@ -55,7 +57,7 @@ fn append_page(
 ) -> Result<(), OutOfMemory>
     requires { page.old.rows ≡ [] }
     ensures ok { OnOk result ((text : List ℕ) × (out.new.items ≡ out.old.items ++ text)
-        × IsPage page.old.trace verdicts.now.verdicts.items chosen.now.races about.entry.name.now text
+        × IsPage page.old.trace verdicts.now.verdicts.items chosen.now.races (left_of chosen.now) about.entry.name.now text
         (all_rows page.old.trace (followed_in about.entry) apart chosen.now.verdicts.items)) }
     ensures err { OnErr result (out.new.items ≡ out.old.items) }
 {
@@ -69,7 +71,14 @@ fn append_page(
         apart,
         about.followed.is_some(),
     )?;
-    append_written(page, end.as_slice(), chosen.races, about.name, out)?;
+    append_written(
+        page,
+        end.as_slice(),
+        chosen.races,
+        left_of(chosen),
+        about.name,
+        out,
+    )?;
     Ok(())
 }
 
@@ -78,17 +87,28 @@ fn append_written(
     page: &Page<'_>,
     end: &[u8],
     races: u64,
+    left: LeftOut,
     name: &[u8],
     out: &mut Vec<u8>,
 ) -> Result<(), OutOfMemory>
     ensures ok { OnOk result ((vs : List Told) → IsEnd page.now.trace vs end.now
-        → (text : List ℕ) × (out.new.items ≡ out.old.items ++ text) × IsPage page.now.trace vs races name.now text page.now.rows) }
+        → (text : List ℕ) × (out.new.items ≡ out.old.items ++ text) × IsPage page.now.trace vs races left name.now text page.now.rows) }
     ensures err { OnErr result (out.new.items ≡ out.old.items) }
 {
     let mut begin = Vec::new(*out.allocator());
-    append_begin(&mut begin, races, file_of(name))?;
+    append_begin(&mut begin, races, file_of(name), left)?;
     append_all(out, begin.as_slice(), page.bytes(), end)?;
     Ok(())
+}
+
+/// What was left out of what is told.
+fn left_of(chosen: &Chosen) -> LeftOut
+    ensures { result ≡ left_of chosen.now }
+{
+    LeftOut {
+        known: chosen.known,
+        hidden: chosen.hidden,
+    }
 }
 
 /// Appends three texts, or nothing.

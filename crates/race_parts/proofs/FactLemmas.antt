@@ -5,7 +5,7 @@ use Rattle.std.specs.Str.{is_utf8}
 use Rattle.serde_json.specs.Data.{Data, null}
 use Rattle.serde_json.specs.Read.{read}
 use Rattle.race_parts.specs.Accesses.{event_in, location_in, rank_of, size_of}
-use Rattle.race_parts.specs.Cells.{Said, fact_said, said_by, said_in}
+use Rattle.race_parts.specs.Said.{Said, fact_said, known_said, said_by, said_in}
 use Rattle.race_parts.specs.Facts.{IsKnown, Says, data_in}
 use Rattle.race_parts.specs.Lines.{Tells}
 use Rattle.race_parts.specs.declared.facts.Fact.{Fact}
@@ -43,3 +43,6 @@ fact_told line fact told name = says_told name line fact told.0 told.2 ∙ ap (s
 
 pub fact_none : (line : List ℕ) (fact : Fact) → Says fact null → (IsUtf8 line → read line ≡ None) → (name : List ℕ) → fact_said name line fact ≡ said_in name line
 fact_none line fact says free name = says_told name line fact null says ∙ ap (said_by name line) (data_none line free)
+
+pub kept_told : (line : List ℕ) (k : Known) (d : Data) → Tells line d → IsKnown k d → (name : List ℕ) → known_said name line k ≡ said_in name line
+kept_told line k d tells is name = known_told name line k d is ∙ ap (said_by name line) (data_told line d tells)

@@ -1,9 +1,13 @@
+pub mod DigitLemmas
 pub mod FactLemmas
+pub mod KeptLemmas
 pub mod LineLemmas
 pub mod LoopLemmas
 pub mod MergingLemmas
 pub mod PairLemmas
 pub mod PutLemmas
+pub mod QuoteLemmas
 pub mod ReadLemmas
 pub mod ScanLemmas
+pub mod SortLemmas
 pub mod UnionLemmas

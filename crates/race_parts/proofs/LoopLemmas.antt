@@ -8,7 +8,8 @@ use Rattle.serde_json.specs.declared.value.Value.{Value}
 use Rattle.std.specs.Prelude.{codes}
 use Rattle.race_parts.proofs.LineLemmas.{lines-more, lines-none}
 use Rattle.race_parts.specs.Lines.{HasNoFeed, lines_of}
-use Rattle.race_parts.specs.Cells.{Said, cell_key, is_same, key_of, keys_from, row_said}
+use Rattle.race_parts.specs.Cells.{cell_key, is_same, key_of, keys_from, row_said}
+use Rattle.race_parts.specs.Said.{Said}
 use Rattle.race_parts.specs.Objects.{json_line, news_count, pair_lines, pair_object_at}
 use Rattle.race_parts.specs.Texts.{block_text, blocks_text, heads_count, held_by, hold_line, hold_lines, holds_text, is_head, is_new, item_lines, list_lines, one_if, run_count}
 use Rattle.race_parts.specs.declared.cells.Cell.{Cell}

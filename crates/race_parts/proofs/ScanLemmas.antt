@@ -1,8 +1,9 @@
 -- What is stripped from the front of a text, one piece after another.
-use Rattle.std.proofs.Common.{◌≡◌, ℕ, ◌+◌, ◌<◌, Bool, true, List, [], ◌∷◌, ◌++◌, append_assoc, append-nil, take, length, get_or, Option, Some, None, IfSome, sym, ap, ◌∙◌}
-use Rattle.std.specs.Prelude.{codes}
+use Rattle.std.proofs.Common.{◌≡◌, ℕ, ◌+◌, ◌<◌, Bool, true, List, [], ◌∷◌, ◌++◌, append_assoc, append-nil, take, drop, length, get_or, nat_eq, false, Option, Some, None, IfSome, sym, ap, ◌∙◌}
+use Rattle.std.specs.Cmp.Lexicographic.{bytes_decides, pointwise}
+use Rattle.std.specs.Prelude.{codes, MatchOption}
 use Rattle.std.proofs.lemmas.Grind.{flat_map-append}
-use Rattle.std.proofs.lemmas.List.{take_more}
+use Rattle.std.proofs.lemmas.List.{take-append-drop, take_more}
 use Rattle.json.specs.Print.{escape, escape_byte, quoted}
 use Rattle.serde_json.specs.Data.{Data, array, object, item, no_items, Members, member}
 use Rattle.serde_json.specs.Read.{read}
@@ -27,6 +28,16 @@ quoted_front text inside plain rest behind first cut last same =
 pub if_some-map : {A : Type 0} {P Q : A → Type 0} (o : Option A) → ((a : A) → P a → Q a) → IfSome o P → IfSome o Q
 if_some-map None f h = tt
 if_some-map (Some a) f h = f a h
+
+-- what is stripped of its front
+pub stripped : {A : Type 0} (now : A → List ℕ) (o : Option A) (text words : List ℕ)
+    → MatchOption o (pointwise nat_eq (take (length words) text) words ≡ false)
+    (λ x. (pointwise nat_eq (take (length words) text) words ≡ true) × (now x ≡ drop (length words) text) × (length (now x) + length words ≡ length text))
+    → IfSome o (λ x. text ≡ words ++ now x)
+stripped now None text words h = tt
+stripped now (Some a) text words h =
+    sym (take-append-drop (length words) text) ∙ ap (λ (xs : List ℕ). xs ++ drop (length words) text) ((bytes_decides (take (length words) text) words).0 h.0)
+    ∙ ap (λ (xs : List ℕ). words ++ xs) (sym h.1)
 
 -- a key with a value, and what stands behind them
 key_front : (key : List ℕ) (d : Data) (ms : Members) (behind : List ℕ)

@@ -1,6 +1,7 @@
 pub mod Accesses
 pub mod Cells
 pub mod Facts
+pub mod Kept
 pub mod Laws
 pub mod Lines
 pub mod Members
@@ -10,4 +11,5 @@ pub mod Pairs
 pub mod Parts
 pub mod Printed
 pub mod Rows
+pub mod Said
 pub mod Texts

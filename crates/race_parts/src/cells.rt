@@ -2,15 +2,19 @@
 ghost use Rattle.std.specs.Prelude.{◌≡◌, ◌<◌, ◌+◌, ◌++◌, ◌∷◌, IfOk, OnOk, List, ℕ, drop, length, map};
 ghost use Rattle.serde_json.specs.View.{view};
 ghost use Rattle.race_parts.specs.Accesses.{event_in, location_in, rank_of, size_of};
-ghost use Rattle.race_parts.specs.Cells.{cell_key, greater_of, is_same, key_of, keys_from, known_said, lesser_of, row_said, rows_in, rows_of_part, said_by, said_in, AreSorted};
+ghost use Rattle.race_parts.specs.Cells.{cell_key, greater_of, is_same, key_of, keys_from, lesser_of, row_said, rows_in, rows_of_part, AreSorted};
+ghost use Rattle.race_parts.specs.Kept.{kept_said};
 ghost use Rattle.race_parts.specs.Lines.{lines_of};
+ghost use Rattle.race_parts.specs.Said.{known_said, said_by, said_in};
 
 use crate::facts::{Fact, fact_in};
+use crate::kept::{KeptRow, known_kept, piece_at};
 use crate::lines::cut_line;
 use crate::members::{access_in, is_kind, number_of, text_of};
 use crate::parts::{Part, Parts};
-use crate::presorting::presort;
+use crate::presorting::presorted;
 use crate::scan::Known;
+use crate::sharing::{Shares, no_shares, places_in, share_both};
 use rapid_text::OutOfMemory;
 use serde_json::Value;
 use std::alloc::Global;
@@ -63,7 +67,39 @@ pub fn rows_of(alloc: Global, parts: &Parts) -> Result<Vec<Row<'_>>, OutOfMemory
 fn push_part<'a>(rows: &mut Vec<Row<'a>>, name: &'a [u8], part: &'a Part) -> Result<(), OutOfMemory>
     ensures { OnOk result (map row_said rows.new.items ≡ map row_said rows.old.items ++ rows_of_part name.now part.now) }
 {
-    push_rows(rows, name, after_first(part.text.as_slice()))
+    match &part.rows {
+        Some(kept) => push_kept(rows, name, &part.text, kept),
+        None => push_rows(rows, name, after_first(part.text.as_slice())),
+    }
+}
+
+/// Adds the rows of which this is kept.
+fn push_kept<'a>(
+    rows: &mut Vec<Row<'a>>,
+    name: &'a [u8],
+    text: &'a Vec<u8>,
+    kept: &Vec<KeptRow>,
+) -> Result<(), OutOfMemory>
+    ensures { OnOk result (map row_said rows.new.items ≡ map row_said rows.old.items ++ map (kept_said name.now text.now.items) kept.now.items) }
+{
+    let bytes = text.as_slice();
+    for row in kept {
+        rows.push(row_kept(name, bytes, *row))?;
+    }
+    Ok(())
+}
+
+/// The row of which this is kept.
+fn row_kept<'a>(name: &'a [u8], text: &'a [u8], row: KeptRow) -> Row<'a>
+    ensures { row_said result ≡ kept_said name.now text.now row }
+{
+    let line = piece_at(text, row.line);
+    let known = known_kept(text, row);
+    Row {
+        part: name,
+        line,
+        fact: Fact::Known(known),
+    }
 }
 
 /// What stands after the first line.
@@ -178,13 +214,18 @@ fn known_in_row<'b>(row: &'b Row<'_>) -> Known<'b>
     }
 }
 
-/// What the row of this number is ordered by.
-fn cell_of<'b>(row: &'b Row<'_>, number: usize) -> Cell<'b>
-    ensures { cell_key result ≡ key_of number (row_said row.now) }
+/// What the row of this number is ordered by, with shared locations.
+fn cell_of<'b>(
+    shares: &mut Shares<'b>,
+    row: &'b Row<'_>,
+    number: usize,
+) -> Result<Cell<'b>, OutOfMemory>
+    ensures { IfOk result (λ cell. cell_key cell ≡ key_of number (row_said row.now)) }
 {
     let known = known_in_row(row);
-    let (first, second) = ordered(known.one, known.other);
-    Cell {
+    let (one, other) = share_both(shares, known.one, known.other)?;
+    let (first, second) = ordered(one, other);
+    Ok(Cell {
         first,
         second,
         rank: known.rank,
@@ -193,7 +234,7 @@ fn cell_of<'b>(row: &'b Row<'_>, number: usize) -> Cell<'b>
         later: known.later,
         earlier: known.earlier,
         number,
-    }
+    })
 }
 
 /// The cell at a place.
@@ -205,13 +246,18 @@ pub(crate) fn cell_at<'a>(cells: &[Cell<'a>], at: usize) -> Cell<'a>
 }
 
 /// What the rows are ordered by, in the order of the rows.
-fn unsorted<'b>(alloc: Global, rows: &'b [Row<'_>]) -> Result<Vec<Cell<'b>>, OutOfMemory>
+fn unsorted<'b>(
+    alloc: Global,
+    shares: &mut Shares<'b>,
+    rows: &'b [Row<'_>],
+) -> Result<Vec<Cell<'b>>, OutOfMemory>
     ensures { IfOk result (λ cells. map cell_key cells.items ≡ keys_from 0 (map row_said rows.now)) }
 {
-    let mut cells = Vec::new(alloc);
+    let mut cells = Vec::with_capacity(alloc, rows.len())?;
     let mut at = 0;
     'rows: while at < rows.len() {
-        cells.push(cell_of(&rows[at], at))?;
+        let cell = cell_of(shares, &rows[at], at)?;
+        cells.push(cell)?;
         at += 1;
     }
     Ok(cells)
@@ -221,8 +267,10 @@ fn unsorted<'b>(alloc: Global, rows: &'b [Row<'_>]) -> Result<Vec<Cell<'b>>, Out
 pub fn cells_of<'b>(alloc: Global, rows: &'b [Row<'_>]) -> Result<Vec<Cell<'b>>, OutOfMemory>
     ensures { IfOk result (λ cells. AreSorted (map row_said rows.now) cells.items) }
 {
-    let mut cells = unsorted(alloc, rows)?;
-    presort(alloc, &mut cells)?;
+    let mut shares = no_shares(alloc, rows.len())?;
+    let made = unsorted(alloc, &mut shares, rows)?;
+    let places = places_in(alloc, shares)?;
+    let mut cells = presorted(alloc, made, &places)?;
     cells.sort()?;
     Ok(cells)
 }

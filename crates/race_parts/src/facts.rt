@@ -3,11 +3,13 @@ ghost use Rattle.std.specs.Prelude.{◌≡◌, List, ℕ, IfOk, IfSome, IsUtf8, 
 ghost use Rattle.serde_json.specs.Data.{Data};
 ghost use Rattle.serde_json.specs.Read.{read};
 ghost use Rattle.serde_json.specs.View.{view};
-ghost use Rattle.race_parts.specs.Cells.{fact_said, said_in};
 ghost use Rattle.race_parts.specs.Facts.{IsKnown, Says, data_in};
+ghost use Rattle.race_parts.specs.Kept.{kept_said};
 ghost use Rattle.race_parts.specs.Lines.{Tells};
 ghost use Rattle.race_parts.specs.Rows.{mark_of};
+ghost use Rattle.race_parts.specs.Said.{fact_said, said_in};
 
+use crate::kept::{KeptRow, kept_of};
 use crate::members::is_kind;
 use crate::rows::{Mark, is_row};
 use crate::scan::{Known, told_in};
@@ -42,12 +44,12 @@ pub(crate) fn value_of(alloc: Global, text: &[u8]) -> Result<Option<Value>, OutO
 }
 
 /// What is read of a line, if it is JSON.
-pub(crate) fn fact_of(alloc: Global, line: &[u8]) -> Result<Option<Fact<'_>>, OutOfMemory>
+fn fact_of(alloc: Global, line: &[u8]) -> Result<Option<Fact<'_>>, OutOfMemory>
     ensures some { IfOk result (λ found. IfSome found (λ fact. (d : Data) × Tells line.now d × Says fact d)) }
     ensures none { IfOk result (λ found. found ≡ None → IsUtf8 line.now → read line.now ≡ None) }
 {
-    if let Some(known) = told_in(line) {
-        return Ok(Some(Fact::Known(known)));
+    if let Some(told) = told_in(line) {
+        return Ok(Some(Fact::Known(told.known)));
     }
     match value_of(alloc, line) {
         Ok(Some(value)) => Ok(Some(Fact::Other(value))),
@@ -80,13 +82,38 @@ pub fn data_of(alloc: Global, line: &[u8]) -> Result<Value, OutOfMemory>
     }
 }
 
-/// What the line is as a line of a part, that this was read of.
-pub(crate) fn mark_of(fact: &Fact<'_>) -> Mark
-    ensures { (d : Data) → Says fact.now d → result ≡ mark_of d }
+/// What is seen of a line of a part: what it is, and, of a row that is printed as `triage` prints it, what is kept.
+#[derive(Clone, Copy)]
+pub(crate) struct Seen {
+    pub(crate) mark: Mark,
+    pub(crate) row: Option<KeptRow>,
+}
+
+/// What is seen of a line of the text, before which so many bytes stand; none if it is no JSON.
+#[tactic(auto, using(crate::proofs::FactLemmas::kept_told))]
+pub(crate) fn seen_of(
+    alloc: Global,
+    text: &[u8],
+    from: usize,
+    line: &[u8],
+) -> Result<Option<Seen>, OutOfMemory>
+    ensures some { IfOk result (λ found. IfSome found (λ seen. (d : Data) × Tells line.now d × (seen.mark ≡ mark_of d))) }
+    ensures row { IfOk result (λ found. IfSome found (λ seen. IfSome seen.row (λ row. (name : List ℕ) → kept_said name text.now row ≡ said_in name line.now))) }
+    ensures none { IfOk result (λ found. found ≡ None → IsUtf8 line.now → read line.now ≡ None) }
 {
-    match fact {
-        Fact::Known(known) => known_mark(*known),
-        Fact::Other(value) => value_mark(value),
+    if let Some(told) = told_in(line) {
+        return Ok(Some(Seen {
+            mark: known_mark(told.known),
+            row: kept_of(text, from, line, told),
+        }));
+    }
+    match value_of(alloc, line) {
+        Ok(Some(value)) => Ok(Some(Seen {
+            mark: value_mark(&value),
+            row: None,
+        })),
+        Ok(None) => Ok(None),
+        Err(refused) => Err(refused),
     }
 }
 

@@ -1,8 +1,12 @@
 //! Reports of `triage --json` on many traces or windows, as the parts of one: how they are read, and merged.
 #![tactic(auto)]
 
+mod appending;
+mod blocks;
 mod cells;
+mod counting;
 mod facts;
+mod kept;
 mod laws;
 mod lines;
 mod members;
@@ -11,11 +15,15 @@ mod objects;
 mod pairs;
 mod parts;
 mod presorting;
+mod putting;
+mod quotes;
 mod rows;
 mod scan;
+mod sharing;
 mod text;
 
 pub use cells::{Cell, Row, cells_of, event_in, rows_of};
+pub use counting::races_in;
 pub use facts::{Fact, data_of};
 pub use laws::merging_is_a_union;
 pub use lines::{MAX_LINES, PartRefusal};
@@ -26,4 +34,4 @@ pub use pairs::{Pair, pairs_of};
 pub use parts::{Part, Parts};
 pub use rows::Mark;
 pub use scan::Known;
-pub use text::{merged_text, races_in};
+pub use text::merged_text;

@@ -1,12 +1,15 @@
 //! The lines of a text, each a value of JSON.
-ghost use Rattle.std.specs.Prelude.{◌≡◌, ◌≢◌, ◌++◌, ◌∷◌, [], List, map, None, IfErr, IfOk, IfSome, OnErr, OnOk};
+ghost use Rattle.std.specs.Prelude.{◌≡◌, ◌≢◌, ◌++◌, ◌∷◌, [], List, map, None, Some, IfErr, IfOk, IfSome, OnErr, OnOk, true};
 ghost use Rattle.serde_json.specs.Data.{Data};
 ghost use Rattle.serde_json.specs.View.{view};
 ghost use Rattle.serde_json.specs.declared.value.Value.{Value as OneValue};
 ghost use Rattle.race_parts.specs.Rows.{mark_of};
+ghost use Rattle.race_parts.specs.Kept.{AreKept, IsRowOn};
+ghost use Rattle.race_parts.specs.declared.kept.KeptRow.{KeptRow};
 ghost use Rattle.race_parts.specs.Lines.{AreLines, HasNoFeed, IsReadOn, IsStopped, IsUnread};
 
-use crate::facts::{fact_of, mark_of, value_of};
+use crate::facts::{Seen, seen_of, value_of};
+use crate::kept::KeptRow;
 use crate::rows::Mark;
 use memchr::memchr;
 use rapid_text::OutOfMemory;
@@ -84,25 +87,40 @@ pub(crate) fn lines_in(
     Ok(found)
 }
 
+/// What was read of the lines after the first.
+#[derive(Drop)]
+pub(crate) struct ReadRows {
+    /// What they are.
+    pub(crate) marks: Vec<Mark>,
+    /// What is kept of them, if each is a row that is printed as `triage` prints it.
+    pub(crate) rows: Option<Vec<KeptRow>>,
+}
+
 /// What the lines after the first are.
-#[tactic(auto, using(crate::proofs::LineLemmas::marked_stop, crate::proofs::LineLemmas::marked_end))]
-pub(crate) fn marks_in(
+#[tactic(auto, using(crate::proofs::LineLemmas::marked_stop, crate::proofs::LineLemmas::marked_end, crate::proofs::KeptLemmas::kept_all))]
+pub(crate) fn rows_in(
     alloc: Global,
     text: &[u8],
     begun: &Begun<'_>,
-) -> Result<Vec<Mark>, PartRefusal>
+) -> Result<ReadRows, PartRefusal>
     requires { IsReadOn text.now begun.now.rest.now (view begun.now.head) }
-    ensures ok { IfOk result (λ marks. (ds : List Data) × AreLines text.now (view begun.now.head ∷ ds) × (marks.items ≡ map mark_of ds)) }
+    ensures ok { IfOk result (λ found. (ds : List Data) × AreLines text.now (view begun.now.head ∷ ds) × (found.marks.items ≡ map mark_of ds)) }
+    ensures rows { IfOk result (λ found. AreKept text.now found.rows) }
     ensures err { IfErr result (IsUnread text.now) }
 {
     let mut marks = Vec::new(alloc);
+    let mut rows = Vec::new(alloc);
+    let mut all = true;
     let mut rest = begun.rest;
     'lines: while !rest.is_empty() {
-        let (mark, behind) = mark_on(alloc, rest, marks.len() + 1)?;
-        keep_mark(&mut marks, mark)?;
+        let (seen, behind) = seen_on(alloc, text, rest, marks.len() + 1)?;
+        keep_mark(&mut marks, seen.mark)?;
+        keep_row(&mut rows, seen.row)?;
+        all = is_kept(all, seen.row);
         rest = behind;
     }
-    Ok(marks)
+    let rows = kept_if(all, rows);
+    Ok(ReadRows { marks, rows })
 }
 
 /// Keeps the value.
@@ -120,6 +138,34 @@ fn keep_mark(marks: &mut Vec<Mark>, mark: Mark) -> Result<(), OutOfMemory>
 {
     marks.push(mark)?;
     Ok(())
+}
+
+/// Keeps what is kept of a row, if there is that.
+fn keep_row(rows: &mut Vec<KeptRow>, row: Option<KeptRow>) -> Result<(), OutOfMemory>
+    ensures { OnOk result (IfSome row (λ r. rows.new.items ≡ rows.old.items ++ r ∷ [])) }
+{
+    if let Some(row) = row {
+        rows.push(row)?;
+    }
+    Ok(())
+}
+
+/// Whether there is that of a row, and of all before it.
+fn is_kept(all: bool, row: Option<KeptRow>) -> bool
+    ensures all { result ≡ true → all ≡ true }
+    ensures row { result ≡ true → (r : KeptRow) × (row ≡ Some r) }
+{
+    match row {
+        Some(_) => all,
+        None => false,
+    }
+}
+
+/// The rows, if there is that of all.
+fn kept_if(all: bool, rows: Vec<KeptRow>) -> Option<Vec<KeptRow>>
+    ensures { IfSome result (λ kept. (all ≡ true) × (kept ≡ rows)) }
+{
+    if all { Some(rows) } else { None }
 }
 
 /// The first line of a text, before which so many lines were read, and what stands after it.
@@ -148,14 +194,21 @@ fn value_on(alloc: Global, text: &[u8], place: usize) -> Result<(Value, &[u8]), 
     }
 }
 
-/// What the first line of a text is, before which so many lines were read, and what stands after it.
-fn mark_on(alloc: Global, text: &[u8], place: usize) -> Result<(Mark, &[u8]), PartRefusal>
-    ensures ok { IfOk result (λ read. (d : Data) × IsReadOn text.now read.1.now d × (read.0 ≡ mark_of d)) }
-    ensures err { IfErr result (IsStopped place text.now) }
+/// What is seen of the first line of the rest of a text, before which so many lines were read, and what stands after it.
+fn seen_on<'a>(
+    alloc: Global,
+    text: &[u8],
+    rest: &'a [u8],
+    place: usize,
+) -> Result<(Seen, &'a [u8]), PartRefusal>
+    ensures ok { IfOk result (λ read. (d : Data) × IsReadOn rest.now read.1.now d × (read.0.mark ≡ mark_of d)) }
+    ensures row { IfOk result (λ read. IfSome read.0.row (IsRowOn text.now rest.now read.1.now)) }
+    ensures err { IfErr result (IsStopped place rest.now) }
 {
-    let (line, behind) = line_on(text, place)?;
-    match fact_of(alloc, line)? {
-        Some(fact) => Ok((mark_of(&fact), behind)),
+    let (line, behind) = line_on(rest, place)?;
+    let from = text.len().saturating_sub(rest.len());
+    match seen_of(alloc, text, from, line)? {
+        Some(seen) => Ok((seen, behind)),
         None => Err(PartRefusal::Line(place)),
     }
 }

@@ -3,14 +3,17 @@ ghost use Rattle.std.specs.Prelude.{◌≡◌, ◌<◌, ◌∷◌, All, codes, L
 ghost use Rattle.std.specs.declared.alloc.Global.{Global};
 ghost use Rattle.serde_json.specs.View.{view};
 ghost use Rattle.race_parts.specs.Merging.{told_of, told_parts, Gives, IsPartRefused, IsPartText, IsRefused, IsReportRefused, GivesReport, IsSound, IsUnsound, IsUnputOr, is_foreign, is_merged_head, is_part_line, wrong_behind_head, wrong_merged, AreWrongIn, IsLineRefused, IsUntaken, one_behind, part_lines};
+ghost use Rattle.race_parts.specs.Kept.{AreKept};
 ghost use Rattle.race_parts.specs.Lines.{AreLines, IsReadOn};
 ghost use Rattle.race_parts.specs.Members.{said_text};
 ghost use Rattle.race_parts.specs.Rows.{wrong_line};
 ghost use Rattle.race_parts.specs.Parts.{IsPutFault, joined, told_in, single, text_at};
 
-use crate::lines::{Begun, PartRefusal, begin, lines_in, marks_in};
+use crate::kept::KeptRow;
+use crate::lines::{Begun, PartRefusal, ReadRows, begin, lines_in, rows_in};
 use crate::members::{has_number, has_text, is_kind, number_of, text_of};
-use crate::parts::{Part, Parts, put};
+use crate::parts::{Part, Parts};
+use crate::putting::put;
 use crate::rows::{is_other_version, wrong_line};
 use rapid_text::OutOfMemory;
 use serde_json::Value;
@@ -68,39 +71,46 @@ fn take_part(
         × ((q : Vec ℕ Global) → text_at parts.new q ≡ joined (text_at parts.old q) (single name.now text.now q.items))) }
     ensures err { IfErr result (IsUnputOr (IsUnsound text.now (view begun.entry.head))) }
 {
-    check_part(alloc, text, &begun)?;
-    put_copy(alloc, parts, name, text, file)
+    let rows = check_part(alloc, text, &begun)?;
+    put_copy(alloc, parts, name, text, rows, file)
 }
 
-/// Puts a part, copied.
+/// Puts a part, copied, with what is kept of its rows.
 fn put_copy(
     alloc: Global,
     parts: &mut Parts,
     name: &[u8],
     text: &[u8],
+    rows: Option<Vec<KeptRow>>,
     file: u32,
 ) -> Result<(), PartRefusal>
+    requires { AreKept text.now rows }
     ensures ok { OnOk result ((q : Vec ℕ Global) → text_at parts.new q ≡ joined (text_at parts.old q) (single name.now text.now q.items)) }
     ensures why { IfErr result IsPutFault }
 {
     let name = copied(alloc, name)?;
     let text = copied(alloc, text)?;
-    put(parts, name, Part { text, file })
+    put(parts, name, Part { text, file, rows })
 }
 
-/// Checks that a text is a part.
-fn check_part(alloc: Global, text: &[u8], begun: &Begun<'_>) -> Result<(), PartRefusal>
+/// Checks that a text is a part. Answers what is kept of its rows.
+fn check_part(
+    alloc: Global,
+    text: &[u8],
+    begun: &Begun<'_>,
+) -> Result<Option<Vec<KeptRow>>, PartRefusal>
     requires { IsReadOn text.now begun.now.rest.now (view begun.now.head) }
     ensures ok { OnOk result (IsSound text.now (view begun.now.head)) }
+    ensures rows { IfOk result (AreKept text.now) }
     ensures err { IfErr result (IsUnsound text.now (view begun.now.head)) }
 {
-    let marks = marks_in(alloc, text, begun)?;
+    let ReadRows { marks, rows } = rows_in(alloc, text, begun)?;
     if is_other_version(&begun.head) {
         return Err(PartRefusal::Version);
     }
     match wrong_line(&begun.head, &marks) {
         Some(at) => Err(PartRefusal::Line(at)),
-        None => Ok(()),
+        None => Ok(rows),
     }
 }
 
@@ -153,9 +163,10 @@ fn wrong_behind_head(head: &Value, rest: &[Value]) -> Option<usize>
     }
 }
 
-/// Checks that a text in a merged report is a part.
-fn check_text(alloc: Global, text: &[u8]) -> Result<(), PartRefusal>
+/// Checks that a text in a merged report is a part. Answers what is kept of its rows.
+fn check_text(alloc: Global, text: &[u8]) -> Result<Option<Vec<KeptRow>>, PartRefusal>
     ensures ok { OnOk result (IsPartText text.now) }
+    ensures rows { IfOk result (AreKept text.now) }
     ensures err { IfErr result (IsPartRefused text.now) }
 {
     if text.is_empty() {
@@ -180,7 +191,7 @@ fn take_line(
 {
     let text = text_of(line, "text");
     match check_text(alloc, text) {
-        Ok(()) => put_copy(alloc, parts, text_of(line, "name"), text, file),
+        Ok(rows) => put_copy(alloc, parts, text_of(line, "name"), text, rows, file),
         Err(PartRefusal::OutOfMemory) => Err(PartRefusal::OutOfMemory),
         Err(_) => Err(PartRefusal::Line(place)),
     }

@@ -7,8 +7,8 @@ ghost use Rattle.race_parts.specs.Objects.{json_line, merged_lines, merged_objec
 ghost use Rattle.race_parts.specs.Texts.{is_new, run_count};
 
 use crate::cells::{Cell, cell_at, is_same};
+use crate::counting::{run_counts, unmet_of};
 use crate::parts::Parts;
-use crate::text::{run_counts, unmet_of};
 use rapid_text::OutOfMemory;
 use serde_json::{Map, Value, put};
 use std::alloc::{AllocError, Global};

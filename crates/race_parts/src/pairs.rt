@@ -4,7 +4,7 @@ ghost use Rattle.race_parts.specs.Pairs.{line_by, pair_shown, pair_told, pairs_b
 ghost use Rattle.race_parts.specs.Texts.{run_count};
 
 use crate::cells::{Cell, Row, cell_at};
-use crate::text::{is_head, run_counts};
+use crate::counting::{is_head, run_counts};
 use rapid_text::OutOfMemory;
 use std::alloc::Global;
 

@@ -1,10 +1,8 @@
 //! Parts by their names.
-ghost use Rattle.std.specs.Prelude.{◌≡◌, ◌≢◌, List, ℕ, None, Some, Vec, IfErr, OnOk};
-ghost use Rattle.race_parts.specs.Parts.{IsPutFault, joined, single, text_at};
-ghost use Rattle.race_parts.specs.declared.lines.PartRefusal.TheVariants.{Clash};
-ghost use Rattle.std.specs.declared.alloc.Global.{Global};
+ghost use Rattle.std.proofs.Props.{props};
+ghost use Rattle.race_parts.specs.Kept.{AreKept};
 
-use crate::lines::PartRefusal;
+use crate::kept::KeptRow;
 use std::collections::BTreeMap;
 
 /// What `triage --json` printed of a trace or of a window.
@@ -14,28 +12,10 @@ pub struct Part {
     pub text: Vec<u8>,
     /// The number of the file that it comes from.
     pub file: u32,
+    /// What was read of its rows, if each is printed as `triage` prints it.
+    pub(crate) rows: Option<Vec<KeptRow>>,
+    ghost read: { AreKept text.items rows } by { Prim.hlevel props },
 }
 
 /// Parts by their names.
 pub type Parts = BTreeMap<Vec<u8>, Part>;
-
-/// Puts a part under its name. If it is there, nothing changes. If another part has the name, that is a clash.
-pub(crate) fn put(parts: &mut Parts, name: Vec<u8>, part: Part) -> Result<(), PartRefusal>
-    ensures ok { OnOk result ((q : Vec ℕ Global) → text_at parts.new q ≡ joined (text_at parts.old q) (single name.items part.text.items q.items)) }
-    ensures why { IfErr result IsPutFault }
-    ensures clash { IfErr result (λ why. (file : ℕ) → why ≡ Clash file → (s : List ℕ) × (text_at parts.old name ≡ Some s) × (s ≢ part.text.items)) }
-{
-    match parts.get(&name) {
-        Some(known) => {
-            if known.text.as_slice() == part.text.as_slice() {
-                Ok(())
-            } else {
-                Err(PartRefusal::Clash(known.file))
-            }
-        }
-        None => match parts.insert(name, part) {
-            Ok(_) => Ok(()),
-            Err(_) => Err(PartRefusal::OutOfMemory),
-        },
-    }
-}

@@ -1,6 +1,6 @@
 //! A row as `triage` prints it, read without a value of JSON for it. What is printed in another form is left to `serde_json`.
-ghost use Rattle.std.specs.Prelude.{◌≡◌, ◌≤◌, ◌<◌, ◌^◌, ◌++◌, ◌∷◌, [], decimal, List, ℕ, IfSome, Some, false, length, take, true};
-ghost use Rattle.json.specs.Print.{escape, escape_byte, quoted};
+ghost use Rattle.std.specs.Prelude.{◌≡◌, ◌<◌, ◌+◌, ◌^◌, ◌++◌, ◌∷◌, [], decimal, List, ℕ, IfSome, Some, length, slice_index, true};
+ghost use Rattle.json.specs.Print.{quoted};
 ghost use Rattle.serde_json.specs.Data.{Data, Members};
 ghost use Rattle.serde_json.specs.Read.{read};
 ghost use Rattle.serde_json.specs.Written.{comma_if, compact_text, items_text, members_text};
@@ -8,8 +8,8 @@ ghost use Rattle.race_parts.specs.Facts.{IsKnown};
 ghost use Rattle.race_parts.specs.Lines.{Tells};
 ghost use Rattle.race_parts.specs.Printed.{IsAccess, IsOutcome, accesses_text, names_members, strings};
 
+use crate::quotes::plain_end;
 use crate::rows::is_how;
-use itoa::Buffer;
 
 /// The most locks of an access that are read so.
 const MAX_HOLDS: u8 = 16;
@@ -31,56 +31,80 @@ pub struct Known<'a> {
     pub earlier: u64,
 }
 
-/// The event and the location of an access.
+/// What is known of a row, and how far from the end of its line the two locations begin.
+#[derive(Clone, Copy)]
+pub(crate) struct Told<'a> {
+    pub(crate) known: Known<'a>,
+    pub(crate) one_left: usize,
+    pub(crate) other_left: usize,
+}
+
+/// The event and the location of an access, and how many bytes stand from the location on.
 #[derive(Clone, Copy)]
 struct Access<'a> {
     event: u64,
     location: &'a [u8],
+    left: usize,
 }
 
-/// What stands behind these words, if the text begins with them.
+/// What stands behind these words, if the text begins with them. It becomes a compare or two at each call, since the words are constant.
+#[inline(always)]
 fn strip<'a>(text: &'a [u8], words: &[u8]) -> Option<&'a [u8]>
     ensures { IfSome result (λ behind. text.now ≡ words.now ++ behind.now) }
 {
-    if text.len() < words.len() {
+    text.strip_prefix(words)
+}
+
+/// Numbers below are read on: with another digit they fit.
+const TENTH: u64 = 1_000_000_000_000_000_000;
+
+/// The digit at this place, if one stands there.
+#[inline(always)]
+fn digit_at(text: &[u8], at: usize) -> Option<u64>
+    ensures inside { IfSome result (λ digit. at < length text.now) }
+    ensures digit { IfSome result (λ digit. (digit < 10) × (slice_index text.now at ≡ 48 + digit)) }
+{
+    if at >= text.len() {
         return None;
     }
-    let (front, behind) = text.split_at(words.len());
-    if front == words { Some(behind) } else { None }
-}
-
-/// The number that the digits at the beginning are, if it fits.
-fn digits_at(text: &[u8]) -> u64 {
-    let mut number: u64 = 0;
-    let mut at = 0;
-    'digits: while at < text.len() && text[at].is_ascii_digit() {
-        number = number.wrapping_mul(10).wrapping_add((text[at] & 15) as u64);
-        at += 1;
+    let byte = text[at];
+    if byte < 48 || byte > 57 {
+        return None;
     }
-    number
+    Some((byte - 48) as u64)
 }
 
-/// The number at the beginning, and what stands behind it.
+/// The same after digits that are this number, if it is not 0, and is small enough to be read on.
+#[inline(always)]
+fn next_digit(text: &[u8], at: usize, number: u64) -> Option<u64>
+    ensures number { IfSome result (λ digit. (0 < number) × (number < 1000000000000000000)) }
+    ensures inside { IfSome result (λ digit. at < length text.now) }
+    ensures digit { IfSome result (λ digit. (digit < 10) × (slice_index text.now at ≡ 48 + digit)) }
+{
+    if number == 0 || number >= TENTH {
+        return None;
+    }
+    digit_at(text, at)
+}
+
+/// The number at the beginning, and what stands behind it. A number of 20 digits is left to others.
+#[inline(always)]
 fn number_at(text: &[u8]) -> Option<(u64, &[u8])>
     ensures digits { IfSome result (λ read. text.now ≡ decimal read.0 ++ read.1.now) }
     ensures fits { IfSome result (λ read. read.0 < 2 ^ 64) }
 {
-    let number = digits_at(text);
-    let mut digits = Buffer::new();
-    match strip(text, digits.format(number).as_bytes()) {
-        Some(behind) => Some((number, behind)),
-        None => None,
+    let mut number = digit_at(text, 0)?;
+    let mut at = 1;
+    'digits: while let Some(digit) = next_digit(text, at, number) {
+        number = number * 10 + digit;
+        at += 1;
     }
-}
-
-/// Whether a text in quotes ends there, or goes on with an escape.
-fn is_stop(byte: u8) -> bool
-    ensures { result ≡ false → escape_byte byte ≡ byte ∷ [] }
-{
-    byte < 32 || byte == b'"' || byte == b'\\'
+    let (_, behind) = text.split_at(at);
+    Some((number, behind))
 }
 
 /// The text in quotes at the beginning, in which nothing is escaped, and what stands behind it.
+#[inline(always)]
 fn text_at(text: &[u8]) -> Option<(&[u8], &[u8])>
     ensures { IfSome result (λ read. text.now ≡ quoted read.0.now ++ read.1.now) }
 {
@@ -91,19 +115,8 @@ fn text_at(text: &[u8]) -> Option<(&[u8], &[u8])>
     Some((plain, behind))
 }
 
-/// Where the first byte stands that ends a text in quotes, or begins an escape.
-fn plain_end(text: &[u8]) -> usize
-    ensures inside { result ≤ length text.now }
-    ensures plain { escape (take result text.now) ≡ take result text.now }
-{
-    let mut at = 0;
-    'bytes: while at < text.len() && !is_stop(text[at]) {
-        at += 1;
-    }
-    at
-}
-
 /// What stands behind a comma, or, at the first of a list, the text itself.
+#[inline(always)]
 fn comma_at(text: &[u8], is_later: bool) -> Option<&[u8]>
     ensures { IfSome result (λ behind. text.now ≡ comma_if is_later ++ behind.now) }
 {
@@ -136,6 +149,7 @@ fn holds_at(text: &[u8], is_later: bool, most: u8) -> Option<&[u8]>
 }
 
 /// The number of the member that these words begin, and what stands behind it.
+#[inline(always)]
 fn field_at<'a>(text: &'a [u8], words: &[u8]) -> Option<(u64, &'a [u8])>
     ensures digits { IfSome result (λ read. text.now ≡ words.now ++ (decimal read.0 ++ read.1.now)) }
     ensures fits { IfSome result (λ read. read.0 < 2 ^ 64) }
@@ -144,6 +158,7 @@ fn field_at<'a>(text: &'a [u8], words: &[u8]) -> Option<(u64, &'a [u8])>
 }
 
 /// The text of the member that these words begin, and what stands behind it.
+#[inline(always)]
 fn named_at<'a>(text: &'a [u8], words: &[u8]) -> Option<(&'a [u8], &'a [u8])>
     ensures { IfSome result (λ read. text.now ≡ words.now ++ (quoted read.0.now ++ read.1.now)) }
 {
@@ -167,7 +182,13 @@ fn access_at(text: &[u8]) -> Option<(Access<'_>, &[u8])>
     let (event, text) = field_at(text, b"{\"event\":")?;
     let text = holds_at(strip(text, b",\"holds\":[")?, false, MAX_HOLDS)?;
     let (location, text) = named_at(text, b",\"location\":")?;
-    Some((Access { event, location }, names_at(text)?))
+    let left = text.len().saturating_add(location.len()).saturating_add(1);
+    let access = Access {
+        event,
+        location,
+        left,
+    };
+    Some((access, names_at(text)?))
 }
 
 /// The accesses at the beginning of a row, and what stands behind them.
@@ -230,8 +251,8 @@ fn outcome_at(text: &[u8]) -> Option<(u8, u64)>
 }
 
 /// What is known of a row that is printed as `triage` prints it.
-pub(crate) fn told_in(line: &[u8]) -> Option<Known<'_>>
-    ensures { IfSome result (λ known. (d : Data) × Tells line.now d × IsKnown known d) }
+pub(crate) fn told_in(line: &[u8]) -> Option<Told<'_>>
+    ensures { IfSome result (λ told. (d : Data) × Tells line.now d × IsKnown told.known d) }
 {
     match std::str::from_utf8(line) {
         Ok(_) => known_in(line),
@@ -240,17 +261,22 @@ pub(crate) fn told_in(line: &[u8]) -> Option<Known<'_>>
 }
 
 /// The same of a text.
-fn known_in(line: &[u8]) -> Option<Known<'_>>
-    ensures { IfSome result (λ known. (d : Data) × (read line.now ≡ Some d) × IsKnown known d) }
+fn known_in(line: &[u8]) -> Option<Told<'_>>
+    ensures { IfSome result (λ told. (d : Data) × (read line.now ≡ Some d) × IsKnown told.known d) }
 {
     let (one, other, text) = accesses_at(line)?;
     let (rank, size) = outcome_at(text)?;
-    Some(Known {
+    let known = Known {
         one: one.location,
         other: other.location,
         rank,
         size,
         later: other.event,
         earlier: one.event,
+    };
+    Some(Told {
+        known,
+        one_left: one.left,
+        other_left: other.left,
     })
 }

@@ -11,7 +11,7 @@ use Rattle.race_groups.specs.Found.{AreComplete, AreTooMany, HaveConflict}
 use Rattle.race_groups.specs.Groups.{is_between}
 use Rattle.race_groups.specs.declared.kinds.Row.{Row}
 use Rattle.race_groups.proofs.RowLemmas.{between_cases}
-use Rattle.least_pairs.proofs.BetweenLemmas.{between_here, between_over}
+use Rattle.race_groups.proofs.least_pairs.BetweenLemmas.{between_here, between_over}
 use Rattle.race_triage.proofs.OnceLemmas.{distinct-le}
 
 -- where no row is of two places, no two events there conflict

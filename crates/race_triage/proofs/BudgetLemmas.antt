@@ -9,7 +9,7 @@ use Rattle.rapid_text.specs.Recording.{Recording}
 use Rattle.must_order.specs.Kinds.{IsKind}
 use Rattle.must_order.specs.declared.kind.Kind.{Kind}
 use Rattle.must_order.specs.declared.kind.Kind.TheVariants.{Candidate as CandidateKind, Open as OpenKind, Guarded as GuardedKind, Forced as ForcedKind}
-use Rattle.pair_findings.specs.declared.searching.TheConstants.{BUDGET}
+use Rattle.explain_report.specs.declared.findings.searching.TheConstants.{BUDGET}
 use Rattle.race_groups.specs.Found.{AreComplete, AreOnce, HaveConflict}
 use Rattle.race_groups.specs.Groups.{group_of, IsCountOf}
 use Rattle.race_groups.specs.Kinds.{IsRow, IsRowAt}

@@ -20,26 +20,26 @@ use Rattle.schedule.specs.Shows.{does_show}
 use Rattle.witness_search.specs.Greedy.{after_steps, first_shown, IsGreedyAnswer}
 use Rattle.witness_search.proofs.CallerLemmas.{IsGreedyAnswer-unique}
 use Rattle.witness_search.proofs.RisingLemmas.{rising-unique}
-use Rattle.in_order.specs.Counting.{IsLeft}
-use Rattle.in_order.specs.InOrder.{AreNeeded}
-use Rattle.in_order.specs.Orders.{IsTurned}
-use Rattle.in_order.specs.Refusals.{IsNeverShownInOrder}
-use Rattle.in_order.specs.Sizes.{HasSize}
+use Rattle.witness_search.specs.trace_order.Counting.{IsLeft}
+use Rattle.witness_search.specs.trace_order.InOrder.{AreNeeded}
+use Rattle.witness_search.specs.trace_order.Orders.{IsTurned}
+use Rattle.witness_search.specs.trace_order.Refusals.{IsNeverShownInOrder}
+use Rattle.witness_search.specs.trace_order.Sizes.{HasSize}
 use Rattle.explain_report.specs.declared.verdict.How.{How}
 use Rattle.explain_report.specs.declared.verdict.How.TheVariants.{Candidate, Beyond, Turned}
-use Rattle.pair_findings.specs.Findings.{IsFoundAs, IsShownAs}
-use Rattle.pair_findings.specs.declared.searching.TheConstants.{BUDGET}
+use Rattle.explain_report.specs.findings.Findings.{IsFoundAs, IsShownAs}
+use Rattle.explain_report.specs.declared.findings.searching.TheConstants.{BUDGET}
 use Rattle.race_groups.specs.Groups.{IsCountOf}
 use Rattle.race_groups.specs.Kinds.{IsRowAt}
 use Rattle.race_groups.specs.declared.kinds.Counts.{Counts}
 use Rattle.race_groups.specs.declared.kinds.Row.{Row}
 use Rattle.race_groups.proofs.BuildLemmas.{length-cons}
-use Rattle.least_pairs.specs.Order.{IsAhead, IsUpTo}
-use Rattle.least_pairs.specs.declared.tries.Between.{Between}
-use Rattle.least_pairs.specs.declared.tries.Try.{Try}
-use Rattle.least_pairs.specs.Pairs.{AreFirstTries, HasPair, IsLeastPair, IsOf, IsOpenOf}
-use Rattle.least_pairs.specs.declared.wanted.Wanted.{Wanted}
-use Rattle.least_pairs.specs.declared.wanted.Wanted.TheVariants.{Candidate as CandidatePair, Open as OpenPair, Any as AnyPair}
+use Rattle.race_groups.specs.least_pairs.Order.{IsAhead, IsUpTo}
+use Rattle.race_groups.specs.declared.least_pairs.tries.Between.{Between}
+use Rattle.race_groups.specs.declared.least_pairs.tries.Try.{Try}
+use Rattle.race_groups.specs.least_pairs.Pairs.{AreFirstTries, HasPair, IsLeastPair, IsOf, IsOpenOf}
+use Rattle.race_groups.specs.declared.least_pairs.wanted.Wanted.{Wanted}
+use Rattle.race_groups.specs.declared.least_pairs.wanted.Wanted.TheVariants.{Candidate as CandidatePair, Open as OpenPair, Any as AnyPair}
 use Rattle.race_triage.specs.Verdicts.{AreMissed, AreTriedInVain, HasOpen, IsFirstFound, IsFirstOfTried, IsFoundBy, IsMissed, IsOutcome, IsOutcomeFor, IsPairApart, IsPairFor, IsShownBy, IsVerdict}
 use Rattle.race_triage.specs.declared.verdicts.Outcome.{Outcome}
 use Rattle.race_triage.specs.declared.verdicts.Outcome.TheVariants.{Race, Undecided, Apart}

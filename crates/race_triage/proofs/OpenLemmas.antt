@@ -5,11 +5,11 @@ use Rattle.std.proofs.lemmas.Option.{get_or_from_slice_get, slice_get_within}
 use Rattle.rapid_text.specs.Recording.{Recording}
 use Rattle.race_groups.specs.Kinds.{IsRow}
 use Rattle.race_groups.specs.declared.kinds.Row.{Row}
-use Rattle.least_pairs.specs.Pairs.{AreFirstTries, AreLeasts, IsFit, IsLeastPair}
-use Rattle.least_pairs.specs.declared.least.Least.{Least}
-use Rattle.least_pairs.specs.declared.tries.Try.{Try}
-use Rattle.least_pairs.specs.declared.wanted.Wanted.TheVariants.{Open}
-use Rattle.least_pairs.proofs.CallerLemmas.{first_is_least, none_to_try, take_tries}
+use Rattle.race_groups.specs.least_pairs.Pairs.{AreFirstTries, AreLeasts, IsFit, IsLeastPair}
+use Rattle.race_groups.specs.declared.least_pairs.least.Least.{Least}
+use Rattle.race_groups.specs.declared.least_pairs.tries.Try.{Try}
+use Rattle.race_groups.specs.declared.least_pairs.wanted.Wanted.TheVariants.{Open}
+use Rattle.race_groups.proofs.least_pairs.CallerLemmas.{first_is_least, none_to_try, take_tries}
 use Rattle.race_triage.specs.Verdicts.{AreOpenPairs, IsFirstFound}
 use Rattle.race_triage.proofs.RowLemmas.{no_open, none_is_least}
 

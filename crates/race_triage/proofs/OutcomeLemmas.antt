@@ -2,10 +2,10 @@
 use Rattle.std.proofs.Common.{ℕ, List}
 use Rattle.rapid_text.specs.declared.event.Event.{Event}
 use Rattle.trace_rules.specs.Rules.{IsDisciplined}
-use Rattle.in_order.specs.Laws.{HasListInOrder, InOrderIsSound}
-use Rattle.in_order.specs.Sizes.{IsSizeInOrder}
+use Rattle.witness_search.specs.trace_order.Laws.{HasListInOrder, InOrderIsSound}
+use Rattle.witness_search.specs.trace_order.Sizes.{IsSizeInOrder}
 use Rattle.explain_report.specs.declared.verdict.How.TheVariants.{Candidate, Beyond}
-use Rattle.pair_findings.specs.Findings.{IsShownInOrder}
+use Rattle.explain_report.specs.findings.Findings.{IsShownInOrder}
 use Rattle.race_triage.specs.Verdicts.{IsShownBy}
 
 module _ (T : List Event) (a b : ℕ) (law : InOrderIsSound) (rules : IsDisciplined T) (there : HasListInOrder T a b) where

@@ -11,8 +11,8 @@ use Rattle.race_groups.specs.Kinds.{IsRow}
 use Rattle.race_groups.specs.declared.kinds.Row.{Row}
 use Rattle.race_groups.proofs.TellLemmas.{All-both, group_pairs, IsPair as IsGroupPair}
 use Rattle.race_groups.proofs.ApartLemmas.{in_group, none_counted}
-use Rattle.least_pairs.specs.Pairs.{IsPair, AreAt, IsFit, IsLeastPair}
-use Rattle.least_pairs.specs.declared.wanted.Wanted.TheVariants.{Candidate, Open}
+use Rattle.race_groups.specs.least_pairs.Pairs.{IsPair, AreAt, IsFit, IsLeastPair}
+use Rattle.race_groups.specs.declared.least_pairs.wanted.Wanted.TheVariants.{Candidate, Open}
 
 none_passes : {X : Type 0} (P : X → Type 0) (test : X → Bool) (xs : List X) → All (λ x. IsTrue (test x) ↔ P x) xs → All (λ x. ¬ P x) xs → ◌≡◌ {A = ℕ} (count_by test xs) 0
 none_passes P test [] tells none = refl

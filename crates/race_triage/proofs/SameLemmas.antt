@@ -14,7 +14,7 @@ use Rattle.must_order.specs.declared.kind.Kind.TheVariants.{Candidate, Open as O
 use Rattle.race_groups.specs.Found.{HaveConflict}
 use Rattle.race_groups.specs.Groups.{conflicts, IsCountOf}
 use Rattle.race_groups.proofs.RowLemmas.{between_one}
-use Rattle.least_pairs.specs.Pairs.{AreAt}
+use Rattle.race_groups.specs.least_pairs.Pairs.{AreAt}
 use Rattle.race_triage.specs.Chosen.{AreChosen, in_order, is_hidden, is_known_race, is_of, is_same, is_told, part_of, told_count}
 use Rattle.race_triage.specs.Pieces.{capped}
 use Rattle.race_triage.specs.Same.{AreRight, TextsAreOne, VerdictsAreOne}

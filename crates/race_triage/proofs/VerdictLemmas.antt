@@ -14,8 +14,8 @@ use Rattle.race_groups.specs.Groups.{IsCountOf}
 use Rattle.race_groups.specs.Kinds.{IsRow, IsNeverShownBetween}
 use Rattle.race_groups.specs.declared.kinds.Counts.{Counts}
 use Rattle.race_groups.specs.declared.kinds.Row.{Row}
-use Rattle.least_pairs.specs.Pairs.{IsPair, AreAt, HasPair, IsLeastPair}
-use Rattle.least_pairs.specs.declared.wanted.Wanted.TheVariants.{Candidate as CandidatePair, Any as AnyPair}
+use Rattle.race_groups.specs.least_pairs.Pairs.{IsPair, AreAt, HasPair, IsLeastPair}
+use Rattle.race_groups.specs.declared.least_pairs.wanted.Wanted.TheVariants.{Candidate as CandidatePair, Any as AnyPair}
 use Rattle.race_triage.specs.Verdicts.{IsOutcome, IsOutcomeFor, IsRaceOf, IsOpenRace, HasOpen, IsTold, IsPairFor, IsFirstOfTried, IsVerdictOn, IsNoLater, AreRising}
 use Rattle.race_triage.specs.declared.verdicts.Outcome.{Outcome}
 use Rattle.race_triage.specs.declared.verdicts.Outcome.TheVariants.{Race, Undecided, Apart}

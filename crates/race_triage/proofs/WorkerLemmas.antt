@@ -5,7 +5,7 @@ use Rattle.std.proofs.lemmas.Option.{slice_get_within, get_or_from_slice_get}
 use Rattle.rapid_text.specs.Recording.{Recording}
 use Rattle.race_groups.specs.Found.{AreComplete}
 use Rattle.race_groups.specs.declared.kinds.Row.{Row}
-use Rattle.least_pairs.specs.Pairs.{AreAt}
+use Rattle.race_groups.specs.least_pairs.Pairs.{AreAt}
 use Rattle.race_triage.specs.Verdicts.{IsVerdict, IsAnswered, AreAllTold, ArePart, AreWhole}
 use Rattle.race_triage.specs.declared.verdicts.Verdict.{Verdict}
 

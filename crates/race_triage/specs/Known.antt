@@ -4,7 +4,7 @@ use Rattle.std.specs.List.{after_first, before_first, list_any, slice_split, sta
 use Rattle.std.specs.declared.alloc.Global.{Global}
 use Rattle.rapid_text.specs.Reading.{is_bar, is_line_feed, trimmed}
 use Rattle.rapid_text.specs.Recording.{Recording}
-use Rattle.least_pairs.specs.Pairs.{AreAt}
+use Rattle.race_groups.specs.least_pairs.Pairs.{AreAt}
 use Rattle.race_triage.specs.Chosen.{is_known}
 use Rattle.race_triage.specs.Places.{IsSpot}
 use Rattle.race_triage.specs.declared.verdicts.Verdict.{Verdict}

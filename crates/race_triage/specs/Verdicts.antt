@@ -6,25 +6,25 @@ use Rattle.rapid_text.specs.declared.event.Event.{Event}
 use Rattle.event_index.specs.Lookups.{before}
 use Rattle.schedule.specs.Reordering.{IsCorrectReordering}
 use Rattle.schedule.specs.Shows.{Shows}
-use Rattle.in_order.specs.Counting.{IsLeft}
-use Rattle.in_order.specs.Orders.{IsTurned}
-use Rattle.in_order.specs.Refusals.{IsNeverShownInOrder}
-use Rattle.in_order.specs.Sizes.{HasSize}
+use Rattle.witness_search.specs.trace_order.Counting.{IsLeft}
+use Rattle.witness_search.specs.trace_order.Orders.{IsTurned}
+use Rattle.witness_search.specs.trace_order.Refusals.{IsNeverShownInOrder}
+use Rattle.witness_search.specs.trace_order.Sizes.{HasSize}
 use Rattle.explain_report.specs.declared.verdict.How.{How}
 use Rattle.explain_report.specs.declared.verdict.How.TheVariants.{Candidate, Beyond, Turned}
 use Rattle.must_order.specs.Kinds.{IsKind}
 use Rattle.must_order.specs.declared.kind.Kind.TheVariants.{Open as OpenKind}
-use Rattle.pair_findings.specs.Findings.{IsFoundAs, IsShownAs, IsShownInOrder}
-use Rattle.pair_findings.specs.declared.searching.TheConstants.{BUDGET}
+use Rattle.explain_report.specs.findings.Findings.{IsFoundAs, IsShownAs, IsShownInOrder}
+use Rattle.explain_report.specs.declared.findings.searching.TheConstants.{BUDGET}
 use Rattle.race_groups.specs.Found.{AreComplete, AreOnce, HaveConflict}
 use Rattle.race_groups.specs.Groups.{IsCountOf}
 use Rattle.race_groups.specs.Kinds.{IsRow, IsNeverShownBetween}
 use Rattle.race_groups.specs.declared.kinds.Counts.{Counts}
 use Rattle.race_groups.specs.declared.kinds.Row.{Row}
-use Rattle.least_pairs.specs.Pairs.{AreAt, AreFirstTries, AreLeasts, HasPair, IsLeastPair, IsPair}
-use Rattle.least_pairs.specs.declared.least.Least.{Least}
-use Rattle.least_pairs.specs.declared.tries.Try.{Try}
-use Rattle.least_pairs.specs.declared.wanted.Wanted.TheVariants.{Candidate as CandidatePair, Open as OpenPair, Any as AnyPair}
+use Rattle.race_groups.specs.least_pairs.Pairs.{AreAt, AreFirstTries, AreLeasts, HasPair, IsLeastPair, IsPair}
+use Rattle.race_groups.specs.declared.least_pairs.least.Least.{Least}
+use Rattle.race_groups.specs.declared.least_pairs.tries.Try.{Try}
+use Rattle.race_groups.specs.declared.least_pairs.wanted.Wanted.TheVariants.{Candidate as CandidatePair, Open as OpenPair, Any as AnyPair}
 use Rattle.race_triage.specs.Tables.{AreTables}
 use Rattle.race_triage.specs.declared.found.Found.{Found}
 use Rattle.race_triage.specs.declared.verdicts.Outcome.{Outcome}

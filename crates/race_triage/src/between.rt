@@ -8,10 +8,10 @@ ghost use Rattle.race_triage.specs.Verdicts.{IsFoundIn, IsVerdict, IsVerdictOf};
 use crate::found::{Found, found_of};
 use crate::tables::Tables;
 use crate::verdicts::{Effort, TriageRefusal, Verdict};
-use in_order::Acquires;
 use must_order::Analysis;
 use rapid_text::OutOfMemory;
 use std::alloc::Global;
+use witness_search::trace_order::Acquires;
 
 /// How many open pairs of a pair of places are tried, if nobody says how many.
 pub const USUAL_TRIES: u32 = 16;

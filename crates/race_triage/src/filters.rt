@@ -15,14 +15,14 @@ pub struct Filters<'a> {
 
 impl Filters<'_> {
     /// Whether there is any text.
-    pub(crate) fn is_any(&self) -> bool
+    pub fn is_any(&self) -> bool
         ensures { result ≡ (not (length (map (λ t. t.now) self.now.only.now) == 0) || not (length (map (λ t. t.now) self.now.hide.now) == 0)) }
     {
         !self.only.is_empty() || !self.hide.is_empty()
     }
 
-    /// Whether a block with these two lines is printed.
-    pub(crate) fn keeps(&self, first: &[u8], second: &[u8]) -> bool
+    /// Whether the filters keep a block with these two lines.
+    pub fn keeps(&self, first: &[u8], second: &[u8]) -> bool
         ensures { result ≡ is_shown (map (λ t. t.now) self.now.only.now) (map (λ t. t.now) self.now.hide.now) first.now second.now }
     {
         if stand_in(self.hide, first, second) {

@@ -2,9 +2,9 @@
 ghost use Rattle.std.specs.Prelude.{◌≡◌, ◌<◌, ◌≤◌, ℕ, IfOk, IfSome, None, Some, length, max, slice_get, slice_index, take, true};
 ghost use Rattle.race_groups.specs.Found.{HaveConflict};
 ghost use Rattle.race_groups.specs.Kinds.{IsNeverShownBetween, IsRow};
-ghost use Rattle.least_pairs.specs.Pairs.{AreLeasts, IsLeastPair};
-ghost use Rattle.least_pairs.specs.declared.wanted.Wanted.TheVariants.{Any as AnyPair};
-ghost use Rattle.pair_findings.specs.declared.searching.TheConstants.{BUDGET};
+ghost use Rattle.race_groups.specs.least_pairs.Pairs.{AreLeasts, IsLeastPair};
+ghost use Rattle.race_groups.specs.declared.least_pairs.wanted.Wanted.TheVariants.{Any as AnyPair};
+ghost use Rattle.explain_report.specs.declared.findings.searching.TheConstants.{BUDGET};
 ghost use Rattle.race_triage.specs.Tables.{AreTables};
 ghost use Rattle.race_triage.specs.Verdicts.{AreMissed, AreOpenPairs, IsBudget, IsFoundIn, IsShownFirst, IsVerdictOf, IsVerdictOn};
 
@@ -12,7 +12,7 @@ use crate::found::Found;
 use crate::places::small;
 use crate::tables::Tables;
 use crate::verdicts::{Effort, Outcome, Verdict};
-use least_pairs::{Least, Pair, Try};
+use race_groups::least_pairs::{Least, Pair, Try};
 use race_groups::{Row, is_apart};
 use rapid_text::OutOfMemory;
 

@@ -3,12 +3,12 @@ ghost use Rattle.std.specs.Prelude.{◌≡◌, ◌≢◌, ◌<◌, ◌≤◌, If
 ghost use Rattle.event_index.specs.Relations.{IsConflicting};
 ghost use Rattle.must_order.specs.Kinds.{IsKind};
 ghost use Rattle.must_order.specs.declared.kind.Kind.TheVariants.{Candidate as CandidateKind, Open as OpenKind};
-ghost use Rattle.in_order.specs.Laws.{HasListInOrder};
-ghost use Rattle.in_order.specs.Refusals.{IsNeverShownInOrder};
-ghost use Rattle.in_order.specs.Sizes.{IsSizeInOrder};
-ghost use Rattle.in_order.specs.declared.refusal.InOrderRefusal.TheVariants.{OutOfMemory as NoMemory};
+ghost use Rattle.witness_search.specs.trace_order.Laws.{HasListInOrder};
+ghost use Rattle.witness_search.specs.trace_order.Refusals.{IsNeverShownInOrder};
+ghost use Rattle.witness_search.specs.trace_order.Sizes.{IsSizeInOrder};
+ghost use Rattle.witness_search.specs.declared.trace_order.refusal.InOrderRefusal.TheVariants.{OutOfMemory as NoMemory};
 ghost use Rattle.explain_report.specs.declared.verdict.How.TheVariants.{Candidate, Turned};
-ghost use Rattle.pair_findings.specs.declared.searching.TheConstants.{BUDGET};
+ghost use Rattle.explain_report.specs.declared.findings.searching.TheConstants.{BUDGET};
 ghost use Rattle.race_triage.specs.Tables.{AreTables};
 ghost use Rattle.race_triage.specs.Verdicts.{IsFoundBy, IsMissed, IsOpenRace, IsRaceOf};
 ghost use Rattle.race_triage.specs.declared.verdicts.Outcome.TheVariants.{Race};
@@ -17,10 +17,10 @@ use crate::tables::Tables;
 use crate::verdicts::Outcome;
 use event_index::Indexed;
 use explain_report::How;
-use in_order::{
+use rapid_text::OutOfMemory;
+use witness_search::trace_order::{
     InOrderRefusal, candidates_are_in_order, in_order_is_sound, in_order_size, turned_size,
 };
-use rapid_text::OutOfMemory;
 
 impl Tables<'_> {
     /// The race of a candidate, which the least list in the order of the trace always shows.

@@ -1,9 +1,9 @@
 //! The tables of a trace.
 use event_index::Indexed;
-use in_order::Acquires;
 use must_order::Must;
 use shb_clocks::Clocks;
 use std::alloc::Global;
+use witness_search::trace_order::Acquires;
 
 /// The tables of a trace, for each event the number of its place, and where memory comes from.
 #[derive(Clone, Copy)]

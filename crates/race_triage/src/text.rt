@@ -29,6 +29,18 @@ pub fn triage_text(
     let totals = verdicts.totals(indexed);
     let mut text = Vec::new(*out.allocator());
     append_all(&mut text, indexed, must, &totals, chosen)?;
+    put(out, text)
+}
+
+// Appends a text. It is moved, and not copied, if nothing stands before it: it may be large.
+fn put(out: &mut Vec<u8>, text: Vec<u8>) -> Result<(), OutOfMemory>
+    ensures ok { OnOk result (out.new.items ≡ out.old.items ++ text.items) }
+    ensures err { OnErr result (out.new.items ≡ out.old.items) }
+{
+    if out.is_empty() {
+        *out = text;
+        return Ok(());
+    }
     out.extend_from_slice(&text)?;
     Ok(())
 }

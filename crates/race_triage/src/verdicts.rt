@@ -15,12 +15,12 @@ use crate::tables::Tables;
 use crate::watch::Watch;
 use crate::workers::all_verdicts;
 use explain_report::How;
-use in_order::Acquires;
 use must_order::Analysis;
 use race_groups::Row;
 use rapid_text::OutOfMemory;
 use std::alloc::Global;
 use std::thread::Threads;
+use witness_search::trace_order::Acquires;
 
 /// The most pairs of places.
 pub const MAX_PLACES: u32 = 1_048_576;

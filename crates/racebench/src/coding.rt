@@ -4,15 +4,15 @@ ghost use Rattle.std.specs.Prelude.{◌≤◌, length};
 use crate::lines::first_line;
 use crate::notes::{append_named, are_wanted};
 use crate::telling::say;
+use calls::triage::{SourceLine, file_of, line_of, relative};
 use client_scripts::{FromRead, ReadCause, ReadFault, ReplayFault, read_all};
 use event_index::Indexed;
+use explain_report::places::{cut_at_arrow, is_line, place_of};
 use race_parts::Cell;
 use rapid_text::{OutOfMemory, trim};
-use source_places::{cut_at_arrow, is_line, place_of};
 use std::alloc::Global;
 use std::fs::{File, metadata};
 use std::io;
-use triage_calls::{SourceLine, file_of, line_of, relative};
 
 /// The most bytes of a file of code. A larger one is not read.
 const MAX_CODE: u64 = 16_777_216;

@@ -5,25 +5,20 @@ use crate::doing::finish;
 use crate::input::input_at;
 use crate::pieces::Pieces;
 use crate::quoted::append_number;
-use crate::telling::{tell_files, tell_full, tell_replay, tell_unwritten};
+use crate::telling::{tell_files, tell_full, tell_replay, tell_unlisted, tell_unwritten};
 use crate::windows::Windows;
 use calls::{BenchFault, cut_window};
-use client_scripts::{FromRead, FromWrite, ReadCause, ReplayFault, write_all};
+use client_scripts::{FromRead, FromWrite, ReplayFault, write_all};
 use program_words::CutTask;
 use rapid_text::{MAX_EVENTS, OutOfMemory};
 use std::alloc::Global;
 use std::fs::File;
 use std::process::ExitCode;
 use std::{fs, io};
+use window::Window;
 
 /// How many digits the number of a window has at least, so that names sort as numbers do.
 const DIGITS: usize = 9;
-
-/// 94: the folder could not be read.
-const UNREAD: ReplayFault = ReplayFault::Read {
-    input: 1,
-    why: ReadCause::Device,
-};
 
 /// Prints the window that is asked for, or writes all windows.
 pub(crate) fn cut_of_file(rt: &HostRuntime, task: &CutTask<'_>) -> ExitCode
@@ -54,12 +49,17 @@ fn print_window(
 ) -> Result<ExitCode, BenchFault>
     requires { 0 < task.now.most }
 {
-    let whole = pieces.span_kept(0, MAX_EVENTS)?;
-    if pieces.is_end(whole.end)? {
-        print_whole(rt, &pieces, task)
-    } else {
-        print_long(rt, pieces, task)
+    match is_whole(&mut pieces) {
+        Ok(true) => print_whole(rt, &pieces, task),
+        Ok(false) => print_long(rt, pieces, task),
+        Err(fault) => Err(BenchFault::from(fault)),
     }
+}
+
+/// Whether the trace is read whole.
+fn is_whole(pieces: &mut Pieces) -> Result<bool, ReplayFault> {
+    let whole = pieces.span_kept(0, MAX_EVENTS)?;
+    pieces.is_end(whole.end)
 }
 
 /// Prints the window of a trace that was read whole.
@@ -84,12 +84,22 @@ fn print_long(
     task: &CutTask<'_>,
 ) -> Result<ExitCode, BenchFault> {
     let mut windows = Windows::new(rt.alloc(), pieces, task.most);
-    match windows.at(rt.alloc(), u64::from(task.from))? {
-        Some(window) => {
+    print_at(rt, &mut windows, task)
+}
+
+/// Prints one of these windows.
+fn print_at(
+    rt: &HostRuntime,
+    windows: &mut Windows,
+    task: &CutTask<'_>,
+) -> Result<ExitCode, BenchFault> {
+    match windows.at(rt.alloc(), u64::from(task.from)) {
+        Ok(Some(window)) => {
             windows.tell_mark(rt, task.trace);
             Ok(print_text(rt, window.text.as_slice()))
         }
-        None => Err(BenchFault::NoSuchEvent),
+        Ok(None) => Err(BenchFault::NoSuchEvent),
+        Err(fault) => Err(fault),
     }
 }
 
@@ -173,7 +183,7 @@ fn write_windows(
         Folder::Empty => write_all_windows(rt, pieces, most, folder),
         Folder::Full => Ok(tell_full(rt, folder)),
         Folder::Unmade => Ok(tell_unwritten(rt, folder)),
-        Folder::Unread => Ok(tell_files(rt, BenchFault::Replay(UNREAD), &[folder])),
+        Folder::Unread => Ok(tell_unlisted(rt, folder)),
         Folder::NoMemory => Err(BenchFault::Replay(ReplayFault::OutOfMemory)),
     }
 }
@@ -186,20 +196,65 @@ fn write_all_windows(
     folder: &str,
 ) -> Result<ExitCode, BenchFault> {
     let mut windows = Windows::new(rt.alloc(), pieces, most);
+    write_each(rt, &mut windows, folder)
+}
+
+/// How it went to write the next window.
+#[derive(Clone, Copy)]
+enum Written {
+    /// It was written.
+    Window,
+    /// There is none.
+    Nothing,
+    /// It was not written, which was told.
+    Failed(ExitCode),
+}
+
+/// Writes each of these windows as a file into this folder.
+fn write_each(
+    rt: &HostRuntime,
+    windows: &mut Windows,
+    folder: &str,
+) -> Result<ExitCode, BenchFault> {
     let mut count = 0u64;
     for _ in 0..u64::MAX {
-        match windows.next(rt.alloc())? {
-            Some(window) => {
-                let path = path_of(rt.alloc(), folder, window.from)?;
-                if !write_file(rt, path.as_str(), window.text.as_slice()) {
-                    return Ok(tell_unwritten(rt, path.as_str()));
-                }
-                count = count.saturating_add(1);
-            }
-            None => return Ok(print_counts(rt, &windows, count)),
+        match write_next(rt, windows, folder)? {
+            Written::Window => count = count.saturating_add(1),
+            Written::Nothing => return Ok(print_counts(rt, windows, count)),
+            Written::Failed(status) => return Ok(status),
         }
     }
-    Ok(print_counts(rt, &windows, count))
+    Ok(print_counts(rt, windows, count))
+}
+
+/// Writes the next window as a file into this folder.
+fn write_next(
+    rt: &HostRuntime,
+    windows: &mut Windows,
+    folder: &str,
+) -> Result<Written, BenchFault> {
+    match windows.next(rt.alloc()) {
+        Ok(Some(window)) => Ok(write_window(rt, &window, folder)?),
+        Ok(None) => Ok(Written::Nothing),
+        Err(fault) => Err(fault),
+    }
+}
+
+/// Writes this window as a file into this folder.
+fn write_window(rt: &HostRuntime, window: &Window, folder: &str) -> Result<Written, OutOfMemory> {
+    match path_of(rt.alloc(), folder, window.from) {
+        Ok(path) => Ok(write_at(rt, path.as_str(), window.text.as_slice())),
+        Err(refused) => Err(refused),
+    }
+}
+
+/// Writes this text as a file at this path.
+fn write_at(rt: &HostRuntime, path: &str, text: &[u8]) -> Written {
+    if write_file(rt, path, text) {
+        Written::Window
+    } else {
+        Written::Failed(tell_unwritten(rt, path))
+    }
 }
 
 /// The path of the file of the window at the event of this number.

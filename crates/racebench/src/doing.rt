@@ -2,13 +2,14 @@
 ghost use Rattle.std.specs.Prelude.{◌≡◌, ◌<◌, ◌≤◌, All, false, vec_len};
 
 use crate::input::{Input, Watched, input_at, inputs_at};
+use crate::marked::{say_marked, tell_mark};
 use crate::notes::are_wanted;
-use crate::telling::{say, say_marked, tell_files, tell_joint, tell_mark, tell_pair, tell_replay};
+use crate::telling::{say, tell_files, tell_joint, tell_pair, tell_replay};
+use calls::pair::{Form, Name, explain, witness};
 use calls::{
     BEST_ROOM, BenchFault, MAX_SCRIPTS, Running, info, replay, replay_joint, threads_with_room,
 };
 use client_scripts::{FromWrite, ReplayFault};
-use pair_calls::{Form, Name, explain, witness};
 use program_words::{Named, PairTask, ScheduleForm, ThreadsTask};
 use std::io;
 use std::process::ExitCode;
@@ -53,19 +54,24 @@ fn replay_watched<R: io::Read + Drop>(rt: &HostRuntime, input: &mut Watched<R>) 
 {
     let mut writer = FromWrite::new(io::writer(rt));
     match replay_joint(rt.alloc(), input, &mut writer) {
-        Ok(_) => {
-            if writer.flush().is_err() {
-                return tell_replay(rt, ReplayFault::Write);
+        Ok(_) => match writer.flush() {
+            Ok(()) => {
+                note_watched(rt, input);
+                ExitCode::SUCCESS
             }
-            if !input.has_divider() && are_wanted(rt) {
-                say(rt, b"note: there is no line `---`, so there is no script\n");
-            }
-            if input.has_mark() {
-                say_marked(rt, "-");
-            }
-            ExitCode::SUCCESS
-        }
+            Err(_) => tell_replay(rt, ReplayFault::Write),
+        },
         Err(fault) => tell_joint(rt, fault, &input.kept, input.is_whole),
+    }
+}
+
+/// Says of a joint text that was replayed that it has no script, or begins with a byte order mark, if it is so.
+fn note_watched<R: io::Read + Drop>(rt: &HostRuntime, input: &Watched<R>) {
+    if !input.has_divider() && are_wanted(rt) {
+        say(rt, b"note: there is no line `---`, so there is no script\n");
+    }
+    if input.has_mark() {
+        say_marked(rt, "-");
     }
 }
 

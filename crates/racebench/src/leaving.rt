@@ -4,8 +4,13 @@ ghost use Rattle.std.specs.Prelude.{◌≡◌, false};
 use crate::coding::{lines_of_cells, root_of, tell_codeless};
 use crate::input::input_at;
 use crate::seen::Seen;
-use crate::telling::{tell_blockless, tell_dateless, tell_files, tell_marks, tell_triaged};
+use crate::telling::tell_files;
+use crate::telling_triage::{tell_blockless, tell_dateless, tell_marks, tell_triaged};
 use crate::today::today_of;
+use calls::triage::{
+    Choice, Filters, Hears, MergedAsked, MergedForm, Silent, SourceLine, Sources, TriageFault,
+    entries_of, has_block, hides, is_met, read_triaged, write_left,
+};
 use calls::{BenchFault, Parts};
 use client_scripts::{Sink, read_input};
 use program_words::{MergeTask, RacesForm, TriageTask};
@@ -14,10 +19,6 @@ use rapid_text::OutOfMemory;
 use std::process::ExitCode;
 use std::sync::atomic::AtomicU64;
 use toml::{Table, Value};
-use triage_calls::{
-    Choice, Filters, Hears, MergedAsked, MergedForm, Silent, SourceLine, Sources, TriageFault,
-    entries_of, has_block, hides, is_met, read_triaged, write_left,
-};
 
 /// The number of the text of known races in faults.
 const KNOWN: u32 = 2;
@@ -178,17 +179,31 @@ fn write_log_of<K: Sink>(
     requires { K.has_failed writer.old ≡ false }
 {
     let root = root_of(rt.alloc(), folder)?;
-    let lines = code_of(rt, parts, root.as_slice())?;
-    let sources = Sources {
-        root: root.as_slice(),
-        lines: lines.as_slice(),
-    };
-    let asked = asked_of(choice, apart, MergedForm::Sarif { sources });
-    let races = write_left(rt.alloc(), parts, asked, writer)?;
-    if lines.is_empty() {
+    match code_of(rt, parts, root.as_slice()) {
+        Ok(lines) => {
+            let sources = Sources {
+                root: root.as_slice(),
+                lines: lines.as_slice(),
+            };
+            let asked = asked_of(choice, apart, MergedForm::Sarif { sources });
+            let written = write_left(rt.alloc(), parts, asked, writer);
+            with_code(rt, written, folder, lines.is_empty())
+        }
+        Err(fault) => Err(fault),
+    }
+}
+
+/// How many races were told of. If the folder of the code had none of the files, that is said.
+fn with_code(
+    rt: &HostRuntime,
+    written: Result<u64, TriageFault>,
+    folder: &str,
+    lacks_code: bool,
+) -> Result<u64, TriageFault> {
+    if written.is_ok() && lacks_code {
         tell_codeless(rt, folder)?;
     }
-    Ok(races)
+    written
 }
 
 /// The form of a log without code, or another one.
@@ -206,6 +221,14 @@ fn form_of<'a>(form: RacesForm) -> MergedForm<'a> {
     }
 }
 
+/// The folder of the code, if a log is printed and one is named.
+fn code_folder<'a>(printed: Printed<'a>) -> Option<&'a str> {
+    match printed.form {
+        RacesForm::Sarif => printed.source,
+        _ => None,
+    }
+}
+
 /// Writes what is told of the parts. Answers how many races are told of.
 pub(crate) fn write_decided<K: Sink>(
     rt: &HostRuntime,
@@ -218,12 +241,10 @@ pub(crate) fn write_decided<K: Sink>(
     requires { K.has_failed writer.old ≡ false }
 {
     let choice = choice_of(decided, wanted);
-    match (printed.form, printed.source) {
-        (RacesForm::Sarif, Some(folder)) => {
-            write_log_of(rt, parts, choice, printed.apart, folder, writer)
-        }
-        (form, _) => {
-            let asked = asked_of(choice, printed.apart, form_of(form));
+    match code_folder(printed) {
+        Some(folder) => write_log_of(rt, parts, choice, printed.apart, folder, writer),
+        None => {
+            let asked = asked_of(choice, printed.apart, form_of(printed.form));
             write_left(rt.alloc(), parts, asked, writer)
         }
     }
@@ -253,12 +274,25 @@ fn tell_entries(
     path: &str,
 ) -> Result<(), OutOfMemory> {
     let rows = rows_of(rt.alloc(), parts)?;
-    let cells = cells_of(rt.alloc(), &rows)?;
+    match cells_of(rt.alloc(), &rows) {
+        Ok(cells) => tell_entries_of(rt, &rows, &cells, entries, path),
+        Err(refused) => Err(refused),
+    }
+}
+
+/// The same of these rows and cells.
+fn tell_entries_of(
+    rt: &HostRuntime,
+    rows: &[Row<'_>],
+    cells: &[Cell<'_>],
+    entries: &[Value],
+    path: &str,
+) -> Result<(), OutOfMemory> {
     let mut marks = Vec::new(rt.alloc());
     for _entry in entries {
         marks.push(AtomicU64::new(0))?;
     }
-    mark_all(rt, &rows, &cells, entries, marks.as_slice())?;
+    mark_all(rt, rows, cells, entries, marks.as_slice())?;
     tell_marks(rt, path, marks.as_slice())
 }
 

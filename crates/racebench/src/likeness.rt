@@ -1,16 +1,35 @@
-//! What a file looks like that is no trace, by its first bytes.
+//! What a file looks like that is not what was asked for, by its first bytes.
 
-/// What users hand over in place of a trace.
-#[derive(Clone, Copy)]
+use crate::lines::first_line;
+use crate::pieces::before;
+use memchr::memchr;
+use rapid_text::trim_start;
+
+/// What users hand over in place of a trace, of a part of a report, or of a log.
+#[derive(Clone, Copy, PartialEq, Eq)]
 pub(crate) enum Likeness {
     /// A file that gzip has packed.
     Gzip,
+    /// A file that Zstandard has packed.
+    Zstandard,
+    /// A file that xz has packed.
+    Xz,
     /// A program or a library.
     Elf,
     /// A text that begins with a UTF-8 byte order mark.
     Mark,
     /// A report of ThreadSanitizer.
-    Report,
+    Sanitizer,
+    /// Races as JSON: a part of a report.
+    Part,
+    /// Races as text, as a page or as a log for code-scanning pages.
+    Printed,
+    /// The log of a session.
+    Log,
+    /// A trace.
+    Trace,
+    /// None of these.
+    Other,
 }
 
 /// How many of the first bytes are searched for the head of a report.
@@ -30,33 +49,85 @@ fn has_near_start(text: &[u8], bytes: &[u8]) -> bool {
     false
 }
 
-/// What the text looks like, if it is one of these.
-pub(crate) fn likeness_of(text: &[u8]) -> Option<Likeness> {
+/// Whether the line begins as an event does: a name, a bar and an operation.
+fn is_event(line: &[u8]) -> bool {
+    let Some(bar) = memchr(b'|', line) else {
+        return false;
+    };
+    let operation = trim_start(&line[bar + 1..]);
+    operation.starts_with(b"r(")
+        || operation.starts_with(b"w(")
+        || operation.starts_with(b"acq(")
+        || operation.starts_with(b"rel(")
+        || operation.starts_with(b"fork(")
+        || operation.starts_with(b"join(")
+}
+
+/// What a text looks like that no other program has made.
+fn own_likeness(text: &[u8]) -> Likeness {
+    if text.starts_with(b"racebench log ") {
+        Likeness::Log
+    } else if text.starts_with(b"{\"$schema\"") || text.starts_with(b"<!DOCTYPE html") {
+        Likeness::Printed
+    } else if text.starts_with(b"events ") || text.starts_with(b"parts ") {
+        Likeness::Printed
+    } else if text.starts_with(b"{\"") {
+        Likeness::Part
+    } else if is_event(first_line(before(text, MAX_SEARCHED), true).unwrap_or(b"")) {
+        Likeness::Trace
+    } else {
+        Likeness::Other
+    }
+}
+
+/// What the text looks like.
+pub(crate) fn likeness_of(text: &[u8]) -> Likeness {
     if text.starts_with(b"\x1f\x8b") {
-        return Some(Likeness::Gzip);
+        Likeness::Gzip
+    } else if text.starts_with(b"\x28\xb5\x2f\xfd") {
+        Likeness::Zstandard
+    } else if text.starts_with(b"\xfd7zXZ\x00") {
+        Likeness::Xz
+    } else if text.starts_with(b"\x7fELF") {
+        Likeness::Elf
+    } else if text.starts_with(b"\xef\xbb\xbf") {
+        Likeness::Mark
+    } else if has_near_start(text, REPORT) {
+        Likeness::Sanitizer
+    } else {
+        own_likeness(text)
     }
-    if text.starts_with(b"\x7fELF") {
-        return Some(Likeness::Elf);
-    }
-    if text.starts_with(b"\xef\xbb\xbf") {
-        return Some(Likeness::Mark);
-    }
-    if has_near_start(text, REPORT) {
-        return Some(Likeness::Report);
-    }
-    None
 }
 
 /// What a note says of a trace that is read although it begins with a byte order mark, after the file's name.
 pub(crate) const MARKED: &[u8] =
     b" begins with a UTF-8 byte order mark, which is read as part of the first thread's name: remove it";
 
-/// What a note says of it, after the file's name.
+/// What a note says that it is, after the file's name.
 pub(crate) fn words_of(likeness: Likeness) -> &'static [u8] {
     match likeness {
-        Likeness::Gzip => b" is packed by gzip: unpack it first, with `gunzip`",
-        Likeness::Elf => b" is a program or a library: `record/run` records a trace of a program",
-        Likeness::Mark => b" begins with a UTF-8 byte order mark, which a trace must not have",
-        Likeness::Report => b" is a report of ThreadSanitizer: triage needs a recorded trace",
+        Likeness::Gzip => b" is packed by gzip",
+        Likeness::Zstandard => b" is packed by Zstandard",
+        Likeness::Xz => b" is packed by xz",
+        Likeness::Elf => b" is a program or a library",
+        Likeness::Mark => b" begins with a UTF-8 byte order mark",
+        Likeness::Sanitizer => b" is a report of ThreadSanitizer",
+        Likeness::Part | Likeness::Printed => b" is a report of races",
+        Likeness::Log => b" is the log of a session",
+        Likeness::Trace => b" is a trace",
+        Likeness::Other => b"",
+    }
+}
+
+/// What the note says after that, if the file was to hold a trace.
+pub(crate) fn words_for_trace(likeness: Likeness) -> &'static [u8] {
+    match likeness {
+        Likeness::Gzip => b": unpack it on the way, as in `zcat FILE | racebench triage -`",
+        Likeness::Zstandard => b": unpack it on the way, as in `zstdcat FILE | racebench triage -`",
+        Likeness::Xz => b": unpack it on the way, as in `xzcat FILE | racebench triage -`",
+        Likeness::Elf => b": `record/run` records a trace of a program",
+        Likeness::Mark => b", which a trace must not have",
+        Likeness::Log => b": `racebench log` prints it",
+        _ => b": triage needs a recorded trace",
     }
 }

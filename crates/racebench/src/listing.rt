@@ -1,18 +1,18 @@
-//! Lists the races of the trace in a file, over the calls of `triage_calls`.
+//! Lists the races of the trace in a file, over the calls of `calls::triage`.
 ghost use Rattle.std.specs.Prelude.{◌≡◌, IfSome, false};
 
 use crate::coding::{lines_of, root_of};
 use crate::input::{Input, input_at};
+use crate::marked::tell_mark;
 use crate::seen::Seen;
-use crate::telling::tell_mark;
+use calls::triage::{
+    About, Asked, Crew, Filters, Form, SourceLine, Sources, TriageFault, Watch, triage, triage_on,
+};
 use client_scripts::{Sink, read_trace};
 use event_index::Indexed;
 use program_words::{RacesForm, TriageTask};
 use std::thread::Threads;
 use toml::Value;
-use triage_calls::{
-    About, Asked, Crew, Filters, Form, SourceLine, Sources, TriageFault, Watch, triage, triage_on,
-};
 
 /// What is listed: by which task, how the trace's races came out when they were followed, and the entries of a triage file.
 #[derive(Clone, Copy)]

@@ -3,14 +3,15 @@ ghost use Rattle.std.specs.Prelude.{◌≡◌, false};
 
 use crate::coding::{lines_of_cells, root_of, tell_codeless};
 use crate::merging::status_at;
-use crate::telling::{tell_replay, tell_triage};
+use crate::telling::tell_replay;
+use crate::telling_triage::tell_triage;
 use calls::Parts;
+use calls::triage::{MergedLog, SourceLine, Sources, TriageFault, write_merged_sarif};
 use client_scripts::{FromWrite, ReplayFault, Sink};
 use program_words::MergeTask;
 use race_parts::{Cell, cells_of, rows_of};
 use std::io;
 use std::process::ExitCode;
-use triage_calls::{MergedLog, SourceLine, Sources, TriageFault, write_merged_sarif};
 
 /// What was written: how many races, and whether a folder of code has none of the files.
 #[derive(Clone, Copy)]
@@ -76,11 +77,11 @@ pub(crate) fn write_log_in<K: Sink>(
 }
 
 /// The status after the log was printed. A folder of code without a file that it names is told.
-fn status_of(rt: &HostRuntime, task: &MergeTask<'_>, written: Written) -> ExitCode {
+fn status_of(rt: &HostRuntime, parts: &Parts, task: &MergeTask<'_>, written: Written) -> ExitCode {
     if written.lacks_code && tell_codeless(rt, task.source.unwrap_or("")).is_err() {
         return tell_replay(rt, ReplayFault::OutOfMemory);
     }
-    status_at(written.races, task.fail)
+    status_at(rt, parts, written.races, task.fail)
 }
 
 /// Prints the log of the parts, with the code in this folder.
@@ -88,7 +89,7 @@ fn print_in(rt: &HostRuntime, parts: &Parts, task: &MergeTask<'_>, root: &[u8]) 
     let mut writer = FromWrite::new(io::writer(rt));
     match write_log(rt, parts, task.apart, root, &mut writer) {
         Ok(written) => match writer.flush() {
-            Ok(()) => status_of(rt, task, written),
+            Ok(()) => status_of(rt, parts, task, written),
             Err(_) => tell_replay(rt, ReplayFault::Write),
         },
         Err(fault) => tell_triage(rt, fault, &[]),

@@ -7,8 +7,11 @@ ghost use Rattle.program_words.specs.Tasks.{IsWithin};
 mod coding;
 mod cutting;
 mod doing;
+mod failing;
+mod file_notes;
 mod front;
 mod input;
+mod judging_windows;
 mod kept;
 mod leaving;
 mod likeness;
@@ -23,11 +26,15 @@ mod output;
 mod pair_notes;
 mod pieces;
 mod place_notes;
+mod printing_windows;
 mod progress;
 mod quoted;
 mod seen;
 mod sessions;
 mod telling;
+mod telling_sessions;
+mod telling_triage;
+mod telling_words;
 mod today;
 mod trace_notes;
 mod triaging;
@@ -40,9 +47,10 @@ use crate::doing::{
 };
 use crate::merging::merge_files;
 use crate::sessions::{log_of_file, session_on_files};
-use crate::telling::tell_words;
+use crate::telling_words::tell_words;
 use crate::triaging::triage_file;
 use crate::triaging_windows::triage_windows;
+use calls::triage::MAX_TRIES;
 use calls::{MAX_SCRIPTS, MAX_WORKERS};
 use program_words::{Limits, Task, Told, no_text, task_of};
 use rapid_text::MAX_EVENTS;
@@ -50,7 +58,6 @@ use std::io;
 use std::process::ExitCode;
 use std::sync::Wait;
 use std::thread::Threads;
-use triage_calls::MAX_TRIES;
 
 /// What the words may ask for. There is a client more than there may be scripts at once, which is left for what a search finds.
 const LIMITS: Limits = Limits {

@@ -1,4 +1,9 @@
-//! Whether bytes that come in pieces begin with a UTF-8 byte order mark.
+//! Whether bytes that come in pieces begin with a UTF-8 byte order mark, and what is said of a trace that does.
+
+use crate::input::Input;
+use crate::likeness::MARKED;
+use crate::notes::{append_named, are_wanted};
+use crate::telling::say;
 
 /// What the first bytes are so far.
 #[derive(Clone, Copy, PartialEq, Eq)]
@@ -39,4 +44,21 @@ pub(crate) fn after(head: Head, bytes: &[u8], count: usize) -> Head {
         head = with_byte(head, bytes[at]);
     }
     head
+}
+
+/// Says of a trace that was read, which has this name, that it begins with a byte order mark.
+pub(crate) fn say_marked(rt: &HostRuntime, name: &str) {
+    if are_wanted(rt) {
+        let mut line = Vec::new(rt.alloc());
+        if append_named(&mut line, name, MARKED).is_ok() {
+            say(rt, &line);
+        }
+    }
+}
+
+/// Says of a trace that this input gave that it begins with a byte order mark, if it does.
+pub(crate) fn tell_mark(rt: &HostRuntime, input: &Input, path: &str) {
+    if input.has_mark() {
+        say_marked(rt, path);
+    }
 }

@@ -1,23 +1,26 @@
 //! What the program does at `merge`.
+ghost use Rattle.std.specs.Prelude.{◌≡◌, ◌<◌, true, false};
+ghost use Rattle.std.specs.Process.{exit_status};
 
 use crate::coding::is_folder;
+use crate::failing::{NO_PART_EVENTS, status_of};
+use crate::file_notes::{PART, append_form_notes};
 use crate::input::input_at;
 use crate::leaving::{
     Decided, Printed, is_any, read_decided, tell_decided, wanted_of, write_decided,
 };
 use crate::logging::print_log;
+use crate::notes::are_wanted;
 use crate::quoted::{append_name, append_number};
-use crate::telling::{say, tell_files, tell_folder, tell_replay, tell_triage};
+use crate::telling::{end, tell_files, tell_folder, tell_replay};
+use crate::telling_triage::tell_triage;
+use calls::triage::{have_events, write_merged_page};
 use calls::{BenchFault, MergeFault, Parts, read_part, write_merged, write_merged_json};
 use client_scripts::{FromWrite, ReplayFault};
 use program_words::{MergeTask, RacesForm};
 use rapid_text::OutOfMemory;
 use std::io;
 use std::process::ExitCode;
-use triage_calls::write_merged_page;
-
-/// The status if a race is printed, for `--fail`.
-const RACES: u8 = 3;
 
 /// The path of the file with this number, the first being 1.
 fn path_of<'a>(paths: &[&'a str], file: u32) -> &'a str {
@@ -53,18 +56,36 @@ fn append_refusal(
     Ok(())
 }
 
-/// Says that a file is refused.
-fn tell_refusal(rt: &HostRuntime, fault: MergeFault, path: &str, other: &str) -> ExitCode {
-    let mut line = Vec::new(rt.alloc());
-    if append_refusal(&mut line, fault, path, other).is_err() {
-        return tell_replay(rt, ReplayFault::OutOfMemory);
+/// Appends the same, and the notes on a line that is refused.
+fn append_refusal_notes(
+    rt: &HostRuntime,
+    out: &mut Vec<u8>,
+    fault: MergeFault,
+    path: &str,
+    other: &str,
+) -> Result<(), OutOfMemory> {
+    append_refusal(out, fault, path, other)?;
+    match fault {
+        MergeFault::Line(place) if are_wanted(rt) => {
+            append_form_notes(rt, out, path, (place as u64).saturating_add(1), PART)
+        }
+        _ => Ok(()),
     }
-    say(rt, &line);
-    ExitCode::FAILURE
+}
+
+/// Says that a file is refused.
+fn tell_refusal(rt: &HostRuntime, fault: MergeFault, path: &str, other: &str) -> ExitCode
+    ensures { 0 < exit_status result }
+{
+    let mut lines = Vec::new(rt.alloc());
+    let made = append_refusal_notes(rt, &mut lines, fault, path, other);
+    end(rt, &lines, made, ExitCode::FAILURE)
 }
 
 /// Tells a fault of the file with this number.
-fn tell_merge(rt: &HostRuntime, fault: MergeFault, file: u32, paths: &[&str]) -> ExitCode {
+fn tell_merge(rt: &HostRuntime, fault: MergeFault, file: u32, paths: &[&str]) -> ExitCode
+    ensures { 0 < exit_status result }
+{
     match fault {
         MergeFault::Replay(fault) => tell_files(rt, BenchFault::from(fault), paths),
         MergeFault::Clash(other) => {
@@ -77,27 +98,45 @@ fn tell_merge(rt: &HostRuntime, fault: MergeFault, file: u32, paths: &[&str]) ->
 /// Takes in the files at these paths. At a fault the number of its file stands beside it.
 fn read_parts(rt: &HostRuntime, paths: &[&str]) -> Result<Parts, (MergeFault, u32)> {
     let mut parts = Parts::new(rt.alloc());
+    match take_in(rt, &mut parts, paths) {
+        Ok(()) => Ok(parts),
+        Err(fault) => Err(fault),
+    }
+}
+
+/// Takes these files into the parts.
+fn take_in(rt: &HostRuntime, parts: &mut Parts, paths: &[&str]) -> Result<(), (MergeFault, u32)> {
     let mut file: u32 = 1;
     for path in paths {
-        let mut reader = input_at(rt, path);
-        if let Err(fault) = read_part(rt.alloc(), &mut parts, path.as_bytes(), &mut reader, file) {
+        if let Err(fault) = take_file(rt, parts, path, file) {
             return Err((fault, file));
         }
         file = file.saturating_add(1);
     }
-    Ok(parts)
+    Ok(())
 }
 
-/// The status after so many races were printed.
-pub(crate) fn status_at(races: u64, fail: bool) -> ExitCode {
-    if fail && races > 0 {
-        ExitCode::from(RACES)
-    } else {
-        ExitCode::SUCCESS
+/// Takes the file at this path, which has this number, into the parts.
+fn take_file(rt: &HostRuntime, parts: &mut Parts, path: &str, file: u32) -> Result<(), MergeFault> {
+    let mut reader = input_at(rt, path);
+    read_part(rt.alloc(), parts, path.as_bytes(), &mut reader, file)
+}
+
+/// The status after so many races of the parts were printed.
+pub(crate) fn status_at(rt: &HostRuntime, parts: &Parts, races: u64, fail: bool) -> ExitCode
+    ensures plain { fail ≡ false → exit_status result ≡ 0 }
+    ensures races { fail ≡ true → 0 < races → exit_status result ≡ 3 }
+{
+    if !fail || races > 0 {
+        return status_of(rt, fail, races, true, NO_PART_EVENTS);
+    }
+    match have_events(rt.alloc(), parts) {
+        Ok(have) => status_of(rt, fail, races, have, NO_PART_EVENTS),
+        Err(_) => tell_replay(rt, ReplayFault::OutOfMemory),
     }
 }
 
-/// Prints what is told of the parts.
+/// Prints the merged report of the parts.
 fn print_merged(
     rt: &HostRuntime,
     parts: &Parts,
@@ -145,7 +184,7 @@ fn status_after(
     races: u64,
 ) -> ExitCode {
     match tell_decided(rt, parts, decided, wanted_of(task)) {
-        Ok(()) => status_at(races, task.fail),
+        Ok(()) => status_at(rt, parts, races, task.fail),
         Err(_) => tell_replay(rt, ReplayFault::OutOfMemory),
     }
 }
@@ -155,7 +194,7 @@ fn print_page(rt: &HostRuntime, parts: &Parts, task: &MergeTask<'_>) -> ExitCode
     let mut writer = FromWrite::new(io::writer(rt));
     match write_merged_page(rt.alloc(), parts, task.apart, &mut writer) {
         Ok(races) => match writer.flush() {
-            Ok(()) => status_at(races, task.fail),
+            Ok(()) => status_at(rt, parts, races, task.fail),
             Err(_) => tell_replay(rt, ReplayFault::Write),
         },
         Err(fault) => tell_triage(rt, fault, &[]),
@@ -171,7 +210,7 @@ fn print_lines(rt: &HostRuntime, parts: &Parts, task: &MergeTask<'_>, form: Race
     };
     match written {
         Ok(races) => match writer.flush() {
-            Ok(()) => status_at(races, task.fail),
+            Ok(()) => status_at(rt, parts, races, task.fail),
             Err(_) => tell_replay(rt, ReplayFault::Write),
         },
         Err(fault) => tell_merge(rt, fault, 0, &task.parts),

@@ -3,13 +3,13 @@
 ghost use Rattle.std.specs.Prelude.{◌≡◌, false};
 
 use crate::doing::name_of;
+use crate::file_notes::is_plain;
 use crate::input::{Input, input_at};
-use crate::notes::is_plain;
 use crate::place_notes::append_place_reason;
 use crate::quoted::{append_number, append_shown};
+use calls::pair::Name;
 use client_scripts::read_trace;
 use event_index::Indexed;
-use pair_calls::Name;
 use program_words::PairTask;
 use rapid_text::OutOfMemory;
 
@@ -49,9 +49,23 @@ fn append_reason_of(
     indexed: &Indexed,
     pair: &PairTask<'_>,
 ) -> Result<(), OutOfMemory> {
-    match (name_of(pair.one), name_of(pair.other)) {
-        (Name::Event(one), Name::Event(other)) => append_reason(out, indexed, one, other),
-        (one, other) => append_place_reason(rt.alloc(), out, indexed, one, other),
+    match name_of(pair.one) {
+        Name::Event(one) => append_event_reason(rt, out, indexed, one, name_of(pair.other)),
+        one => append_place_reason(rt.alloc(), out, indexed, one, name_of(pair.other)),
+    }
+}
+
+/// Appends the note on an event and what another name means.
+fn append_event_reason(
+    rt: &HostRuntime,
+    out: &mut Vec<u8>,
+    indexed: &Indexed,
+    one: u32,
+    other: Name<'_>,
+) -> Result<(), OutOfMemory> {
+    match other {
+        Name::Event(other) => append_reason(out, indexed, one, other),
+        other => append_place_reason(rt.alloc(), out, indexed, Name::Event(one), other),
     }
 }
 

@@ -2,7 +2,7 @@
 ghost use Rattle.std.specs.Prelude.{◌≤◌, length};
 
 use crate::input::Input;
-use crate::telling::tell_mark;
+use crate::marked::tell_mark;
 use client_scripts::{LIMIT, ReadCause, ReplayFault, Source};
 use memchr::memchr;
 use rapid_text::{trim, trim_start};

@@ -4,11 +4,11 @@ ghost use Rattle.std.specs.Prelude.{◌≡◌, length};
 
 use crate::pair_notes::append_no_event;
 use crate::quoted::append_shown;
+use calls::pair::Name;
 use event_index::Indexed;
+use explain_report::places::{are_apart, are_at_one_place, flags_of, place_of};
 use memchr::memrchr;
-use pair_calls::Name;
 use rapid_text::OutOfMemory;
-use source_places::{are_apart, are_at_one_place, flags_of, place_of};
 use std::alloc::Global;
 
 /// The most locations that a note lists.
@@ -162,6 +162,14 @@ fn append_place(out: &mut Vec<u8>, words: &[u8], place: &[u8]) -> Result<(), Out
     append_shown(out, place)
 }
 
+/// Whether the name is a location.
+fn is_place(name: Name<'_>) -> bool {
+    match name {
+        Name::Place(_) => true,
+        Name::Event(_) => false,
+    }
+}
+
 /// Appends the note on two names that mean accesses at one location each, and no pair.
 fn append_both_note(
     out: &mut Vec<u8>,
@@ -172,13 +180,9 @@ fn append_both_note(
 ) -> Result<(), OutOfMemory>
     requires { length ones.now ≡ length others.now }
 {
-    if let (Name::Place(_), Name::Place(_)) = (one, other) {
-        if ones != others && !are_apart(ones, others) {
-            out.extend_from_slice(
-                b"note: both names mean some of the same accesses, but not all\n",
-            )?;
-            return Ok(());
-        }
+    if is_place(one) && is_place(other) && ones != others && !are_apart(ones, others) {
+        out.extend_from_slice(b"note: both names mean some of the same accesses, but not all\n")?;
+        return Ok(());
     }
     out.extend_from_slice(
         b"note: no two accesses there conflict: a pair accesses one variable in two threads, and one of them writes\n",

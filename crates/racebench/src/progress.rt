@@ -2,12 +2,12 @@
 //! before anything else is written. Elsewhere: the same, as lines.
 
 use crate::telling::say;
+use calls::triage::Watch;
 use rapid_text::OutOfMemory;
 use report::{Piece, append_pieces};
 use std::sync::atomic::{AtomicU64, Ordering};
 use std::sync::{Mutex, Wait};
 use std::time::Duration;
-use triage_calls::Watch;
 
 /// How many milliseconds the work takes before a line is shown, so that what is quick shows none.
 const FIRST: u64 = 1_000;

@@ -1,7 +1,7 @@
 //! What `triage` has seen of its inputs, so that nothing found can be told from nothing judged.
 
+use calls::triage::{Hears, Watch};
 use std::sync::atomic::{AtomicU64, Ordering};
-use triage_calls::{Hears, Watch};
 
 /// The mark of an entry of a triage file that leaves a race out, and is about none.
 pub(crate) const UNMET: u64 = 1;

@@ -2,10 +2,11 @@
 ghost use Rattle.std.specs.Prelude.{◌≡◌, true, false};
 
 use crate::doing::finish;
+use crate::file_notes::is_plain;
 use crate::input::input_at;
-use crate::notes::is_plain;
+use crate::marked::tell_mark;
 use crate::output::Output;
-use crate::telling::{tell_log, tell_mark, tell_session};
+use crate::telling_sessions::{tell_log, tell_session};
 use client_scripts::{FromRead, FromWrite, ReadCause, ReplayFault, Sink, read_trace};
 use event_index::Indexed;
 use kept_host::Host;
@@ -200,20 +201,18 @@ fn answer_on_file<K: Sink>(
     }
 }
 
-/// Answers standard input on a trace and the log at this path, which begins with this head.
-fn answer_behind<K: Sink>(
+/// The head of the log of a trace, and the file of the log at this path.
+fn opened_for(
     rt: &HostRuntime,
-    indexed: Indexed,
-    head: &[u8],
-    log: &str,
-    client: Option<u32>,
-    writer: &mut K,
-) -> Result<(), SessionFault>
-    requires { K.has_failed writer.old ≡ false }
-{
-    match log_at(rt, log, head) {
-        Ok(file) => answer_on_file(rt, indexed, head, file, client, writer),
-        Err(fault) => Err(fault),
+    indexed: &Indexed,
+    path: &str,
+) -> Result<(Vec<u8>, File), SessionFault> {
+    match head_of(rt.alloc(), indexed) {
+        Ok(head) => match log_at(rt, path, &head) {
+            Ok(file) => Ok((head, file)),
+            Err(fault) => Err(fault),
+        },
+        Err(fault) => Err(SessionFault::from(fault)),
     }
 }
 
@@ -227,9 +226,9 @@ fn answer_on_trace<K: Sink>(
 ) -> Result<(), SessionFault>
     requires { K.has_failed writer.old ≡ false }
 {
-    match head_of(rt.alloc(), &indexed) {
-        Ok(head) => answer_behind(rt, indexed, &head, log, client, writer),
-        Err(fault) => Err(SessionFault::from(fault)),
+    match opened_for(rt, &indexed, log) {
+        Ok((head, file)) => answer_on_file(rt, indexed, &head, file, client, writer),
+        Err(fault) => Err(fault),
     }
 }
 

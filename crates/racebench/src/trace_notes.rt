@@ -1,8 +1,8 @@
 //! Notes on a trace whose text is refused, or which breaks a rule: its line, and what to do.
 
-use crate::likeness::{likeness_of, words_of};
+use crate::likeness::{Likeness, likeness_of, words_for_trace};
 use crate::lines::{first_line, is_divider, line_of};
-use crate::notes::append_named;
+use crate::notes::append_kind;
 use crate::pieces::{from, start_of_event};
 use crate::quoted::{append_event, append_quote};
 use rapid_text::{OutOfMemory, TextCause, TextRefusal};
@@ -10,8 +10,8 @@ use rapid_text::{OutOfMemory, TextCause, TextRefusal};
 /// Appends the note that says what else the text of a refused trace looks like.
 fn append_likeness(out: &mut Vec<u8>, name: &str, text: &[u8]) -> Result<(), OutOfMemory> {
     match likeness_of(text) {
-        Some(likeness) => append_named(out, name, words_of(likeness)),
-        None => Ok(()),
+        Likeness::Trace | Likeness::Other => Ok(()),
+        likeness => append_kind(out, name, likeness, words_for_trace(likeness)),
     }
 }
 
@@ -19,13 +19,19 @@ fn append_likeness(out: &mut Vec<u8>, name: &str, text: &[u8]) -> Result<(), Out
 const LONG: &[u8] =
     b"note: `racebench triage --windows` reads a trace of any length, and `racebench cut` prints a part of it\n";
 
-/// Appends the note on a trace that is too long, if it is.
-pub(crate) fn append_length_note(
+/// What to do with a trace that has too many threads.
+const WIDE: &[u8] =
+    b"note: a trace has at most 256 threads, also with `--windows`: record a run with fewer threads\n";
+
+/// Appends the note on a trace that is too long or has too many threads, if it is so.
+pub(crate) fn append_limit_note(
     out: &mut Vec<u8>,
     refusal: &TextRefusal,
 ) -> Result<(), OutOfMemory> {
-    if refusal.why == TextCause::TooManyEvents {
-        out.extend_from_slice(LONG)?;
+    match refusal.why {
+        TextCause::TooManyEvents => out.extend_from_slice(LONG)?,
+        TextCause::TooManyNames => out.extend_from_slice(WIDE)?,
+        _ => {}
     }
     Ok(())
 }

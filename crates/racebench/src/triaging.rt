@@ -1,15 +1,19 @@
 //! What the program does at `triage`.
 
 use crate::coding::{is_folder, tell_codeless};
+use crate::failing::{NO_TRACE_EVENTS, status_of};
 use crate::input::input_at;
 use crate::listing::{Listing, list_to};
 use crate::progress::Progress;
 use crate::seen::Seen;
-use crate::telling::{
-    say, tell_blockless, tell_confirmed, tell_dateless, tell_folder, tell_marks, tell_replay,
-    tell_triage, tell_triaged,
+use crate::telling::{tell_folder, tell_replay};
+use crate::telling_triage::{
+    tell_blockless, tell_confirmed, tell_dateless, tell_marks, tell_triage, tell_triaged,
 };
 use crate::today::today_of;
+use calls::triage::{
+    About, ConfirmedFault, Crew, Followed, Silent, Watch, entries_of, read_confirmed, read_triaged,
+};
 use client_scripts::{FromWrite, ReplayFault};
 use program_words::TriageTask;
 use std::alloc::AllocError;
@@ -20,15 +24,6 @@ use std::sync::atomic::AtomicU64;
 use std::thread::Threads;
 use std::{io, thread};
 use toml::Value;
-use triage_calls::{
-    About, ConfirmedFault, Crew, Followed, Silent, Watch, entries_of, read_confirmed, read_triaged,
-};
-
-/// The status if a race is printed, for `--fail`.
-const RACES: u8 = 3;
-
-/// The status if the trace has no events, for `--fail`.
-const UNJUDGED: u8 = 4;
 
 /// How races came out when they were followed, by the file at this path, if one is named.
 fn confirmed_at(
@@ -41,27 +36,8 @@ fn confirmed_at(
     }
 }
 
-/// The status after so many races were printed of a trace with or without events.
-fn status_at(rt: &HostRuntime, races: u64, has_events: bool, fail: bool) -> ExitCode {
-    if !fail {
-        return ExitCode::SUCCESS;
-    }
-    if !has_events {
-        say(
-            rt,
-            b"racebench: the trace has no events: nothing was judged\n",
-        );
-        return ExitCode::from(UNJUDGED);
-    }
-    if races > 0 {
-        ExitCode::from(RACES)
-    } else {
-        ExitCode::SUCCESS
-    }
-}
-
 /// The status after all was printed. A text of known races without a block is told, and a folder of code without a file of the trace.
-fn status_of<W: Watch>(
+fn status_after<W: Watch>(
     rt: &HostRuntime,
     task: &TriageTask<'_>,
     seen: &Seen<'_, W>,
@@ -73,7 +49,8 @@ fn status_of<W: Watch>(
     if seen.lacks_code() && tell_codeless(rt, task.source.unwrap_or("")).is_err() {
         return tell_replay(rt, ReplayFault::OutOfMemory);
     }
-    status_at(rt, races, seen.has_events(), task.fail)
+    let is_judged = seen.has_events();
+    status_of(rt, task.fail, races, is_judged, NO_TRACE_EVENTS)
 }
 
 /// Lists the races on standard output; says how it went.
@@ -119,12 +96,10 @@ fn list_marked<R: Threads + Sync, W: Watch + Sync>(
     watch.end();
     match listed {
         Ok(races) => match writer.flush() {
-            Ok(()) => {
-                if tell_marks(rt, task.triage.unwrap_or(""), marks).is_err() {
-                    return tell_replay(rt, ReplayFault::OutOfMemory);
-                }
-                status_of(rt, task, &seen, races)
-            }
+            Ok(()) => match tell_marks(rt, task.triage.unwrap_or(""), marks) {
+                Ok(()) => status_after(rt, task, &seen, races),
+                Err(_) => tell_replay(rt, ReplayFault::OutOfMemory),
+            },
             Err(_) => tell_replay(rt, ReplayFault::Write),
         },
         Err(fault) => tell_triage(rt, fault, &[task.trace, task.known.unwrap_or("")]),

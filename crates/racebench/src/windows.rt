@@ -257,14 +257,32 @@ impl Windows {
         spans: Spans,
     ) -> Result<Option<Window>, BenchFault> {
         let covered = window.to.saturating_sub(window.from) as usize;
-        let is_whole = covered >= spans.all.events;
-        let is_last = match self.pieces.is_end(spans.all.end) {
-            Ok(is_last) => is_last,
+        match self.go_past(alloc, covered, spans) {
+            Ok(()) => Ok(Some(window)),
+            Err(fault) => Err(fault),
+        }
+    }
+
+    // Goes past what the next window does not have of these lines, so many events of which were made a window.
+    fn go_past(&mut self, alloc: Global, covered: usize, spans: Spans) -> Result<(), BenchFault> {
+        match self.pieces.is_end(spans.all.end) {
+            Ok(is_last) => self.go_past_all(alloc, covered, spans, is_last),
             Err(fault) => {
                 self.fault = Some(BenchFault::from(fault));
-                return Ok(Some(window));
+                Ok(())
             }
-        };
+        }
+    }
+
+    // The same, where these may be the last lines of the trace.
+    fn go_past_all(
+        &mut self,
+        alloc: Global,
+        covered: usize,
+        spans: Spans,
+        is_last: bool,
+    ) -> Result<(), BenchFault> {
+        let is_whole = covered >= spans.all.events;
         if !is_whole || (spans.all.events < self.most as usize && !is_last) {
             self.short = self.short.saturating_add(1);
         }
@@ -278,7 +296,7 @@ impl Windows {
                 self.found = Some(spans.rest());
             }
         }
-        Ok(Some(window))
+        Ok(())
     }
 
     // Where the lines end that the next window does not have.

@@ -1,5 +1,5 @@
 //! The pieces of a line: the one place where numbers, names and lists become bytes.
-ghost use Rattle.std.specs.Prelude.{◌≡◌, ◌+◌, ◌≤◌, ◌++◌, ◌∷◌, OnOk, OnErr, decimal, length, vec_len, vec_capacity};
+ghost use Rattle.std.specs.Prelude.{◌≡◌, ◌+◌, ◌*◌, ◌≤◌, ◌++◌, ◌∷◌, IfOk, OnOk, OnErr, codes, decimal, length, vec_len, vec_capacity};
 ghost use Rattle.report.specs.Info.{count_line};
 ghost use Rattle.report.specs.Pieces.{piece_bytes, pieces_text, spaced, spaced_names, spaced_pair, spaced_pairs};
 
@@ -72,20 +72,55 @@ fn append_spaced(out: &mut Vec<u8>, number: u64) -> Result<(), OutOfMemory>
     Ok(())
 }
 
-/// Appends each number after a space. Room for all is made once.
-fn append_numbers(out: &mut Vec<u8>, numbers: &[u32]) -> Result<(), OutOfMemory>
-    ensures ok { OnOk result (out.new.items ≡ out.old.items ++ spaced numbers.now) }
-    ensures err { OnErr result (out.new.items ≡ out.old.items) }
+/// The room that so many numbers need, each after a space.
+fn room_of(numbers: usize) -> Result<usize, OutOfMemory>
+    ensures { IfOk result (λ room. room ≡ 11 * numbers) }
 {
-    let Some(room) = numbers.len().checked_mul(SPACED_NUMBER) else {
-        return Err(OutOfMemory);
-    };
-    out.reserve(room)?;
+    numbers.checked_mul(SPACED_NUMBER).ok_or(OutOfMemory)
+}
+
+/// Appends each number after a space. There is room for them.
+fn put_numbers(out: &mut Vec<u8>, numbers: &[u32])
+    requires { vec_len out.old + 11 * length numbers.now ≤ vec_capacity out.old }
+    ensures items { out.new.items ≡ out.old.items ++ spaced numbers.now }
+    ensures len { vec_len out.new ≤ vec_len out.old + 11 * length numbers.now }
+    ensures capacity { vec_capacity out.new ≡ vec_capacity out.old }
+{
     let mut buffer = Buffer::new();
     for number in numbers {
         out.push_reserved(b' ');
         put_few(out, buffer.format(*number).as_bytes());
     }
+}
+
+/// Appends each number after a space. Room for all is made once.
+fn append_numbers(out: &mut Vec<u8>, numbers: &[u32]) -> Result<(), OutOfMemory>
+    ensures ok { OnOk result (out.new.items ≡ out.old.items ++ spaced numbers.now) }
+    ensures err { OnErr result (out.new.items ≡ out.old.items) }
+{
+    out.reserve(room_of(numbers.len())?)?;
+    put_numbers(out, numbers);
+    Ok(())
+}
+
+/// Appends a line of words and of numbers, each after a space. Room for the line is made once. This is put where it is
+/// called, so that the words' length is known there, and no call copies them.
+#[inline(always)]
+pub(crate) fn append_numbers_line(
+    out: &mut Vec<u8>,
+    words: &[u8],
+    numbers: &[u32],
+) -> Result<(), OutOfMemory>
+    ensures ok { OnOk result (out.new.items ≡ out.old.items ++ (words.now ++ spaced numbers.now ++ codes "\n")) }
+    ensures err { OnErr result (out.new.items ≡ out.old.items) }
+{
+    let Some(room) = room_of(numbers.len())?.checked_add(words.len() + 1) else {
+        return Err(OutOfMemory);
+    };
+    out.reserve(room)?;
+    out.extend_from_slice(words)?;
+    put_numbers(out, numbers);
+    out.push_reserved(b'\n');
     Ok(())
 }
 

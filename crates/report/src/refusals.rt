@@ -1,6 +1,6 @@
 //! Prints why a call is refused.
 ghost use Rattle.std.specs.Prelude.{◌≡◌, ◌++◌, OnOk, OnErr, codes, decimal};
-ghost use Rattle.report.specs.Causes.{refused_line};
+ghost use Rattle.report.specs.Causes.{disabled_words, swap_words, refused_line};
 ghost use Rattle.report.specs.Refusals.{move_words, refusal_text};
 
 use crate::causes::{append_disabled, append_refused, append_swap, append_words};
@@ -9,6 +9,7 @@ use event_index::Indexed;
 use inverse_log::Refusal;
 use moves::{MoveRefusal, Name};
 use rapid_text::OutOfMemory;
+use schedule::{Disabled, SwapRefusal};
 
 /// Appends why a command is refused.
 fn append_move_words(
@@ -49,8 +50,12 @@ fn append_move_end(
     Ok(())
 }
 
-/// Appends the line of a refused command.
-fn append_move(out: &mut Vec<u8>, indexed: &Indexed, why: MoveRefusal) -> Result<(), OutOfMemory>
+/// Appends the line of a refused command piece by piece.
+fn append_in_pieces(
+    out: &mut Vec<u8>,
+    indexed: &Indexed,
+    why: MoveRefusal,
+) -> Result<(), OutOfMemory>
     ensures ok { OnOk result (out.new.items ≡ out.old.items ++ refused_line (move_words indexed.now why)) }
     ensures err { OnErr result (out.new.items ≡ out.old.items) }
 {
@@ -61,6 +66,52 @@ fn append_move(out: &mut Vec<u8>, indexed: &Indexed, why: MoveRefusal) -> Result
         return Err(refused);
     }
     Ok(())
+}
+
+/// Appends the line of a command whose event may not come next. A line that names nothing of the trace is one piece.
+fn append_disabled_line(
+    out: &mut Vec<u8>,
+    indexed: &Indexed,
+    why: Disabled,
+) -> Result<(), OutOfMemory>
+    ensures ok { OnOk result (out.new.items ≡ out.old.items ++ refused_line (codes "46 " ++ disabled_words indexed.now why)) }
+    ensures err { OnErr result (out.new.items ≡ out.old.items) }
+{
+    match why {
+        Disabled::NoSuchEvent => append_bytes(out, b"refused 46 21 no such event\n"),
+        Disabled::NotNext => append_bytes(out, b"refused 46 22 not next\n"),
+        Disabled::NotForked => append_bytes(out, b"refused 46 23 not forked\n"),
+        Disabled::JoinEarly => append_bytes(out, b"refused 46 26 join early\n"),
+        _ => append_in_pieces(out, indexed, MoveRefusal::Disabled(why)),
+    }
+}
+
+/// Appends the line of a command whose two neighbours may not change places.
+fn append_swap_line(out: &mut Vec<u8>, why: SwapRefusal) -> Result<(), OutOfMemory>
+    ensures ok { OnOk result (out.new.items ≡ out.old.items ++ refused_line (codes "47 " ++ swap_words why)) }
+    ensures err { OnErr result (out.new.items ≡ out.old.items) }
+{
+    match why {
+        SwapRefusal::NoSuchPair => append_bytes(out, b"refused 47 28 no such pair\n"),
+        SwapRefusal::Dependent => append_bytes(out, b"refused 47 29 dependent\n"),
+    }
+}
+
+/// Appends the line of a refused command, in one piece if it names nothing of the trace.
+fn append_move(out: &mut Vec<u8>, indexed: &Indexed, why: MoveRefusal) -> Result<(), OutOfMemory>
+    ensures ok { OnOk result (out.new.items ≡ out.old.items ++ refused_line (move_words indexed.now why)) }
+    ensures err { OnErr result (out.new.items ≡ out.old.items) }
+{
+    match why {
+        MoveRefusal::NoSuchSchedule => append_bytes(out, b"refused 42 no such schedule\n"),
+        MoveRefusal::NameTaken => append_bytes(out, b"refused 43 name taken\n"),
+        MoveRefusal::NoSuchProposal => append_bytes(out, b"refused 44 no such proposal\n"),
+        MoveRefusal::NothingToRetract => append_bytes(out, b"refused 45 nothing to retract\n"),
+        MoveRefusal::Disabled(why) => append_disabled_line(out, indexed, why),
+        MoveRefusal::Swap(why) => append_swap_line(out, why),
+        MoveRefusal::TooShort => append_bytes(out, b"refused 48 too short\n"),
+        MoveRefusal::OutOfMemory => append_bytes(out, b"refused 49 out of memory\n"),
+    }
 }
 
 /// Appends where in a batch its refused command stands.

@@ -3,7 +3,7 @@ ghost use Rattle.std.specs.Prelude.{◌≡◌, ◌++◌, OnOk, OnErr, codes, dec
 ghost use Rattle.report.specs.Pieces.{piece_bytes};
 ghost use Rattle.report.specs.Replies.{reply_text};
 
-use crate::pieces::{Piece, append_pieces, put_few};
+use crate::pieces::{Piece, append_numbers_line, append_pieces, put_few};
 use inverse_log::Reply;
 use itoa::Buffer;
 use rapid_text::OutOfMemory;
@@ -59,7 +59,7 @@ pub fn shown(events: &[u32], out: &mut Vec<u8>) -> Result<(), OutOfMemory>
     ensures ok { OnOk result (out.new.items ≡ out.old.items ++ reply_text (Reply.Shown events.now)) }
     ensures err { OnErr result (out.new.items ≡ out.old.items) }
 {
-    append_list(out, b"shown", Piece::Numbers(events))
+    append_numbers_line(out, b"shown", events)
 }
 
 /// Appends the line of a reply. Where memory is refused `out` stays as it was.

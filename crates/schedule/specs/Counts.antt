@@ -1,5 +1,5 @@
 -- The counts of threads, an entry for each thread, in the order of the threads. No public clause cites this module.
-use Rattle.std.specs.Prelude.{◌≡◌, ℕ, ◌<◌, ◌≤◌, ◌==◌, List, [], ◌∷◌, length, slice_index_or, if◌then◌else◌}
+use Rattle.std.specs.Prelude.{◌≡◌, ℕ, ◌+◌, ◌-◌, ◌<◌, ◌≤◌, ◌==◌, List, [], ◌∷◌, length, slice_index_or, if◌then◌else◌}
 use Rattle.schedule.specs.declared.counts.ThreadCount.{ThreadCount}
 
 -- the count of the thread: that of its entry, or 0 where it has none
@@ -20,3 +20,11 @@ pub record IsGapFor (cs : List ThreadCount) (t i : ℕ) : Type 0 where
   pub within : i ≤ length cs
   pub below : (k : ℕ) (d : ThreadCount) → k < i → (slice_index_or cs k d).thread < t
   pub above : (k : ℕ) (d : ThreadCount) → i ≤ k → k < length cs → t < (slice_index_or cs k d).thread
+
+-- the thread counts one more, and each other as before
+abbrev pub CountsUp : List ThreadCount → List ThreadCount → ℕ → Type 0
+CountsUp old new thread = (t : ℕ) → count_in new t ≡ (if thread == t then count_in old thread + 1 else count_in old t)
+
+-- it counts one less
+abbrev pub CountsDown : List ThreadCount → List ThreadCount → ℕ → Type 0
+CountsDown old new thread = (t : ℕ) → count_in new t ≡ (if thread == t then count_in old thread - 1 else count_in old t)

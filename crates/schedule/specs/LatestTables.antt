@@ -29,3 +29,11 @@ pub record IsPlaceOf (near : List (Key × Option Latest)) (k : Key) (i : ℕ) : 
   pub found : lookup (key_eq k) near ≡ Some kept
   pub placed : (v : Option Latest) (q : Key)
       → lookup (key_eq q) (slice_set near i (k, v)) ≡ (if key_eq k q then Some v else lookup (key_eq q) near)
+
+-- the table has this of the key, and of each other key what it had
+abbrev pub SetsLatest : LatestTable → LatestTable → Key → Option Latest → Type 0
+SetsLatest old new key latest = (q : Key) → held new q ≡ (if key_eq key q then latest else held old q)
+
+-- the same of what is found of a key
+abbrev pub SetsFound : (Key → Option Latest) → (Key → Option Latest) → Key → Option Latest → Type 0
+SetsFound old new key latest = (q : Key) → new q ≡ (if key_eq key q then latest else old q)

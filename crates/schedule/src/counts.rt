@@ -1,7 +1,7 @@
 //! How many events of each thread a list has.
-ghost use Rattle.std.specs.Prelude.{◌≡◌, ℕ, ◌≤◌, ◌+◌, ◌-◌, ◌==◌, if◌then◌else◌, IfOk, IfErr};
+ghost use Rattle.std.specs.Prelude.{◌≡◌, ℕ, ◌≤◌, ◌+◌, ◌-◌, ◌==◌, IfOk, IfErr};
 ghost use Rattle.rapid_text.specs.Limits.{event_limit};
-ghost use Rattle.schedule.specs.Counts.{count_in, AreByThread, IsPlaceOf, IsGapFor};
+ghost use Rattle.schedule.specs.Counts.{count_in, AreByThread, IsPlaceOf, IsGapFor, CountsUp, CountsDown};
 
 use std::alloc::AllocError;
 
@@ -62,8 +62,7 @@ pub(crate) fn count_up(counts: &mut Vec<ThreadCount>, thread: u32, at: usize)
     requires place { IsPlaceOf counts.old.items thread at }
     requires small { count_in counts.old.items thread ≤ event_limit }
     ensures order { AreByThread counts.new.items }
-    ensures count { (t : ℕ) → count_in counts.new.items t
-        ≡ (if thread == t then count_in counts.old.items thread + 1 else count_in counts.old.items t) }
+    ensures count { CountsUp counts.old.items counts.new.items thread }
 {
     let count = counts[at].count + 1;
     counts[at] = ThreadCount { thread, count };
@@ -73,8 +72,7 @@ pub(crate) fn count_up(counts: &mut Vec<ThreadCount>, thread: u32, at: usize)
 pub(crate) fn count_down(counts: &mut Vec<ThreadCount>, thread: u32)
     requires { AreByThread counts.old.items }
     ensures order { AreByThread counts.new.items }
-    ensures count { (t : ℕ) → count_in counts.new.items t
-        ≡ (if thread == t then count_in counts.old.items thread - 1 else count_in counts.old.items t) }
+    ensures count { CountsDown counts.old.items counts.new.items thread }
 {
     let Ok(at) = place_of(counts, thread) else {
         return;

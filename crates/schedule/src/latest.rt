@@ -1,8 +1,8 @@
 //! The latest event of each variable and lock.
-ghost use Rattle.std.specs.Prelude.{◌≡◌, ◌≤◌, OnOk, OnErr, if◌then◌else◌};
+ghost use Rattle.std.specs.Prelude.{◌≡◌, ◌≤◌, OnOk, OnErr};
 ghost use Rattle.rapid_text.specs.Limits.{event_limit};
 ghost use Rattle.schedule.specs.Keys.{key_eq};
-ghost use Rattle.schedule.specs.LatestTables.{held};
+ghost use Rattle.schedule.specs.LatestTables.{held, SetsLatest};
 ghost use Rattle.schedule.specs.Tables.{event_of, depth_of, covered, lowered, raised, uncovered, stepped, stepped_back, shadow_of_op};
 ghost use Rattle.schedule.specs.declared.latest.Key.{Key};
 
@@ -71,8 +71,7 @@ pub(crate) fn shadow_of(latest: &LatestTable, op: Op) -> Option<u32>
 
 fn cover(latest: &mut LatestTable, key: Key, event: u32) -> Result<(), AllocError>
     requires { (q : Key) → depth_of (held latest.old q) ≤ event_limit }
-    ensures ok { OnOk result ((q : Key) → held latest.new q
-        ≡ (if key_eq key q then covered event (held latest.old key) else held latest.old q)) }
+    ensures ok { OnOk result (SetsLatest latest.old latest.new key (covered event (held latest.old key))) }
     ensures err { OnErr result ((q : Key) → held latest.new q ≡ held latest.old q) }
 {
     let depth = match latest.get(key) {
@@ -87,8 +86,7 @@ fn cover(latest: &mut LatestTable, key: Key, event: u32) -> Result<(), AllocErro
 }
 
 fn lower(latest: &mut LatestTable, key: Key)
-    ensures { (q : Key) → held latest.new q
-        ≡ (if key_eq key q then lowered (held latest.old key) else held latest.old q) }
+    ensures { SetsLatest latest.old latest.new key (lowered (held latest.old key)) }
 {
     let kept = latest.get(key);
     latest.change(key, lowered(kept));
@@ -105,8 +103,7 @@ fn lowered(kept: Option<Latest>) -> Option<Latest>
 
 fn raise(latest: &mut LatestTable, key: Key)
     requires { (q : Key) → depth_of (held latest.old q) ≤ event_limit }
-    ensures { (q : Key) → held latest.new q
-        ≡ (if key_eq key q then raised (held latest.old key) else held latest.old q) }
+    ensures { SetsLatest latest.old latest.new key (raised (held latest.old key)) }
 {
     let kept = latest.get(key);
     latest.change(key, raised(kept));
@@ -123,8 +120,7 @@ fn raised(kept: Option<Latest>) -> Option<Latest>
 }
 
 fn uncover(latest: &mut LatestTable, key: Key, shadow: Option<u32>)
-    ensures { (q : Key) → held latest.new q
-        ≡ (if key_eq key q then uncovered shadow (held latest.old key) else held latest.old q) }
+    ensures { SetsLatest latest.old latest.new key (uncovered shadow (held latest.old key)) }
 {
     let kept = latest.get(key);
     latest.change(key, uncovered(shadow, kept));

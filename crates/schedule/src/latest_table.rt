@@ -1,9 +1,9 @@
 //! The table of the latest events: a list of its first keys, and a map of the others.
-ghost use Rattle.std.specs.Prelude.{◌≡◌, Some, None, OnOk, OnErr, IfOk, IfSome, IfNone, if◌then◌else◌};
+ghost use Rattle.std.specs.Prelude.{◌≡◌, Some, None, OnOk, OnErr, IfOk, IfSome, IfNone};
 ghost use Rattle.std.specs.HashMap.{get};
 ghost use Rattle.std.specs.Map.{lookup};
 ghost use Rattle.schedule.specs.Keys.{key_eq};
-ghost use Rattle.schedule.specs.LatestTables.{held, changed, IsPlaceOf};
+ghost use Rattle.schedule.specs.LatestTables.{held, changed, IsPlaceOf, SetsLatest, SetsFound};
 ghost use Rattle.schedule.specs.declared.latest.Key.{Key};
 
 use crate::latest::{Key, Latest};
@@ -45,8 +45,7 @@ impl LatestTable {
 
     /// Keeps this of the key.
     pub(crate) fn put(&mut self, key: Key, latest: Latest) -> Result<(), AllocError>
-        ensures ok { OnOk result ((q : Key) → held self.new q
-            ≡ (if key_eq key q then Some latest else held self.old q)) }
+        ensures ok { OnOk result (SetsLatest self.old self.new key (Some latest)) }
         ensures err { OnErr result ((q : Key) → held self.new q ≡ held self.old q) }
     {
         if let Some(at) = place_of(&self.near, key) {
@@ -62,8 +61,7 @@ impl LatestTable {
 
     /// Keeps this of the key if anything is kept of it. It takes no memory.
     pub(crate) fn change(&mut self, key: Key, latest: Option<Latest>)
-        ensures { (q : Key) → held self.new q
-            ≡ (if key_eq key q then changed latest (held self.old key) else held self.old q) }
+        ensures { SetsLatest self.old self.new key (changed latest (held self.old key)) }
     {
         let Some(at) = place_of(&self.near, key) else {
             change_far(&mut self.far, key, latest);
@@ -114,8 +112,7 @@ fn changed(latest: Option<Latest>, kept: Option<Latest>) -> Option<Latest>
 }
 
 fn put_far(far: &mut HashMap<Key, Latest>, key: Key, latest: Latest) -> Result<(), AllocError>
-    ensures ok { OnOk result ((q : Key) → get key_eq far.new q
-        ≡ (if key_eq key q then Some latest else get key_eq far.old q)) }
+    ensures ok { OnOk result (SetsFound (get key_eq far.old) (get key_eq far.new) key (Some latest)) }
     ensures err { OnErr result ((q : Key) → get key_eq far.new q ≡ get key_eq far.old q) }
 {
     let Ok(_) = far.insert(key, latest) else {
@@ -125,8 +122,7 @@ fn put_far(far: &mut HashMap<Key, Latest>, key: Key, latest: Latest) -> Result<(
 }
 
 fn change_far(far: &mut HashMap<Key, Latest>, key: Key, latest: Option<Latest>)
-    ensures { (q : Key) → get key_eq far.new q
-        ≡ (if key_eq key q then changed latest (get key_eq far.old key) else get key_eq far.old q) }
+    ensures { SetsFound (get key_eq far.old) (get key_eq far.new) key (changed latest (get key_eq far.old key)) }
 {
     let Some(latest) = latest else {
         let _ = far.remove(&key);

@@ -1,8 +1,7 @@
 //! What a list of events says of threads, variables and locks, read from its tables.
 ghost use Rattle.std.specs.Prelude.{◌≡◌, ◌<◌, ◌&&◌, length, Some};
-ghost use Rattle.std.specs.List.{list_all};
-ghost use Rattle.event_index.specs.Lookups.{last_write, events_of};
-ghost use Rattle.schedule.specs.Refusals.{is_in, is_forked, same_option, next_of, other_holder};
+ghost use Rattle.event_index.specs.Lookups.{last_write};
+ghost use Rattle.schedule.specs.Refusals.{is_in, is_forked, same_option, next_of, other_holder, is_ended};
 ghost use Rattle.schedule.specs.Reordering.{IsCorrectReordering};
 ghost use Rattle.schedule.specs.Tables.{AreTables};
 ghost use Rattle.trace_rules.specs.Rules.{IsDisciplined};
@@ -77,9 +76,7 @@ pub(crate) fn is_ended(indexed: &Indexed, tables: &Tables, events: &[u32], threa
     requires thread { thread < length indexed.now.threads }
     requires tables { AreTables indexed.now.events events.now tables.now }
     requires reordering { IsCorrectReordering indexed.now.events events.now }
-    ensures { result
-        ≡ (list_all (is_in events.now) (events_of indexed.now.events thread)
-        && is_forked indexed.now.events events.now thread) }
+    ensures { result ≡ is_ended indexed.now.events events.now thread }
 {
     let count = count_at(&tables.counts, thread) as usize;
     let all_in = count == indexed.thread_events(thread).len();

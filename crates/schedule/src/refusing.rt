@@ -49,8 +49,7 @@ fn refusal_of_op(
     requires named { IsNamed indexed.now found }
     requires tables { AreTables indexed.now.events events.now tables.now }
     requires reordering { IsCorrectReordering indexed.now.events events.now }
-    ensures { result
-        ≡ refusal_of_op indexed.now.events events.now event found.thread found.op }
+    ensures { result ≡ refusal_of_op indexed.now.events events.now event found.thread found.op }
 {
     match found.op {
         Op::Read(variable) => read_refusal(indexed, tables, events, event, variable),
@@ -70,8 +69,7 @@ fn read_refusal(
 ) -> Option<Disabled>
     requires event { event < length indexed.now.events }
     requires tables { AreTables indexed.now.events events.now tables.now }
-    ensures { (t : ℕ)
-        → result ≡ refusal_of_op indexed.now.events events.now event t (Read variable) }
+    ensures { (t : ℕ) → result ≡ refusal_of_op indexed.now.events events.now event t (Read variable) }
 {
     let needs = indexed.last_writer(event);
     let has = last_write(indexed, tables, events, variable);
@@ -91,8 +89,7 @@ fn acquire_refusal(
 ) -> Option<Disabled>
     requires tables { AreTables indexed.now.events events.now tables.now }
     requires reordering { IsCorrectReordering indexed.now.events events.now }
-    ensures { (e : ℕ)
-        → result ≡ refusal_of_op indexed.now.events events.now e thread (Acquire lock) }
+    ensures { (e : ℕ) → result ≡ refusal_of_op indexed.now.events events.now e thread (Acquire lock) }
 {
     let _len = indexed.len();
     match other_holder(indexed, tables, events, thread, lock) {
@@ -106,8 +103,7 @@ fn join_refusal(indexed: &Indexed, tables: &Tables, events: &[u32], thread: u32)
     requires thread { thread < length indexed.now.threads }
     requires tables { AreTables indexed.now.events events.now tables.now }
     requires reordering { IsCorrectReordering indexed.now.events events.now }
-    ensures { (e t : ℕ)
-        → result ≡ refusal_of_op indexed.now.events events.now e t (Join thread) }
+    ensures { (e t : ℕ) → result ≡ refusal_of_op indexed.now.events events.now e t (Join thread) }
 {
     if is_ended(indexed, tables, events, thread) {
         return None;

@@ -1,5 +1,5 @@
 //! A schedule: a correct reordering of its trace.
-ghost use Rattle.std.specs.Prelude.{◌≡◌, ℕ, ◌+◌, ◌<◌, ◌≤◌, ◌↔◌, length, take, [], ◌∷◌, ◌++◌, IsOk, IsTrue, IfOk, OnOk, OnErr, IfErr, Err, IfSome, None, Some};
+ghost use Rattle.std.specs.Prelude.{◌≡◌, ◌+◌, ◌<◌, ◌≤◌, ◌↔◌, length, take, [], ◌∷◌, ◌++◌, IsOk, IsTrue, IfOk, OnOk, OnErr, IfErr, Err, IfSome, None, Some};
 ghost use Rattle.rapid_text.specs.Recording.{IsWellFormed};
 ghost use Rattle.trace_rules.specs.Rules.{IsDisciplined};
 ghost use Rattle.event_index.specs.Events.{thread_at};
@@ -11,6 +11,7 @@ ghost use Rattle.schedule.specs.Tables.{AreTables};
 ghost use Rattle.schedule.specs.Swaps.{exchanged, swap_refusal, MayExchange};
 ghost use Rattle.schedule.specs.declared.refusal.PrefixRefusal.TheVariants.{TooShort};
 ghost use Rattle.schedule.specs.declared.refusal.SwapRefusal.TheVariants.{NoSuchPair};
+ghost use Rattle.schedule.specs.Scheduled.{recorded, thread_count};
 
 use crate::counts::count_at;
 use crate::refusal::{Disabled, ExtendRefusal, ListRefusal, PrefixRefusal, SwapRefusal};
@@ -56,12 +57,12 @@ impl Schedule {
     /// The events, in the order of the schedule: a correct reordering of the trace.
     pub fn events(&self) -> &[u32]
         ensures same { result.now ≡ self.now.events }
-        ensures reordering { IsCorrectReordering self.now.trace.events self.now.events }
+        ensures reordering { IsCorrectReordering (recorded self.now) self.now.events }
         // No event stands there twice, so they are at most as many as those of the trace.
-        ensures within { length self.now.events ≤ length self.now.trace.events }
+        ensures within { length self.now.events ≤ length (recorded self.now) }
         // The trace is one that was accepted.
         ensures well_formed { IsWellFormed self.now.trace }
-        ensures disciplined { IsDisciplined self.now.trace.events }
+        ensures disciplined { IsDisciplined (recorded self.now) }
     {
         self.events.as_slice()
     }
@@ -132,13 +133,11 @@ impl Schedule {
     pub fn enabled(&self, indexed: &Indexed, event: u32) -> Result<(), Disabled>
         requires { self.now.trace ≡ indexed.now }
         // It may exactly where the schedule and then the event are a correct reordering.
-        ensures exact { IsOk result ↔ IsEnabled self.now.trace.events self.now.events event }
-        ensures none { OnOk result (refusal_of self.now.trace.events self.now.events event ≡ None) }
-        ensures cause { IfErr result
-            (λ cause. refusal_of self.now.trace.events self.now.events event ≡ Some cause) }
+        ensures exact { IsOk result ↔ IsEnabled (recorded self.now) self.now.events event }
+        ensures none { OnOk result (refusal_of (recorded self.now) self.now.events event ≡ None) }
+        ensures cause { IfErr result (λ c. refusal_of (recorded self.now) self.now.events event ≡ Some c) }
         // A held lock is told with the one thread that holds it.
-        ensures holder { IfErr result
-            (NamesHolder self.now.trace.events self.now.events event) }
+        ensures holder { IfErr result (NamesHolder (recorded self.now) self.now.events event) }
     {
         match refusal_of(indexed, &self.tables, &self.events, event) {
             Some(cause) => Err(cause),
@@ -153,10 +152,9 @@ impl Schedule {
         ensures ok { OnOk result (self.new.events ≡ self.old.events ++ event ∷ []) }
         ensures err { OnErr result (self.new ≡ self.old) }
         // The event is appended only where it is enabled, and refused as `enabled` refuses it.
-        ensures enabled { OnOk result (IsEnabled self.old.trace.events self.old.events event) }
-        ensures none { OnOk result (refusal_of self.old.trace.events self.old.events event ≡ None) }
-        ensures refused { IfErr result
-            (IsRefusalOf self.old.trace.events self.old.events event) }
+        ensures enabled { OnOk result (IsEnabled (recorded self.old) self.old.events event) }
+        ensures none { OnOk result (refusal_of (recorded self.old) self.old.events event ≡ None) }
+        ensures refused { IfErr result (IsRefusalOf (recorded self.old) self.old.events event) }
     {
         if let Some(cause) = refusal_of(indexed, &self.tables, &self.events, event) {
             return Err(ExtendRefusal::Disabled(cause));
@@ -192,12 +190,11 @@ impl Schedule {
     pub fn exchangeable(&self, indexed: &Indexed, at: u32) -> Result<(), SwapRefusal>
         requires { self.now.trace ≡ indexed.now }
         // They may exactly where both are there and they are independent.
-        ensures exact { IsOk result ↔ MayExchange self.now.trace.events self.now.events at }
+        ensures exact { IsOk result ↔ MayExchange (recorded self.now) self.now.events at }
         ensures no_pair { (result ≡ Err NoSuchPair) ↔ (length self.now.events ≤ at + 1) }
         // The same as a function, for definitions that compute with it.
-        ensures none { OnOk result (swap_refusal self.now.trace.events self.now.events at ≡ None) }
-        ensures cause { IfErr result
-            (λ cause. swap_refusal self.now.trace.events self.now.events at ≡ Some cause) }
+        ensures none { OnOk result (swap_refusal (recorded self.now) self.now.events at ≡ None) }
+        ensures cause { IfErr result (λ c. swap_refusal (recorded self.now) self.now.events at ≡ Some c) }
     {
         match swap_refusal(indexed, &self.events, at) {
             Some(cause) => Err(cause),
@@ -213,12 +210,11 @@ impl Schedule {
         ensures err { OnErr result (self.new ≡ self.old) }
         // It is refused for the place exactly where no event stands at the next one, and else exactly where
         // the two events are not independent.
-        ensures exact { IsOk result ↔ MayExchange self.old.trace.events self.old.events at }
+        ensures exact { IsOk result ↔ MayExchange (recorded self.old) self.old.events at }
         ensures no_pair { (result ≡ Err NoSuchPair) ↔ (length self.old.events ≤ at + 1) }
         // The same as a function, for definitions that compute with it.
-        ensures none { OnOk result (swap_refusal self.old.trace.events self.old.events at ≡ None) }
-        ensures cause { IfErr result
-            (λ cause. swap_refusal self.old.trace.events self.old.events at ≡ Some cause) }
+        ensures none { OnOk result (swap_refusal (recorded self.old) self.old.events at ≡ None) }
+        ensures cause { IfErr result (λ c. swap_refusal (recorded self.old) self.old.events at ≡ Some c) }
     {
         if let Err(cause) = self.exchangeable(indexed, at) {
             return Err(cause);
@@ -280,10 +276,10 @@ impl Schedule {
     /// The event of the thread that follows those in the schedule, or None where all of them are there.
     pub fn next_of(&self, indexed: &Indexed, thread: u32) -> Option<u32>
         requires trace { self.now.trace ≡ indexed.now }
-        requires thread { thread < length self.now.trace.threads }
-        ensures next { result ≡ next_of self.now.trace.events self.now.events thread }
-        ensures thread { IfSome result (λ e. thread_at self.now.trace.events e ≡ Some thread) }
-        ensures within { IfSome result (λ e. e < length self.now.trace.events) }
+        requires thread { thread < thread_count self.now }
+        ensures next { result ≡ next_of (recorded self.now) self.now.events thread }
+        ensures thread { IfSome result (λ e. thread_at (recorded self.now) e ≡ Some thread) }
+        ensures within { IfSome result (λ e. e < length (recorded self.now)) }
     {
         let of_thread = indexed.thread_events(thread);
         of_thread
@@ -295,9 +291,9 @@ impl Schedule {
     /// their threads are, and their threads' forks. False also where one of them is no event.
     pub fn shows(&self, indexed: &Indexed, first: u32, second: u32) -> bool
         requires { self.now.trace ≡ indexed.now }
-        ensures shows { IsTrue result ↔ Shows self.now.trace.events self.now.events first second }
+        ensures shows { IsTrue result ↔ Shows (recorded self.now) self.now.events first second }
         // The same as a test, for definitions that filter by it.
-        ensures test { result ≡ does_show self.now.trace.events self.now.events first second }
+        ensures test { result ≡ does_show (recorded self.now) self.now.events first second }
     {
         if first >= indexed.len() {
             return false;

@@ -4,5 +4,6 @@ pub mod KeptLemmas
 pub mod LineLemmas
 pub mod NumberLemmas
 pub mod PartLemmas
+pub mod QuickBatchLemmas
 pub mod ReadingLemmas
 pub mod WordLemmas

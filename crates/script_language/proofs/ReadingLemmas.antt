@@ -7,7 +7,7 @@ use Rattle.std.proofs.lemmas.List.Sums.{count_by-le-length}
 use Rattle.std.proofs.lemmas.List.Splits.{length-slice_split}
 use Rattle.rapid_text.specs.Reading.{is_line_feed}
 use Rattle.inverse_log.specs.declared.call.Call.{Call}
-use Rattle.script_language.specs.Scripts.{Asked, script_line_reading, asked_by, asked_behind, AreRead, IsFirstRefused, IsScript}
+use Rattle.script_language.specs.Scripts.{Asked, script_line_reading, asked_by, asked_behind, AreRead, IsFirstRefused, IsScript, then_read, batch_reading}
 use Rattle.script_language.specs.declared.refusal.ScriptCause.{ScriptCause}
 use Rattle.script_language.specs.declared.refusal.ScriptRefusal.{ScriptRefusal}
 
@@ -86,3 +86,7 @@ underway-end text lines line script h e =
 pub is_ok-held : {A E P : Type 0} (r : Result A E) → is_err r ≡ false → OnOk r P → P
 is_ok-held (Ok value) done holds = holds
 is_ok-held (Err why) done holds = absurd cc
+
+-- a line that asks for a batch
+pub batch_reads : (reading : Result (Option (ℕ × Call)) ScriptCause) (client : ℕ) (words : List (List ℕ)) (call : Call) → reading ≡ then_read (batch_reading words) (λ asked. Ok (Some (client, asked))) → batch_reading words ≡ Ok call → reading ≡ Ok (Some (client, call))
+batch_reads reading client words call asks is = asks ∙ ap (λ r. then_read r (λ asked. Ok (Some (client, asked)))) is

@@ -5,6 +5,7 @@ pub mod LineWords
 pub mod LinesLeft
 pub mod Plain
 pub mod Questions
+pub mod QuickBatch
 pub mod Reading
 pub mod ScriptCalls
 pub mod Scripts

@@ -1,9 +1,13 @@
 -- The calls that own no memory, as their lines have them. No public clause cites this module.
-use Rattle.std.specs.Prelude.{◌≡◌, ◌≢◌, ℕ, ◌≤◌, length}
+use Rattle.std.specs.Prelude.{◌≡◌, ◌≢◌, ℕ, ◌≤◌, length, Option, Some, Result, Ok}
 use Rattle.inverse_log.specs.declared.call.Call.{Call}
 use Rattle.script_language.specs.Kept.{call_in, HasNames}
 use Rattle.script_language.specs.declared.kept.Form.TheVariants.{Owned}
 use Rattle.script_language.specs.declared.simple.Simple.{Simple}
+use Rattle.script_language.specs.declared.simple.Found.{Found}
+use Rattle.script_language.specs.declared.simple.Found.TheVariants.{Simple as FoundSimple, Batch as FoundBatch}
+use Rattle.script_language.specs.declared.refusal.ScriptCause.{ScriptCause}
+use Rattle.script_language.specs.Scripts.{then_read, batch_reading}
 
 -- the call
 abbrev pub simple_call : Simple → Call → Call
@@ -15,3 +19,18 @@ pub record IsSimple (s : Simple) : Type 0 where
   pub name : length s.name.now ≤ 64
   pub to : length s.to.now ≤ 64
   pub named : HasNames s.form s.name.now s.to.now
+
+-- what is found is what the words of a call read as
+abbrev pub AsksCall : Found → Result Call ScriptCause → Type 0
+AsksCall (FoundSimple s) reading = IsSimple s × ((own : Call) → reading ≡ Ok (simple_call s own))
+AsksCall (FoundBatch words) reading = reading ≡ batch_reading words
+
+-- the same with a client
+abbrev pub AsksWords : ℕ → Found → Result (ℕ × Call) ScriptCause → Type 0
+AsksWords client (FoundSimple s) reading = IsSimple s × ((own : Call) → reading ≡ Ok (client, simple_call s own))
+AsksWords client (FoundBatch words) reading = reading ≡ then_read (batch_reading words) (λ call. Ok (client, call))
+
+-- the same of a line
+abbrev pub AsksLine : ℕ → Found → Result (Option (ℕ × Call)) ScriptCause → Type 0
+AsksLine client (FoundSimple s) reading = IsSimple s × ((own : Call) → reading ≡ Ok (Some (client, simple_call s own)))
+AsksLine client (FoundBatch words) reading = reading ≡ then_read (batch_reading words) (λ call. Ok (Some (client, call)))

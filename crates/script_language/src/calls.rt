@@ -1,19 +1,17 @@
 //! Reads the call that a script line asks for.
-ghost use Rattle.std.specs.Prelude.{◌≡◌, ◌⊎◌, ◌≤◌, ℕ, IfOk, IfSome, Ok, Err, Some, map};
-ghost use Rattle.std.specs.List.{list_any, slice_split};
+ghost use Rattle.std.specs.Prelude.{◌≡◌, ◌⊎◌, ◌≤◌, ℕ, IfOk, IfSome, Ok, Err, Some};
 ghost use Rattle.dependence.specs.Limits.{client_limit};
-ghost use Rattle.script_language.specs.Arguments.{is_one, are_two, are_three, are_arguments};
-ghost use Rattle.script_language.specs.LineWords.{is_separator};
-ghost use Rattle.script_language.specs.Scripts.{name_reading, number_reading, numbers_reading, nothing_reading, one_name_reading, name_and_number_reading, branch_reading, command_arguments_reading, command_with, command_reading, is_bad_word, all_read, batch_reading, undo_reading, propose_reading, arguments_reading, call_reading, client_reading, words_reading, script_line_reading};
+ghost use Rattle.script_language.specs.Scripts.{name_reading, number_reading, numbers_reading, nothing_reading, one_name_reading, name_and_number_reading, branch_reading, command_arguments_reading, command_with, command_reading, batch_reading, undo_reading, propose_reading, arguments_reading, call_reading, client_reading, words_reading, script_line_reading};
 ghost use Rattle.script_language.specs.declared.refusal.ScriptCause.TheVariants.{OutOfMemory};
 
+use crate::batches::read_batch;
 use crate::lines::Words;
 use crate::number::number;
 use crate::refusal::ScriptCause;
 use crate::verb::{CommandVerb, Verb, verb_with};
 use event_index::EventList;
 use inverse_log::Call;
-use moves::{Command, Commands, Name};
+use moves::{Command, Name};
 use rapid_text::trim;
 use std::alloc::Global;
 
@@ -145,7 +143,7 @@ fn read_command_arguments(verb: CommandVerb, words: &mut Words<'_>) -> Result<Co
 }
 
 /// A command with its word.
-fn read_command(words: &mut Words<'_>) -> Result<Command, ScriptCause>
+pub(crate) fn read_command(words: &mut Words<'_>) -> Result<Command, ScriptCause>
     ensures { result ≡ command_reading words.old }
 {
     let Some(word) = words.next() else {
@@ -155,92 +153,6 @@ fn read_command(words: &mut Words<'_>) -> Result<Command, ScriptCause>
         Some(Verb::Do(verb)) => read_command_arguments(verb, words),
         _ => Err(ScriptCause::BadWord),
     }
-}
-
-/// Whether this is one word.
-fn is_one(words: &mut Words<'_>) -> bool
-    ensures { result ≡ is_one words.old }
-{
-    words.next().is_some() && words.next().is_none()
-}
-
-/// Whether these are two words.
-fn are_two(words: &mut Words<'_>) -> bool
-    ensures { result ≡ are_two words.old }
-{
-    words.next().is_some() && is_one(words)
-}
-
-/// Whether these are three words.
-fn are_three(words: &mut Words<'_>) -> bool
-    ensures { result ≡ are_three words.old }
-{
-    words.next().is_some() && are_two(words)
-}
-
-/// Whether these are as many words as a command of this kind has arguments.
-fn are_arguments(verb: CommandVerb, words: &mut Words<'_>) -> bool
-    ensures { result ≡ are_arguments verb words.old }
-{
-    match verb {
-        CommandVerb::New | CommandVerb::Back | CommandVerb::Drop => is_one(words),
-        CommandVerb::Add | CommandVerb::Swap | CommandVerb::Adopt => are_two(words),
-        CommandVerb::Branch => are_three(words),
-    }
-}
-
-/// Whether no command is written with this word, or with so many. The arguments are not read.
-fn is_bad_command(words: &mut Words<'_>) -> bool
-    ensures { result ≡ is_bad_word (command_reading words.old) }
-{
-    let Some(word) = words.next() else {
-        return true;
-    };
-    match verb_with(word) {
-        Some(Verb::Do(verb)) => !are_arguments(verb, words),
-        _ => true,
-    }
-}
-
-/// Whether one of the parts between separators is no command with its arguments.
-fn has_bad_word(words: Words<'_>) -> bool
-    ensures { result ≡ list_any is_bad_word (map command_reading (slice_split is_separator words.entry)) }
-{
-    let mut left = Some(words);
-    while let Some(words) = left.take() {
-        if is_bad_command(&mut words.before_separator()) {
-            return true;
-        }
-        left = words.behind_separator();
-    }
-    false
-}
-
-/// The commands between separators.
-fn read_commands(alloc: Global, words: Words<'_>) -> Result<Commands, ScriptCause>
-    ensures { (result ≡ Err OutOfMemory) ⊎ (result ≡ all_read (map command_reading (slice_split is_separator words.entry))) }
-{
-    let mut commands = Commands::new(alloc);
-    let mut left = Some(words);
-    while let Some(words) = left.take() {
-        let command = read_command(&mut words.before_separator())?;
-        if commands.push(command).is_err() {
-            return Err(ScriptCause::OutOfMemory);
-        }
-        left = words.behind_separator();
-    }
-    Ok(commands)
-}
-
-/// The commands of a batch. Each one's word and number of arguments are judged before the arguments of any.
-fn read_batch(alloc: Global, words: &mut Words<'_>) -> Result<Call, ScriptCause>
-    ensures { (result ≡ Err OutOfMemory) ⊎ (result ≡ batch_reading words.old) }
-{
-    if has_bad_word(words.again()) {
-        return Err(ScriptCause::BadWord);
-    }
-    let commands = read_commands(alloc, words.again())?;
-    Ok(Call::Batch(commands))
 }
 
 /// The argument of `undo`, if it has one: the number of an entry.

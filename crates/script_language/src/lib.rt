@@ -1,12 +1,14 @@
 //! The language of scripts: lines of a client's number, a command word and its arguments.
 #![tactic(auto)]
 
+mod batches;
 mod calls;
 mod kept;
 mod lines;
 mod number;
 mod plain;
 mod question;
+mod quick_batch;
 mod reading;
 mod refusal;
 mod script;

@@ -30,7 +30,7 @@ fn first_word(line: &[u8]) -> Option<(&[u8], &[u8])>
 }
 
 /// Whether the word separates the commands of a batch.
-fn is_separator(word: &[u8]) -> bool
+pub(crate) fn is_separator(word: &[u8]) -> bool
     ensures { result ≡ is_separator word.now }
 {
     word == b";".as_slice()

@@ -1,5 +1,5 @@
 //! Calls that own no memory, as a script gives them before they are made.
-ghost use Rattle.std.specs.Prelude.{◌≡◌, ◌≢◌, ◌+◌, ◌≤◌, length, IfSome};
+ghost use Rattle.std.specs.Prelude.{◌≡◌, ◌≢◌, ◌+◌, ◌≤◌, ℕ, List, length, IfSome, IfNone};
 ghost use Rattle.inverse_log.specs.declared.call.Call.{Call as CallValue};
 ghost use Rattle.script_language.specs.Kept.{name_in, to_in, call_in, HasNames};
 ghost use Rattle.script_language.specs.declared.kept.Form.TheVariants.{Owned};
@@ -51,7 +51,8 @@ impl<'a> PlainCall<'a> {
 
     /// The schedule that the call shows, if it is a call `Show`.
     pub fn shown(&self) -> Option<Name>
-        ensures { IfSome result (λ name. self.now ≡ CallValue.Show name) }
+        ensures some { IfSome result (λ name. self.now ≡ CallValue.Show name) }
+        ensures none { IfNone result ((name : List ℕ) → self.now ≢ CallValue.Show name) }
     {
         match self.kept.form {
             Form::Show => Some(first_name(self.names, self.kept)),

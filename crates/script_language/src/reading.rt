@@ -3,11 +3,12 @@ ghost use Rattle.std.specs.Prelude.{◌≡◌, ◌⊎◌, IfOk, IfErr, Ok, Err};
 ghost use Rattle.script_language.specs.Reading.{refusal_for};
 ghost use Rattle.script_language.specs.Scripts.{IsScript, no_memory};
 
+use crate::batches::read_batch;
 use crate::calls::read_line;
 use crate::lines::Lines;
 use crate::refusal::{ScriptCause, ScriptRefusal};
 use crate::script::Script;
-use crate::simple::simple_line;
+use crate::simple::{Found, found_on};
 use std::alloc::Global;
 
 /// The refusal for want of memory; no line is at fault.
@@ -41,20 +42,29 @@ pub fn read_script(alloc: Global, text: &[u8]) -> Result<Script, ScriptRefusal>
     let mut line = 0u64;
     while let Some(raw) = lines.next() {
         line += 1;
-        if let Some((client, simple)) = simple_line(raw) {
-            if script.push_simple(line, client, &simple).is_err() {
-                return Err(no_script_memory());
-            }
-            continue;
-        }
-        match read_line(alloc, raw) {
-            Ok(None) => {}
-            Ok(Some((client, call))) => {
-                if script.push(line, client, call).is_err() {
+        match found_on(raw) {
+            Some((client, Found::Simple(simple))) => {
+                if script.push_simple(line, client, &simple).is_err() {
                     return Err(no_script_memory());
                 }
             }
-            Err(why) => return Err(refusal_at(line, why)),
+            Some((client, Found::Batch(mut words))) => match read_batch(alloc, &mut words) {
+                Ok(call) => {
+                    if script.push(line, client, call).is_err() {
+                        return Err(no_script_memory());
+                    }
+                }
+                Err(why) => return Err(refusal_at(line, why)),
+            },
+            None => match read_line(alloc, raw) {
+                Ok(None) => {}
+                Ok(Some((client, call))) => {
+                    if script.push(line, client, call).is_err() {
+                        return Err(no_script_memory());
+                    }
+                }
+                Err(why) => return Err(refusal_at(line, why)),
+            },
         }
     }
     Ok(script)

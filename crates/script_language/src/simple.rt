@@ -4,7 +4,7 @@ ghost use Rattle.dependence.specs.Limits.{client_limit};
 ghost use Rattle.inverse_log.specs.declared.call.Call.{Call};
 ghost use Rattle.moves.specs.Names.{is_name};
 ghost use Rattle.script_language.specs.Scripts.{one_name_reading, name_and_number_reading, arguments_reading, call_reading, words_reading, script_line_reading};
-ghost use Rattle.script_language.specs.Simple.{simple_call, IsSimple};
+ghost use Rattle.script_language.specs.Simple.{simple_call, AsksCall, AsksLine, AsksWords, IsSimple};
 
 use crate::calls::{MAX_SCRIPT_LINE, read_client, read_number};
 use crate::kept::Form;
@@ -27,6 +27,15 @@ pub(crate) struct Simple<'a> {
     pub(crate) name: &'a [u8],
     /// The second name of a branch.
     pub(crate) to: &'a [u8],
+}
+
+/// What is found on a line of a script.
+#[derive(Drop)]
+pub(crate) enum Found<'a> {
+    /// A call that owns no memory.
+    Simple(Simple<'a>),
+    /// The words of a batch, which were not read yet.
+    Batch(Words<'a>),
 }
 
 /// A name alone.
@@ -180,20 +189,21 @@ fn arguments<'a>(verb: Verb, words: &mut Words<'a>) -> Option<Simple<'a>>
 }
 
 /// The words after the client's number.
-fn call<'a>(words: &mut Words<'a>) -> Option<Simple<'a>>
-    ensures read { IfSome result (λ s. (own : Call) → call_reading words.old ≡ Ok (simple_call s own)) }
-    ensures simple { IfSome result (λ s. IsSimple s) }
+fn call<'a>(words: &mut Words<'a>) -> Option<Found<'a>>
+    ensures { IfSome result (λ found. AsksCall found (call_reading words.old)) }
 {
     let word = words.next()?;
     let verb = verb_with(word)?;
-    arguments(verb, words)
+    if let Verb::Batch = verb {
+        return Some(Found::Batch(words.again()));
+    }
+    let simple = arguments(verb, words)?;
+    Some(Found::Simple(simple))
 }
 
 /// The words of a line.
-fn words_of<'a>(words: &mut Words<'a>) -> Option<(u32, Simple<'a>)>
-    ensures read { IfSome result (λ pair. (own : Call) →
-        words_reading words.old ≡ Ok (pair.0, simple_call pair.1 own)) }
-    ensures simple { IfSome result (λ pair. IsSimple pair.1) }
+fn words_of<'a>(words: &mut Words<'a>) -> Option<(u32, Found<'a>)>
+    ensures asks { IfSome result (λ pair. AsksWords pair.0 pair.1 (words_reading words.old)) }
     ensures client { IfSome result (λ pair. (1 ≤ pair.0) × (pair.0 ≤ client_limit)) }
 {
     let word = words.next()?;
@@ -204,11 +214,10 @@ fn words_of<'a>(words: &mut Words<'a>) -> Option<(u32, Simple<'a>)>
     Some((client, call))
 }
 
-/// The client and the call of a line, if the call owns no memory and the line is not refused.
-pub(crate) fn simple_line(raw: &[u8]) -> Option<(u32, Simple<'_>)>
-    ensures read { IfSome result (λ pair. (own : Call) →
-        script_line_reading raw.now ≡ Ok (Some (pair.0, simple_call pair.1 own))) }
-    ensures simple { IfSome result (λ pair. IsSimple pair.1) }
+/// The client of a line and what is found there, if the line asks for a batch, or for a call that owns no memory and is
+/// not refused.
+pub(crate) fn found_on(raw: &[u8]) -> Option<(u32, Found<'_>)>
+    ensures asks { IfSome result (λ pair. AsksLine pair.0 pair.1 (script_line_reading raw.now)) }
     ensures client { IfSome result (λ pair. (1 ≤ pair.0) × (pair.0 ≤ client_limit)) }
 {
     let line = trim(raw);

@@ -161,7 +161,7 @@ pub(crate) fn give_request<R: Wait>(
     requires { IsSeatAt (sends_on sender.now) pass.old }
     ensures { IsSeatAt (sends_on sender.now) pass.new }
 {
-    sender.send_as::<Free, R>(rt, pass, posed).is_ok()
+    sender.send_as::<Free, R>(rt, pass, posed).ok().is_some()
 }
 
 /// The next request, or None once the pool has dropped its end.
@@ -236,7 +236,7 @@ pub(crate) fn give_answer<R: Wait>(
     ensures channel { IsSeatAt (sends_on sender.now) pass.new }
     ensures kept { view pass.new ≡ view pass.old }
 {
-    sender.send_as::<Sent, R>(rt, pass, answer).is_ok()
+    sender.send_as::<Sent, R>(rt, pass, answer).ok().is_some()
 }
 
 /// The next answer, or None once all workers have stopped.

@@ -3,6 +3,7 @@ ghost use Rattle.std.specs.Prelude.{◌≡◌, ◌≢◌, ℕ, ◌<◌, ◌⊎�
 ghost use Rattle.std.specs.Arc.{arc_value};
 ghost use Rattle.crossbeam_channel.specs.Claims.{IsSeatAt};
 ghost use Rattle.crossbeam_channel.specs.Ends.{sends_on, receives_on};
+ghost use Rattle.search_pool.specs.Desks.{IsManned};
 ghost use Rattle.search_pool.specs.Limits.{worker_limit};
 ghost use Rattle.search_pool.specs.Passes.{IsOfTrace};
 ghost use Rattle.search_pool.specs.Pools.{AreRising, IsFull, IsPooled, Submits, Collects, IsTaken};
@@ -11,13 +12,13 @@ ghost use Rattle.search_pool.specs.declared.refusal.StartRefusal.TheVariants.{Ba
 ghost use Rattle.search_pool.specs.declared.refusal.SubmitRefusal.TheVariants.{Busy};
 
 use crate::line::{
-    AnswerPass, AnswerReceiver, MAX_PENDING, RequestPass, RequestSender, another_answerer,
-    another_requester, answer_line, give_request, next_answer, request_line,
+    AnswerPass, AnswerReceiver, MAX_PENDING, RequestPass, RequestSender, answer_line, give_request,
+    next_answer, request_line,
 };
 use crate::outcome::Found;
 use crate::refusal::{CollectRefusal, StartRefusal, SubmitRefusal};
 use crate::request::{Posed, Request, is_same, request_copy};
-use crate::worker::{Desk, Gate, hire};
+use crate::worker::{Desk, Gate, hire_all};
 use event_index::Indexed;
 use shb_clocks::Clocks;
 use std::alloc::Global;
@@ -102,28 +103,50 @@ impl<G: Gate + Drop + Send + 'static> Pool<G> {
         ensures pending { IfOk result (λ pool. pool.pending ≡ []) }
         ensures count { IfErr result (λ why. why ≢ BadCount) }
     {
-        let (requests, taken, mut request_pass) = request_line(alloc)?;
-        let (given, answers, mut answer_pass) = answer_line(alloc, &indexed)?;
-        let mut workers = Vec::new(alloc);
-        for gate in gates {
-            let desk = Desk {
-                alloc,
-                indexed: Arc::try_clone(&indexed)?,
-                clocks: Arc::try_clone(&clocks)?,
-                requests: taken.try_clone()?,
-                request_pass: another_requester(&requests, &mut request_pass),
-                answers: given.try_clone()?,
-                answer_pass: another_answerer(&given, &mut answer_pass, &indexed),
-            };
-            let worker = hire(rt, desk, gate)?;
-            if workers.push(worker).is_err() {
-                return Err(StartRefusal::OutOfMemory);
-            }
+        let (requests, taken, request_pass) = request_line(alloc)?;
+        let (given, answers, answer_pass) = answer_line(alloc, &indexed)?;
+        let mut own = Desk {
+            alloc,
+            indexed,
+            clocks,
+            requests: taken,
+            request_pass,
+            answers: given,
+            answer_pass,
+        };
+        match hire_all(rt, &requests, &mut own, gates) {
+            Ok(workers) => Ok(Pool::of_workers(requests, answers, own, workers)),
+            Err(why) => Err(why),
         }
+    }
+
+    // The pool of these workers, of whose desks that one is the first.
+    fn of_workers(
+        requests: RequestSender,
+        answers: AnswerReceiver,
+        own: Desk,
+        workers: Vec<JoinHandle<()>>,
+    ) -> Pool<G>
+        requires manned { IsManned own }
+        requires requests { receives_on own.requests ≡ sends_on requests }
+        requires answers { receives_on answers ≡ sends_on own.answers }
+        ensures trace { result.trace ≡ arc_value own.indexed }
+        ensures submitted { result.submitted ≡ 0 }
+        ensures pending { result.pending ≡ [] }
+    {
+        let Desk {
+            alloc,
+            indexed,
+            clocks: _,
+            requests: taken,
+            request_pass,
+            answers: given,
+            answer_pass,
+        } = own;
         // Only the workers keep ends at which requests are taken and answers given.
         drop(taken);
         drop(given);
-        Ok(Pool {
+        Pool {
             alloc,
             of: Snapshot::of(&*indexed),
             requests,
@@ -134,7 +157,7 @@ impl<G: Gate + Drop + Send + 'static> Pool<G> {
             pending: Vec::new(alloc),
             workers,
             gates: PhantomData,
-        })
+        }
     }
 
     /// Submits a request, and answers its number: how many were submitted before it.

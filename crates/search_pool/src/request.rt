@@ -1,5 +1,6 @@
 //! What a pool is asked.
 ghost use Rattle.std.specs.Prelude.{◌≡◌, IfOk, IsTrue};
+ghost use Rattle.search_pool.specs.declared.request.Way.TheVariants.{Slice, Greedy};
 
 use event_index::EventList;
 use rapid_text::OutOfMemory;
@@ -64,19 +65,33 @@ pub(crate) fn request_copy(alloc: Global, request: &Request) -> Result<Request, 
     })
 }
 
+fn is_slice(way: &Way) -> bool
+    ensures { IsTrue result → way.now ≡ Slice }
+{
+    match way {
+        Way::Slice => true,
+        Way::Greedy { base: _, budget: _ } => false,
+    }
+}
+
+fn is_greedy(way: &Way, base: &[u32], budget: u32) -> bool
+    ensures { IsTrue result → way.now ≡ Greedy base.now budget }
+{
+    match way {
+        Way::Slice => false,
+        Way::Greedy {
+            base: own,
+            budget: most,
+        } => *most == budget && own.items() == base,
+    }
+}
+
 fn is_same_way(one: &Way, other: &Way) -> bool
     ensures { IsTrue result → one.now ≡ other.now }
 {
-    match (one, other) {
-        (Way::Slice, Way::Slice) => true,
-        (
-            Way::Greedy { base, budget },
-            Way::Greedy {
-                base: other_base,
-                budget: other_budget,
-            },
-        ) => *budget == *other_budget && base.items() == other_base.items(),
-        _ => false,
+    match one {
+        Way::Slice => is_slice(other),
+        Way::Greedy { base, budget } => is_greedy(other, base.items(), *budget),
     }
 }
 

@@ -1,17 +1,20 @@
 //! What a worker does: request after request, until the pool or the other workers' channel is gone.
-ghost use Rattle.std.specs.Prelude.{◌≢◌, IfErr};
+ghost use Rattle.std.specs.Prelude.{◌≡◌, ◌≢◌, IfOk, IfErr};
+ghost use Rattle.std.specs.Arc.{arc_value};
+ghost use Rattle.crossbeam_channel.specs.Ends.{sends_on, receives_on};
 ghost use Rattle.search_pool.specs.Desks.{IsManned};
 ghost use Rattle.search_pool.specs.declared.refusal.StartRefusal.TheVariants.{BadCount};
 
 use crate::answer::Answer;
 use crate::line::{
-    AnswerPass, AnswerSender, RequestPass, RequestReceiver, give_answer, next_request,
+    AnswerPass, AnswerSender, RequestPass, RequestReceiver, RequestSender, another_answerer,
+    another_requester, give_answer, next_request,
 };
 use crate::outcome::work_on;
 use crate::refusal::StartRefusal;
 use event_index::Indexed;
 use shb_clocks::Clocks;
-use std::alloc::Global;
+use std::alloc::{AllocError, Global};
 use std::sync::{Arc, Wait};
 use std::thread;
 use std::thread::{JoinHandle, Threads};
@@ -52,11 +55,12 @@ fn work<R: Wait, G: Gate>(rt: &R, desk: &mut Desk, gate: &mut G)
     }
 }
 
-/// Starts a worker with this gate, or tells why none was started.
-pub(crate) fn hire<
-    R: Threads + Wait + Clone + Send + Drop + 'static,
-    G: Gate + Drop + Send + 'static,
->(rt: &R, desk: Desk, gate: G) -> Result<JoinHandle<()>, StartRefusal>
+// Starts a worker with this gate, or tells why none was started.
+fn hire<R: Threads + Wait + Clone + Send + Drop + 'static, G: Gate + Drop + Send + 'static>(
+    rt: &R,
+    desk: Desk,
+    gate: G,
+) -> Result<JoinHandle<()>, StartRefusal>
     requires { IsManned desk }
     ensures count { IfErr result (λ why. why ≢ BadCount) }
 {
@@ -96,4 +100,97 @@ fn serve<R: Wait + Drop, G: Gate + Drop>(rt: R, desk: Desk, gate: G)
     let mut own = desk;
     let mut own_gate = gate;
     work(&rt, &mut own, &mut own_gate);
+}
+
+// The trace and its clocks, shared once more.
+fn shared_again(own: &Desk) -> Result<(Arc<Indexed>, Arc<Clocks>), AllocError>
+    ensures indexed { IfOk result (λ r. arc_value r.0 ≡ arc_value own.now.indexed) }
+    ensures clocks { IfOk result (λ r. arc_value r.1 ≡ arc_value own.now.clocks) }
+{
+    let indexed = Arc::try_clone(&own.indexed)?;
+    let clocks = Arc::try_clone(&own.clocks)?;
+    Ok((indexed, clocks))
+}
+
+// Where requests are taken and answers given, once more.
+fn ends_again(own: &Desk) -> Result<(RequestReceiver, AnswerSender), AllocError>
+    ensures requests { IfOk result (λ r. receives_on r.0 ≡ receives_on own.now.requests) }
+    ensures answers { IfOk result (λ r. sends_on r.1 ≡ sends_on own.now.answers) }
+{
+    let requests = own.requests.try_clone()?;
+    let answers = own.answers.try_clone()?;
+    Ok((requests, answers))
+}
+
+// A further desk beside the worker's own, at the same channels, whose requests are sent at that end.
+fn further_desk(sender: &RequestSender, own: &mut Desk) -> Result<Desk, AllocError>
+    requires requests { receives_on own.old.requests ≡ sends_on sender.now }
+    requires manned { IsManned own.old }
+    ensures requests { receives_on own.new.requests ≡ sends_on sender.now }
+    ensures answers { sends_on own.new.answers ≡ sends_on own.old.answers }
+    ensures trace { arc_value own.new.indexed ≡ arc_value own.old.indexed }
+    ensures manned { IsManned own.new }
+    ensures made { IfOk result IsManned }
+{
+    let (indexed, clocks) = shared_again(own)?;
+    let (requests, answers) = ends_again(own)?;
+    Ok(Desk {
+        alloc: own.alloc,
+        indexed,
+        clocks,
+        requests,
+        request_pass: another_requester(sender, &mut own.request_pass),
+        answers,
+        answer_pass: another_answerer(&own.answers, &mut own.answer_pass, &own.indexed),
+    })
+}
+
+// Starts a worker at a further desk.
+fn hire_further<R: Threads + Wait + Clone + Send + Drop + 'static, G: Gate + Drop + Send + 'static>(
+    rt: &R,
+    sender: &RequestSender,
+    own: &mut Desk,
+    gate: G,
+) -> Result<JoinHandle<()>, StartRefusal>
+    requires requests { receives_on own.old.requests ≡ sends_on sender.now }
+    requires manned { IsManned own.old }
+    ensures requests { receives_on own.new.requests ≡ sends_on sender.now }
+    ensures answers { sends_on own.new.answers ≡ sends_on own.old.answers }
+    ensures trace { arc_value own.new.indexed ≡ arc_value own.old.indexed }
+    ensures manned { IsManned own.new }
+    ensures count { IfErr result (λ why. why ≢ BadCount) }
+{
+    match further_desk(sender, own) {
+        Ok(desk) => hire(rt, desk, gate),
+        Err(_) => Err(StartRefusal::OutOfMemory),
+    }
+}
+
+/// Starts a worker for each gate, at desks beside that one. If one cannot be started, those before it end once the ends of the
+/// channels are dropped.
+pub(crate) fn hire_all<
+    R: Threads + Wait + Clone + Send + Drop + 'static,
+    G: Gate + Drop + Send + 'static,
+>(
+    rt: &R,
+    sender: &RequestSender,
+    own: &mut Desk,
+    gates: Vec<G>,
+) -> Result<Vec<JoinHandle<()>>, StartRefusal>
+    requires requests { receives_on own.old.requests ≡ sends_on sender.now }
+    requires manned { IsManned own.old }
+    ensures requests { receives_on own.new.requests ≡ sends_on sender.now }
+    ensures answers { sends_on own.new.answers ≡ sends_on own.old.answers }
+    ensures trace { arc_value own.new.indexed ≡ arc_value own.old.indexed }
+    ensures manned { IsManned own.new }
+    ensures count { IfErr result (λ why. why ≢ BadCount) }
+{
+    let mut workers = Vec::new(own.alloc);
+    for gate in gates {
+        let worker = hire_further(rt, sender, own, gate)?;
+        if workers.push(worker).is_err() {
+            return Err(StartRefusal::OutOfMemory);
+        }
+    }
+    Ok(workers)
 }

@@ -1,6 +1,6 @@
 //! Lists of counts, kept in few bytes.
 ghost use Rattle.std.specs.Prelude.{◌≡◌, ◌+◌, ◌^◌, ◌<◌, ◌≤◌, ℕ, length, IfOk, IsTrue, slice_index, max};
-ghost use Rattle.shb_clocks.specs.Kept.{IsPlace, IsMore, count_in};
+ghost use Rattle.shb_clocks.specs.Kept.{IsPlace, IsMore, count_in, IsRaisedBy, CountsRow, IsNearAt, IsNear, AreRises, IsSumOf, IsRaisedToSum};
 
 use rapid_text::OutOfMemory;
 use std::alloc::Global;
@@ -79,7 +79,7 @@ impl Kept {
         requires place { IsPlace self.now place }
         requires width { length row.old ≡ self.now.width }
         ensures len { length row.new ≡ length row.old }
-        ensures counts { (t : ℕ) → t < self.now.width → slice_index row.new t ≡ max (slice_index row.old t) (count_in self.now place t) }
+        ensures counts { IsRaisedBy self.now place row.old row.new }
     {
         let wholes = &self.wholes[place.whole..place.whole + self.width];
         let rises = &self.rises[place.rise..place.rise + self.width];
@@ -91,7 +91,7 @@ impl Kept {
         requires width { length row.now ≡ self.old.width }
         ensures more { IsMore self.old self.new }
         ensures place { IfOk result (IsPlace self.new) }
-        ensures counts { IfOk result (λ place. (t : ℕ) → t < self.old.width → count_in self.new place t ≡ slice_index row.now t) }
+        ensures counts { IfOk result (CountsRow self.old.width self.new row.now) }
     {
         let whole = self.latest.get(thread as usize).copied().unwrap_or(0);
         if are_near(row, &self.wholes[whole..whole + self.width]) {
@@ -106,7 +106,7 @@ impl Kept {
         requires width { length row.now ≡ self.old.width }
         ensures more { IsMore self.old self.new }
         ensures place { IfOk result (IsPlace self.new) }
-        ensures counts { IfOk result (λ place. (t : ℕ) → t < self.old.width → count_in self.new place t ≡ slice_index row.now t) }
+        ensures counts { IfOk result (CountsRow self.old.width self.new row.now) }
     {
         let whole = self.wholes.len();
         self.wholes.extend_from_slice(row)?;
@@ -120,11 +120,10 @@ impl Kept {
     fn add_rises(&mut self, whole: usize, row: &[u32]) -> Result<Place, OutOfMemory>
         requires width { length row.now ≡ self.old.width }
         requires whole { whole + self.old.width ≤ length self.old.wholes }
-        requires near { (t : ℕ) → t < self.old.width
-            → (slice_index self.old.wholes (whole + t) ≤ slice_index row.now t) × (slice_index row.now t < slice_index self.old.wholes (whole + t) + 256) }
+        requires near { IsNearAt self.old whole row.now }
         ensures more { IsMore self.old self.new }
         ensures place { IfOk result (IsPlace self.new) }
-        ensures counts { IfOk result (λ place. (t : ℕ) → t < self.old.width → count_in self.new place t ≡ slice_index row.now t) }
+        ensures counts { IfOk result (CountsRow self.old.width self.new row.now) }
     {
         let rise = self.rises.len();
         self.rises.resize(rise + self.width, 0)?;
@@ -137,8 +136,7 @@ impl Kept {
 // Whether no number is less than the other, or more than 255 greater.
 fn are_near(row: &[u32], wholes: &[u32]) -> bool
     requires { length row.now ≡ length wholes.now }
-    ensures { IsTrue result → (t : ℕ) → t < length row.now
-        → (slice_index wholes.now t ≤ slice_index row.now t) × (slice_index row.now t < slice_index wholes.now t + 256) }
+    ensures { IsTrue result → IsNear wholes.now row.now }
 {
     let mut less = 0;
     let mut more = 0;
@@ -153,10 +151,9 @@ fn are_near(row: &[u32], wholes: &[u32]) -> bool
 fn put_rises(rises: &mut [u8], row: &[u32], wholes: &[u32])
     requires rises { length rises.old ≡ length row.now }
     requires wholes { length wholes.now ≡ length row.now }
-    requires near { (t : ℕ) → t < length row.now
-        → (slice_index wholes.now t ≤ slice_index row.now t) × (slice_index row.now t < slice_index wholes.now t + 256) }
+    requires near { IsNear wholes.now row.now }
     ensures len { length rises.new ≡ length rises.old }
-    ensures sums { (t : ℕ) → t < length row.now → slice_index wholes.now t + slice_index rises.new t ≡ slice_index row.now t }
+    ensures sums { AreRises wholes.now rises.new row.now }
 {
     for thread in 0..row.len() {
         rises[thread] = (row[thread] - wholes[thread]) as u8;
@@ -169,7 +166,7 @@ fn copy_each(row: &mut [u32], wholes: &[u32], rises: &[u8])
     requires rises { length row.old ≡ length rises.now }
     requires fits { (t : ℕ) → t < length row.old → slice_index wholes.now t + slice_index rises.now t < 2 ^ 32 }
     ensures len { length row.new ≡ length row.old }
-    ensures sums { (t : ℕ) → t < length row.old → slice_index row.new t ≡ slice_index wholes.now t + slice_index rises.now t }
+    ensures sums { IsSumOf wholes.now rises.now row.old row.new }
 {
     for thread in 0..wholes.len() {
         row[thread] = wholes[thread] + rises[thread] as u32;
@@ -183,8 +180,7 @@ fn raise_each(row: &mut [u32], wholes: &[u32], rises: &[u8])
     requires rises { length row.old ≡ length rises.now }
     requires fits { (t : ℕ) → t < length row.old → slice_index wholes.now t + slice_index rises.now t < 2 ^ 32 }
     ensures len { length row.new ≡ length row.old }
-    ensures larger { (t : ℕ) → t < length row.old
-        → slice_index row.new t ≡ max (slice_index row.old t) (slice_index wholes.now t + slice_index rises.now t) }
+    ensures larger { IsRaisedToSum wholes.now rises.now row.old row.new }
 {
     for thread in 0..wholes.len() {
         row[thread] = row[thread].max(wholes[thread] + rises[thread] as u32);

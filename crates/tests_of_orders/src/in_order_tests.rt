@@ -3,8 +3,8 @@
 use crate::fixtures::ONE_LOCK;
 use crate::questions::{Question, first_wrong};
 use event_index::Indexed;
-use in_order::{InOrderRefusal, fewer_runs, in_order, needs_of, turned};
 use std::alloc::Global;
+use witness_search::trace_order::{InOrderRefusal, fewer_runs, in_order, needs_of, turned};
 
 // Whether the list of the pair is this one, and stays so as its runs are put together.
 pub(crate) fn is_in_order(

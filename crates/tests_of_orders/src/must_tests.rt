@@ -3,9 +3,9 @@ ghost use Rattle.std.specs.Prelude.{◌≡◌};
 
 use crate::questions::{Question, first_wrong};
 use event_index::Indexed;
-use in_order::{Acquires, InOrderRefusal, in_order_size, turned_size};
 use must_order::{Chain, Must, Reason};
 use std::alloc::Global;
+use witness_search::trace_order::{Acquires, InOrderRefusal, in_order_size, turned_size};
 
 // Whether the thread of the event holds these locks before it.
 fn are_held(

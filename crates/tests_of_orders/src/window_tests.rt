@@ -108,6 +108,20 @@ fn first_wrong(alloc: Global) -> Option<usize> {
 }
 
 #[test]
+fn events_of_a_window_have_their_numbers_in_the_trace(rt: HostRuntime) {
+    let window = Window {
+        text: Vec::new(rt.alloc()),
+        from: 10,
+        to: 13,
+        prologue: 7,
+    };
+    assert_eq!(rt; window.number_of(6), None);
+    assert_eq!(rt; window.number_of(7), Some(10));
+    assert_eq!(rt; window.number_of(9), Some(12));
+    assert_eq!(rt; window.number_of(u64::MAX), None);
+}
+
+#[test]
 fn memory_windows_of_a_long_trace_are_made(rt: HostRuntime) {
     assert_eq!(rt; first_wrong(rt.alloc()), None);
 }

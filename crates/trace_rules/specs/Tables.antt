@@ -1,10 +1,11 @@
 -- What the tables say of the events so far. No public clause cites this module.
-use Rattle.std.specs.Prelude.{◌≡◌, ℕ, ◌+◌, ◌<◌, ◌==◌, if◌then◌else◌, List, length, take, slice_get, Option, Some, None}
+use Rattle.std.specs.Prelude.{◌≡◌, ℕ, ◌+◌, ◌<◌, ◌==◌, if◌then◌else◌, List, [], ◌∷◌, ◌++◌, length, take, slice_get, Option, Some, None}
 use Rattle.std.specs.List.{list_any}
 use Rattle.std.specs.Bool.{⊤}
 use Rattle.rapid_text.specs.Operations.{is_fork, is_join}
 use Rattle.rapid_text.specs.Recording.{Recording}
 use Rattle.rapid_text.specs.declared.event.Event.{Event}
+use Rattle.rapid_text.specs.declared.event.Op.TheVariants.{Acquire, Release}
 use Rattle.trace_rules.specs.Rules.{acquire_count, release_count}
 use Rattle.trace_rules.specs.declared.hold.Hold.{Hold}
 use Rattle.trace_rules.specs.declared.life.Life.{Life}
@@ -53,3 +54,19 @@ pub record IsStateOf (r : Recording) (i : ℕ) (s : State) : Type 0 where
   pub threads : length s.lives.items ≡ length r.threads
   pub holds : AreHoldsOf (take i r.events) s.holds.items
   pub lives : AreLivesOf (take i r.events) s.lives.items
+
+-- this holds after any events after which a lock is held as h says
+abbrev pub AfterHold : Hold → (List Event → ℕ → Type 0) → Type 0
+AfterHold h Q = (es : List Event) (l : ℕ) → IsHoldOf es l h → Q es l
+
+-- an acquire by thread t leads from the one hold to the other
+abbrev pub IsTakenBy : Hold → ℕ → Hold → Type 0
+IsTakenBy h t next =
+    (es : List Event) (l : ℕ) (e : Event)
+    → e.thread ≡ t → e.op ≡ Acquire l → IsHoldOf es l h → IsHoldOf (es ++ e ∷ []) l next
+
+-- a release by thread t does
+abbrev pub IsLetGoBy : Hold → ℕ → Hold → Type 0
+IsLetGoBy h t next =
+    (es : List Event) (l : ℕ) (e : Event)
+    → e.thread ≡ t → e.op ≡ Release l → IsHoldOf es l h → IsHoldOf (es ++ e ∷ []) l next

@@ -16,14 +16,11 @@ pub fn check(alloc: Global, raw: RawTrace) -> Result<Trace, (RawTrace, RuleRefus
     ensures returned { IfErr result (λ refused. refused.0 ≡ raw) }
     // Exactly the traces that keep the rules are accepted, but for want of memory.
     ensures disciplined { IfOk result (λ trace. IsDisciplined trace.events) }
-    ensures undisciplined { IfErr result
-        (λ refused. (refused.1 ≡ no_memory) ⊎ ¬ IsDisciplined raw.events) }
-    ensures first { IfErr result
-        (λ refused. (refused.1 ≡ no_memory) ⊎ IsFirstBreach raw.events refused.1) }
+    ensures undisciplined { IfErr result (λ refused. (refused.1 ≡ no_memory) ⊎ ¬ IsDisciplined raw.events) }
+    ensures first { IfErr result (λ r. (r.1 ≡ no_memory) ⊎ IsFirstBreach raw.events r.1) }
     // The same by the function, for definitions that go on from it.
     ensures accepted { IfOk result (λ trace. first_breach trace.events ≡ None) }
-    ensures refused { IfErr result
-        (λ refused. (refused.1 ≡ no_memory) ⊎ (first_breach raw.events ≡ Some refused.1)) }
+    ensures refused { IfErr result (λ r. (r.1 ≡ no_memory) ⊎ (first_breach raw.events ≡ Some r.1)) }
 {
     let Ok(mut state) = State::new(alloc, &raw) else {
         let no_memory = RuleRefusal {

@@ -1,9 +1,8 @@
 //! Who holds a lock.
-ghost use Rattle.std.specs.Prelude.{◌≡◌, ◌≢◌, ℕ, ◌<◌, List, [], ◌∷◌, ◌++◌};
-ghost use Rattle.rapid_text.specs.declared.event.Event.{Event};
+ghost use Rattle.std.specs.Prelude.{◌≡◌, ℕ, ◌<◌, []};
 ghost use Rattle.rapid_text.specs.declared.event.Op.{Op};
 ghost use Rattle.trace_rules.specs.Rules.{breach_of_op};
-ghost use Rattle.trace_rules.specs.Tables.{IsHoldOf, IsOpenTo};
+ghost use Rattle.trace_rules.specs.Tables.{IsHoldOf, IsOpenTo, AfterHold, IsTakenBy, IsLetGoBy};
 
 use crate::refusal::RuleCause;
 
@@ -26,7 +25,7 @@ pub(crate) fn free() -> Hold
 
 /// The rule that the thread breaks where it takes the lock now.
 pub(crate) fn breach_of_acquire(hold: Hold, thread: u32) -> Option<RuleCause>
-    ensures breach { (es : List Event) (l : ℕ) → IsHoldOf es l hold → result ≡ breach_of_op es thread (Op.Acquire l) }
+    ensures breach { AfterHold hold (λ es l. result ≡ breach_of_op es thread (Op.Acquire l)) }
     ensures allowed { result ≡ None → IsOpenTo thread hold }
 {
     match hold.owner {
@@ -38,7 +37,7 @@ pub(crate) fn breach_of_acquire(hold: Hold, thread: u32) -> Option<RuleCause>
 
 /// The rule that the thread breaks where it lets the lock go now.
 pub(crate) fn breach_of_release(hold: Hold, thread: u32) -> Option<RuleCause>
-    ensures breach { (es : List Event) (l : ℕ) → IsHoldOf es l hold → result ≡ breach_of_op es thread (Op.Release l) }
+    ensures breach { AfterHold hold (λ es l. result ≡ breach_of_op es thread (Op.Release l)) }
     ensures owned { result ≡ None → hold.owner ≡ Some thread }
 {
     if hold.owner == Some(thread) {
@@ -52,8 +51,7 @@ pub(crate) fn breach_of_release(hold: Hold, thread: u32) -> Option<RuleCause>
 pub(crate) fn taken(hold: Hold, thread: u32) -> Hold
     requires allowed { IsOpenTo thread hold }
     requires room { hold.depth < u32.MAX }
-    ensures { (es : List Event) (l : ℕ) (e : Event) → e.thread ≡ thread → e.op ≡ Op.Acquire l → IsHoldOf es l hold
-        → IsHoldOf (es ++ e ∷ []) l result }
+    ensures { IsTakenBy hold thread result }
 {
     Hold {
         owner: Some(thread),
@@ -65,8 +63,7 @@ pub(crate) fn taken(hold: Hold, thread: u32) -> Hold
 pub(crate) fn let_go(hold: Hold, thread: u32) -> Hold
     requires owned { hold.owner ≡ Some thread }
     requires deep { 0 < hold.depth }
-    ensures { (es : List Event) (l : ℕ) (e : Event) → e.thread ≡ thread → e.op ≡ Op.Release l → IsHoldOf es l hold
-        → IsHoldOf (es ++ e ∷ []) l result }
+    ensures { IsLetGoBy hold thread result }
 {
     let depth = hold.depth - 1;
     if depth == 0 {

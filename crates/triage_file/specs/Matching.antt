@@ -12,8 +12,8 @@ use Rattle.race_groups.specs.Rows.{same_places}
 use Rattle.race_triage.specs.declared.verdicts.Outcome.{Outcome}
 use Rattle.race_triage.specs.declared.verdicts.Outcome.TheVariants.{Race, Undecided, Apart}
 use Rattle.race_triage.specs.declared.verdicts.Verdict.{Verdict}
-use Rattle.source_places.specs.Located.{location_at}
-use Rattle.source_places.specs.Places.{before_arrow, behind_arrow, call_function, is_colon, is_line}
+use Rattle.explain_report.specs.places.Located.{location_at}
+use Rattle.explain_report.specs.places.Places.{before_arrow, behind_arrow, call_function, is_colon, is_line}
 use Rattle.toml.specs.Data.{Data, as_str}
 use Rattle.toml.specs.View.{view}
 use Rattle.toml.specs.declared.value.Value.{Value}

@@ -7,8 +7,8 @@ use Rattle.rapid_text.specs.Recording.{Recording}
 use Rattle.event_index.specs.Lookups.{before}
 use Rattle.race_triage.specs.declared.chosen.Chosen.{Chosen}
 use Rattle.race_triage.specs.declared.verdicts.Verdict.{Verdict}
-use Rattle.source_places.specs.Located.{location_at}
-use Rattle.source_places.specs.Places.{before_arrow}
+use Rattle.explain_report.specs.places.Located.{location_at}
+use Rattle.explain_report.specs.places.Places.{before_arrow}
 use Rattle.toml_writer.specs.Text.{string_text}
 use Rattle.triage_file.specs.Matching.{function_of, is_at, is_race, line_of, path_of, use_at}
 

@@ -8,10 +8,10 @@ ghost use Rattle.triage_file.specs.Matching.{are_named, are_sides, fits_function
 
 use crate::fields::{has, list_of, number_at, said_at};
 use event_index::Indexed;
+use explain_report::places::{call_of, cut_at_arrow, cut_at_last, is_line, location_of};
 use itoa::Buffer;
 use race_triage::Verdict;
 use rapid_text::{Op, RawTrace};
-use source_places::{call_of, cut_at_arrow, cut_at_last, is_line, location_of};
 use toml::Value;
 
 /// The path of a place `PATH:LINE`; another place is a path without a line.

@@ -2,7 +2,7 @@
 ghost use Rattle.std.specs.Prelude.{◌≡◌, ◌≤◌, ◌<◌, ℕ, None, IfSome, count_by, length, slice_index};
 ghost use Rattle.triage_file.specs.Spots.{begins_at, headers_before, is_bare, is_feed, is_first_byte, is_header_at, is_key_at, HasNoKey, IsHeader, IsKeySpot, IsSpot};
 
-use source_places::cut_at_last;
+use explain_report::places::cut_at_last;
 
 /// A place in a text.
 #[derive(Clone, Copy, PartialEq, Eq, Debug)]

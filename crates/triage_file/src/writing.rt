@@ -6,9 +6,9 @@ ghost use Rattle.triage_file.specs.Writing.{alone_line, entry_by, entry_text, fu
 use crate::choosing::is_race;
 use crate::matching::{function_of, is_at, line_of, path_of, use_of};
 use event_index::Indexed;
+use explain_report::places::{cut_at_arrow, location_of};
 use race_triage::{Chosen, Verdict};
 use rapid_text::OutOfMemory;
-use source_places::{cut_at_arrow, location_of};
 use std::alloc::Global;
 use std::fmt::Formatter;
 use toml_writer::write_string;

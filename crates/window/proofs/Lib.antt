@@ -14,6 +14,7 @@ pub mod LeavingLemmas
 pub mod LeftLemmas
 pub mod LineLemmas
 pub mod MadeLemmas
+pub mod MovingLemmas
 pub mod NumberLemmas
 pub mod NameLemmas
 pub mod PlaceLemmas

@@ -3,6 +3,7 @@ pub mod Cuts
 pub mod Fronts
 pub mod Laws
 pub mod Made
+pub mod Moving
 pub mod Renamed
 pub mod StreamLaws
 pub mod Streams

@@ -1,6 +1,7 @@
 //! Cuts a window from a trace.
-ghost use Rattle.std.specs.Prelude.{◌≡◌, ◌⊎◌, ◌+◌, ◌-◌, ◌<◌, ◌≤◌, ℕ, All, List, length, IfErr, IfOk};
+ghost use Rattle.std.specs.Prelude.{◌≡◌, ◌⊎◌, ◌+◌, ◌-◌, ◌^◌, ◌<◌, ◌≤◌, ℕ, All, List, length, IfErr, IfOk, IfSome, None};
 ghost use Rattle.rapid_text.specs.Recording.{IsNamed};
+ghost use Rattle.window.specs.Window.{back};
 ghost use Rattle.window.specs.Cuts.{HasNoNewName, IsCut, IsCutAs, IsEnd, last_end, prologue_of, prologue_size, window_text, window_text_at, with_name};
 ghost use Rattle.window.specs.declared.fault.CutFault.TheVariants.{NoName, NoSuchEvent, OutOfMemory as NoMemory};
 
@@ -23,6 +24,20 @@ pub struct Window {
     pub to: u64,
     /// How many events come before its own.
     pub prologue: u64,
+}
+
+impl Window {
+    /// The number in the trace of the event of this number in the window's text. None if it is an event of the prologue,
+    /// or if no u64 holds the number.
+    pub fn number_of(&self, event: u64) -> Option<u64>
+        ensures some { IfSome result (λ number. (self.now.prologue ≤ event) × (number ≡ back self.now.prologue self.now.from event)) }
+        ensures none { result ≡ None → (event < self.now.prologue) ⊎ (2 ^ 64 ≤ back self.now.prologue self.now.from event) }
+    {
+        if event < self.prologue {
+            return None;
+        }
+        self.from.checked_add(event - self.prologue)
+    }
 }
 
 // The end of the window at `from` with at most so many events, and the events of its prologue.

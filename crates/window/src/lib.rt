@@ -8,6 +8,7 @@ mod holding;
 mod laws;
 mod leaving;
 mod lines;
+mod moving;
 mod naming;
 mod past;
 mod piece;

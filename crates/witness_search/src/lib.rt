@@ -4,6 +4,7 @@
 mod refusal;
 mod searching;
 mod slicing;
+pub mod trace_order;
 mod wanting;
 
 pub use refusal::SliceRefusal;

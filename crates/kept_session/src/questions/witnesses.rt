@@ -1,13 +1,13 @@
 //! The answer that tells a schedule which shows a pair of events.
 ghost use Rattle.std.specs.Prelude.{◌≡◌, ◌<◌, ◌++◌, ℕ, List, codes, length, IfOk, OnOk};
-ghost use Rattle.pair_findings.specs.Findings.{IsFinding, IsNeverShown};
-ghost use Rattle.pair_findings.specs.declared.finding.Finding.{Finding};
+ghost use Rattle.explain_report.specs.findings.Findings.{IsFinding, IsNeverShown};
+ghost use Rattle.explain_report.specs.declared.findings.finding.Finding.{Finding};
 ghost use Rattle.kept_session.specs.QuestionWitnesses.{found_line, how_words, IsWitnessLine};
 
 use event_index::Indexed;
 use explain_report::How;
+use explain_report::findings::{Finding, find, pair_of};
 use must_order::Analysis;
-use pair_findings::{Finding, find, pair_of};
 use rapid_text::OutOfMemory;
 use report::{Piece, append_pieces};
 

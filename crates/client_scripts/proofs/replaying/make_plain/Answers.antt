@@ -8,12 +8,12 @@ pub returns-in-Some-shown-clause-text : goal.returns-in-Some-shown-clause-text
 returns-in-Some-shown-clause-text c =
     let v = c.args.bench.now in
     let answer : answer_of v.trace v.log c.args.client c.args.call.now ≡ Ok (Shown c.in-Some-shown.events.now) =
-    ap (λ d. answer_of v.trace v.log c.args.client d) c.in-Some.ensures ∙ c.in-Some-shown.ensures.some c.args.client in
+    ap (λ d. answer_of v.trace v.log c.args.client d) c.in-Some.ensures.some ∙ c.in-Some-shown.ensures.some c.args.client in
     c.in_ok-shown.ensures.ok ∙ ap (λ a. c.args.out.now.items ++ answer_text v.trace a) (sym answer)
 
 pub returns-in-Some-shown-clause-accepted : goal.returns-in-Some-shown-clause-accepted
 returns-in-Some-shown-clause-accepted c =
     let v = c.args.bench.now in
     let answer : answer_of v.trace v.log c.args.client c.args.call.now ≡ Ok (Shown c.in-Some-shown.events.now) =
-    ap (λ d. answer_of v.trace v.log c.args.client d) c.in-Some.ensures ∙ c.in-Some-shown.ensures.some c.args.client in
+    ap (λ d. answer_of v.trace v.log c.args.client d) c.in-Some.ensures.some ∙ c.in-Some-shown.ensures.some c.args.client in
     ap is_ok (sym answer)

@@ -5,7 +5,6 @@ use Rattle.event_index.specs.Lookups.{events_of}
 use Rattle.race_groups.specs.Counting.{unflagged_count}
 use Rattle.race_groups.specs.Counts.{keeps}
 use Rattle.race_groups.specs.Ends.{lower_of, upper_of}
-use Rattle.race_groups.proofs.BasisLemmas.{fronts_begin}
 use Rattle.race_groups.proofs.FlagLemmas.{flagged_all}
 use Rattle.race_groups.proofs.LoopLemmas.{later_sum-le}
 use Rattle.race_groups.proofs.counted.add_flags.Goals as goal
@@ -53,7 +52,7 @@ pub loop-at-init : goal.loop-at-init
 loop-at-init c = record {
   kept = c.in_ok-add_classes.ensures.rows;
   few = c.in_ok-add_classes.ensures.kept;
-  fronts = fronts_begin c.args.basis c.args.thread c.in_ok-fronts.fronts c.in_ok-fronts.ensures;
+  fronts = c.in_ok-fronts.ensures c.args.thread;
   rows = λ k p q le. omega (arith, c.in_ok-add_classes.ensures.ok k p q le);
 }
 

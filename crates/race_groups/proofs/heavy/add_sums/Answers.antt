@@ -1,9 +1,10 @@
 use Rattle.std.proofs.Common.{◌≡◌, length, Some, refl, arith}
 use Rattle.std.specs.List.{slice_get}
 use Rattle.std.proofs.lemmas.Option.{slice_get_read}
+use Rattle.event_index.specs.Lookups.{before}
 use Rattle.race_groups.specs.Counts.{keeps}
 use Rattle.race_groups.specs.Ends.{lower_of, upper_of}
-use Rattle.race_groups.proofs.BasisLemmas.{class_added, class_loose}
+use Rattle.race_groups.proofs.BasisLemmas.{class_added, class_loose, loose_same}
 use Rattle.race_groups.proofs.ClassLemmas.{class_none}
 use Rattle.race_groups.proofs.heavy.add_sums.Goals as goal
 
@@ -21,7 +22,9 @@ returns-in_default-clause-ok c = λ k p q le.
     omega (arith, more, less)
 
 pub add_loose-requires-clause-loose : goal.add_loose-requires-clause-loose
-add_loose-requires-clause-loose c = class_loose c.args.basis c.requires.basis c.args.thread c.requires.thread c.args.class c.sum_up.new.self c.sum_up.ensures
+add_loose-requires-clause-loose c =
+    rw (c.loose.ensures.earlier, c.loose.ensures.known, c.loose.ensures.forced)
+    (class_loose c.args.basis c.requires.basis c.args.thread c.requires.thread c.args.class c.sum_up.new.self c.sum_up.ensures)
 
 pub returns-clause-ok : goal.returns-clause-ok
 returns-clause-ok c = λ k p q le.
@@ -29,4 +32,7 @@ returns-clause-ok c = λ k p q le.
     let j = c.index-info.result.now in
     let at : slice_get infos c.args.class ≡ Some j = slice_get_read infos (length infos) c.args.class j refl c.requires.class c.index-info.ensures in
     let added = class_added c.args.basis c.requires.basis c.args.thread c.requires.thread c.args.class c.sum_up.new.self c.sum_up.ensures j at k p q in
-    omega (arith, c.in_ok-add_loose.ensures.ok k p q le, added)
+    let below = c.sum_up.new.self in
+    let same = loose_same c.args.basis.classes.now j c.loose.result below.earlier.counts.items below.known.counts.items below.forced.counts.items
+    c.loose.ensures.earlier c.loose.ensures.known c.loose.ensures.forced k p q (before (length infos))
+    in omega (arith, c.in_ok-add_loose.ensures.ok k p q le, same, added)

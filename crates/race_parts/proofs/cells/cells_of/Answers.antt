@@ -3,8 +3,8 @@ use Rattle.race_parts.proofs.cells.cells_of.Goals as goal
 
 pub returns : goal.returns
 returns c = record {
-  before = c.in_ok-cells.cells.items;
-  keys = c.in_ok-cells.ensures;
-  permutation = IsPermutation-trans _ _ _ c.in_ok-presort.ensures c.in_ok-sort.ensures.permutation;
+  before = c.in_ok-made.made.items;
+  keys = c.in_ok-made.ensures;
+  permutation = IsPermutation-trans _ _ _ c.in_ok-cells.ensures c.in_ok-sort.ensures.permutation;
   sorted = c.in_ok-sort.ensures.sorted;
 }

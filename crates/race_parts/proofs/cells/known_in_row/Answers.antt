@@ -1,5 +1,5 @@
 use Rattle.std.proofs.Common.{ap, sym, ◌∙◌}
-use Rattle.race_parts.specs.Cells.{fact_said}
+use Rattle.race_parts.specs.Said.{fact_said}
 use Rattle.race_parts.proofs.cells.known_in_row.Goals as goal
 
 pub returns-in-Other : goal.returns-in-Other

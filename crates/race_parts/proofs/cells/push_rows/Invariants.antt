@@ -1,5 +1,6 @@
 use Rattle.std.proofs.Common.{◌≡◌, ◌++◌, length, map}
-use Rattle.race_parts.specs.Cells.{row_said, said_in}
+use Rattle.race_parts.specs.Cells.{row_said}
+use Rattle.race_parts.specs.Said.{said_in}
 use Rattle.race_parts.specs.Lines.{lines_of}
 use Rattle.race_parts.proofs.cells.push_rows.Given as goal
 

@@ -2,7 +2,7 @@ use Rattle.std.proofs.Common.{◌≡◌, ◌∙◌, ap, rules}
 use Rattle.serde_json.specs.Data.{null}
 use Rattle.serde_json.specs.View.{view}
 use Rattle.serde_json.specs.declared.value.Value.{Null, the_lemmas}
-use Rattle.race_parts.specs.Cells.{said_by}
+use Rattle.race_parts.specs.Said.{said_by}
 use Rattle.race_parts.proofs.FactLemmas.{data_none}
 use Rattle.race_parts.proofs.facts.fact_in.Goals as goal
 

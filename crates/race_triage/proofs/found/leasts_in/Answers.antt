@@ -1,5 +1,5 @@
 use Rattle.std.proofs.Common.{ℕ, slice_index, subst}
-use Rattle.least_pairs.specs.Pairs.{AreLeasts}
+use Rattle.race_groups.specs.least_pairs.Pairs.{AreLeasts}
 use Rattle.race_triage.proofs.found.leasts_in.Goals as goal
 
 pub returns-clause-leasts : goal.returns-clause-leasts

@@ -1,7 +1,7 @@
 use Rattle.std.proofs.Common.{◌≡◌, ℕ, Bool, true, false, Option, refl, sym, subst, ◌∙◌, slice_index, arith}
 use Rattle.std.proofs.lemmas.Bool.{true≢false}
-use Rattle.least_pairs.specs.Pairs.{IsFit, IsLeastPair}
-use Rattle.least_pairs.specs.declared.wanted.Wanted.TheVariants.{Any}
+use Rattle.race_groups.specs.least_pairs.Pairs.{IsFit, IsLeastPair}
+use Rattle.race_groups.specs.declared.least_pairs.wanted.Wanted.TheVariants.{Any}
 use Rattle.race_triage.specs.Verdicts.{IsPairApart}
 use Rattle.race_triage.specs.declared.verdicts.Outcome.TheVariants.{Apart}
 use Rattle.race_triage.proofs.VerdictLemmas.{IsVerdict-made, none_fits, some_events}

@@ -1,7 +1,7 @@
 use Rattle.std.proofs.Common.{ℕ, Option, slice_index, subst, arith}
 use Rattle.explain_report.specs.declared.verdict.How.TheVariants.{Candidate as CandidateHow}
-use Rattle.least_pairs.specs.Pairs.{IsFit, IsLeastPair}
-use Rattle.least_pairs.specs.declared.wanted.Wanted.TheVariants.{Candidate}
+use Rattle.race_groups.specs.least_pairs.Pairs.{IsFit, IsLeastPair}
+use Rattle.race_groups.specs.declared.least_pairs.wanted.Wanted.TheVariants.{Candidate}
 use Rattle.race_triage.specs.Verdicts.{IsRaceOf}
 use Rattle.race_triage.proofs.RowLemmas.{no_candidate}
 use Rattle.race_triage.proofs.VerdictLemmas.{IsVerdict-made, candidate_counts, candidate_pair, race_is_not_apart, race_outcome}

@@ -1,7 +1,7 @@
 use Rattle.std.proofs.Common.{List, Option, IfSome, get_or, refl, sym, subst, take, arith}
 use Rattle.std.proofs.lemmas.List.{take_all, take_more}
 use Rattle.std.proofs.lemmas.Option.{slice_get-get_or}
-use Rattle.least_pairs.specs.declared.tries.Try.{Try}
+use Rattle.race_groups.specs.declared.least_pairs.tries.Try.{Try}
 use Rattle.race_triage.specs.Verdicts.{AreMissed, IsFoundBy, IsOpenRace}
 use Rattle.race_triage.specs.declared.verdicts.Outcome.{Outcome}
 use Rattle.race_triage.proofs.OneLemmas.{AreMissed-more}

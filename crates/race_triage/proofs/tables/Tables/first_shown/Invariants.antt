@@ -1,6 +1,6 @@
 -- No schedule of a pair was found so far.
 use Rattle.std.proofs.Common.{◌≤◌, take}
-use Rattle.pair_findings.specs.declared.searching.TheConstants.{BUDGET}
+use Rattle.explain_report.specs.declared.findings.searching.TheConstants.{BUDGET}
 use Rattle.race_triage.specs.Verdicts.{AreMissed}
 use Rattle.race_triage.proofs.tables.Tables.first_shown.Given as goal
 

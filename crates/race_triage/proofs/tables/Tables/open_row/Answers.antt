@@ -1,9 +1,9 @@
 use Rattle.std.proofs.Common.{◌≡◌, ◌≢◌, ℕ, List, Option, Some, IfSome, length, take, sym, ap, ◌∙◌, subst, arith, slice_index}
 use Rattle.std.specs.List.{slice_index_or}
 use Rattle.std.proofs.lemmas.Bool.{eqb-false, eqb-true}
-use Rattle.least_pairs.specs.Pairs.{IsFit, IsLeastPair}
-use Rattle.least_pairs.specs.declared.tries.Try.{Try}
-use Rattle.least_pairs.specs.declared.wanted.Wanted.TheVariants.{Open}
+use Rattle.race_groups.specs.least_pairs.Pairs.{IsFit, IsLeastPair}
+use Rattle.race_groups.specs.declared.least_pairs.tries.Try.{Try}
+use Rattle.race_groups.specs.declared.least_pairs.wanted.Wanted.TheVariants.{Open}
 use Rattle.race_triage.specs.Verdicts.{AreMissed, AreOpenPairs, IsFirstFound, IsShownFirst}
 use Rattle.race_triage.specs.declared.verdicts.Outcome.{Outcome}
 use Rattle.race_triage.specs.declared.verdicts.Outcome.TheVariants.{Undecided}

@@ -1,6 +1,6 @@
 use Rattle.std.proofs.Common.{ℕ, Option, IfSome, subst}
-use Rattle.in_order.specs.Laws.{HasListInOrder}
-use Rattle.in_order.specs.Sizes.{IsSizeInOrder}
+use Rattle.witness_search.specs.trace_order.Laws.{HasListInOrder}
+use Rattle.witness_search.specs.trace_order.Sizes.{IsSizeInOrder}
 use Rattle.race_triage.proofs.OutcomeLemmas.{candidate_in_order}
 use Rattle.race_triage.proofs.tables.Tables.race_of_candidate.Goals as goal
 

@@ -1,7 +1,7 @@
 use Rattle.std.proofs.Common.{ℕ, Option, IfSome, subst, inl}
 use Rattle.std.proofs.lemmas.Result.{IfOk-weaker}
-use Rattle.in_order.specs.Laws.{HasListInOrder}
-use Rattle.in_order.specs.Sizes.{IsSizeInOrder}
+use Rattle.witness_search.specs.trace_order.Laws.{HasListInOrder}
+use Rattle.witness_search.specs.trace_order.Sizes.{IsSizeInOrder}
 use Rattle.race_triage.proofs.OutcomeLemmas.{beyond_in_order, list_in_order}
 use Rattle.race_triage.proofs.VerdictLemmas.{turned_open}
 use Rattle.race_triage.proofs.tables.Tables.race_of_open.Goals as goal

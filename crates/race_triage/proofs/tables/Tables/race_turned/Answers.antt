@@ -1,5 +1,5 @@
 use Rattle.std.proofs.Common.{ℕ, Option, IfSome, subst, inr}
-use Rattle.in_order.specs.Counting.{IsTurnedOfSize}
+use Rattle.witness_search.specs.trace_order.Counting.{IsTurnedOfSize}
 use Rattle.race_triage.proofs.OneLemmas.{IsTurned-more}
 use Rattle.race_triage.proofs.tables.Tables.race_turned.Goals as goal
 

@@ -1,4 +1,4 @@
-use Rattle.pair_findings.proofs.FindingLemmas.{has_no_list}
+use Rattle.explain_report.proofs.findings.FindingLemmas.{has_no_list}
 use Rattle.race_triage.proofs.tables.Tables.size_in_order.Goals as goal
 
 pub returns-else-wants_memory-clause-never : goal.returns-else-wants_memory-clause-never

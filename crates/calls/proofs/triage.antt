@@ -1,0 +1,6 @@
+mod AnswerLemmas
+mod AppendLemmas
+pub mod LeavingListedLemmas
+pub mod LeavingMetLemmas
+pub mod LeavingSplitLemmas
+mod OneLemmas

@@ -1,0 +1,14 @@
+pub mod Answers
+pub mod Confirmed
+pub mod TriageFaults
+pub mod Judged
+pub mod Laws
+pub mod Leaving
+pub mod LeavingEntries
+pub mod LeavingFilters
+pub mod LeavingLines
+pub mod LeavingListed
+pub mod LeavingSplitting
+pub mod Left
+pub mod Merging
+pub mod Triaged

@@ -1,0 +1,28 @@
+-- What is told of a trace is one, whoever found it. All notions here are this project's own.
+use Rattle.std.specs.Prelude.{◌≡◌, ℕ, List, Option, None, ⊤}
+use Rattle.rapid_text.specs.Recording.{Recording}
+use Rattle.race_triage.specs.Same.{IsLegal}
+use Rattle.calls.specs.triage.Answers.{IsListing}
+use Rattle.calls.specs.declared.triage.asked.Asked.{Asked}
+use Rattle.calls.specs.declared.triage.asked.Form.{Form}
+use Rattle.calls.specs.declared.triage.asked.Form.TheVariants.{Text, Json, Lines, Entries, Sarif, Page}
+
+-- lines, of text, of JSON, for editors or of a triage file, and no page and no log, which have schedules
+abbrev pub IsLines : Form → Type 0
+IsLines Text = ⊤
+IsLines Json = ⊤
+IsLines Lines = ⊤
+IsLines Entries = ⊤
+IsLines (Sarif sources) = ⊥
+IsLines (Page about) = ⊥
+
+-- Without a triage file, two texts in lines that tell of one trace what was asked for are one, and tell of as many races, however many workers there were for each.
+abbrev pub ListingsAreOne : Type 0
+ListingsAreOne =
+    (r : Recording) (given : Option (List ℕ)) (asked : Asked) (workers races others : ℕ) (text words : List ℕ)
+    → IsLegal r
+    → IsLines asked.form
+    → asked.triage ≡ None
+    → IsListing r given asked races text
+    → IsListing r given (record asked { workers = workers }) others words
+    → (text ≡ words) × (races ≡ others)

@@ -1,0 +1,38 @@
+-- Which cells stay. The cells of a pair of locations are side by side, and they stay or are left out together. All
+-- notions here are this project's own.
+use Rattle.std.specs.Prelude.{nat_eq, ◌&&◌, ◌||◌, not, Bool, cond, List, [], ◌∷◌, ◌++◌, Option, Some}
+use Rattle.race_parts.specs.Texts.{is_new}
+use Rattle.race_parts.specs.declared.cells.Cell.{Cell}
+use Rattle.race_parts.specs.declared.cells.Row.{Row}
+use Rattle.toml.specs.declared.value.Value.{Value}
+use Rattle.calls.specs.triage.LeavingEntries.{is_decided}
+use Rattle.calls.specs.triage.LeavingFilters.{is_hidden}
+use Rattle.calls.specs.triage.LeavingListed.{is_listed_by}
+use Rattle.calls.specs.declared.triage.leaving.splitting.Test.{Test}
+use Rattle.calls.specs.declared.triage.leaving.splitting.Test.TheVariants.{Race, Block}
+
+-- the locations of the cell, the first of these, are a race that is listed, or that an entry leaves out
+abbrev pub drops_race : (Cell → Bool) → List Row → List Value → Cell → List Cell → Bool
+drops_race listed rows es c cs = nat_eq c.rank 0 && (listed c || is_decided rows es c cs)
+
+-- the test leaves out the locations of the cell, the first of these
+abbrev pub drops_first : List Row → Test → Cell → List Cell → Bool
+drops_first rows (Race listed es) c cs = drops_race (is_listed_by listed) rows es.now c cs
+drops_first rows (Block filters) c cs = is_hidden filters rows c
+
+-- The first of these cells is left out. If it is the first of its locations the test decides, else the cell before it.
+abbrev pub is_out : (Cell → List Cell → Bool) → Bool → Bool → List Cell → Bool
+is_out test first was [] = was
+is_out test first was (c ∷ cs) = cond first (test c (c ∷ cs)) was
+
+-- the cells that stay
+abbrev pub staying : (Cell → List Cell → Bool) → Option Cell → Bool → List Cell → List Cell
+staying test before was [] = []
+staying test before was (c ∷ cs) =
+    cond (not (is_out test (is_new before c) was (c ∷ cs))) (c ∷ []) []
+    ++ staying test (Some c) (is_out test (is_new before c) was (c ∷ cs)) cs
+
+-- the first cell of each pair of locations that is left out
+abbrev pub leaving : (Cell → List Cell → Bool) → Option Cell → List Cell → List Cell
+leaving test before [] = []
+leaving test before (c ∷ cs) = cond (is_new before c && test c (c ∷ cs)) (c ∷ []) [] ++ leaving test (Some c) cs

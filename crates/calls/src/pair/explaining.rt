@@ -1,0 +1,208 @@
+//! Explains a pair: reads the trace, finds what is to be said of the pair, makes the text, and writes it.
+ghost use Rattle.std.specs.Prelude.{◌≡◌, ◌≢◌, ◌<◌, ◌++◌, ℕ, List, length, false, true, IfSome, IfOk, IfErr, OnOk, Err};
+ghost use Rattle.client_scripts.specs.declared.fault.ReadCause.{ReadCause};
+ghost use Rattle.client_scripts.specs.declared.fault.ReadCause.TheVariants.{Device};
+ghost use Rattle.client_scripts.specs.declared.fault.ReplayFault.TheVariants.{Write, Read};
+ghost use Rattle.explain_report.specs.findings.Findings.{IsFinding, IsNeverShown};
+ghost use Rattle.calls.specs.pair.Answers.{IsExplained, IsExplanation, IsFindingTold, IsPairTold, IsUnexplained, IsWritten};
+ghost use Rattle.calls.specs.declared.pair.fault.PairFault.TheVariants.{Replay};
+
+use crate::pair::fault::PairFault;
+use crate::pair::naming::named_pair;
+use crate::pair::writing::write_text;
+use client_scripts::{Sink, Source, read_trace};
+use event_index::Indexed;
+use explain_report::findings::{Finding, find};
+use explain_report::places::Name;
+use explain_report::{Verdict, explain_text};
+use must_order::Analysis;
+use rapid_text::OutOfMemory;
+use std::alloc::Global;
+
+/// What is found of a conflicting pair, whose earlier event is the first.
+pub(crate) fn finding_of(
+    alloc: Global,
+    indexed: &Indexed,
+    first: u32,
+    second: u32,
+) -> Result<Finding, OutOfMemory>
+    requires first { first < length indexed.now.events }
+    requires second { second < length indexed.now.events }
+    ensures finding { IfOk result (IsFinding indexed.now first second) }
+    ensures never { IfOk result (IsNeverShown indexed.now.events first second) }
+{
+    match Analysis::new(alloc, indexed) {
+        Ok(analysis) => {
+            let found = find(alloc, &analysis, first, second);
+            drop(analysis);
+            found
+        }
+        Err(refused) => Err(refused),
+    }
+}
+
+/// Appends what was found of the pair, whose earlier event stands first.
+fn append_finding(
+    text: &mut Vec<u8>,
+    analysis: &Analysis<'_>,
+    finding: &Finding,
+    pair: (u32, u32),
+    all: bool,
+) -> Result<(), OutOfMemory>
+    ensures { OnOk result ((told : List ℕ) × IsFindingTold analysis.now finding.now pair.0 pair.1 told × (text.new.items ≡ text.old.items ++ told)) }
+{
+    match finding {
+        Finding::Race { how, events } => {
+            let verdict = Verdict::Race {
+                how: *how,
+                events: events.items(),
+                all,
+            };
+            explain_text(analysis, &verdict, pair, text)?;
+        }
+        Finding::Forced { chains } => {
+            let verdict = Verdict::Forced { chains };
+            explain_text(analysis, &verdict, pair, text)?;
+        }
+        Finding::Guarded { lock } => {
+            let verdict = Verdict::Guarded { lock: *lock };
+            explain_text(analysis, &verdict, pair, text)?;
+        }
+        Finding::Undecided { events } => {
+            let verdict = Verdict::Undecided { events };
+            explain_text(analysis, &verdict, pair, text)?;
+        }
+    }
+    Ok(())
+}
+
+/// Appends a right finding on the pair.
+fn append_found(
+    text: &mut Vec<u8>,
+    analysis: &Analysis<'_>,
+    finding: &Finding,
+    pair: (u32, u32),
+    all: bool,
+) -> Result<(), OutOfMemory>
+    requires finding { IsFinding analysis.now pair.0 pair.1 finding.now }
+    requires never { IsNeverShown analysis.now.events pair.0 pair.1 finding.now }
+    ensures { OnOk result ((told : List ℕ) × IsPairTold analysis.now pair.0 pair.1 told × (text.new.items ≡ text.old.items ++ told)) }
+{
+    append_finding(text, analysis, finding, pair, all)?;
+    Ok(())
+}
+
+/// Appends what is found of the pair, by the trace's orders.
+fn append_explained(
+    text: &mut Vec<u8>,
+    analysis: &Analysis<'_>,
+    pair: (u32, u32),
+    all: bool,
+) -> Result<(), OutOfMemory>
+    requires first { pair.0 < length analysis.now.events }
+    requires second { pair.1 < length analysis.now.events }
+    ensures { OnOk result ((told : List ℕ) × IsPairTold analysis.now pair.0 pair.1 told × (text.new.items ≡ text.old.items ++ told)) }
+{
+    match find(*text.allocator(), analysis, pair.0, pair.1) {
+        Ok(finding) => append_found(text, analysis, &finding, pair, all),
+        Err(refused) => Err(refused),
+    }
+}
+
+/// Appends the same.
+fn append_explanation(
+    text: &mut Vec<u8>,
+    indexed: &Indexed,
+    pair: (u32, u32),
+    all: bool,
+) -> Result<(), OutOfMemory>
+    requires first { pair.0 < length indexed.now.events }
+    requires second { pair.1 < length indexed.now.events }
+    ensures { OnOk result ((told : List ℕ) × IsPairTold indexed.now pair.0 pair.1 told × (text.new.items ≡ text.old.items ++ told)) }
+{
+    match Analysis::new(*text.allocator(), indexed) {
+        Ok(analysis) => append_explained(text, &analysis, pair, all),
+        Err(refused) => Err(refused),
+    }
+}
+
+/// The text that explains the pair.
+fn explanation_of(
+    alloc: Global,
+    indexed: &Indexed,
+    one: Name<'_>,
+    other: Name<'_>,
+    all: bool,
+) -> Result<Vec<u8>, PairFault>
+    ensures text { IfOk result (λ text. IsExplanation indexed.now one.entry other.entry text.items) }
+    ensures fault { IfErr result (IsUnexplained indexed.now one.entry other.entry) }
+{
+    let pair = match named_pair(alloc, indexed, one, other)? {
+        Some(pair) => pair,
+        None => return Err(PairFault::NoSuchPair),
+    };
+    let mut text = Vec::new(alloc);
+    append_explanation(&mut text, indexed, pair, all)?;
+    Ok(text)
+}
+
+/// Writes the text that explains the pair.
+fn write_explanation<K: Sink>(
+    alloc: Global,
+    indexed: &Indexed,
+    one: Name<'_>,
+    other: Name<'_>,
+    all: bool,
+    writer: &mut K,
+) -> Result<(), PairFault>
+    requires { K.has_failed writer.old ≡ false }
+    ensures written { IsWritten (λ r text. IsExplanation r one.entry other.entry text) (λ r fault. IsUnexplained r one.entry other.entry fault)
+        indexed.now (K.taken writer.old) (K.taken writer.new) result }
+    ensures unread { (input : ℕ) (why : ReadCause) → result ≢ Err (Replay (Read input why)) }
+    ensures failed { K.has_failed writer.new ≡ true → result ≡ Err (Replay Write) }
+    ensures write { result ≡ Err (Replay Write) → K.has_failed writer.new ≡ true }
+{
+    let text = match explanation_of(alloc, indexed, one, other, all) {
+        Ok(text) => text,
+        Err(fault) => return Err(fault),
+    };
+    write_text(writer, text.as_slice())
+}
+
+/// Reads a trace text, whole, and writes what is found of the pair that these names mean, given in either order: a schedule
+/// that shows it, told by its runs; what keeps the two apart in every correct reordering of this trace; or that neither was
+/// found. Of a schedule of more than eleven runs the first are one block, unless `all` is true.
+///
+/// Before the faults 91, 92, 94 and 98 nothing is written, nor where memory is refused. At 95 what was written is a beginning of
+/// the text.
+pub fn explain<S: Source, K: Sink>(
+    alloc: Global,
+    reader: &mut S,
+    one: Name<'_>,
+    other: Name<'_>,
+    all: bool,
+    writer: &mut K,
+) -> Result<(), PairFault>
+    requires reader { S.has_failed reader.old ≡ false }
+    requires writer { K.has_failed writer.old ≡ false }
+    // There is a text, the one that the reader tells where it tells it, of which this comes.
+    ensures explained { (bytes : List ℕ)
+        × IfSome (S.rest reader.old) (λ told. bytes ≡ told)
+        × IsExplained bytes one.entry other.entry (K.taken writer.old) (K.taken writer.new) result }
+    // There is one input, and no second one is named.
+    ensures input { (why : ReadCause) → result ≢ Err (Replay (Read 2 why)) }
+    // The device is at fault exactly where a read failed, and the writer exactly where a write failed.
+    ensures device { result ≡ Err (Replay (Read 1 Device)) → S.has_failed reader.new ≡ true }
+    ensures read_failed { S.has_failed reader.new ≡ true → result ≡ Err (Replay (Read 1 Device)) }
+    ensures write { result ≡ Err (Replay Write) → K.has_failed writer.new ≡ true }
+    ensures write_failed { K.has_failed writer.new ≡ true → result ≡ Err (Replay Write) }
+{
+    match read_trace(alloc, reader) {
+        Ok(indexed) => {
+            let outcome = write_explanation(alloc, &indexed, one, other, all, writer);
+            drop(indexed);
+            outcome
+        }
+        Err(fault) => Err(PairFault::Replay(fault)),
+    }
+}

@@ -1,0 +1,54 @@
+//! In which form a schedule is printed.
+ghost use Rattle.std.specs.Prelude.{◌≡◌, ◌<◌, ◌++◌, ℕ, List, length, All, OnOk};
+ghost use Rattle.calls.specs.pair.Forms.{IsPrinted, lines_form};
+
+use event_index::Indexed;
+use explain_report::picture::picture_text;
+use explain_report::{Form as LinesForm, witness_text};
+use rapid_text::OutOfMemory;
+
+/// In which form a schedule is printed.
+#[derive(Clone, Copy, PartialEq, Eq, Debug)]
+pub enum Form {
+    /// Its events, each behind its number.
+    Events,
+    /// A script of one client that builds it and asks which pairs it shows.
+    Script,
+    /// A trace text: its events, and then the pair.
+    Trace,
+    /// A picture.
+    Svg,
+}
+
+/// The form of a text in lines; None of a picture.
+fn lines_form_of(form: Form) -> Option<LinesForm>
+    ensures { result ≡ lines_form form }
+{
+    match form {
+        Form::Events => Some(LinesForm::Events),
+        Form::Script => Some(LinesForm::Script),
+        Form::Trace => Some(LinesForm::Trace),
+        Form::Svg => None,
+    }
+}
+
+/// Appends the schedule of these events, which shows the pair, in this form.
+pub(crate) fn append_schedule(
+    text: &mut Vec<u8>,
+    indexed: &Indexed,
+    events: &[u32],
+    first: u32,
+    second: u32,
+    form: Form,
+) -> Result<(), OutOfMemory>
+    requires events { All (λ e. e < length indexed.now.events) events.now }
+    requires first { first < length indexed.now.events }
+    requires second { second < length indexed.now.events }
+    ensures { OnOk result ((printed : List ℕ) × (text.new.items ≡ text.old.items ++ printed) × IsPrinted indexed.now events.now first second form printed) }
+{
+    match lines_form_of(form) {
+        Some(lines) => witness_text(indexed, events, first, second, lines, text)?,
+        None => picture_text(indexed, events, first, second, text)?,
+    }
+    Ok(())
+}

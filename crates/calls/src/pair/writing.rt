@@ -1,0 +1,23 @@
+//! Writes the text of an answer.
+ghost use Rattle.std.specs.Prelude.{◌≡◌, false, IfErr, OnErr, OnOk, is_err};
+ghost use Rattle.std.specs.Io.KnownBytes.{Appends};
+ghost use Rattle.client_scripts.specs.Replay.{AppendsPart};
+ghost use Rattle.client_scripts.specs.declared.fault.ReplayFault.TheVariants.{Write};
+ghost use Rattle.calls.specs.declared.pair.fault.PairFault.TheVariants.{Replay};
+
+use crate::pair::fault::PairFault;
+use client_scripts::{ReplayFault, Sink, write_all};
+
+/// Writes the text, whole; or a beginning of it, where a write fails.
+pub(crate) fn write_text<K: Sink>(writer: &mut K, text: &[u8]) -> Result<(), PairFault>
+    requires { K.has_failed writer.old ≡ false }
+    ensures ok { OnOk result (Appends (K.taken writer.old) (K.taken writer.new) text.now) }
+    ensures err { OnErr result (AppendsPart (K.taken writer.old) (K.taken writer.new) text.now) }
+    ensures why { IfErr result (λ fault. fault ≡ Replay Write) }
+    ensures failed { K.has_failed writer.new ≡ is_err result }
+{
+    match write_all(writer, text) {
+        Ok(()) => Ok(()),
+        Err(_) => Err(PairFault::Replay(ReplayFault::Write)),
+    }
+}

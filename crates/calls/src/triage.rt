@@ -1,0 +1,31 @@
+//! The calls that the program makes for `triage`, and for the log and the page of a merged report, over readers and a writer.
+
+mod asked;
+mod confirming;
+mod fault;
+mod judged;
+mod known;
+mod laws;
+mod leaving;
+mod left;
+mod listing;
+mod merging;
+mod texts;
+mod triaged;
+mod writing;
+
+pub use asked::{Asked, Crew, Form, Hears};
+pub use confirming::{ConfirmedFault, confirmed_fault_text, read_confirmed};
+pub use fault::{TriageFault, triage_fault_text};
+pub use followed_races::Followed;
+pub use judged::have_events;
+pub use laws::listings_are_one;
+pub use leaving::{Choice, Left, is_met, left_of};
+pub use left::{MergedAsked, MergedForm, write_left};
+pub use listing::{triage, triage_on};
+pub use merging::{MergedLog, write_merged_page, write_merged_sarif};
+pub use race_page::About;
+pub use race_triage::{Filters, MAX_TRIES, Silent, Watch, has_block};
+pub use triage_file::{Table, Value, entries_of, hides};
+pub use triage_report::sarif::{SourceLine, Sources, file_of, line_of, relative};
+pub use triaged::{TriagedFault, read_triaged, triaged_fault_text};

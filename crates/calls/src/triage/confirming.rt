@@ -1,0 +1,63 @@
+//! Reads how races came out when they were followed on the real program: what `record/confirm` writes.
+ghost use Rattle.std.specs.Prelude.{◌≡◌, ◌++◌, IfErr, IfOk, IfSome, OnErr, OnOk, false};
+ghost use Rattle.followed_races.specs.Lines.{AreLines};
+ghost use Rattle.calls.specs.triage.Confirmed.{confirmed_fault_words, IsConfirmedFault, IsTextFault};
+
+use client_scripts::{ReplayFault, Source, fault_text, read_input};
+use followed_races::{Followed, FollowedRefusal, followed_in};
+use rapid_text::OutOfMemory;
+use report::{Piece, append_pieces};
+use std::alloc::Global;
+
+/// The number of this input in faults: the trace is 1, the known races are 2.
+const INPUT: u32 = 3;
+
+/// Why the file was not taken.
+#[derive(Clone, Copy, PartialEq, Eq, Debug)]
+pub enum ConfirmedFault {
+    /// 94 or 96: a fault of reading, or want of memory.
+    Replay(ReplayFault),
+    /// 108: this line, the first being 1, is none that `record/confirm` writes.
+    Line(u64),
+}
+
+/// Reads the file, whole: an entry for each of its lines.
+pub fn read_confirmed<S: Source>(
+    alloc: Global,
+    reader: &mut S,
+) -> Result<Vec<Followed>, ConfirmedFault>
+    requires { S.has_failed reader.old ≡ false }
+    ensures ok { IfOk result (λ found. IfSome (S.rest reader.old) (λ told. AreLines told found.items)) }
+    ensures err { IfErr result (IsConfirmedFault (S.rest reader.old)) }
+{
+    match read_input(alloc, reader, INPUT) {
+        Ok(text) => entries_of(alloc, text.as_slice()),
+        Err(fault) => Err(ConfirmedFault::Replay(fault)),
+    }
+}
+
+/// The entries of the file's text.
+fn entries_of(alloc: Global, text: &[u8]) -> Result<Vec<Followed>, ConfirmedFault>
+    ensures ok { IfOk result (λ found. AreLines text.now found.items) }
+    ensures err { IfErr result (IsTextFault text.now) }
+{
+    match followed_in(alloc, text) {
+        Ok(found) => Ok(found),
+        Err(FollowedRefusal::Line(line)) => Err(ConfirmedFault::Line(line)),
+        Err(FollowedRefusal::OutOfMemory) => Err(ConfirmedFault::Replay(ReplayFault::OutOfMemory)),
+    }
+}
+
+/// Appends the text of a fault, without a line end. Where memory is refused `out` stays as it was.
+pub fn confirmed_fault_text(fault: &ConfirmedFault, out: &mut Vec<u8>) -> Result<(), OutOfMemory>
+    ensures ok { OnOk result (out.new.items ≡ out.old.items ++ confirmed_fault_words fault.now) }
+    ensures err { OnErr result (out.new.items ≡ out.old.items) }
+{
+    match fault {
+        ConfirmedFault::Replay(fault) => fault_text(fault, out),
+        ConfirmedFault::Line(line) => append_pieces(
+            out,
+            &[Piece::Words(b"confirmed file line "), Piece::Number(*line)],
+        ),
+    }
+}

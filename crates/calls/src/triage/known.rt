@@ -1,0 +1,110 @@
+//! Which races are known: those that a text lists, and those of races that a triage file leaves out.
+ghost use Rattle.std.specs.Prelude.{◌≡◌, ◌||◌, Some, IfOk, option_map};
+ghost use Rattle.race_triage.specs.Chosen.{is_known, known_places};
+ghost use Rattle.race_triage.specs.declared.verdicts.Verdict.{Verdict as Told};
+ghost use Rattle.triage_file.specs.Matching.{is_left_out};
+ghost use Rattle.calls.specs.triage.Answers.{AreGiven, AreKnownBy, IsGiven};
+
+use event_index::Indexed;
+use race_triage::{Known, Places, Verdicts, known_of};
+use rapid_text::OutOfMemory;
+use std::alloc::Global;
+use triage_file::{Value, add_triaged};
+
+/// The pairs of places that a text lists as races.
+fn known_in(
+    alloc: Global,
+    places: &Places,
+    listed: &Option<Vec<u8>>,
+) -> Result<Option<Known>, OutOfMemory>
+    ensures { IfOk result (λ known. IsGiven places.now.locations.keys (option_map (λ v. v.items) listed.now) (known_places known)) }
+{
+    match listed {
+        Some(text) => Ok(Some(known_of(alloc, places, text.as_slice())?)),
+        None => Ok(None),
+    }
+}
+
+/// The pairs of places whose races are known: those that a text lists, and those of races that a triage file leaves out.
+pub(crate) fn known_by(
+    alloc: Global,
+    indexed: &Indexed,
+    found: &Verdicts,
+    listed: &Option<Vec<u8>>,
+    triage: Option<&[Value]>,
+) -> Result<Option<Known>, OutOfMemory>
+    ensures { IfOk result (λ known. AreGiven indexed.now found.now.places.locations.keys found.now.places.numbers.items
+        (option_map (λ v. v.items) listed.now) (option_map (λ t. t.now) triage.entry) found.now.verdicts.items (known_places known)) }
+{
+    match known_in(alloc, &found.places, listed) {
+        Ok(known) => known_with(alloc, indexed, found, known, triage),
+        Err(refused) => Err(refused),
+    }
+}
+
+/// The same with those of a triage file.
+fn known_with(
+    alloc: Global,
+    indexed: &Indexed,
+    found: &Verdicts,
+    known: Option<Known>,
+    triage: Option<&[Value]>,
+) -> Result<Option<Known>, OutOfMemory>
+    ensures { IfOk result (λ all. AreKnownBy indexed.now found.now.places.numbers.items (option_map (λ t. t.now) triage.entry) found.now.verdicts.items
+        (known_places known) (known_places all)) }
+{
+    match triage {
+        Some(entries) => known_plus(alloc, indexed, found, known, entries),
+        None => Ok(known),
+    }
+}
+
+/// The same with those of races that these entries leave out.
+fn known_plus(
+    alloc: Global,
+    indexed: &Indexed,
+    found: &Verdicts,
+    known: Option<Known>,
+    entries: &[Value],
+) -> Result<Option<Known>, OutOfMemory>
+    ensures { IfOk result (λ all. AreKnownBy indexed.now found.now.places.numbers.items (Some entries.now) found.now.verdicts.items
+        (known_places known) (known_places all)) }
+{
+    match known_more(indexed, found, or_nothing(alloc, known), entries) {
+        Ok(more) => Ok(Some(more)),
+        Err(refused) => Err(refused),
+    }
+}
+
+/// These pairs, or none.
+fn or_nothing(alloc: Global, known: Option<Known>) -> Known
+    ensures { (v : Told) → is_known (Some result.keys) v ≡ is_known (known_places known) v }
+{
+    match known {
+        Some(known) => known,
+        None => Known::new(alloc),
+    }
+}
+
+/// These pairs, and those of races that the entries leave out.
+fn known_more(
+    indexed: &Indexed,
+    found: &Verdicts,
+    mut known: Known,
+    entries: &[Value],
+) -> Result<Known, OutOfMemory>
+    ensures { IfOk result (λ more. (v : Told) → is_known (Some more.keys) v
+        ≡ (is_known (Some known.keys) v || is_left_out indexed.now found.now.places.numbers.items entries.now found.now.verdicts.items v)) }
+{
+    let numbers = found.places.numbers.as_slice();
+    match add_triaged(
+        &mut known,
+        indexed,
+        numbers,
+        found.verdicts.as_slice(),
+        entries,
+    ) {
+        Ok(()) => Ok(known),
+        Err(refused) => Err(refused),
+    }
+}

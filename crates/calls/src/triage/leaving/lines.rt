@@ -1,0 +1,114 @@
+//! The rows of cells: the lines that filters look at, and the variable of a race.
+ghost use Rattle.std.specs.Prelude.{◌≡◌, ◌<◌, ◌≤◌, ◌+◌, ◌++◌, ◌∷◌, IfOk, None, OnOk, drop, length};
+ghost use Rattle.serde_json.specs.View.{view};
+ghost use Rattle.race_parts.specs.Cells.{is_same};
+ghost use Rattle.race_parts.specs.Objects.{news_count};
+ghost use Rattle.race_parts.specs.Texts.{is_new};
+ghost use Rattle.calls.specs.triage.LeavingLines.{line_by, line_in, variable_in};
+
+use race_parts::{Cell, access_in, text_of};
+use rapid_text::OutOfMemory;
+use serde_json::Value;
+use std::alloc::Global;
+
+/// Whether the two are of one pair of locations.
+pub(crate) fn is_same(one: &Cell<'_>, other: &Cell<'_>) -> bool
+    ensures { result ≡ is_same one.now other.now }
+{
+    one.first == other.first && one.second == other.second
+}
+
+/// Whether no cell of the same locations comes directly before the cell.
+pub(crate) fn is_new(before: Option<Cell<'_>>, cell: Cell<'_>) -> bool
+    ensures { result ≡ is_new before.entry cell.entry }
+{
+    match before {
+        Some(before) => !is_same(&before, &cell),
+        None => true,
+    }
+}
+
+/// The variable that the first access of a row is to; empty if it has none.
+pub(crate) fn variable_in(row: &Value) -> &[u8]
+    ensures { result.now ≡ variable_in (view row.now) }
+{
+    match access_in(row, 0) {
+        Some(access) => text_of(access, "variable"),
+        None => b"",
+    }
+}
+
+/// Appends the words.
+fn append_words(out: &mut Vec<u8>, words: &[u8]) -> Result<(), OutOfMemory>
+    ensures { OnOk result (out.new.items ≡ out.old.items ++ words.now) }
+{
+    out.extend_from_slice(words)?;
+    Ok(())
+}
+
+/// Appends the line of an access, as a trace has it.
+fn append_line(out: &mut Vec<u8>, access: &Value) -> Result<(), OutOfMemory>
+    ensures { OnOk result (out.new.items ≡ out.old.items ++ line_by (view access.now)) }
+{
+    append_words(out, text_of(access, "thread"))?;
+    append_words(out, b"|")?;
+    append_words(out, text_of(access, "operation"))?;
+    append_words(out, b"(")?;
+    append_words(out, text_of(access, "variable"))?;
+    append_words(out, b")|")?;
+    append_words(out, text_of(access, "location"))?;
+    Ok(())
+}
+
+/// The line of one of the accesses of a row, as a trace has it; empty if it has none.
+pub(crate) fn line_in(alloc: Global, row: &Value, place: usize) -> Result<Vec<u8>, OutOfMemory>
+    ensures { IfOk result (λ line. line.items ≡ line_in place (view row.now)) }
+{
+    let mut line = Vec::new(alloc);
+    if let Some(access) = access_in(row, place) {
+        append_line(&mut line, access)?;
+    }
+    Ok(line)
+}
+
+/// The first of the cells, and the others.
+pub(crate) fn first_of<'b, 'a>(cells: &'b [Cell<'a>]) -> (Cell<'a>, &'b [Cell<'a>])
+    requires { 0 < length cells.now }
+    ensures { cells.now ≡ result.0 ∷ result.1.now }
+{
+    (cells[0], &cells[1..])
+}
+
+/// The cells from this place on.
+pub(crate) fn rest_at<'b, 'a>(cells: &'b [Cell<'a>], at: usize) -> &'b [Cell<'a>]
+    requires { at ≤ length cells.now }
+    ensures { result.now ≡ drop at cells.now }
+{
+    &cells[at..]
+}
+
+/// The cell at a place.
+pub(crate) fn cell_at<'a>(cells: &[Cell<'a>], at: usize) -> Cell<'a>
+    requires { at < length cells.now }
+    ensures { drop at cells.now ≡ result ∷ drop (at + 1) cells.now }
+{
+    cells[at]
+}
+
+/// How many pairs of locations there are.
+pub(crate) fn pairs_in(cells: &[Cell<'_>]) -> usize
+    ensures { result ≡ news_count None cells.now }
+{
+    let mut count = 0;
+    let mut before = None;
+    let mut at = 0;
+    'cells: while at < cells.len() {
+        let cell = cell_at(cells, at);
+        if is_new(before, cell) {
+            count += 1;
+        }
+        before = Some(cell);
+        at += 1;
+    }
+    count
+}

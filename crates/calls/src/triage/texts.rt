@@ -1,0 +1,210 @@
+//! The text that tells the verdicts on the pairs of places of a trace.
+ghost use Rattle.std.specs.Prelude.{◌≡◌, ◌++◌, ℕ, List, IfErr, IfOk, OnOk, length, option_map};
+ghost use Rattle.race_triage.specs.Chosen.{known_places, AreChosen};
+ghost use Rattle.race_triage.specs.Places.{AreFirstUses, AreNumbered};
+ghost use Rattle.triage_file.specs.Writing.{IsTriageFile};
+ghost use Rattle.calls.specs.triage.Answers.{hide_of, only_of, AreVerdicts, IsListing, IsTextOf, IsToldIn, IsUntold};
+
+use crate::triage::asked::{Asked, Crew, Form, Hears};
+use crate::triage::fault::TriageFault;
+use crate::triage::known::known_by;
+use client_scripts::ReplayFault;
+use event_index::Indexed;
+use must_order::Analysis;
+use race_page::page_text;
+use race_triage::{
+    Chosen, Effort, Known, TriageRefusal, Verdicts, Watch, chosen_of, triage as verdicts_of,
+    triage_text,
+};
+use rapid_text::OutOfMemory;
+use std::alloc::Global;
+use std::thread::Threads;
+use triage_file::{Value, hides, is_met, triage_entries};
+use triage_report::json::triage_json;
+use triage_report::lines::triage_lines;
+use triage_report::sarif::triage_sarif;
+
+/// The text that tells the verdicts on the trace's pairs of places as it is asked for, and how many races it tells of.
+pub(crate) fn text_of<R: Threads + Sync, W: Watch + Hears + Sync>(
+    crew: &Crew<'_, R, W>,
+    alloc: Global,
+    indexed: &Indexed,
+    listed: &Option<Vec<u8>>,
+    asked: Asked<'_>,
+) -> Result<(Vec<u8>, u64), TriageFault>
+    ensures listing { IfOk result (λ made. IsListing indexed.now (option_map (λ v. v.items) listed.now) asked.entry made.1 made.0.items) }
+    ensures fault { IfErr result (IsUntold indexed.now) }
+{
+    match Analysis::new(alloc, indexed) {
+        Ok(analysis) => text_by(crew, alloc, &analysis, listed, asked),
+        Err(_) => Err(TriageFault::Replay(ReplayFault::OutOfMemory)),
+    }
+}
+
+/// The same by the orders of the trace.
+fn text_by<R: Threads + Sync, W: Watch + Hears + Sync>(
+    crew: &Crew<'_, R, W>,
+    alloc: Global,
+    analysis: &Analysis<'_>,
+    listed: &Option<Vec<u8>>,
+    asked: Asked<'_>,
+) -> Result<(Vec<u8>, u64), TriageFault>
+    ensures listing { IfOk result (λ made. IsListing analysis.now (option_map (λ v. v.items) listed.now) asked.entry made.1 made.0.items) }
+    ensures fault { IfErr result (IsUntold analysis.now) }
+{
+    match found_of(crew, alloc, analysis, asked) {
+        Ok(found) => {
+            tell_met(crew.watch, analysis.indexed(), &found, asked.triage);
+            text_of_found(alloc, analysis, &found, listed, asked)
+        }
+        Err(fault) => Err(fault),
+    }
+}
+
+/// Tells who listens of each entry of a triage file whether it is about a race.
+fn tell_met<W: Hears>(watch: &W, indexed: &Indexed, found: &Verdicts, triage: Option<&[Value]>) {
+    let Some(entries) = triage else {
+        return;
+    };
+    let numbers = found.places.numbers.as_slice();
+    let verdicts = found.verdicts.as_slice();
+    for at in 0..entries.len() {
+        let entry = &entries[at];
+        watch.met(at, hides(entry), is_met(indexed, numbers, verdicts, entry));
+    }
+}
+
+/// The same of verdicts that were found.
+fn text_of_found(
+    alloc: Global,
+    analysis: &Analysis<'_>,
+    found: &Verdicts,
+    listed: &Option<Vec<u8>>,
+    asked: Asked<'_>,
+) -> Result<(Vec<u8>, u64), TriageFault>
+    requires found { AreVerdicts analysis.now found.now.places.numbers.items asked.tries asked.apart found.now.verdicts.items }
+    requires numbered { AreNumbered analysis.now (length analysis.now.events) found.now.places.locations.keys found.now.places.numbers.items }
+    requires firsts { AreFirstUses analysis.now (length analysis.now.events) found.now.places.locations.keys }
+    ensures listing { IfOk result (λ made. IsListing analysis.now (option_map (λ v. v.items) listed.now) asked.entry made.1 made.0.items) }
+    ensures fault { IfErr result (IsUntold analysis.now) }
+{
+    match told(alloc, analysis, found, listed, asked) {
+        Ok(made) => Ok(made),
+        Err(_) => Err(TriageFault::Replay(ReplayFault::OutOfMemory)),
+    }
+}
+
+/// The text, and how many races it tells of.
+fn told(
+    alloc: Global,
+    analysis: &Analysis<'_>,
+    found: &Verdicts,
+    listed: &Option<Vec<u8>>,
+    asked: Asked<'_>,
+) -> Result<(Vec<u8>, u64), OutOfMemory>
+    requires found { AreVerdicts analysis.now found.now.places.numbers.items asked.tries asked.apart found.now.verdicts.items }
+    requires numbered { AreNumbered analysis.now (length analysis.now.events) found.now.places.locations.keys found.now.places.numbers.items }
+    requires firsts { AreFirstUses analysis.now (length analysis.now.events) found.now.places.locations.keys }
+    ensures { IfOk result (λ made. IsListing analysis.now (option_map (λ v. v.items) listed.now) asked.entry made.1 made.0.items) }
+{
+    let known = known_by(alloc, analysis.indexed(), found, listed, asked.triage)?;
+    let mut text = Vec::new(alloc);
+    let races = append_told(analysis, found, &known, asked, &mut text)?;
+    Ok((text, races))
+}
+
+/// Chooses among the verdicts, and appends those in the form that is asked for. Answers how many races are told of.
+fn append_told(
+    analysis: &Analysis<'_>,
+    found: &Verdicts,
+    known: &Option<Known>,
+    asked: Asked<'_>,
+    out: &mut Vec<u8>,
+) -> Result<u64, OutOfMemory>
+    ensures { IfOk result (λ races. (text : List ℕ) × (out.new.items ≡ out.old.items ++ text)
+        × IsToldIn analysis.now found.now.places.numbers.items (known_places known.now) asked.entry found.now.verdicts.items races text) }
+{
+    let chosen = chosen(analysis.indexed(), found, known, asked, out)?;
+    append_chosen(analysis, found, &chosen, asked, out)?;
+    Ok(chosen.races)
+}
+
+/// Appends the chosen verdicts in the form that is asked for.
+fn append_chosen(
+    analysis: &Analysis<'_>,
+    found: &Verdicts,
+    chosen: &Chosen,
+    asked: Asked<'_>,
+    out: &mut Vec<u8>,
+) -> Result<(), OutOfMemory>
+    ensures { OnOk result ((text : List ℕ)
+        × IsTextOf asked.entry.form analysis.now found.now.places.numbers.items asked.entry.apart found.now.verdicts.items chosen.now text
+        × (out.new.items ≡ out.old.items ++ text)) }
+{
+    match asked.form {
+        Form::Text => triage_text(analysis.indexed(), analysis.must(), found, chosen, out),
+        Form::Json => triage_json(analysis, found, chosen, out),
+        Form::Lines => triage_lines(analysis, chosen, out),
+        Form::Entries => append_entries(analysis.indexed(), found, chosen, out),
+        Form::Sarif { sources } => triage_sarif(analysis, chosen, sources, out),
+        Form::Page { about } => page_text(analysis, found, chosen, asked.apart, about, out),
+    }
+}
+
+/// Appends an entry of a triage file for each chosen race.
+fn append_entries(
+    indexed: &Indexed,
+    found: &Verdicts,
+    chosen: &Chosen,
+    out: &mut Vec<u8>,
+) -> Result<(), OutOfMemory>
+    ensures { OnOk result ((text : List ℕ) × IsTriageFile indexed.now found.now.places.numbers.items chosen.now text
+        × (out.new.items ≡ out.old.items ++ text)) }
+{
+    triage_entries(indexed, found.places.numbers.as_slice(), chosen, out)
+}
+
+/// The verdicts that are told.
+fn chosen(
+    indexed: &Indexed,
+    found: &Verdicts,
+    known: &Option<Known>,
+    asked: Asked<'_>,
+    out: &Vec<u8>,
+) -> Result<Chosen, OutOfMemory>
+    ensures { IfOk result (AreChosen indexed.now (known_places known.now) (only_of asked.entry) (hide_of asked.entry) asked.entry.apart
+        found.now.verdicts.items) }
+{
+    chosen_of(
+        *out.allocator(),
+        indexed,
+        found,
+        known,
+        asked.filters,
+        asked.apart,
+    )
+}
+
+/// What is found of the trace's pairs of places.
+fn found_of<R: Threads + Sync, W: Watch + Hears + Sync>(
+    crew: &Crew<'_, R, W>,
+    alloc: Global,
+    analysis: &Analysis<'_>,
+    asked: Asked<'_>,
+) -> Result<Verdicts, TriageFault>
+    ensures found { IfOk result (λ found. AreVerdicts analysis.now found.places.numbers.items asked.entry.tries asked.entry.apart found.verdicts.items) }
+    ensures numbered { IfOk result (λ found. AreNumbered analysis.now (length analysis.now.events) found.places.locations.keys found.places.numbers.items) }
+    ensures firsts { IfOk result (λ found. AreFirstUses analysis.now (length analysis.now.events) found.places.locations.keys) }
+    ensures fault { IfErr result (IsUntold analysis.now) }
+{
+    let effort = Effort {
+        tries: asked.tries,
+        apart: asked.apart,
+        workers: asked.workers,
+    };
+    match verdicts_of(crew.threads, alloc, analysis, effort, crew.watch) {
+        Ok(found) => Ok(found),
+        Err(TriageRefusal::TooMany) => Err(TriageFault::TooMany),
+        Err(TriageRefusal::OutOfMemory) => Err(TriageFault::Replay(ReplayFault::OutOfMemory)),
+    }
+}

@@ -1,0 +1,9 @@
+//! What is found of a pair of conflicting events: a schedule that shows it, or why none does, or that neither was found.
+
+mod finding;
+mod pairing;
+mod searching;
+
+pub use finding::Finding;
+pub use pairing::pair_of;
+pub use searching::{BUDGET, find};

@@ -1,0 +1,80 @@
+//! The arrow from a run to the event that waits for it.
+use crate::picture::canvas::Canvas;
+use crate::picture::columns::Columns;
+use crate::picture::labels::thread_of;
+use crate::picture::layout::{BOX, Placed};
+use crate::picture::shapes::Arrow;
+use event_index::Indexed;
+use rapid_text::OutOfMemory;
+
+/// How far an arrow goes down before it turns, and after.
+const BEND: u64 = 18;
+
+/// Draws the arrows of all runs. They are drawn under the boxes.
+pub(crate) fn draw_arrows(
+    canvas: &mut Canvas,
+    indexed: &Indexed,
+    columns: &Columns,
+    list: &[u32],
+    placed: &[Placed],
+) -> Result<(), OutOfMemory> {
+    for from in placed {
+        if let Some(waiter) = from.waiter {
+            let thread = thread_of(indexed, waiter);
+            if let Some(to) = waiting_run(list, placed, from, thread, waiter) {
+                draw_arrow(canvas, columns, from, to)?;
+            }
+        }
+    }
+    Ok(())
+}
+
+/// The first run behind this one that has the event of the thread.
+fn waiting_run<'a>(
+    list: &[u32],
+    placed: &'a [Placed],
+    from: &Placed,
+    thread: Option<u32>,
+    event: u32,
+) -> Option<&'a Placed> {
+    for to in placed {
+        if to.number > from.number && thread == Some(to.run.thread) && has_event(list, to, event) {
+            return Some(to);
+        }
+    }
+    None
+}
+
+/// Whether the run has the event.
+fn has_event(list: &[u32], placed: &Placed, event: u32) -> bool {
+    for place in placed.run.start..placed.run.end {
+        if list.get(place as usize).copied() == Some(event) {
+            return true;
+        }
+    }
+    false
+}
+
+/// Draws an arrow from the lower edge of one box to the upper edge of another.
+fn draw_arrow(
+    canvas: &mut Canvas,
+    columns: &Columns,
+    from: &Placed,
+    to: &Placed,
+) -> Result<(), OutOfMemory> {
+    let from_left = columns.left(from.run.thread);
+    let to_left = columns.left(to.run.thread);
+    let start = from.top.saturating_add(from.height);
+    let x = from_left.saturating_add(BOX / 2);
+    let to_x = to_left.saturating_add(if from_left < to_left {
+        BOX / 4
+    } else {
+        BOX - BOX / 4
+    });
+    canvas.arrow(Arrow {
+        from: (x, start),
+        below: start.saturating_add(BEND),
+        to: (to_x, to.top),
+        above: to.top.saturating_sub(BEND),
+    })
+}

@@ -1,0 +1,116 @@
+//! Which thread stands in which column.
+use crate::picture::labels::thread_of;
+use crate::picture::layout::Placed;
+use event_index::Indexed;
+use rapid_text::OutOfMemory;
+use std::alloc::Global;
+
+/// How wide a column is.
+pub(crate) const COLUMN: u64 = 320;
+
+/// How much stands free at the edges of a picture.
+pub(crate) const MARGIN: u64 = 12;
+
+/// The most columns: a picture of so many is 1,292 wide, and shown 1,550 wide.
+const MOST_COLUMNS: usize = 4;
+
+/// The number of the column that the threads share, if they are more: behind those of the pair.
+pub(crate) const SHARED: usize = 2;
+
+/// The threads that are drawn, and the column of each.
+#[derive(Drop)]
+pub(crate) struct Columns {
+    threads: Vec<u32>,
+    places: Vec<Option<u32>>,
+}
+
+impl Columns {
+    /// No column.
+    pub(crate) fn new(alloc: Global) -> Columns {
+        Columns {
+            threads: Vec::new(alloc),
+            places: Vec::new(alloc),
+        }
+    }
+
+    /// Gives a column to the two threads of the pair, and then to each thread of a run that is drawn.
+    pub(crate) fn fill(
+        &mut self,
+        indexed: &Indexed,
+        placed: &[Placed],
+        first: u32,
+        second: u32,
+    ) -> Result<(), OutOfMemory> {
+        let count = indexed.trace().raw().threads() as usize;
+        self.places.resize(count, None)?;
+        self.add_of(indexed, first)?;
+        self.add_of(indexed, second)?;
+        for box_of_run in placed {
+            self.add(box_of_run.run.thread)?;
+        }
+        Ok(())
+    }
+
+    /// Gives the event's thread a column, where it has none.
+    fn add_of(&mut self, indexed: &Indexed, event: u32) -> Result<(), OutOfMemory> {
+        match thread_of(indexed, event) {
+            Some(thread) => self.add(thread),
+            None => Ok(()),
+        }
+    }
+
+    /// Gives the thread a column, where it has none.
+    fn add(&mut self, thread: u32) -> Result<(), OutOfMemory> {
+        let next = u32::try_from(self.threads.len()).unwrap_or(u32::MAX);
+        let Some(place) = self.places.get_mut(thread as usize) else {
+            return Ok(());
+        };
+        if place.is_none() {
+            *place = Some(next);
+            self.threads.push(thread)?;
+        }
+        Ok(())
+    }
+
+    /// The threads that have a column of their own, column by column.
+    pub(crate) fn own(&self) -> &[u32] {
+        let threads = self.threads.as_slice();
+        if self.is_shared() {
+            &threads[..SHARED.min(threads.len())]
+        } else {
+            threads
+        }
+    }
+
+    /// Whether there are so many threads that all but the two of the pair stand in one column.
+    pub(crate) fn is_shared(&self) -> bool {
+        self.threads.len() > MOST_COLUMNS
+    }
+
+    /// Where the column of the thread begins.
+    pub(crate) fn left(&self, thread: u32) -> u64 {
+        let place = self.places.get(thread as usize).copied().flatten();
+        let column = place.unwrap_or(0) as usize;
+        left_of(if self.is_shared() {
+            column.min(SHARED)
+        } else {
+            column
+        })
+    }
+
+    /// How wide all are, with the edges.
+    pub(crate) fn width(&self) -> u64 {
+        left_of(if self.is_shared() {
+            SHARED.saturating_add(1)
+        } else {
+            self.threads.len()
+        })
+    }
+}
+
+/// Where the column of this number begins.
+pub(crate) fn left_of(column: usize) -> u64 {
+    (column as u64)
+        .saturating_mul(COLUMN)
+        .saturating_add(MARGIN)
+}

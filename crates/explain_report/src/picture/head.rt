@@ -1,0 +1,122 @@
+//! What stands around the shapes of a picture: its size, in words what it shows, the paper, and the end.
+ghost use Rattle.std.specs.Prelude.{◌≡◌, ◌++◌, ◌∷◌, [], OnOk};
+ghost use Rattle.explain_report.specs.picture.Pictures.{described, drawn_text, listed, root_text, spaced_events, title};
+
+use crate::picture::pieces::{Piece, append_pieces, append_words};
+use crate::picture::shapes::{append_attribute, append_point};
+use rapid_text::OutOfMemory;
+
+/// How large a picture is.
+#[derive(Clone, Copy)]
+pub(crate) struct Size {
+    width: u64,
+    height: u64,
+    shown_width: u64,
+    shown_height: u64,
+}
+
+impl Size {
+    /// That of a picture which is drawn so large.
+    pub(crate) fn new(width: u64, height: u64) -> Size {
+        Size {
+            width,
+            height,
+            shown_width: larger(width),
+            shown_height: larger(height),
+        }
+    }
+}
+
+/// The size with a fifth more.
+fn larger(size: u64) -> u64 {
+    size.saturating_add(size / 5)
+}
+
+/// Appends the beginning of the root, which is shown a fifth larger than it is drawn: a line of 10 pixels is one of 12.
+pub(crate) fn append_root(out: &mut Vec<u8>, size: Size) -> Result<(), OutOfMemory>
+    ensures { OnOk result (out.new.items ≡ out.old.items ++ root_text size.width size.height size.shown_width size.shown_height) }
+{
+    append_words(
+        out,
+        b"<svg xmlns=\"http://www.w3.org/2000/svg\" viewBox=\"0 0 ",
+    )?;
+    append_point(out, size.width, size.height)?;
+    append_words(out, b"\"")?;
+    append_attribute(out, b"width", size.shown_width)?;
+    append_attribute(out, b"height", size.shown_height)?;
+    append_words(out, b">\n")?;
+    Ok(())
+}
+
+/// Appends the paper, the shapes on it, and the end.
+pub(crate) fn append_drawn(out: &mut Vec<u8>, shapes: &[u8]) -> Result<(), OutOfMemory>
+    ensures { OnOk result (out.new.items ≡ out.old.items ++ drawn_text shapes.now) }
+{
+    append_pieces(
+        out,
+        &[
+            Piece::Words(b"<rect class=\"paper\" width=\"100%\" height=\"100%\"/>\n"),
+            Piece::Words(shapes),
+            Piece::Words(b"</svg>\n"),
+        ],
+    )?;
+    Ok(())
+}
+
+/// Appends which pair the picture is of, and the events of the schedule, in its order.
+pub(crate) fn append_description(
+    out: &mut Vec<u8>,
+    events: &[u32],
+    first: u32,
+    second: u32,
+) -> Result<(), OutOfMemory>
+    ensures { OnOk result (out.new.items ≡ out.old.items ++ described events.now first second) }
+{
+    append_title(out, first, second)?;
+    append_list(out, events)?;
+    Ok(())
+}
+
+/// Appends which pair the picture is of.
+fn append_title(out: &mut Vec<u8>, first: u32, second: u32) -> Result<(), OutOfMemory>
+    ensures { OnOk result (out.new.items ≡ out.old.items ++ title first second) }
+{
+    append_pieces(
+        out,
+        &[
+            Piece::Words(b"<title>A schedule that shows "),
+            Piece::Number(u64::from(first)),
+            Piece::Words(b" and "),
+            Piece::Number(u64::from(second)),
+            Piece::Words(b"</title>\n"),
+        ],
+    )?;
+    Ok(())
+}
+
+/// Appends the events of the schedule.
+fn append_list(out: &mut Vec<u8>, events: &[u32]) -> Result<(), OutOfMemory>
+    ensures { OnOk result (out.new.items ≡ out.old.items ++ listed events.now) }
+{
+    append_words(out, b"<desc>Its events:")?;
+    append_events(out, events)?;
+    append_words(out, b"</desc>\n")?;
+    Ok(())
+}
+
+/// Appends each number behind a blank.
+fn append_events(out: &mut Vec<u8>, events: &[u32]) -> Result<(), OutOfMemory>
+    ensures { OnOk result (out.new.items ≡ out.old.items ++ spaced_events events.now) }
+{
+    for event in events {
+        append_spaced(out, *event)?;
+    }
+    Ok(())
+}
+
+fn append_spaced(out: &mut Vec<u8>, event: u32) -> Result<(), OutOfMemory>
+    ensures { OnOk result (out.new.items ≡ out.old.items ++ spaced_events (event ∷ [])) }
+{
+    append_pieces(out, &[Piece::Words(b" "), Piece::Number(u64::from(event))])?;
+    Ok(())
+}

@@ -1,0 +1,94 @@
+//! Words and numbers, and where a long text is cut.
+ghost use Rattle.std.specs.Prelude.{◌≡◌, ◌≤◌, ◌++◌, length, OnOk, decimal};
+ghost use Rattle.explain_report.specs.picture.Pieces.{piece_text, pieces_text};
+
+use itoa::Buffer;
+use rapid_text::OutOfMemory;
+
+/// The most bytes of a line of text: at 10 pixels a line, and 6 a character, it fits into a box.
+const MOST_BYTES: usize = 46;
+
+/// How many bytes are left of a longer one, before the ellipsis.
+const KEPT_BYTES: usize = 45;
+
+/// A piece of a text.
+#[derive(Clone, Copy)]
+pub(crate) enum Piece<'a> {
+    /// These words.
+    Words(&'a [u8]),
+    /// A number, in decimal digits.
+    Number(u64),
+}
+
+/// Appends the pieces, one behind the other.
+pub(crate) fn append_pieces(out: &mut Vec<u8>, pieces: &[Piece<'_>]) -> Result<(), OutOfMemory>
+    ensures { OnOk result (out.new.items ≡ out.old.items ++ pieces_text pieces.now) }
+{
+    for piece in pieces {
+        append_piece(out, *piece)?;
+    }
+    Ok(())
+}
+
+fn append_piece(out: &mut Vec<u8>, piece: Piece<'_>) -> Result<(), OutOfMemory>
+    ensures { OnOk result (out.new.items ≡ out.old.items ++ piece_text piece.entry) }
+{
+    match piece {
+        Piece::Words(words) => append_words(out, words),
+        Piece::Number(number) => append_number(out, number),
+    }
+}
+
+/// Appends the words.
+pub(crate) fn append_words(out: &mut Vec<u8>, words: &[u8]) -> Result<(), OutOfMemory>
+    ensures { OnOk result (out.new.items ≡ out.old.items ++ words.now) }
+{
+    out.extend_from_slice(words)?;
+    Ok(())
+}
+
+/// Appends the number in decimal digits.
+fn append_number(out: &mut Vec<u8>, number: u64) -> Result<(), OutOfMemory>
+    ensures { OnOk result (out.new.items ≡ out.old.items ++ decimal number) }
+{
+    let mut digits = Buffer::new();
+    out.extend_from_slice(digits.format(number).as_bytes())?;
+    Ok(())
+}
+
+/// What stands behind the word for a thing where there are so many.
+pub(crate) fn plural_of(number: u64) -> &'static [u8] {
+    if number == 1 { b"" } else { b"s" }
+}
+
+/// Appends a text; what is longer than a line is cut, and ends with an ellipsis.
+pub(crate) fn append_cut(out: &mut Vec<u8>, text: &[u8]) -> Result<(), OutOfMemory> {
+    if text.len() <= MOST_BYTES {
+        append_words(out, text)
+    } else {
+        append_words(out, &text[..cut_at(text)])?;
+        append_words(out, "…".as_bytes())
+    }
+}
+
+/// Where a long text is cut: not within a character, if it is UTF-8.
+fn cut_at(text: &[u8]) -> usize
+    ensures { result ≤ length text.now }
+{
+    let mut at = KEPT_BYTES.min(text.len());
+    for _step in 0..3 {
+        if !is_within_character(text, at) {
+            break;
+        }
+        at = at.saturating_sub(1);
+    }
+    at.min(text.len())
+}
+
+/// Whether the byte at this place goes on with a character.
+fn is_within_character(text: &[u8], at: usize) -> bool {
+    match text.get(at) {
+        Some(byte) => *byte & 0xC0 == 0x80,
+        None => false,
+    }
+}

@@ -1,0 +1,137 @@
+//! The three shapes of which a drawing is made: rectangles, lines of text, arrows. A text is escaped here, and nowhere else.
+ghost use Rattle.std.specs.Prelude.{◌≡◌, ◌++◌, OnOk};
+ghost use Rattle.explain_report.specs.picture.Shapes.{arrow_text, attribute_text, line_text, point_text, rect_text, shape_begin};
+
+use crate::picture::class::{Class, name_of};
+use crate::picture::pieces::{Piece, append_pieces, append_words};
+use markup::escape;
+use rapid_text::OutOfMemory;
+
+/// Appends a rectangle.
+pub(crate) fn append_rect(
+    out: &mut Vec<u8>,
+    class: Class,
+    left: u64,
+    top: u64,
+    width: u64,
+    height: u64,
+) -> Result<(), OutOfMemory>
+    ensures { OnOk result (out.new.items ≡ out.old.items ++ rect_text class left top width height) }
+{
+    append_begin(out, b"<rect", class, left, top)?;
+    append_attribute(out, b"width", width)?;
+    append_attribute(out, b"height", height)?;
+    append_words(out, b"/>\n")?;
+    Ok(())
+}
+
+/// Appends a line of text, whatever it is: it is escaped.
+pub(crate) fn append_line(
+    out: &mut Vec<u8>,
+    class: Class,
+    left: u64,
+    base: u64,
+    text: &[u8],
+) -> Result<(), OutOfMemory>
+    ensures { OnOk result (out.new.items ≡ out.old.items ++ line_text class left base text.now) }
+{
+    append_begin(out, b"<text", class, left, base)?;
+    append_words(out, b">")?;
+    escape(text, out)?;
+    append_words(out, b"</text>\n")?;
+    Ok(())
+}
+
+/// An arrow, which leaves a point downwards as if to `below`, and comes to another from above as if from `above`.
+#[derive(Clone, Copy)]
+pub(crate) struct Arrow {
+    pub(crate) from: (u64, u64),
+    pub(crate) below: u64,
+    pub(crate) to: (u64, u64),
+    pub(crate) above: u64,
+}
+
+/// Appends an arrow.
+pub(crate) fn append_arrow(out: &mut Vec<u8>, arrow: Arrow) -> Result<(), OutOfMemory>
+    ensures { OnOk result (out.new.items ≡ out.old.items ++ arrow_text arrow.from.0 arrow.from.1 arrow.below arrow.to.0 arrow.to.1 arrow.above) }
+{
+    append_pieces(
+        out,
+        &[
+            Piece::Words(b"<path class=\"arrow\" marker-end=\"url(#tip)\" d=\"M"),
+            Piece::Number(arrow.from.0),
+            Piece::Words(b" "),
+            Piece::Number(arrow.from.1),
+            Piece::Words(b"C"),
+            Piece::Number(arrow.from.0),
+            Piece::Words(b" "),
+            Piece::Number(arrow.below),
+            Piece::Words(b" "),
+            Piece::Number(arrow.to.0),
+            Piece::Words(b" "),
+            Piece::Number(arrow.above),
+            Piece::Words(b" "),
+            Piece::Number(arrow.to.0),
+            Piece::Words(b" "),
+            Piece::Number(arrow.to.1),
+            Piece::Words(b"\"/>\n"),
+        ],
+    )?;
+    Ok(())
+}
+
+/// Appends with what a shape begins: its element, how it looks, and where it stands.
+fn append_begin(
+    out: &mut Vec<u8>,
+    element: &[u8],
+    class: Class,
+    x: u64,
+    y: u64,
+) -> Result<(), OutOfMemory>
+    ensures { OnOk result (out.new.items ≡ out.old.items ++ shape_begin element.now class x y) }
+{
+    append_pieces(
+        out,
+        &[
+            Piece::Words(element),
+            Piece::Words(b" class=\""),
+            Piece::Words(name_of(class)),
+            Piece::Words(b"\""),
+        ],
+    )?;
+    append_attribute(out, b"x", x)?;
+    append_attribute(out, b"y", y)?;
+    Ok(())
+}
+
+/// Appends a point, or a size.
+pub(crate) fn append_point(out: &mut Vec<u8>, x: u64, y: u64) -> Result<(), OutOfMemory>
+    ensures { OnOk result (out.new.items ≡ out.old.items ++ point_text x y) }
+{
+    append_pieces(
+        out,
+        &[Piece::Number(x), Piece::Words(b" "), Piece::Number(y)],
+    )?;
+    Ok(())
+}
+
+/// Appends `name="number"` behind a blank.
+pub(crate) fn append_attribute(
+    out: &mut Vec<u8>,
+    name: &[u8],
+    number: u64,
+) -> Result<(), OutOfMemory>
+    ensures { OnOk result (out.new.items ≡ out.old.items ++ attribute_text name.now number) }
+{
+    append_pieces(
+        out,
+        &[
+            Piece::Words(b" "),
+            Piece::Words(name),
+            Piece::Words(b"=\""),
+            Piece::Number(number),
+            Piece::Words(b"\""),
+        ],
+    )?;
+    Ok(())
+}

@@ -1,6 +1,0 @@
-use Rattle.std.proofs.Common.{get_or}
-use Rattle.in_order.proofs.SizeLemmas.{IsThreadCountUpTo}
-use Rattle.in_order.proofs.sizing.threads_counted.Given as goal
-
-abbrev pub invariant-loop-thread : goal.invariant-loop-thread
-invariant-loop-thread l = IsThreadCountUpTo (λ t. get_or l.row t 0) l.thread l.count

@@ -1,9 +1,0 @@
-use Rattle.std.proofs.Common.{◌≡◌, length, ◌∙◌, arith}
-use Rattle.in_order.proofs.WriteLemmas.{AreWrites-start}
-use Rattle.in_order.proofs.writing.no_writes.Goals as goal
-
-pub returns : goal.returns
-returns c =
-    let end : c.loop-variable._variable ≡ length c.args.indexed.now.variables =
-    omega (arith, c.loop-variable-test.false, c.loop-variable.auto._variable-end, c.variables-variable-end.ensures.len) in
-    AreWrites-start c.args.indexed.now c.loop-variable.writes.items (c.loop-variable.invariant.len ∙ end) c.loop-variable.invariant.empty

@@ -1,4 +1,0 @@
-pub mod FilterLemmas
-pub mod ListedLemmas
-pub mod MetLemmas
-pub mod SplitLemmas

@@ -1,9 +1,0 @@
-use Rattle.std.proofs.Common.{◌≡◌, length}
-use Rattle.merged_choice.specs.Entries.{is_decided}
-use Rattle.merged_choice.proofs.entries.is_decided.Given as goal
-
-abbrev pub invariant-entries : goal.invariant-entries
-invariant-entries l = is_decided l.rows l.left l.cell l.cells ≡ is_decided l.rows l.entries l.cell l.cells
-
-abbrev pub decreases-entries : goal.decreases-entries
-decreases-entries l = length l.left

@@ -1,5 +1,0 @@
-use Rattle.merged_choice.proofs.ListedLemmas.{right_all}
-use Rattle.merged_choice.proofs.listed.listed_of.Goals as goal
-
-pub returns : goal.returns
-returns c = right_all _ _ _ c.in_ok-known.ensures.known c.args.cells.now c.in_ok-check_all.ensures

@@ -1,4 +1,0 @@
-use Rattle.pair_findings.proofs.searching.open_pair.Goals as goal
-
-pub beyond_order-requires-clause-never : goal.beyond_order-requires-clause-never
-beyond_order-requires-clause-never c = c.in_ok-list.ensures.never c.in-None.is

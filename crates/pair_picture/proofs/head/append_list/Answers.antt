@@ -1,5 +1,0 @@
-use Rattle.pair_picture.proofs.PieceLemmas.{three_pieces}
-use Rattle.pair_picture.proofs.head.append_list.Goals as goal
-
-pub returns : goal.returns
-returns c = three_pieces c.args.out.now.items _ _ _ _ _ c.in_ok-append_words.ensures c.in_ok-append_events.ensures _ c.in_ok-append_words-2.ensures

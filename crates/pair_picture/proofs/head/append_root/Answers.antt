@@ -1,7 +1,0 @@
-use Rattle.pair_picture.proofs.PieceLemmas.{six_pieces}
-use Rattle.pair_picture.proofs.head.append_root.Goals as goal
-
-pub returns : goal.returns
-returns c =
-    six_pieces c.args.out.now.items _ _ _ _ _ c.in_ok-append_words.ensures c.in_ok-append_point.ensures _ _ _ _ _ _ _ c.in_ok-append_words-2.ensures
-    c.in_ok-append_attribute.ensures c.in_ok-append_attribute-2.ensures c.in_ok-append_words-3.ensures

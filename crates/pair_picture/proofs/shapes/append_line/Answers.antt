@@ -1,7 +1,0 @@
-use Rattle.pair_picture.proofs.PieceLemmas.{four_pieces}
-use Rattle.pair_picture.proofs.shapes.append_line.Goals as goal
-
-pub returns : goal.returns
-returns c =
-    four_pieces c.args.out.now.items _ _ _ _ _ c.in_ok-append_begin.ensures c.in_ok-append_words.ensures _ _ _
-    c.in_ok-escape.ensures.ok c.in_ok-append_words-2.ensures

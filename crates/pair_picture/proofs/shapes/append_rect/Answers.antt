@@ -1,7 +1,0 @@
-use Rattle.pair_picture.proofs.PieceLemmas.{four_pieces}
-use Rattle.pair_picture.proofs.shapes.append_rect.Goals as goal
-
-pub returns : goal.returns
-returns c =
-    four_pieces c.args.out.now.items _ _ _ _ _ c.in_ok-append_begin.ensures c.in_ok-append_attribute.ensures _ _ _
-    c.in_ok-append_attribute-2.ensures c.in_ok-append_words.ensures

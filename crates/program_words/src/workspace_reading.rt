@@ -1,0 +1,78 @@
+//! What the words of the commands that run scripts ask for.
+ghost use Rattle.std.specs.Prelude.{IfOk};
+ghost use Rattle.program_words.specs.Tasks.{IsWithin, IsSessionWithin, IsThreadsWithin};
+
+use crate::reading::word;
+use crate::task::{Limits, SessionTask, Task, ThreadsTask};
+use crate::values::{STANDARD, Unread, check_inputs, number, share_input};
+use clap::ArgMatches;
+use std::alloc::{AllocError, Global};
+
+/// The two files that `replay` is asked for.
+pub(crate) fn replay<'a>(given: &ArgMatches<'a>, limits: Limits) -> Result<Task<'a>, Unread>
+    ensures { IfOk result (IsWithin limits) }
+{
+    let trace = word(given, "TRACE");
+    let script = word(given, "SCRIPT");
+    check_inputs(&[trace, script])?;
+    Ok(Task::Replay(trace, script))
+}
+
+/// What `session` is asked for.
+pub(crate) fn session<'a>(given: &ArgMatches<'a>, limits: Limits) -> Result<SessionTask<'a>, Unread>
+    ensures { IfOk result (IsSessionWithin limits) }
+{
+    let client = match given.get_str("client") {
+        Some(word) => Some(number(
+            word,
+            1,
+            limits.clients,
+            "`--client` takes a number in decimal digits",
+        )?),
+        None => None,
+    };
+    let trace = word(given, "TRACE");
+    let log = word(given, "LOG");
+    if share_input(&[STANDARD, trace, log]) {
+        return Err(Unread::Refused("`-` is standard input, which holds the lines of the session"));
+    }
+    Ok(SessionTask { trace, log, client })
+}
+
+/// The paths that `threads` is given, that of the trace first.
+fn paths<'a>(alloc: Global, given: &ArgMatches<'a>) -> Result<Vec<&'a str>, AllocError> {
+    let mut paths = Vec::new(alloc);
+    paths.push(word(given, "TRACE"))?;
+    paths.extend_from_slice(given.get_strs("SCRIPT").unwrap_or(&[]))?;
+    Ok(paths)
+}
+
+/// What `threads` is asked for.
+pub(crate) fn threads<'a>(
+    alloc: Global,
+    given: &ArgMatches<'a>,
+    limits: Limits,
+) -> Result<ThreadsTask<'a>, Unread>
+    ensures { IfOk result (IsThreadsWithin limits) }
+{
+    let workers = number(
+        word(given, "workers"),
+        0,
+        limits.workers,
+        "`--workers` takes a number in decimal digits",
+    )?;
+    let room = match given.get_str("room") {
+        Some(word) => word.parse::<u32>().ok(),
+        None => None,
+    };
+    let paths = paths(alloc, given)?;
+    if paths.len() < 2 {
+        return Err(Unread::Refused("there is no script"));
+    }
+    check_inputs(&paths)?;
+    Ok(ThreadsTask {
+        paths,
+        workers,
+        room,
+    })
+}

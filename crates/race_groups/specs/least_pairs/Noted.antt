@@ -1,0 +1,22 @@
+-- What is noted of candidates that were taken in. No public clause cites this module.
+use Rattle.std.specs.Prelude.{◌≡◌, ℕ, ◌<◌, ◌≤◌, All, List, slice_index}
+use Rattle.race_groups.specs.least_pairs.Going.{HasCandidate}
+use Rattle.race_groups.specs.least_pairs.Pairs.{IsPair}
+use Rattle.race_groups.specs.declared.least_pairs.least.Least.{Least}
+use Rattle.race_groups.specs.declared.least_pairs.leasts.Search.{Search}
+use Rattle.race_groups.specs.declared.least_pairs.noted.Note.{Note}
+use Rattle.race_groups.specs.declared.least_pairs.noted.Noted.{Noted}
+
+-- of no variable but the first, and no event comes behind its later event
+abbrev pub IsNothing : Note → Type 0
+IsNothing n = (n.variable ≡ 0) × (n.later ≡ 4294967295)
+
+-- Where the note is of variable x, each pair of its places with a later event behind its own is held.
+pub record IsTrueNote (s : Search) (x : ℕ) (leasts : List Least) (n : Note) : Type 0 where
+  pub reached : n.variable ≤ x
+  pub held :
+      n.variable ≡ x → (a b : ℕ) → IsPair s.indexed.now.events a b → slice_index s.places.now a ≡ n.first → slice_index s.places.now b ≡ n.second
+      → n.later < b → HasCandidate s x leasts a b
+
+abbrev pub AreTrueNotes : Search → ℕ → List Least → Noted → Type 0
+AreTrueNotes s x leasts noted = All (IsTrueNote s x leasts) noted.notes.items

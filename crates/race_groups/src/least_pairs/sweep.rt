@@ -1,0 +1,169 @@
+//! An access of a variable, with all that came before it.
+ghost use Rattle.std.specs.Prelude.{◌≡◌, ℕ, ◌+◌, ◌<◌, true, OnOk, Some, length, slice_get};
+ghost use Rattle.race_groups.specs.Ends.{known_before, counted_before};
+ghost use Rattle.race_groups.specs.least_pairs.Going.{AreClashing, AreFound, AreMore, AreTakenBefore, AreTakenWith, IsSound};
+ghost use Rattle.race_groups.specs.least_pairs.Lanes.{IsLater};
+ghost use Rattle.race_groups.specs.least_pairs.Making.{AreBegun, IsBegun};
+ghost use Rattle.race_groups.specs.least_pairs.Noted.{AreTrueNotes};
+ghost use Rattle.race_groups.specs.declared.least_pairs.lanes.Lane.{Lane as Other};
+
+use crate::least_pairs::lanes::{Lane, Later};
+use crate::least_pairs::least::Least;
+use crate::least_pairs::leasts::{Search, Sought};
+use crate::least_pairs::noted::Noted;
+use crate::least_pairs::reach::reach;
+use crate::least_pairs::windows::{Window, are_clashing};
+use rapid_text::OutOfMemory;
+
+/// How many events of a thread SHB keeps before an access, and how many are must-before it.
+#[derive(Clone, Copy)]
+struct Ends {
+    known: u32,
+    forced: u32,
+}
+
+impl Search<'_> {
+    /// Takes in the pairs of an access with the events of all lanes.
+    pub(crate) fn access(
+        &self,
+        leasts: &mut [Least],
+        noted: &mut Noted,
+        lanes: &[Lane],
+        later: Later,
+    ) -> Result<(), OutOfMemory>
+        requires sound { IsSound self.now }
+        requires variable { later.variable < length self.now.indexed.now.variables }
+        requires later { IsLater self.now.indexed.now.events self.now.classes.now.numbers.items later }
+        requires lanes { AreBegun self.now.indexed.now.events self.now.classes.now.numbers.items later.variable (later.event + 1) lanes.now }
+        requires before { AreTakenBefore self.now later.variable leasts.old later.event }
+        requires found { AreFound self.now later.variable leasts.old }
+        requires noted { AreTrueNotes self.now later.variable leasts.old noted.old }
+        ensures found { OnOk result (AreFound self.now later.variable leasts.new) }
+        ensures more { OnOk result (AreMore self.now.most later.variable leasts.old leasts.new) }
+        ensures noted { OnOk result (AreTrueNotes self.now later.variable leasts.new noted.new) }
+        ensures taken { OnOk result ((at : ℕ) (lane : Other) → slice_get lanes.now at ≡ Some lane → AreTakenWith self.now leasts.new lane later) }
+    {
+        for at in 0..lanes.len() {
+            self.below(leasts, noted, &lanes[at], later)?;
+        }
+        Ok(())
+    }
+
+    // Takes in the pairs of an access with the events of a lane.
+    fn below(
+        &self,
+        leasts: &mut [Least],
+        noted: &mut Noted,
+        lane: &Lane,
+        later: Later,
+    ) -> Result<(), OutOfMemory>
+        requires sound { IsSound self.now }
+        requires variable { later.variable < length self.now.indexed.now.variables }
+        requires later { IsLater self.now.indexed.now.events self.now.classes.now.numbers.items later }
+        requires lane { IsBegun self.now.indexed.now.events self.now.classes.now.numbers.items later.variable (later.event + 1) lane.now }
+        requires before { AreTakenBefore self.now later.variable leasts.old later.event }
+        requires found { AreFound self.now later.variable leasts.old }
+        requires noted { AreTrueNotes self.now later.variable leasts.old noted.old }
+        ensures found { OnOk result (AreFound self.now later.variable leasts.new) }
+        ensures more { OnOk result (AreMore self.now.most later.variable leasts.old leasts.new) }
+        ensures noted { OnOk result (AreTrueNotes self.now later.variable leasts.new noted.new) }
+        ensures taken { OnOk result (AreTakenWith self.now leasts.new lane.now later) }
+    {
+        if !are_clashing(lane, later) {
+            return Ok(());
+        }
+        if self.are_forced(lane, later) {
+            return Ok(());
+        }
+        self.compare(leasts, noted, lane, later)?;
+        Ok(())
+    }
+
+    // Whether all events of the lane are must-before the access's base.
+    fn are_forced(&self, lane: &Lane, later: Later) -> bool
+        requires sound { IsSound self.now }
+        requires lanes { AreClashing self.now lane.now later }
+        ensures { result ≡ true → lane.now.last < counted_before self.now.rows.now self.now.indexed.now.events later.event lane.now.thread }
+    {
+        lane.last < self.forced_end(later.event, lane.thread)
+    }
+
+    // Where the two orders end in the lane's thread.
+    fn ends(&self, lane: &Lane, later: Later) -> Ends
+        requires sound { IsSound self.now }
+        requires lanes { AreClashing self.now lane.now later }
+        ensures known { result.known ≡ known_before self.now.indexed.now.events later.event lane.now.thread }
+        ensures forced { result.forced ≡ counted_before self.now.rows.now self.now.indexed.now.events later.event lane.now.thread }
+    {
+        Ends {
+            known: self.known_end(later.event, lane.thread),
+            forced: self.forced_end(later.event, lane.thread),
+        }
+    }
+
+    // Takes in the candidates of an access in a lane, and then what SHB orders and must-before does not.
+    fn compare(
+        &self,
+        leasts: &mut [Least],
+        noted: &mut Noted,
+        lane: &Lane,
+        later: Later,
+    ) -> Result<(), OutOfMemory>
+        requires sound { IsSound self.now }
+        requires lanes { AreClashing self.now lane.now later }
+        requires before { AreTakenBefore self.now later.variable leasts.old later.event }
+        requires found { AreFound self.now later.variable leasts.old }
+        requires noted { AreTrueNotes self.now later.variable leasts.old noted.old }
+        ensures found { OnOk result (AreFound self.now later.variable leasts.new) }
+        ensures more { OnOk result (AreMore self.now.most later.variable leasts.old leasts.new) }
+        ensures noted { OnOk result (AreTrueNotes self.now later.variable leasts.new noted.new) }
+        ensures taken { OnOk result (AreTakenWith self.now leasts.new lane.now later) }
+    {
+        let ends = self.ends(lane, later);
+        let places = lane.places.as_slice();
+        let end = lane.places.len();
+        let known = reach(places, end, ends.known);
+        let forced = reach(places, known, ends.forced);
+        let candidates = Window {
+            lane,
+            later,
+            from: known,
+            end,
+        };
+        self.take(Sought::Candidates, leasts, noted, candidates)?;
+        let opens = Window {
+            lane,
+            later,
+            from: forced,
+            end: known,
+        };
+        self.take(Sought::Opens, leasts, noted, opens)?;
+        Ok(())
+    }
+
+    /// How many events of the thread SHB keeps before the event's base, that base included.
+    pub(crate) fn known_end(&self, event: u32, thread: u32) -> u32
+        requires sound { IsSound self.now }
+        requires event { event < length self.now.indexed.now.events }
+        requires thread { thread < length self.now.indexed.now.threads }
+        ensures { result ≡ known_before self.now.indexed.now.events event thread }
+    {
+        match self.indexed.base(event) {
+            None => 0,
+            Some(base) => self.clocks.known(self.indexed, base, thread),
+        }
+    }
+
+    // How many events of the thread are must-before the event's base, that base included.
+    fn forced_end(&self, event: u32, thread: u32) -> u32
+        requires sound { IsSound self.now }
+        requires event { event < length self.now.indexed.now.events }
+        requires thread { thread < length self.now.indexed.now.threads }
+        ensures { result ≡ counted_before self.now.rows.now self.now.indexed.now.events event thread }
+    {
+        match self.indexed.base(event) {
+            None => 0,
+            Some(base) => self.rows.count(base, thread),
+        }
+    }
+}

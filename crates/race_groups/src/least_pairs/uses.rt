@@ -1,0 +1,142 @@
+//! The reads of a variable at one place, or the writes, by the first of them.
+ghost use Rattle.std.specs.Prelude.{◌≡◌, ℕ, ◌<◌, true, IfOk, IfSome, OnOk, Some, length, slice_get, slice_index};
+ghost use Rattle.event_index.specs.Relations.{is_access};
+ghost use Rattle.race_groups.specs.least_pairs.Lanes.{access_op};
+ghost use Rattle.race_groups.specs.least_pairs.Uses.{AreRuns, IsAlike, IsOwner, IsRun, IsUseNoted, IsWidened};
+ghost use Rattle.race_groups.specs.declared.least_pairs.uses.Use.{Use as Found};
+
+use indexmap::IndexMap;
+use rapid_text::{Op, OutOfMemory};
+use std::alloc::Global;
+
+/// An event and its thread.
+#[derive(Clone, Copy)]
+pub(crate) struct Of {
+    pub(crate) event: u32,
+    pub(crate) thread: u32,
+}
+
+/// The reads of a variable at one place, or the writes: the first, and the first of another thread than that one's; the first once more
+/// where there is none. No least conflicting pair has another of them.
+#[derive(Clone, Copy)]
+pub(crate) struct Use {
+    pub(crate) place: u32,
+    pub(crate) is_writing: bool,
+    pub(crate) first: Of,
+    pub(crate) other: Of,
+}
+
+/// Where the uses of one variable stand in their list, by place and by whether they write. What is found is compared before it is believed.
+pub(crate) type Index = IndexMap<(u32, u32), usize>;
+
+/// Whether the operation, which accesses the variable, writes it.
+pub(crate) fn is_writing(op: Op, _variable: u32) -> bool
+    requires { is_access _variable op ≡ true }
+    ensures { op ≡ access_op result _variable }
+{
+    match op {
+        Op::Write(_) => true,
+        _ => false,
+    }
+}
+
+/// Takes in one access.
+pub(crate) fn note_use(
+    uses: &mut Vec<Use>,
+    index: &mut Index,
+    place: u32,
+    is_writing: bool,
+    of: Of,
+) -> Result<(), OutOfMemory>
+    ensures { OnOk result (IsUseNoted place is_writing of uses.old.items uses.new.items) }
+{
+    if let Some(at) = use_number(uses.as_slice(), index, place, is_writing) {
+        uses[at] = widened(uses[at], of);
+        return Ok(());
+    }
+    index.insert((place, u32::from(is_writing)), uses.len())?;
+    uses.push(Use {
+        place,
+        is_writing,
+        first: of,
+        other: of,
+    })?;
+    Ok(())
+}
+
+// Where the use of this place stands, if it was found.
+fn use_number(uses: &[Use], index: &Index, place: u32, is_writing: bool) -> Option<usize>
+    ensures { IfSome result (λ at. (u : Found) × (slice_get uses.now at ≡ Some u) × IsAlike place is_writing u) }
+{
+    let at = *index.get(&(place, u32::from(is_writing)))?;
+    if is_at(uses, at, place, is_writing) {
+        return Some(at);
+    }
+    None
+}
+
+// Whether the use stands there, and is of this place.
+fn is_at(uses: &[Use], at: usize, place: u32, is_writing: bool) -> bool
+    ensures { result ≡ true → (u : Found) × (slice_get uses.now at ≡ Some u) × IsAlike place is_writing u }
+{
+    match uses.get(at) {
+        Some(found) => found.place == place && found.is_writing == is_writing,
+        None => false,
+    }
+}
+
+// The use with one event more, which is no earlier than those it has.
+fn widened(one: Use, of: Of) -> Use
+    ensures { IsWidened one of result }
+{
+    if one.first.thread != one.other.thread {
+        return one;
+    }
+    if one.first.thread == of.thread {
+        return one;
+    }
+    Use {
+        place: one.place,
+        is_writing: one.is_writing,
+        first: one.first,
+        other: of,
+    }
+}
+
+/// Whether one thread has all events of both uses.
+pub(crate) fn are_of_one_thread(one: Use, other: Use) -> bool
+    ensures { result ≡ true → (t : ℕ) × IsOwner t one × IsOwner t other }
+{
+    one.first.thread == one.other.thread
+        && other.first.thread == one.first.thread
+        && other.other.thread == one.first.thread
+}
+
+/// For each use how far the uses from there on are those of one thread alone.
+pub(crate) fn runs_of(alloc: Global, uses: &[Use]) -> Result<Vec<usize>, OutOfMemory>
+    ensures { IfOk result (λ runs. AreRuns uses.now runs.items) }
+{
+    let mut runs = vec![in alloc; 0usize; uses.len()]?;
+    for done in 0..uses.len() {
+        let at = uses.len() - 1 - done;
+        runs[at] = run_at(uses, runs.as_slice(), at);
+    }
+    Ok(runs)
+}
+
+// Where the run ends that stands at this place, from those of the places after it.
+fn run_at(uses: &[Use], runs: &[usize], at: usize) -> usize
+    requires at { at < length uses.now }
+    requires len { length runs.now ≡ length uses.now }
+    requires runs { (i : ℕ) → at < i → i < length uses.now → IsRun uses.now i (slice_index runs.now i) }
+    ensures { IsRun uses.now at result }
+{
+    let next = at + 1;
+    if next == uses.len() {
+        return next;
+    }
+    if are_of_one_thread(uses[at], uses[next]) {
+        return runs[next];
+    }
+    next
+}

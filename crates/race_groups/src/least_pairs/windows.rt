@@ -1,0 +1,39 @@
+//! Which events of a lane an access is compared with.
+ghost use Rattle.std.specs.Prelude.{◌≡◌, ℕ, ◌<◌, ◌≢◌, ◌⊎◌, ◌||◌, true, false, length};
+
+use crate::least_pairs::lanes::{Lane, Later};
+use crate::least_pairs::tries::Between;
+
+/// The events of a lane from one place up to another, and an access that they are compared with.
+#[derive(Clone, Copy)]
+pub(crate) struct Window<'a> {
+    pub(crate) lane: &'a Lane,
+    pub(crate) later: Later,
+    pub(crate) from: usize,
+    pub(crate) end: usize,
+}
+
+/// Two accesses, and what their pair is of.
+#[derive(Clone, Copy)]
+pub(crate) struct Two {
+    pub(crate) first: u32,
+    pub(crate) second: u32,
+    pub(crate) of: Between,
+}
+
+/// Whether the lane has events, and they conflict with the access.
+pub(crate) fn are_clashing(lane: &Lane, later: Later) -> bool
+    ensures some { result ≡ true → 0 < length lane.now.events.items }
+    ensures threads { result ≡ true → lane.now.thread ≢ later.thread }
+    ensures writes { result ≡ true → (lane.now.is_writing || later.is_writing) ≡ true }
+    ensures none { result ≡ false → (length lane.now.events.items ≡ 0) ⊎ (lane.now.thread ≡ later.thread)
+        ⊎ ((lane.now.is_writing ≡ false) × (later.is_writing ≡ false)) }
+{
+    if lane.thread == later.thread {
+        return false;
+    }
+    if !lane.is_writing && !later.is_writing {
+        return false;
+    }
+    !lane.events.is_empty()
+}

@@ -1,7 +1,0 @@
-use Rattle.std.proofs.Common.{ap, ◌∙◌}
-use Rattle.serde_json.specs.Written.{has_float}
-use Rattle.race_json.proofs.ObjectLemmas.{verdict-no_float}
-use Rattle.race_json.proofs.lines.append_verdict.Goals as goal
-
-pub append_line-requires : goal.append_line-requires
-append_line-requires c = ap has_float c.in_ok-object.ensures ∙ verdict-no_float c.args.analysis.now c.args.verdict.now

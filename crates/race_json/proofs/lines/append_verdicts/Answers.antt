@@ -1,9 +1,0 @@
-use Rattle.std.proofs.Common.{◌++◌, List, take_all, ap, ◌∙◌, arith}
-use Rattle.race_json.specs.Lines.{verdict_lines}
-use Rattle.race_triage.specs.declared.verdicts.Verdict.{Verdict}
-use Rattle.race_json.proofs.lines.append_verdicts.Goals as goal
-
-pub returns : goal.returns
-returns c =
-    c.loop-verdict.invariant
-    ∙ ap (λ (listed : List Verdict). c.args.out.now.items ++ verdict_lines c.args.analysis.now listed) (take_all c.loop-verdict.verdict-index c.args.verdicts.now (omega arith))

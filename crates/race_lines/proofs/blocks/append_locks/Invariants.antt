@@ -1,7 +1,0 @@
--- The lines so far are those of the locks so far.
-use Rattle.std.proofs.Common.{◌≡◌, ◌++◌, take}
-use Rattle.race_lines.specs.Lines.{lock_lines}
-use Rattle.race_lines.proofs.blocks.append_locks.Given as goal
-
-abbrev pub invariant-loop-lock : goal.invariant-loop-lock
-invariant-loop-lock l = l.out.items ≡ l.fn.out.items ++ lock_lines l.indexed l.place (take l.lock-index l.locks)

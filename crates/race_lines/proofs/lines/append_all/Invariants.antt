@@ -1,7 +1,0 @@
--- The lines so far are those of the verdicts so far.
-use Rattle.std.proofs.Common.{◌≡◌, ◌++◌, take}
-use Rattle.race_lines.specs.Lines.{all_lines}
-use Rattle.race_lines.proofs.lines.append_all.Given as goal
-
-abbrev pub invariant-loop-verdict : goal.invariant-loop-verdict
-invariant-loop-verdict l = l.out.items ≡ l.fn.out.items ++ all_lines l.analysis (take l.verdict-index l.verdicts)

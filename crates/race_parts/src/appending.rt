@@ -1,0 +1,71 @@
+//! Pieces of text that are appended.
+ghost use Rattle.std.specs.Prelude.{◌≡◌, ◌++◌, OnOk};
+ghost use Rattle.serde_json.specs.View.{view};
+ghost use Rattle.race_parts.specs.Members.{said_number};
+ghost use Rattle.race_parts.specs.Texts.{count_line, named_text, number_text, shown};
+
+use crate::members::number_of;
+use itoa::Buffer;
+use rapid_text::OutOfMemory;
+use serde_json::Value;
+
+/// Appends the words.
+pub(crate) fn append_words(out: &mut Vec<u8>, words: &[u8]) -> Result<(), OutOfMemory>
+    ensures { OnOk result (out.new.items ≡ out.old.items ++ words.now) }
+{
+    out.extend_from_slice(words)?;
+    Ok(())
+}
+
+/// Appends a number behind a blank.
+pub(crate) fn append_number(out: &mut Vec<u8>, number: u64) -> Result<(), OutOfMemory>
+    ensures { OnOk result (out.new.items ≡ out.old.items ++ number_text number) }
+{
+    let mut digits = Buffer::new();
+    append_words(out, b" ")?;
+    append_words(out, digits.format(number).as_bytes())?;
+    Ok(())
+}
+
+/// Appends a word, a blank, a number, and the end of the line.
+pub(crate) fn append_count(out: &mut Vec<u8>, word: &[u8], number: u64) -> Result<(), OutOfMemory>
+    ensures { OnOk result (out.new.items ≡ out.old.items ++ count_line word.now number) }
+{
+    append_words(out, word)?;
+    append_number(out, number)?;
+    append_words(out, b"\n")?;
+    Ok(())
+}
+
+/// Appends bytes from a part; a line feed among them is told as `?`.
+pub(crate) fn append_shown(out: &mut Vec<u8>, bytes: &[u8]) -> Result<(), OutOfMemory>
+    ensures { OnOk result (out.new.items ≡ out.old.items ++ shown bytes.now) }
+{
+    for byte in bytes {
+        out.push(if *byte == b'\n' { b'?' } else { *byte })?;
+    }
+    Ok(())
+}
+
+/// Appends a word, a blank, and a number among the members.
+pub(crate) fn append_field(
+    out: &mut Vec<u8>,
+    word: &[u8],
+    value: &Value,
+    name: &str,
+) -> Result<(), OutOfMemory>
+    ensures { OnOk result (out.new.items ≡ out.old.items ++ (word.now ++ number_text (said_number name.now (view value.now)))) }
+{
+    append_words(out, word)?;
+    append_number(out, number_of(value, name))?;
+    Ok(())
+}
+
+/// Appends a word and a number.
+pub(crate) fn append_named(out: &mut Vec<u8>, word: &[u8], number: usize) -> Result<(), OutOfMemory>
+    ensures { OnOk result (out.new.items ≡ out.old.items ++ named_text word.now number) }
+{
+    append_words(out, word)?;
+    append_number(out, number as u64)?;
+    Ok(())
+}

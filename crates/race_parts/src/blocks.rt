@@ -1,0 +1,192 @@
+//! A row as a block of text, as `triage` prints it.
+ghost use Rattle.std.specs.Prelude.{◌≡◌, ◌++◌, OnOk};
+ghost use Rattle.serde_json.specs.Find.{as_str};
+ghost use Rattle.serde_json.specs.View.{view};
+ghost use Rattle.race_parts.specs.Texts.{access_text, apart_text, begin_text, end_text, event_text, head_text, hold_line, hold_lines, holds_text, how_text, race_text, row_text, sizes_text, text_in, undecided_text, words_text};
+
+use crate::appending::{append_field, append_number, append_shown, append_words};
+use crate::cells::event_in;
+use crate::members::{access_in, is_kind, text_of};
+use rapid_text::OutOfMemory;
+use serde_json::Value;
+
+/// The locks that are held at an access.
+fn holds_of(access: &Value) -> &[Value]
+    ensures { holds_text (view access.now) ≡ hold_lines result.now }
+{
+    match access.get("holds") {
+        Some(found) => match found.as_array() {
+            Some(list) => list.as_slice(),
+            None => &[],
+        },
+        None => &[],
+    }
+}
+
+/// Appends a line for each lock that is held.
+fn append_holds(out: &mut Vec<u8>, access: &Value) -> Result<(), OutOfMemory>
+    ensures { OnOk result (out.new.items ≡ out.old.items ++ holds_text (view access.now)) }
+{
+    append_hold_lines(out, holds_of(access))?;
+    Ok(())
+}
+
+/// Appends a line for each of the locks.
+fn append_hold_lines(out: &mut Vec<u8>, locks: &[Value]) -> Result<(), OutOfMemory>
+    ensures { OnOk result (out.new.items ≡ out.old.items ++ hold_lines locks.now) }
+{
+    for lock in locks {
+        append_hold_line(out, lock)?;
+    }
+    Ok(())
+}
+
+/// Appends the line of a lock.
+fn append_hold_line(out: &mut Vec<u8>, lock: &Value) -> Result<(), OutOfMemory>
+    ensures { OnOk result (out.new.items ≡ out.old.items ++ hold_line (view lock.now)) }
+{
+    append_words(out, b"    holds ")?;
+    append_shown(out, lock_name(lock))?;
+    append_words(out, b"\n")?;
+    Ok(())
+}
+
+/// The name of a lock; empty if it is no text.
+fn lock_name(lock: &Value) -> &[u8]
+    ensures { result.now ≡ text_in (as_str (view lock.now)) }
+{
+    match lock.as_str() {
+        Some(text) => text.as_bytes(),
+        None => b"",
+    }
+}
+
+/// Appends the beginning of the line of an access: its thread, and what is done.
+fn append_begin(out: &mut Vec<u8>, access: &Value) -> Result<(), OutOfMemory>
+    ensures { OnOk result (out.new.items ≡ out.old.items ++ begin_text (view access.now)) }
+{
+    append_words(out, b"  ")?;
+    append_shown(out, text_of(access, "thread"))?;
+    append_words(out, b"|")?;
+    append_shown(out, text_of(access, "operation"))?;
+    Ok(())
+}
+
+/// Appends the end of the line of an access: its variable, and its location.
+fn append_end(out: &mut Vec<u8>, access: &Value) -> Result<(), OutOfMemory>
+    ensures { OnOk result (out.new.items ≡ out.old.items ++ end_text (view access.now)) }
+{
+    append_words(out, b"(")?;
+    append_shown(out, text_of(access, "variable"))?;
+    append_words(out, b")|")?;
+    append_shown(out, text_of(access, "location"))?;
+    append_words(out, b"\n")?;
+    Ok(())
+}
+
+/// Appends the line of an access.
+fn append_event(out: &mut Vec<u8>, access: &Value) -> Result<(), OutOfMemory>
+    ensures { OnOk result (out.new.items ≡ out.old.items ++ event_text (view access.now)) }
+{
+    append_begin(out, access)?;
+    append_end(out, access)?;
+    Ok(())
+}
+
+/// Appends an access, and the locks that its thread holds.
+fn append_access(out: &mut Vec<u8>, row: &Value, place: usize) -> Result<(), OutOfMemory>
+    ensures { OnOk result (out.new.items ≡ out.old.items ++ access_text place (view row.now)) }
+{
+    match access_in(row, place) {
+        Some(access) => {
+            append_event(out, access)?;
+            append_holds(out, access)?;
+            Ok(())
+        }
+        None => Ok(()),
+    }
+}
+
+/// Appends a word, and the numbers of the two events.
+fn append_pair(out: &mut Vec<u8>, word: &[u8], row: &Value) -> Result<(), OutOfMemory>
+    ensures { OnOk result (out.new.items ≡ out.old.items ++ words_text word.now (view row.now)) }
+{
+    append_words(out, word)?;
+    append_number(out, event_in(row, 0))?;
+    append_number(out, event_in(row, 1))?;
+    Ok(())
+}
+
+/// Appends how a race is shown.
+fn append_how(out: &mut Vec<u8>, row: &Value) -> Result<(), OutOfMemory>
+    ensures { OnOk result (out.new.items ≡ out.old.items ++ how_text (view row.now)) }
+{
+    append_words(out, b" ")?;
+    append_shown(out, text_of(row, "how"))?;
+    Ok(())
+}
+
+/// Appends how large a race is.
+fn append_sizes(out: &mut Vec<u8>, row: &Value) -> Result<(), OutOfMemory>
+    ensures { OnOk result (out.new.items ≡ out.old.items ++ sizes_text (view row.now)) }
+{
+    append_field(out, b" pairs", row, "pairs")?;
+    append_field(out, b" variables", row, "variables")?;
+    append_field(out, b" events", row, "events")?;
+    append_field(out, b" threads", row, "threads")?;
+    Ok(())
+}
+
+/// Appends the first line of a race, without its end.
+fn append_race(out: &mut Vec<u8>, row: &Value) -> Result<(), OutOfMemory>
+    ensures { OnOk result (out.new.items ≡ out.old.items ++ race_text (view row.now)) }
+{
+    append_pair(out, b"race", row)?;
+    append_how(out, row)?;
+    append_sizes(out, row)?;
+    Ok(())
+}
+
+/// Appends the first line of what is undecided, without its end.
+fn append_undecided(out: &mut Vec<u8>, row: &Value) -> Result<(), OutOfMemory>
+    ensures { OnOk result (out.new.items ≡ out.old.items ++ undecided_text (view row.now)) }
+{
+    append_pair(out, b"undecided", row)?;
+    append_field(out, b" pairs", row, "pairs")?;
+    append_field(out, b" variables", row, "variables")?;
+    append_field(out, b" tried", row, "tried")?;
+    Ok(())
+}
+
+/// Appends the first line of what is apart, without its end.
+fn append_apart(out: &mut Vec<u8>, row: &Value) -> Result<(), OutOfMemory>
+    ensures { OnOk result (out.new.items ≡ out.old.items ++ apart_text (view row.now)) }
+{
+    append_pair(out, b"apart", row)?;
+    append_field(out, b" pairs", row, "pairs")?;
+    Ok(())
+}
+
+/// Appends the first line of a row, without its end.
+fn append_head(out: &mut Vec<u8>, row: &Value) -> Result<(), OutOfMemory>
+    ensures { OnOk result (out.new.items ≡ out.old.items ++ head_text (view row.now)) }
+{
+    if is_kind(row, "race") {
+        append_race(out, row)
+    } else if is_kind(row, "undecided") {
+        append_undecided(out, row)
+    } else {
+        append_apart(out, row)
+    }
+}
+
+/// Appends a row as a block.
+pub(crate) fn append_row(out: &mut Vec<u8>, row: &Value) -> Result<(), OutOfMemory>
+    ensures { OnOk result (out.new.items ≡ out.old.items ++ row_text (view row.now)) }
+{
+    append_head(out, row)?;
+    append_words(out, b"\n")?;
+    append_access(out, row, 0)?;
+    append_access(out, row, 1)?;
+    Ok(())
+}

@@ -1,0 +1,168 @@
+//! Equal locations of rows become one text in memory, and get one number: so they are soon compared.
+ghost use Rattle.std.specs.Prelude.{◌≡◌, IfOk, IfSome};
+
+use indexmap::IndexSet;
+use rapid_text::OutOfMemory;
+use std::alloc::Global;
+use std::hash::{BuildHasherDefault, DefaultHasher, FoldHasher, Hasher};
+
+/// Locations, each once. The hasher has a key, so that names are not easily chosen to collide.
+type Locations<'a> = IndexSet<&'a [u8], BuildHasherDefault<DefaultHasher>>;
+
+/// How many guesses are kept: a power of two.
+const GUESSES: usize = 16_384;
+
+/// How far a mix is shifted to tell the place of its guess.
+const SHIFT: u32 = 50;
+
+/// The mix of a location's bytes, and the number that it had.
+#[derive(Clone, Copy)]
+struct Guess {
+    mix: u64,
+    number: usize,
+}
+
+/// The locations of rows, and for each row the numbers of its two.
+#[derive(Drop)]
+pub(crate) struct Shares<'a> {
+    locations: Locations<'a>,
+    // The number of the last location for each place. A guess spares a look-up, and is compared before it is believed. So its own hash
+    // needs no key: who chooses locations that share a place makes the guesses useless, and no look-up dearer.
+    guesses: Vec<Guess>,
+    pairs: Vec<(usize, usize)>,
+}
+
+/// Of no row yet, with room for so many.
+pub(crate) fn no_shares<'a>(alloc: Global, rows: usize) -> Result<Shares<'a>, OutOfMemory> {
+    let guesses = vec![in alloc; Guess { mix: 0, number: 0 }; GUESSES]?;
+    Ok(Shares {
+        locations: IndexSet::with_hasher(alloc, BuildHasherDefault::new()),
+        guesses,
+        pairs: Vec::with_capacity(alloc, rows)?,
+    })
+}
+
+/// A mix of the bytes of a location.
+fn mix_of(location: &[u8]) -> u64 {
+    let mut hasher = FoldHasher::default();
+    hasher.write(location);
+    hasher.finish()
+}
+
+/// The number that the last location of this mix had.
+fn guess_at(guesses: &[Guess], mix: u64) -> Option<usize> {
+    let guess = guesses.get((mix >> SHIFT) as usize)?;
+    if guess.mix == mix {
+        Some(guess.number)
+    } else {
+        None
+    }
+}
+
+/// Notes the number of a location with this mix.
+fn note(guesses: &mut [Guess], mix: u64, number: usize) {
+    if let Some(guess) = guesses.get_mut((mix >> SHIFT) as usize) {
+        *guess = Guess { mix, number };
+    }
+}
+
+/// The location of this number, if it is this one.
+#[inline(always)]
+fn same_at<'a>(locations: &Locations<'a>, number: usize, location: &[u8]) -> Option<&'a [u8]>
+    ensures { IfSome result (λ found. found.now ≡ location.now) }
+{
+    match locations.get_index(number) {
+        Some(known) if *known == location => Some(*known),
+        _ => None,
+    }
+}
+
+/// The first of the locations that are equal to this one, and its number.
+#[inline(always)]
+fn shared<'a>(shares: &mut Shares<'a>, location: &'a [u8]) -> Result<(&'a [u8], usize), OutOfMemory>
+    ensures { IfOk result (λ found. found.0.now ≡ location.now) }
+{
+    let mix = mix_of(location);
+    if let Some(number) = guess_at(&shares.guesses, mix) {
+        if let Some(known) = same_at(&shares.locations, number, location) {
+            return Ok((known, number));
+        }
+    }
+    looked_up(shares, location, mix)
+}
+
+/// The same by a look-up, which is noted as the guess at its mix.
+#[inline(never)]
+fn looked_up<'a>(
+    shares: &mut Shares<'a>,
+    location: &'a [u8],
+    mix: u64,
+) -> Result<(&'a [u8], usize), OutOfMemory>
+    ensures { IfOk result (λ found. found.0.now ≡ location.now) }
+{
+    let (number, _) = shares.locations.insert_full(location)?;
+    note(&mut shares.guesses, mix, number);
+    match same_at(&shares.locations, number, location) {
+        Some(known) => Ok((known, number)),
+        None => Ok((location, number)),
+    }
+}
+
+/// The two locations of the next row, shared.
+pub(crate) fn share_both<'a>(
+    shares: &mut Shares<'a>,
+    one: &'a [u8],
+    other: &'a [u8],
+) -> Result<(&'a [u8], &'a [u8]), OutOfMemory>
+    ensures one { IfOk result (λ found. found.0.now ≡ one.now) }
+    ensures other { IfOk result (λ found. found.1.now ≡ other.now) }
+{
+    let (one, first) = shared(shares, one)?;
+    let (other, second) = shared(shares, other)?;
+    shares.pairs.push((first, second))?;
+    Ok((one, other))
+}
+
+/// For each location its place among all of them, in the order of their texts.
+fn places_of(alloc: Global, locations: &Locations<'_>) -> Result<Vec<usize>, OutOfMemory> {
+    let mut names = Vec::with_capacity(alloc, locations.len())?;
+    for (number, name) in locations.iter().enumerate() {
+        names.push((*name, number))?;
+    }
+    names.sort_unstable();
+    let mut places = vec![in alloc; 0usize; names.len()]?;
+    for (place, (_, number)) in names.iter().enumerate() {
+        if let Some(found) = places.get_mut(*number) {
+            *found = place;
+        }
+    }
+    Ok(places)
+}
+
+/// The place of the location of this number.
+fn place_at(places: &[usize], number: usize) -> usize {
+    match places.get(number) {
+        Some(place) => *place,
+        None => number,
+    }
+}
+
+/// For each row the places of its two locations, the lesser first.
+pub(crate) fn places_in(
+    alloc: Global,
+    shares: Shares<'_>,
+) -> Result<Vec<(usize, usize)>, OutOfMemory> {
+    let Shares {
+        locations,
+        guesses: _,
+        pairs,
+    } = shares;
+    let places = places_of(alloc, &locations)?;
+    let mut pairs = pairs;
+    for pair in pairs.iter_mut() {
+        let one = place_at(&places, pair.0);
+        let other = place_at(&places, pair.1);
+        *pair = (one.min(other), one.max(other));
+    }
+    Ok(pairs)
+}

@@ -1,7 +1,0 @@
-use Rattle.std.proofs.Common.{ap, ◌∙◌}
-use Rattle.serde_json.specs.Written.{has_float}
-use Rattle.race_sarif.proofs.FloatLemmas.{base-no_float}
-use Rattle.race_sarif.proofs.logs.append_base.Goals as goal
-
-pub append_value-requires : goal.append_value-requires
-append_value-requires c = ap has_float c.in_ok-object.ensures ∙ base-no_float c.args.root.now

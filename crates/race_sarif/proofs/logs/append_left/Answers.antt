@@ -1,7 +1,0 @@
-use Rattle.std.proofs.Common.{ap, ◌∙◌}
-use Rattle.serde_json.specs.Written.{has_float}
-use Rattle.race_sarif.proofs.FloatLemmas.{left-no_float}
-use Rattle.race_sarif.proofs.logs.append_left.Goals as goal
-
-pub append_value-requires : goal.append_value-requires
-append_value-requires c = ap has_float c.in_ok-object.ensures ∙ left-no_float c.args.known c.args.hidden

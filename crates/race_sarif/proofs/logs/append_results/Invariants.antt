@@ -1,8 +1,0 @@
--- What was appended are the results of the verdicts so far.
-use Rattle.std.proofs.Common.{◌≡◌, ◌++◌, List, take}
-use Rattle.serde_json.specs.Data.{Data}
-use Rattle.race_sarif.specs.Logs.{joined, AreResults}
-use Rattle.race_sarif.proofs.logs.append_results.Given as goal
-
-abbrev pub invariant-loop-at : goal.invariant-loop-at
-invariant-loop-at l = (ds : List Data) × AreResults l.analysis l.sources (take l.at l.verdicts) ds × (l.out.items ≡ l.fn.out.items ++ joined ds)

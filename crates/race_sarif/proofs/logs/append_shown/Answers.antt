@@ -1,7 +1,0 @@
-use Rattle.std.proofs.Common.{ap, ◌∙◌}
-use Rattle.serde_json.specs.Written.{has_float}
-use Rattle.race_sarif.proofs.FloatLemmas.{result-no_float}
-use Rattle.race_sarif.proofs.logs.append_shown.Goals as goal
-
-pub append_item-requires : goal.append_item-requires
-append_item-requires c = ap has_float c.in_ok-object.ensures ∙ result-no_float c.args.indexed.now c.args.sources c.args.verdict.now _

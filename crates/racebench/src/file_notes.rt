@@ -1,0 +1,262 @@
+//! Notes on files that the arguments name: what is wrong with a file that was not read, and what stands in one that was refused.
+
+use crate::input::is_standard;
+use crate::likeness::{Likeness, likeness_of};
+use crate::lines::line_of;
+use crate::notes::{
+    STANDARD_OUTPUT, append_kind, append_named, append_script_notes, append_write_note,
+    unread_words,
+};
+use crate::quoted::append_quote;
+use crate::trace_notes::{append_limit_note, append_rule_notes, append_trace_notes};
+use calls::BenchFault;
+use client_scripts::{FromRead, ReadCause, ReplayFault, ScriptRefusal, read_all};
+use rapid_text::{OutOfMemory, TextRefusal};
+use std::fs::{File, metadata};
+use std::io;
+
+/// Whether the file is there and a plain one.
+pub(crate) fn is_plain(rt: &HostRuntime, path: &str) -> bool {
+    match metadata(rt, path) {
+        Ok(found) => found.is_file(),
+        Err(_) => false,
+    }
+}
+
+/// What a file holds, read again. None if that fails, or if it is no plain file, since another kind may not give its bytes twice, or wait.
+fn bytes_again(rt: &HostRuntime, path: &str) -> Option<Vec<u8>> {
+    if !is_plain(rt, path) {
+        return None;
+    }
+    match File::open(rt, path) {
+        Ok(file) => bytes_of(rt, file),
+        Err(_) => None,
+    }
+}
+
+/// What is read of a file, if it can be read whole.
+fn bytes_of(rt: &HostRuntime, file: File) -> Option<Vec<u8>> {
+    let mut source = FromRead::new(file);
+    match read_all(rt.alloc(), &mut source) {
+        Ok(bytes) => Some(bytes),
+        Err(_) => None,
+    }
+}
+
+/// What is wrong with a file that was not found or not opened.
+fn unopened_words(error: &io::Error) -> &'static [u8] {
+    match error.kind() {
+        io::ErrorKind::NotFound => b" does not exist",
+        io::ErrorKind::PermissionDenied => b" may not be read: permission denied",
+        _ => b" cannot be opened",
+    }
+}
+
+/// What is wrong with a plain file that was not read.
+fn unread_file_words(rt: &HostRuntime, path: &str) -> &'static [u8] {
+    match File::open(rt, path) {
+        Ok(_) => unread_words(ReadCause::Device),
+        Err(error) => unopened_words(&error),
+    }
+}
+
+/// What is wrong with the input at this path, which was not read. What is no plain file is not opened again.
+fn unread_path_words(rt: &HostRuntime, path: &str) -> &'static [u8] {
+    if is_standard(path) {
+        return unread_words(ReadCause::Device);
+    }
+    match metadata(rt, path) {
+        Ok(found) if found.is_dir() => b" is a folder, not a file",
+        Ok(found) if found.is_file() => unread_file_words(rt, path),
+        Ok(_) => unread_words(ReadCause::Device),
+        Err(error) => unopened_words(&error),
+    }
+}
+
+/// Appends the note on an input that was not read; none on one that no argument names.
+fn append_unread_note(
+    rt: &HostRuntime,
+    out: &mut Vec<u8>,
+    path: &str,
+    why: ReadCause,
+) -> Result<(), OutOfMemory> {
+    if path.is_empty() {
+        return Ok(());
+    }
+    match why {
+        ReadCause::TooLong => append_named(out, path, unread_words(why)),
+        ReadCause::Device => append_named(out, path, unread_path_words(rt, path)),
+    }
+}
+
+/// Appends the notes on a refused line of the trace in a file.
+fn append_trace_file_notes(
+    rt: &HostRuntime,
+    out: &mut Vec<u8>,
+    path: &str,
+    refusal: &TextRefusal,
+) -> Result<(), OutOfMemory> {
+    match bytes_again(rt, path) {
+        Some(text) => append_trace_notes(out, path, &text, refusal),
+        None => Ok(()),
+    }
+}
+
+/// Appends the notes on an event that breaks a rule of the trace in a file.
+fn append_rule_file_notes(
+    rt: &HostRuntime,
+    out: &mut Vec<u8>,
+    path: &str,
+    event: u32,
+) -> Result<(), OutOfMemory> {
+    match bytes_again(rt, path) {
+        Some(text) => append_rule_notes(out, path, &text, true, event),
+        None => Ok(()),
+    }
+}
+
+/// Appends the notes on a refused line of the script in a file.
+fn append_script_file_notes(
+    rt: &HostRuntime,
+    out: &mut Vec<u8>,
+    path: &str,
+    refusal: &ScriptRefusal,
+) -> Result<(), OutOfMemory> {
+    match bytes_again(rt, path) {
+        Some(text) => append_script_notes(out, path, &text, true, refusal),
+        None => Ok(()),
+    }
+}
+
+/// Appends the notes on a fault of a trace and scripts in files, of which the first is the trace: input 1, and then the scripts.
+pub(crate) fn append_file_notes(
+    rt: &HostRuntime,
+    out: &mut Vec<u8>,
+    paths: &[&str],
+    fault: &BenchFault,
+) -> Result<(), OutOfMemory> {
+    match fault {
+        BenchFault::Replay(ReplayFault::Text(refusal)) => {
+            append_trace_file_notes(rt, out, path_of(paths, 1), refusal)?;
+            append_limit_note(out, refusal)
+        }
+        BenchFault::Replay(ReplayFault::Rule(refusal)) => {
+            append_rule_file_notes(rt, out, path_of(paths, 1), refusal.event)
+        }
+        BenchFault::Replay(ReplayFault::Script(refusal)) => {
+            append_script_file_notes(rt, out, path_of(paths, 2), refusal)
+        }
+        BenchFault::Script { place, refusal } => {
+            append_script_file_notes(rt, out, path_of(paths, place.saturating_add(1)), refusal)
+        }
+        BenchFault::Replay(ReplayFault::Read { input, why }) => {
+            append_unread_note(rt, out, path_of(paths, *input), *why)
+        }
+        BenchFault::Replay(ReplayFault::Write) => append_write_note(out, STANDARD_OUTPUT),
+        _ => Ok(()),
+    }
+}
+
+/// What a file was to hold, of which a line is refused.
+#[derive(Clone, Copy)]
+pub(crate) struct Form {
+    own: Likeness,
+    /// What a note says of a file of another kind, after the kind.
+    other: &'static [u8],
+    /// What it says of a file of this kind or of none that is known.
+    wrong: &'static [u8],
+}
+
+/// The log of a session.
+pub(crate) const LOG: Form = Form {
+    own: Likeness::Log,
+    other: b", and not what `racebench session` writes",
+    wrong: b" is not what `racebench session` writes",
+};
+
+/// Races that were followed.
+pub(crate) const CONFIRMED: Form = Form {
+    own: Likeness::Part,
+    other: b", and not what `record/confirm --json` writes",
+    wrong: b" is not what `record/confirm --json` writes",
+};
+
+/// A part of a report.
+pub(crate) const PART: Form = Form {
+    own: Likeness::Part,
+    other: b", and no part: `racebench triage --json` makes a part of a trace",
+    wrong: b" is not whole, or not what `racebench triage --json` writes",
+};
+
+/// Appends the notes on a refused line of a file that was to have this form.
+pub(crate) fn append_form_notes(
+    rt: &HostRuntime,
+    out: &mut Vec<u8>,
+    path: &str,
+    number: u64,
+    form: Form,
+) -> Result<(), OutOfMemory> {
+    match bytes_again(rt, path) {
+        Some(text) => append_form_notes_of(out, path, &text, number, form),
+        None => append_named(out, path, form.wrong),
+    }
+}
+
+/// The same of this text.
+fn append_form_notes_of(
+    out: &mut Vec<u8>,
+    path: &str,
+    text: &[u8],
+    number: u64,
+    form: Form,
+) -> Result<(), OutOfMemory> {
+    match line_of(text, true, number) {
+        Some(line) if !line.is_empty() => append_quote(out, path, number, line)?,
+        _ => {}
+    }
+    let likeness = likeness_of(text);
+    if likeness == form.own || likeness == Likeness::Other {
+        append_named(out, path, form.wrong)
+    } else {
+        append_kind(out, path, likeness, form.other)
+    }
+}
+
+/// Whether a file that can be read again looks like no log.
+fn is_no_log(rt: &HostRuntime, path: &str) -> bool {
+    match bytes_again(rt, path) {
+        Some(text) => likeness_of(&text) != Likeness::Log,
+        None => false,
+    }
+}
+
+/// Appends the note on a log of another trace, or on a file that is no log.
+pub(crate) fn append_other_log_note(
+    rt: &HostRuntime,
+    out: &mut Vec<u8>,
+    path: &str,
+) -> Result<(), OutOfMemory> {
+    let words: &[u8] = if is_no_log(rt, path) {
+        b" is no log of a session: take another name for the log"
+    } else {
+        b" was made with another trace: take that trace, or another name for the log"
+    };
+    append_named(out, path, words)
+}
+
+/// Appends the note on a triage file that is refused.
+pub(crate) fn append_triaged_note(out: &mut Vec<u8>, path: &str) -> Result<(), OutOfMemory> {
+    append_named(
+        out,
+        path,
+        b" is the triage file; docs/TRIAGE.md has its form",
+    )
+}
+
+/// The path of the input of this number.
+fn path_of<'a>(paths: &[&'a str], input: u32) -> &'a str {
+    match paths.get((input as usize).saturating_sub(1)) {
+        Some(path) => path,
+        None => "",
+    }
+}

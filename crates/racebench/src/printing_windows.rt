@@ -1,0 +1,127 @@
+//! How `triage --windows` prints the merged report of its windows.
+ghost use Rattle.std.specs.Prelude.{◌≡◌, false};
+
+use crate::cutting::append_counts;
+use crate::judging_windows::Report;
+use crate::leaving::{Printed, is_any, wanted_in, write_decided};
+use crate::logging::write_log_in;
+use crate::windows::Windows;
+use calls::triage::{TriageFault, write_merged_page};
+use calls::{MergeFault, write_merged, write_merged_json};
+use client_scripts::{FromWrite, ReplayFault, Sink, write_all};
+use program_words::RacesForm;
+use std::alloc::Global;
+use std::io;
+
+/// Writes the merged report of the windows. Answers how many races are printed.
+fn write_report<K: Sink>(
+    rt: &HostRuntime,
+    windows: &Windows,
+    report: &Report<'_>,
+    writer: &mut K,
+) -> Result<u64, MergeFault>
+    requires { K.has_failed writer.old ≡ false }
+{
+    let task = report.task;
+    if is_any(wanted_in(task)) {
+        return write_chosen(rt, windows, report, writer);
+    }
+    match task.form {
+        RacesForm::Json => write_merged_json(rt.alloc(), &report.parts, writer),
+        RacesForm::Page => {
+            told_of(write_merged_page(rt.alloc(), &report.parts, task.apart, writer))
+        }
+        RacesForm::Sarif => {
+            told_of(write_log_in(rt, &report.parts, task.apart, task.source, writer))
+        }
+        _ => write_lines(rt.alloc(), windows, report, writer),
+    }
+}
+
+/// Writes the same without what is left out.
+fn write_chosen<K: Sink>(
+    rt: &HostRuntime,
+    windows: &Windows,
+    report: &Report<'_>,
+    writer: &mut K,
+) -> Result<u64, MergeFault>
+    requires { K.has_failed writer.old ≡ false }
+{
+    match report.task.form {
+        RacesForm::Json | RacesForm::Page | RacesForm::Sarif => write_rest(rt, report, writer),
+        _ => {
+            let mut head = Vec::new(rt.alloc());
+            append_counts(&mut head, windows, report.count)?;
+            match write_all(writer, head.as_slice()) {
+                Ok(()) => write_rest(rt, report, writer),
+                Err(_) => Err(MergeFault::Replay(ReplayFault::Write)),
+            }
+        }
+    }
+}
+
+/// Writes the merged report of the windows without what is left out.
+fn write_rest<K: Sink>(
+    rt: &HostRuntime,
+    report: &Report<'_>,
+    writer: &mut K,
+) -> Result<u64, MergeFault>
+    requires { K.has_failed writer.old ≡ false }
+{
+    let task = report.task;
+    let printed = Printed {
+        apart: task.apart,
+        form: task.form,
+        source: task.source,
+    };
+    told_of(write_decided(
+        rt,
+        &report.parts,
+        report.decided,
+        wanted_in(task),
+        printed,
+        writer,
+    ))
+}
+
+/// The answer, as the calls on merged reports have it.
+fn told_of(written: Result<u64, TriageFault>) -> Result<u64, MergeFault> {
+    match written {
+        Ok(races) => Ok(races),
+        Err(TriageFault::Replay(fault)) => Err(MergeFault::Replay(fault)),
+        Err(_) => Err(MergeFault::Replay(ReplayFault::OutOfMemory)),
+    }
+}
+
+/// Writes the counts of the windows, and the merged report as text. Answers how many races are printed.
+fn write_lines<K: Sink>(
+    alloc: Global,
+    windows: &Windows,
+    report: &Report<'_>,
+    writer: &mut K,
+) -> Result<u64, MergeFault>
+    requires { K.has_failed writer.old ≡ false }
+{
+    let mut head = Vec::new(alloc);
+    append_counts(&mut head, windows, report.count)?;
+    match write_all(writer, head.as_slice()) {
+        Ok(()) => write_merged(alloc, &report.parts, report.task.apart, writer),
+        Err(_) => Err(MergeFault::Replay(ReplayFault::Write)),
+    }
+}
+
+/// Prints the merged report of the windows. Answers how many races are printed.
+pub(crate) fn print_report(
+    rt: &HostRuntime,
+    windows: &Windows,
+    report: &Report<'_>,
+) -> Result<u64, MergeFault> {
+    let mut writer = FromWrite::new(io::writer(rt));
+    match write_report(rt, windows, report, &mut writer) {
+        Ok(races) => match writer.flush() {
+            Ok(()) => Ok(races),
+            Err(_) => Err(MergeFault::Replay(ReplayFault::Write)),
+        },
+        Err(fault) => Err(fault),
+    }
+}

@@ -1,0 +1,36 @@
+//! What is said in place of a task: help, or why the words are refused.
+
+use crate::notes::are_wanted;
+use crate::telling::{REFUSED, say, tell_replay};
+use client_scripts::{FromWrite, ReplayFault, write_all};
+use program_words::Told;
+use std::io;
+use std::process::ExitCode;
+
+/// The note on words that are refused.
+const HELP: &[u8] =
+    b"note: `racebench help` lists the commands, and `racebench help COMMAND` the options of one\n";
+
+/// Prints the help that the words ask for.
+fn help(rt: &HostRuntime, text: &[u8]) -> ExitCode {
+    let mut writer = FromWrite::new(io::writer(rt));
+    if write_all(&mut writer, text).is_err() || writer.flush().is_err() {
+        return tell_replay(rt, ReplayFault::Write);
+    }
+    ExitCode::SUCCESS
+}
+
+/// Tells what is said in place of a task.
+pub(crate) fn tell_words(rt: &HostRuntime, told: &Told) -> ExitCode {
+    match told {
+        Told::Help(text) => help(rt, text.as_bytes()),
+        Told::Refusal(text) => {
+            say(rt, text.as_bytes());
+            if are_wanted(rt) {
+                say(rt, HELP);
+            }
+            ExitCode::from(REFUSED)
+        }
+        Told::OutOfMemory => tell_replay(rt, ReplayFault::OutOfMemory),
+    }
+}

@@ -1,7 +1,0 @@
--- Whether the part is at an index so far.
-use Rattle.std.proofs.Common.{◌≡◌}
-use Rattle.source_places.specs.Names.{any_below, is_part_at}
-use Rattle.source_places.proofs.names.is_part.Given as goal
-
-abbrev pub invariant-loop-at : goal.invariant-loop-at
-invariant-loop-at l = l.is_found ≡ any_below (is_part_at l.part l.text) l.at

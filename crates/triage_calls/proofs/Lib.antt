@@ -1,3 +1,0 @@
-mod AnswerLemmas
-mod AppendLemmas
-mod OneLemmas

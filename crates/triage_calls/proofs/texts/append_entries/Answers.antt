@@ -1,4 +1,0 @@
-use Rattle.triage_calls.proofs.texts.append_entries.Goals as goal
-
-pub returns : goal.returns
-returns c = simp c.as_slice.ensures.value at c.triage_entries.ensures.ok

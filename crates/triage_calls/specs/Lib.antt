@@ -1,7 +1,0 @@
-pub mod Answers
-pub mod Confirmed
-pub mod TriageFaults
-pub mod Laws
-pub mod Left
-pub mod Merging
-pub mod Triaged

@@ -1,0 +1,3 @@
+pub mod json
+pub mod lines
+pub mod sarif

@@ -1,0 +1,107 @@
+-- Lines as compilers write them, `FILE:LINE: KIND: TEXT`, that list the verdicts of a trace. `r` is the trace's recording. All notions here are
+-- this project's own.
+use Rattle.std.specs.Prelude.{◌≡◌, ℕ, ◌==◌, cond, List, [], ◌∷◌, ◌++◌, length, flat_map, slice_get, codes, decimal, Option, Some, None}
+use Rattle.std.specs.List.{concat}
+use Rattle.rapid_text.specs.Canonical.{name_at}
+use Rattle.rapid_text.specs.Recording.{Recording}
+use Rattle.rapid_text.specs.declared.event.Event.{Event}
+use Rattle.triage_report.specs.lines.Accesses.{spot_at, thread_at, variable_at, verb_at}
+use Rattle.triage_report.specs.lines.Reasons.{apart_words, race_words, undecided_words}
+use Rattle.race_triage.specs.Texts.{held_locks}
+use Rattle.race_triage.specs.declared.chosen.Chosen.{Chosen}
+use Rattle.race_triage.specs.declared.verdicts.Outcome.{Outcome}
+use Rattle.race_triage.specs.declared.verdicts.Outcome.TheVariants.{Race, Undecided, Apart}
+use Rattle.race_triage.specs.declared.verdicts.Verdict.{Verdict}
+use Rattle.explain_report.specs.places.Located.{location_at}
+use Rattle.explain_report.specs.places.Places.{behind_arrow, call_function, call_place, calls_in}
+use Rattle.explain_report.specs.declared.places.arrows.TheConstants.{MAX_CALLS}
+
+-- the kind of a line, and what it says
+abbrev pub outcome_words : Outcome → List ℕ
+outcome_words (Race how events threads) = codes "warning: data race"
+outcome_words (Undecided tried) = codes "warning: undecided pair"
+outcome_words Apart = codes "note: apart"
+
+-- the name of the rule, at the end of a first line
+abbrev pub rule_words : Outcome → List ℕ
+rule_words (Race how events threads) = codes "data-race"
+rule_words (Undecided tried) = codes "undecided-pair"
+rule_words Apart = codes "apart"
+
+-- what the first line of a pair says of its later access b
+abbrev pub later_words : Recording → Verdict → List ℕ
+later_words r v =
+    concat (spot_at r v.second ∷ codes ": " ∷ outcome_words v.outcome ∷ codes " on " ∷ variable_at r v.second ∷ codes ": " ∷ thread_at r v.second ∷ codes " "
+    ∷ verb_at r v.second ∷ [])
+
+-- and of its earlier access a
+abbrev pub earlier_words : Recording → Verdict → List ℕ
+earlier_words r v =
+    concat (codes ", " ∷ thread_at r v.first ∷ codes " " ∷ verb_at r v.first ∷ codes " at " ∷ spot_at r v.first ∷ codes " [" ∷ rule_words v.outcome ∷ codes "]\n" ∷ [])
+
+-- the first line of a pair
+abbrev pub head_line : Recording → Verdict → List ℕ
+head_line r v = later_words r v ++ earlier_words r v
+
+-- the line of an access
+abbrev pub about_line : Recording → ℕ → List ℕ
+about_line r e =
+    concat (spot_at r e ∷ codes ": note: event " ∷ decimal e ∷ codes ": " ∷ thread_at r e ∷ codes " " ∷ verb_at r e ∷ codes " " ∷ variable_at r e ∷ codes "\n" ∷ [])
+
+-- the line of a lock that the thread holds there
+abbrev pub lock_line : Recording → List ℕ → ℕ → List ℕ
+lock_line r place l = concat (place ∷ codes ": note: holds " ∷ name_at r.locks l ∷ codes "\n" ∷ [])
+
+abbrev pub lock_lines : Recording → List ℕ → List ℕ → List ℕ
+lock_lines r place ls = flat_map (lock_line r place) ls
+
+-- the place of a call, or else that of the access
+abbrev pub place_or : List ℕ → List ℕ → List ℕ
+place_or place own = cond (length own == 0) place own
+
+-- the line of a call of a function, from a place
+abbrev pub said_of : List ℕ → List ℕ → List ℕ
+said_of place function =
+    cond (length function == 0) (concat (place ∷ codes ": note: called from here\n" ∷ [])) (concat (place ∷ codes ": note: in " ∷ function ∷ codes "\n" ∷ []))
+
+-- the line of a call
+abbrev pub call_line : List ℕ → List ℕ → List ℕ
+call_line place call = said_of (place_or place (call_place call)) (call_function call)
+
+abbrev pub call_lines : List ℕ → List (List ℕ) → List ℕ
+call_lines place calls = flat_map (call_line place) calls
+
+abbrev pub access_by : Recording → ℕ → Option Event → List ℕ
+access_by r e None = []
+access_by r e (Some v) =
+    about_line r e ++ lock_lines r (spot_at r e) (held_locks r e) ++ call_lines (spot_at r e) (calls_in MAX_CALLS (behind_arrow (location_at r e)))
+
+-- the lines of event e: the access, the locks that are held, and the calls from the inside to the outside
+abbrev pub access_lines : Recording → ℕ → List ℕ
+access_lines r e = access_by r e (slice_get r.events e)
+
+-- why it is said
+abbrev pub reason_words : Outcome → List ℕ
+reason_words (Race how events threads) = race_words events threads
+reason_words (Undecided tried) = undecided_words tried
+reason_words Apart = apart_words
+
+-- how to see it
+abbrev pub how_words : Verdict → List ℕ
+how_words v = concat (codes ": racebench explain TRACE " ∷ decimal v.first ∷ codes " " ∷ decimal v.second ∷ codes "\n" ∷ [])
+
+-- the last line of a pair
+abbrev pub reason_line : Recording → Verdict → List ℕ
+reason_line r v = concat (spot_at r v.second ∷ codes ": note: " ∷ []) ++ reason_words v.outcome ++ how_words v
+
+-- the lines of a pair, its later access first
+abbrev pub verdict_lines : Recording → Verdict → List ℕ
+verdict_lines r v = head_line r v ++ access_lines r v.second ++ access_lines r v.first ++ reason_line r v
+
+-- the lines of all pairs
+abbrev pub all_lines : Recording → List Verdict → List ℕ
+all_lines r vs = flat_map (verdict_lines r) vs
+
+-- The text lists the chosen verdicts.
+abbrev pub IsLinesText : Recording → Chosen → List ℕ → Type 0
+IsLinesText r c text = text ≡ all_lines r c.verdicts.items

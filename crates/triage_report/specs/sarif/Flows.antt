@@ -1,0 +1,132 @@
+-- A schedule as a code flow: its steps by threads, each with its place in the schedule. `r` is the trace's recording, `root` the folder of the
+-- code. All notions here are this project's own.
+use Rattle.std.specs.Prelude.{◌≡◌, ◌≤◌, ◌⊎◌, ℕ, zero, suc, ◌+◌, ◌-◌, ◌==◌, ◌&&◌, nat_le, nat_lt, min, Bool, true, false, cond, List, [], ◌∷◌, ◌++◌, drop, length, map, slice_get, slice_index_or, codes, decimal, Option, Some, None, Vec}
+use Rattle.std.specs.List.{concat}
+use Rattle.std.specs.declared.alloc.Global.{Global}
+use Rattle.event_index.specs.Events.{is_of_thread}
+use Rattle.rapid_text.specs.Canonical.{name_at}
+use Rattle.rapid_text.specs.Recording.{Recording}
+use Rattle.serde_json.specs.Data.{Data, Members, array, member, no_members, object, put, string}
+use Rattle.serde_json.specs.View.{items_of}
+use Rattle.triage_report.specs.json.Objects.{text, whole}
+use Rattle.race_triage.specs.declared.verdicts.Outcome.{Outcome}
+use Rattle.race_triage.specs.declared.verdicts.Outcome.TheVariants.{Race, Undecided, Apart}
+use Rattle.race_triage.specs.declared.verdicts.Verdict.{Verdict}
+use Rattle.schedule.specs.Reordering.{IsCorrectReordering}
+use Rattle.schedule.specs.Shows.{Shows}
+use Rattle.explain_report.specs.findings.Findings.{IsFinding}
+use Rattle.explain_report.specs.declared.findings.finding.Finding.{Finding}
+use Rattle.explain_report.specs.declared.findings.finding.Finding.TheVariants.{Race as FoundRace, Forced, Guarded, Undecided as FoundUndecided}
+use Rattle.triage_report.specs.sarif.Locations.{message}
+use Rattle.triage_report.specs.sarif.Stacks.{access_location}
+use Rattle.triage_report.specs.declared.sarif.flows.TheConstants.{MOST_ORDER, MOST_STEPS}
+
+-- the event at this place of the schedule; 0 if there is none
+abbrev pub step_at : List ℕ → ℕ → ℕ
+step_at steps at = slice_index_or steps at 0
+
+-- whether the step at this place is the thread's
+abbrev pub is_step : Recording → List ℕ → ℕ → ℕ → Bool
+is_step r steps u at = is_of_thread r.events u (step_at steps at)
+
+-- the numbers below n that pass the test, rising
+abbrev pub places_below : (ℕ → Bool) → ℕ → List ℕ
+places_below test zero = []
+places_below test (suc n) = places_below test n ++ cond (test n) (n ∷ []) []
+
+-- how much a step matters: the last two are the accesses of the pair
+abbrev pub importance : ℕ → ℕ → List ℕ
+importance len at = cond (nat_le (len - 2) at) (codes "essential") (codes "important")
+
+-- the place of a step, the first being 1
+abbrev pub order_of : ℕ → ℕ
+order_of at = min at MOST_ORDER + 1
+
+-- the step at this place
+abbrev pub step : Recording → List ℕ → List ℕ → ℕ → Data
+step r root steps at =
+    object
+    (member (codes "executionOrder") (whole (order_of at))
+    (member (codes "importance") (string (importance (length steps) at))
+    (member (codes "location") (access_location r root (step_at steps at))
+    no_members)))
+
+-- the steps at these places
+abbrev pub steps_at : Recording → List ℕ → List ℕ → List ℕ → Data
+steps_at r root steps places = array (items_of (map (step r root steps) places))
+
+-- how many steps there are, and whether all are told
+abbrev pub count_words : ℕ → List ℕ
+count_words count =
+    cond (nat_lt MOST_STEPS count) (concat (codes "steps: the last " ∷ decimal MOST_STEPS ∷ codes " of " ∷ decimal count ∷ []))
+    (concat (codes "steps: " ∷ decimal count ∷ []))
+
+abbrev pub count_members : ℕ → Members → Members
+count_members count ms = put (codes "message") (message (count_words count)) ms
+
+-- the name of thread u
+abbrev pub thread_name : Recording → ℕ → List ℕ
+thread_name r u = name_at r.threads u
+
+-- the flow of thread u, with steps at these places: the last of them
+abbrev pub thread_flow : Recording → List ℕ → List ℕ → ℕ → List ℕ → Data
+thread_flow r root steps u places =
+    object
+    (count_members (length places)
+    (member (codes "id") (text (thread_name r u))
+    (member (codes "locations") (steps_at r root steps (drop (length places - MOST_STEPS) places))
+    no_members)))
+
+abbrev pub flow_by : Recording → List ℕ → List ℕ → ℕ → List ℕ → List Data
+flow_by r root steps u places = cond (length places == 0) [] (thread_flow r root steps u places ∷ [])
+
+-- the flow of thread u, if it has a step
+abbrev pub flow_if : Recording → List ℕ → List ℕ → ℕ → List Data
+flow_if r root steps u = flow_by r root steps u (places_below (is_step r steps u) (length steps))
+
+-- the flows of the threads below n
+abbrev pub flows_below : Recording → List ℕ → List ℕ → ℕ → List Data
+flows_below r root steps zero = []
+flows_below r root steps (suc n) = flows_below r root steps n ++ flow_if r root steps n
+
+-- a flow for each thread that has a step
+abbrev pub thread_flows : Recording → List ℕ → List ℕ → Data
+thread_flows r root steps = array (items_of (flows_below r root steps (length r.threads)))
+
+-- the code flow of a schedule
+abbrev pub code_flow : Recording → List ℕ → List ℕ → Data
+code_flow r root steps = object (member (codes "threadFlows") (thread_flows r root steps) no_members)
+
+-- the outcome is a race
+abbrev pub is_race : Outcome → Bool
+is_race (Race how events threads) = true
+is_race (Undecided tried) = false
+is_race Apart = false
+
+-- the finding is no race
+abbrev pub IsNoRace : Finding → Type 0
+IsNoRace (FoundRace how events) = ⊥
+IsNoRace (Forced chains) = Unit {0}
+IsNoRace (Guarded lock) = Unit {0}
+IsNoRace (FoundUndecided events) = Unit {0}
+
+-- there is no such pair of events, or what is found of it is no race
+abbrev pub IsUnshown : Recording → ℕ → ℕ → Type 0
+IsUnshown r a b = (length r.events ≤ a) ⊎ ((length r.events ≤ b) ⊎ ((f : Finding) × IsFinding r a b f × IsNoRace f))
+
+-- a correct reordering that shows the pair, and its two events after it
+pub record AreShown (r : Recording) (a b : ℕ) (steps : List ℕ) : Type 0 where
+  pub schedule : List ℕ
+  pub reordering : IsCorrectReordering r.events schedule
+  pub shows : Shows r.events schedule a b
+  pub behind : steps ≡ schedule ++ a ∷ b ∷ []
+
+-- the steps that show a pair, if it is found to be a race
+abbrev pub AreSteps : Recording → ℕ → ℕ → Option (Vec ℕ Global) → Type 0
+AreSteps r a b None = IsUnshown r a b
+AreSteps r a b (Some steps) = AreShown r a b steps.items
+
+-- the steps that show a verdict, if it is a race and is drawn
+abbrev pub IsFlowOf : Recording → Bool → Verdict → Option (Vec ℕ Global) → Type 0
+IsFlowOf r drawn v None = (drawn && is_race v.outcome ≡ false) ⊎ IsUnshown r v.first v.second
+IsFlowOf r drawn v (Some steps) = (drawn && is_race v.outcome ≡ true) × AreShown r v.first v.second steps.items

@@ -1,0 +1,30 @@
+-- What tells a pair from another, although its lines have moved: for each access its file, its function, its variable and what its line says. All
+-- notions here are this project's own.
+use Rattle.std.specs.Prelude.{ℕ, List, [], ◌∷◌, codes}
+use Rattle.std.specs.List.{concat}
+use Rattle.std.specs.Ordering.{nat_cmp, match_ordering}
+use Rattle.std.specs.Cmp.Lexicographic.{slice_cmp}
+use Rattle.serde_json.specs.Data.{Data, member, no_members, object}
+use Rattle.triage_report.specs.json.Objects.{text}
+use Rattle.explain_report.specs.places.Places.{before_arrow}
+use Rattle.triage_report.specs.sarif.Accesses.{Told}
+use Rattle.triage_report.specs.sarif.Places.{file_of, line_text, relative}
+use Rattle.triage_report.specs.sarif.Stacks.{own_function}
+use Rattle.triage_report.specs.declared.sarif.sources.Sources.{Sources}
+
+-- the file, the function, the variable and the line of an access
+abbrev pub side : Sources → Told → List ℕ
+side s t =
+    concat (relative s.root.now (file_of (before_arrow t.location)) ∷ codes "\n" ∷ own_function t.location ∷ codes "\n" ∷ t.variable ∷ codes "\n"
+    ∷ line_text s.lines.now (before_arrow t.location) ∷ [])
+
+abbrev pub both : List ℕ → List ℕ → List ℕ
+both x y = concat (x ∷ codes "\n" ∷ y ∷ [])
+
+-- two sides, the lesser first
+abbrev pub ordered : List ℕ → List ℕ → List ℕ
+ordered x y = match_ordering (slice_cmp nat_cmp x y) (both x y) (both x y) (both y x)
+
+-- the fingerprint of a pair: the same in either order
+abbrev pub print_object : Sources → Told → Told → Data
+print_object s t u = object (member (codes "racePair/v1") (text (ordered (side s t) (side s u))) no_members)

@@ -1,0 +1,166 @@
+//! Accesses as objects.
+ghost use Rattle.std.specs.Prelude.{◌≡◌, ◌<◌, ◌++◌, ◌∷◌, [], codes, IfOk, OnOk, length, map};
+ghost use Rattle.rapid_text.specs.Canonical.{name_at};
+ghost use Rattle.rapid_text.specs.Recording.{IsNamedOp};
+ghost use Rattle.serde_json.specs.Data.{Data, object, put as with_member};
+ghost use Rattle.serde_json.specs.View.{members_view, view};
+ghost use Rattle.race_triage.specs.Texts.{held_locks};
+ghost use Rattle.triage_report.specs.json.Objects.{access_at, access_object, accesses, lock_names, op_name, op_word};
+
+use crate::json::members::{object_with, put_number, put_text, put_word, text_of};
+use event_index::Indexed;
+use must_order::Analysis;
+use rapid_text::{Op, OutOfMemory, RawTrace};
+use serde_json::{Map, Value};
+use std::alloc::{AllocError, Global};
+
+/// The two accesses of a pair.
+pub(crate) fn accesses_of(
+    alloc: Global,
+    analysis: &Analysis<'_>,
+    first: u32,
+    second: u32,
+) -> Result<Value, OutOfMemory>
+    ensures { IfOk result (λ both. view both ≡ accesses analysis.now first second) }
+{
+    let mut both = Vec::new(alloc);
+    push_access(&mut both, analysis, first)?;
+    push_access(&mut both, analysis, second)?;
+    Ok(Value::Array(both))
+}
+
+/// Adds the access of the event, where the trace has it.
+fn push_access(
+    both: &mut Vec<Value>,
+    analysis: &Analysis<'_>,
+    event: u32,
+) -> Result<(), OutOfMemory>
+    ensures { OnOk result (map view both.new.items ≡ map view both.old.items ++ access_at analysis.now event) }
+{
+    if event >= analysis.indexed().len() {
+        return Ok(());
+    }
+    let access = access_of(*both.allocator(), analysis, event)?;
+    both.push(access)?;
+    Ok(())
+}
+
+/// The access of an event.
+fn access_of(alloc: Global, analysis: &Analysis<'_>, event: u32) -> Result<Value, OutOfMemory>
+    requires event { event < length analysis.now.events }
+    ensures { IfOk result (λ access. view access ∷ [] ≡ access_at analysis.now event) }
+{
+    let holds = locks_of(alloc, analysis, event)?;
+    let raw = analysis.indexed().trace().raw();
+    let found = raw.event(event);
+    let names = Names {
+        event,
+        thread: raw.thread_name(found.thread),
+        operation: word_of(found.op),
+        variable: name_of(raw, found.op),
+        location: raw.location(event),
+    };
+    let access = named(alloc, names, holds)?;
+    Ok(access)
+}
+
+/// What an object tells of an access, but the locks that its thread holds.
+#[derive(Clone, Copy)]
+struct Names<'a> {
+    event: u32,
+    thread: &'a [u8],
+    operation: &'static str,
+    variable: &'a [u8],
+    location: &'a [u8],
+}
+
+/// An access with these names.
+fn named(alloc: Global, names: Names<'_>, holds: Value) -> Result<Value, AllocError>
+    ensures { IfOk result (λ access. view access ≡ access_object names.entry.event (view holds) names.entry.location.now
+        names.entry.operation.now names.entry.thread.now names.entry.variable.now) }
+{
+    let mut members = Map::new(alloc);
+    match put_names(&mut members, alloc, names) {
+        Ok(()) => object_with(alloc, members, "holds", holds),
+        Err(refused) => Err(refused),
+    }
+}
+
+/// Puts the members of an access but the locks that its thread holds.
+fn put_names(
+    members: &mut Map<String, Value>,
+    alloc: Global,
+    names: Names<'_>,
+) -> Result<(), AllocError>
+    requires { members.old.entries ≡ [] }
+    ensures { OnOk result ((holds : Data) → object (with_member (codes "holds") holds (members_view members.new.entries))
+        ≡ access_object names.entry.event holds names.entry.location.now names.entry.operation.now names.entry.thread.now names.entry.variable.now) }
+{
+    put_number(members, alloc, "event", u64::from(names.event))?;
+    put_text(members, alloc, "thread", names.thread)?;
+    put_word(members, alloc, "operation", names.operation)?;
+    put_text(members, alloc, "variable", names.variable)?;
+    put_text(members, alloc, "location", names.location)?;
+    Ok(())
+}
+
+/// The names of the locks that the event's thread holds before it.
+fn locks_of(alloc: Global, analysis: &Analysis<'_>, event: u32) -> Result<Value, OutOfMemory>
+    requires event { event < length analysis.now.events }
+    ensures { IfOk result (λ names. view names ≡ lock_names analysis.now (held_locks analysis.now event)) }
+{
+    let locks = analysis.locks_held(alloc, event)?;
+    names_of(alloc, analysis.indexed(), locks.as_slice())
+}
+
+/// The names of these locks.
+fn names_of(alloc: Global, indexed: &Indexed, locks: &[u32]) -> Result<Value, OutOfMemory>
+    ensures { IfOk result (λ names. view names ≡ lock_names indexed.now locks.now) }
+{
+    let mut names = Vec::new(alloc);
+    for lock in locks {
+        let name = text_of(alloc, lock_name(indexed, *lock))?;
+        names.push(name)?;
+    }
+    Ok(Value::Array(names))
+}
+
+/// The name of a lock; nothing where the trace has no such lock.
+fn lock_name(indexed: &Indexed, lock: u32) -> &[u8]
+    ensures { result.now ≡ name_at indexed.now.locks lock }
+{
+    let raw = indexed.trace().raw();
+    if lock < raw.locks() {
+        raw.lock_name(lock)
+    } else {
+        b""
+    }
+}
+
+fn word_of(op: Op) -> &'static str
+    ensures { result.now ≡ op_word op }
+{
+    match op {
+        Op::Read(_) => "r",
+        Op::Write(_) => "w",
+        Op::Acquire(_) => "acq",
+        Op::Release(_) => "rel",
+        Op::Fork(_) => "fork",
+        Op::Join(_) => "join",
+    }
+}
+
+/// The name of what the operation is done to.
+fn name_of(trace: &RawTrace, op: Op) -> &[u8]
+    requires { IsNamedOp trace.now op }
+    ensures { result.now ≡ op_name trace.now op }
+{
+    match op {
+        Op::Read(variable) => trace.variable_name(variable),
+        Op::Write(variable) => trace.variable_name(variable),
+        Op::Acquire(lock) => trace.lock_name(lock),
+        Op::Release(lock) => trace.lock_name(lock),
+        Op::Fork(thread) => trace.thread_name(thread),
+        Op::Join(thread) => trace.thread_name(thread),
+    }
+}

@@ -1,0 +1,105 @@
+//! The objects, a line each.
+ghost use Rattle.std.specs.Prelude.{◌≡◌, ◌++◌, List, ℕ, OnOk, OnErr, false};
+ghost use Rattle.serde_json.specs.View.{view};
+ghost use Rattle.serde_json.specs.Written.{has_float};
+ghost use Rattle.triage_report.specs.json.Lines.{json_line, left_out_line, triage_lines, verdict_lines, IsTriageJson};
+ghost use Rattle.triage_report.specs.json.Objects.{counts_object, verdict_object};
+
+use crate::json::objects::{counts_of, left_out_of, verdict_of};
+use must_order::Analysis;
+use race_triage::{Chosen, Totals, Verdict, Verdicts};
+use rapid_text::OutOfMemory;
+use serde_json::Value;
+
+/// Appends what `triage_text` tells, as JSON: an object a line, the counts first, then one for each of the chosen verdicts, in their order, and how
+/// many were left out last. Where memory is refused `out` stays as it was.
+pub fn triage_json(
+    analysis: &Analysis<'_>,
+    found: &Verdicts,
+    chosen: &Chosen,
+    out: &mut Vec<u8>,
+) -> Result<(), OutOfMemory>
+    // The text is the one that belongs to the trace, the counts of all verdicts, and the chosen ones.
+    ensures ok { OnOk result ((text : List ℕ) × IsTriageJson analysis.now found.now.verdicts.items chosen.now text × (out.new.items ≡ out.old.items ++ text)) }
+    ensures err { OnErr result (out.new.items ≡ out.old.items) }
+{
+    let totals = found.totals(analysis.indexed());
+    let mut text = Vec::new(*out.allocator());
+    append_all(&mut text, analysis, &totals, chosen)?;
+    out.extend_from_slice(text.as_slice())?;
+    Ok(())
+}
+
+/// Appends the lines of the counts, of the chosen verdicts, and of how many were left out.
+fn append_all(
+    out: &mut Vec<u8>,
+    analysis: &Analysis<'_>,
+    totals: &Totals,
+    chosen: &Chosen,
+) -> Result<(), OutOfMemory>
+    ensures { OnOk result (out.new.items ≡ out.old.items ++ triage_lines analysis.now totals.now chosen.now) }
+{
+    append_counts(out, totals)?;
+    append_verdicts(out, analysis, chosen.verdicts.as_slice())?;
+    append_left_out(out, "known", chosen.known)?;
+    append_left_out(out, "hidden", chosen.hidden)?;
+    Ok(())
+}
+
+/// Appends the line of the counts.
+fn append_counts(out: &mut Vec<u8>, totals: &Totals) -> Result<(), OutOfMemory>
+    ensures { OnOk result (out.new.items ≡ out.old.items ++ json_line (counts_object totals.now)) }
+{
+    let object = counts_of(*out.allocator(), totals)?;
+    append_line(out, &object)
+}
+
+/// Appends a line for each of the verdicts.
+fn append_verdicts(
+    out: &mut Vec<u8>,
+    analysis: &Analysis<'_>,
+    verdicts: &[Verdict],
+) -> Result<(), OutOfMemory>
+    ensures { OnOk result (out.new.items ≡ out.old.items ++ verdict_lines analysis.now verdicts.now) }
+{
+    for verdict in verdicts {
+        append_verdict(out, analysis, verdict)?;
+    }
+    Ok(())
+}
+
+/// Appends the line of a verdict.
+fn append_verdict(
+    out: &mut Vec<u8>,
+    analysis: &Analysis<'_>,
+    verdict: &Verdict,
+) -> Result<(), OutOfMemory>
+    ensures { OnOk result (out.new.items ≡ out.old.items ++ json_line (verdict_object analysis.now verdict.now)) }
+{
+    let object = verdict_of(*out.allocator(), analysis, verdict)?;
+    append_line(out, &object)
+}
+
+/// Appends the line of how many verdicts were left out, where that is told.
+fn append_left_out(out: &mut Vec<u8>, kind: &str, count: Option<u64>) -> Result<(), OutOfMemory>
+    ensures { OnOk result (out.new.items ≡ out.old.items ++ left_out_line kind.now count) }
+{
+    match count {
+        Some(count) => {
+            let object = left_out_of(*out.allocator(), kind, count)?;
+            append_line(out, &object)
+        }
+        None => Ok(()),
+    }
+}
+
+/// Appends the text of an object that has no fraction in it, and the end of the line.
+fn append_line(out: &mut Vec<u8>, object: &Value) -> Result<(), OutOfMemory>
+    requires { has_float (view object.now) ≡ false }
+    ensures { OnOk result (out.new.items ≡ out.old.items ++ json_line (view object.now)) }
+{
+    let text = object.to_vec(*out.allocator())?;
+    out.extend_from_slice(text.as_slice())?;
+    out.push(b'\n')?;
+    Ok(())
+}

@@ -1,0 +1,72 @@
+//! Members of an object, put one by one.
+ghost use Rattle.std.specs.Prelude.{◌≡◌, IfOk, OnOk};
+ghost use Rattle.serde_json.specs.Data.{object, put as with_member, string};
+ghost use Rattle.serde_json.specs.View.{members_view, view};
+ghost use Rattle.triage_report.specs.json.Objects.{text, whole};
+
+use serde_json::{Map, Value, put};
+use std::alloc::{AllocError, Global};
+
+/// Puts a number.
+pub fn put_number(
+    members: &mut Map<String, Value>,
+    alloc: Global,
+    name: &str,
+    number: u64,
+) -> Result<(), AllocError>
+    ensures { OnOk result (members_view members.new.entries ≡ with_member name.now (whole number) (members_view members.old.entries)) }
+{
+    put(members, alloc, name, Value::from(number))
+}
+
+/// Puts a word.
+pub fn put_word(
+    members: &mut Map<String, Value>,
+    alloc: Global,
+    name: &str,
+    word: &str,
+) -> Result<(), AllocError>
+    ensures { OnOk result (members_view members.new.entries ≡ with_member name.now (string word.now) (members_view members.old.entries)) }
+{
+    match Value::try_from_str(alloc, word) {
+        Ok(value) => put(members, alloc, name, value),
+        Err(refused) => Err(refused),
+    }
+}
+
+/// Puts bytes from outside as a text: what is no UTF-8 becomes U+FFFD.
+pub fn put_text(
+    members: &mut Map<String, Value>,
+    alloc: Global,
+    name: &str,
+    bytes: &[u8],
+) -> Result<(), AllocError>
+    ensures { OnOk result (members_view members.new.entries ≡ with_member name.now (text bytes.now) (members_view members.old.entries)) }
+{
+    match text_of(alloc, bytes) {
+        Ok(value) => put(members, alloc, name, value),
+        Err(refused) => Err(refused),
+    }
+}
+
+/// The object of these members and one more.
+pub(crate) fn object_with(
+    alloc: Global,
+    mut members: Map<String, Value>,
+    name: &str,
+    value: Value,
+) -> Result<Value, AllocError>
+    ensures { IfOk result (λ made. view made ≡ object (with_member name.now (view value) (members_view members.entries))) }
+{
+    match put(&mut members, alloc, name, value) {
+        Ok(()) => Ok(Value::Object(members)),
+        Err(refused) => Err(refused),
+    }
+}
+
+/// Bytes from outside as a text: what is no UTF-8 becomes U+FFFD.
+pub(crate) fn text_of(alloc: Global, bytes: &[u8]) -> Result<Value, AllocError>
+    ensures { IfOk result (λ value. view value ≡ text bytes.now) }
+{
+    Ok(Value::String(String::from_utf8_lossy(alloc, bytes)?))
+}

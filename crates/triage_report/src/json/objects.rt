@@ -1,0 +1,172 @@
+//! What was found, as objects.
+ghost use Rattle.std.specs.Prelude.{◌≡◌, [], codes, IfOk, OnOk};
+ghost use Rattle.serde_json.specs.Data.{Data, object, put as with_member};
+ghost use Rattle.serde_json.specs.View.{members_view, view};
+ghost use Rattle.triage_report.specs.json.Objects.{apart_object, counts_object, how_word, left_out_object, race_object, told_object, undecided_object, verdict_object};
+
+use crate::json::accesses::accesses_of;
+use crate::json::members::{object_with, put_number, put_word};
+use explain_report::How;
+use must_order::Analysis;
+use race_triage::{Outcome, Totals, Verdict};
+use rapid_text::OutOfMemory;
+use serde_json::{Map, Value, json};
+use std::alloc::{AllocError, Global};
+
+/// The counts of the whole trace.
+pub(crate) fn counts_of(alloc: Global, totals: &Totals) -> Result<Value, AllocError>
+    ensures { IfOk result (λ object. view object ≡ counts_object totals.now) }
+{
+    let mut members = Map::new(alloc);
+    match put_counts(&mut members, alloc, totals) {
+        Ok(()) => Ok(Value::Object(members)),
+        Err(refused) => Err(refused),
+    }
+}
+
+/// Puts the members of the counts.
+fn put_counts(
+    members: &mut Map<String, Value>,
+    alloc: Global,
+    totals: &Totals,
+) -> Result<(), AllocError>
+    requires { members.old.entries ≡ [] }
+    ensures { OnOk result (object (members_view members.new.entries) ≡ counts_object totals.now) }
+{
+    put_word(members, alloc, "kind", "counts")?;
+    put_number(members, alloc, "events", totals.events)?;
+    put_number(members, alloc, "threads", totals.threads)?;
+    put_number(members, alloc, "pairs", totals.pairs)?;
+    put_number(members, alloc, "candidates", totals.candidates)?;
+    put_number(members, alloc, "open", totals.open_pairs)?;
+    put_number(members, alloc, "guarded", totals.guarded)?;
+    put_number(members, alloc, "forced", totals.forced)?;
+    put_number(members, alloc, "places", totals.places)?;
+    put_number(members, alloc, "races", totals.races)?;
+    put_number(members, alloc, "undecided", totals.undecided)?;
+    put_number(members, alloc, "apart", totals.apart)?;
+    Ok(())
+}
+
+/// How many verdicts were left out, and why.
+pub(crate) fn left_out_of(alloc: Global, kind: &str, count: u64) -> Result<Value, AllocError>
+    ensures { IfOk result (λ object. view object ≡ left_out_object kind.now count) }
+{
+    json!(in alloc; {"kind": kind, "count": count})
+}
+
+/// A verdict with its two accesses.
+pub(crate) fn verdict_of(
+    alloc: Global,
+    analysis: &Analysis<'_>,
+    verdict: &Verdict,
+) -> Result<Value, OutOfMemory>
+    ensures { IfOk result (λ object. view object ≡ verdict_object analysis.now verdict.now) }
+{
+    let accesses = accesses_of(alloc, analysis, verdict.first, verdict.second)?;
+    let object = told_of(alloc, verdict, accesses)?;
+    Ok(object)
+}
+
+/// The same, of accesses that are told so.
+fn told_of(alloc: Global, verdict: &Verdict, accesses: Value) -> Result<Value, AllocError>
+    ensures { IfOk result (λ object. view object ≡ told_object verdict.now (view accesses)) }
+{
+    let mut members = Map::new(alloc);
+    match put_told(&mut members, alloc, verdict) {
+        Ok(()) => object_with(alloc, members, "accesses", accesses),
+        Err(refused) => Err(refused),
+    }
+}
+
+/// Puts the members of a verdict but its accesses.
+fn put_told(
+    members: &mut Map<String, Value>,
+    alloc: Global,
+    verdict: &Verdict,
+) -> Result<(), AllocError>
+    requires { members.old.entries ≡ [] }
+    ensures { OnOk result ((both : Data) → object (with_member (codes "accesses") both (members_view members.new.entries)) ≡ told_object verdict.now both) }
+{
+    let reach = Reach {
+        pairs: verdict.pairs(),
+        variables: verdict.variables,
+    };
+    match verdict.outcome {
+        Outcome::Race {
+            how,
+            events,
+            threads,
+        } => put_race(members, alloc, how, events, threads, reach),
+        Outcome::Undecided { tried } => put_undecided(members, alloc, tried, reach),
+        Outcome::Apart => put_apart(members, alloc, reach.pairs),
+    }
+}
+
+/// How much a verdict is about.
+#[derive(Clone, Copy)]
+struct Reach {
+    pairs: u64,
+    variables: u32,
+}
+
+/// Puts the members of a race.
+fn put_race(
+    members: &mut Map<String, Value>,
+    alloc: Global,
+    how: How,
+    events: u32,
+    threads: u32,
+    reach: Reach,
+) -> Result<(), AllocError>
+    requires { members.old.entries ≡ [] }
+    ensures { OnOk result ((both : Data)
+        → object (with_member (codes "accesses") both (members_view members.new.entries)) ≡ race_object how events threads reach.pairs reach.variables both) }
+{
+    put_word(members, alloc, "kind", "race")?;
+    put_word(members, alloc, "how", word_of(how))?;
+    put_number(members, alloc, "pairs", reach.pairs)?;
+    put_number(members, alloc, "variables", u64::from(reach.variables))?;
+    put_number(members, alloc, "events", u64::from(events))?;
+    put_number(members, alloc, "threads", u64::from(threads))?;
+    Ok(())
+}
+
+/// Puts the members of what is undecided.
+fn put_undecided(
+    members: &mut Map<String, Value>,
+    alloc: Global,
+    tried: u32,
+    reach: Reach,
+) -> Result<(), AllocError>
+    requires { members.old.entries ≡ [] }
+    ensures { OnOk result ((both : Data)
+        → object (with_member (codes "accesses") both (members_view members.new.entries)) ≡ undecided_object tried reach.pairs reach.variables both) }
+{
+    put_word(members, alloc, "kind", "undecided")?;
+    put_number(members, alloc, "pairs", reach.pairs)?;
+    put_number(members, alloc, "variables", u64::from(reach.variables))?;
+    put_number(members, alloc, "tried", u64::from(tried))?;
+    Ok(())
+}
+
+/// Puts the members of what is apart.
+fn put_apart(members: &mut Map<String, Value>, alloc: Global, pairs: u64) -> Result<(), AllocError>
+    requires { members.old.entries ≡ [] }
+    ensures { OnOk result ((both : Data)
+        → object (with_member (codes "accesses") both (members_view members.new.entries)) ≡ apart_object pairs both) }
+{
+    put_word(members, alloc, "kind", "apart")?;
+    put_number(members, alloc, "pairs", pairs)?;
+    Ok(())
+}
+
+fn word_of(how: How) -> &'static str
+    ensures { result.now ≡ how_word how }
+{
+    match how {
+        How::Candidate => "candidate",
+        How::Beyond => "beyond",
+        How::Turned => "turned",
+    }
+}

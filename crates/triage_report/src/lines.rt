@@ -1,0 +1,11 @@
+//! What was found of a trace's pairs of places as lines that editors and build logs take for a compiler's.
+
+mod accesses;
+mod blocks;
+mod calls;
+mod lines;
+mod reasons;
+
+pub use accesses::{spot, spot_of, thread_of, variable_of, verb_of};
+pub use lines::triage_lines;
+pub use reasons::{append_apart, append_race, append_undecided, plural_end};

@@ -1,0 +1,75 @@
+//! The lines of the calls round an access.
+ghost use Rattle.std.specs.Prelude.{◌≡◌, ◌++◌, OnOk, option_map};
+ghost use Rattle.explain_report.specs.places.Places.{behind_arrow, calls_in};
+ghost use Rattle.explain_report.specs.declared.places.arrows.TheConstants.{MAX_CALLS as MOST};
+ghost use Rattle.triage_report.specs.lines.Lines.{call_line, call_lines, place_or, said_of};
+
+use explain_report::places::{MAX_CALLS, call_of, cut_at_arrow};
+use rapid_text::OutOfMemory;
+use report::{Piece, append_pieces};
+
+/// Appends a line for each call of the location, of an access at this place.
+pub(crate) fn append_calls(
+    out: &mut Vec<u8>,
+    place: &[u8],
+    location: &[u8],
+) -> Result<(), OutOfMemory>
+    ensures { OnOk result (out.new.items ≡ out.old.items ++ call_lines place.now (calls_in MOST (behind_arrow location.now))) }
+{
+    let (_, mut rest) = cut_at_arrow(location);
+    for done in 0..MAX_CALLS {
+        match rest {
+            Some(text) => {
+                let (call, more) = cut_at_arrow(text);
+                append_call(out, place, call)?;
+                rest = more;
+            }
+            None => return Ok(()),
+        }
+    }
+    Ok(())
+}
+
+/// Appends the line of a call, of an access at this place.
+fn append_call<'a>(out: &mut Vec<u8>, place: &'a [u8], call: &'a [u8]) -> Result<(), OutOfMemory>
+    ensures { OnOk result (out.new.items ≡ out.old.items ++ call_line place.now call.now) }
+{
+    let call = call_of(call);
+    append_said(out, place_or(place, call.place), call.function)
+}
+
+/// Appends the line of a call of this function, from this place.
+fn append_said<'a>(
+    out: &mut Vec<u8>,
+    place: &'a [u8],
+    function: &'a [u8],
+) -> Result<(), OutOfMemory>
+    ensures { OnOk result (out.new.items ≡ out.old.items ++ said_of place.now function.now) }
+{
+    if function.is_empty() {
+        append_pieces(
+            out,
+            &[
+                Piece::Words(place),
+                Piece::Words(b": note: called from here\n"),
+            ],
+        )
+    } else {
+        append_pieces(
+            out,
+            &[
+                Piece::Words(place),
+                Piece::Words(b": note: in "),
+                Piece::Words(function),
+                Piece::Words(b"\n"),
+            ],
+        )
+    }
+}
+
+/// The place of a call, or else that of the access.
+fn place_or<'a>(place: &'a [u8], own: &'a [u8]) -> &'a [u8]
+    ensures { result.now ≡ place_or place.now own.now }
+{
+    if own.is_empty() { place } else { own }
+}

@@ -1,0 +1,39 @@
+//! The lines of all pairs.
+ghost use Rattle.std.specs.Prelude.{◌≡◌, ◌++◌, List, ℕ, OnOk, OnErr};
+ghost use Rattle.triage_report.specs.lines.Lines.{all_lines, IsLinesText};
+
+use crate::lines::blocks::append_verdict;
+use must_order::Analysis;
+use race_triage::{Chosen, Verdict};
+use rapid_text::OutOfMemory;
+
+/// Appends the lines of the chosen verdicts, in their order: of each one line `FILE:LINE: KIND: TEXT` at its later access, and notes in the same
+/// form. If memory is refused `out` stays as it was.
+pub fn triage_lines(
+    analysis: &Analysis<'_>,
+    chosen: &Chosen,
+    out: &mut Vec<u8>,
+) -> Result<(), OutOfMemory>
+    // The text is the one that belongs to the trace and the chosen verdicts.
+    ensures ok { OnOk result ((text : List ℕ) × IsLinesText analysis.now chosen.now text × (out.new.items ≡ out.old.items ++ text)) }
+    ensures err { OnErr result (out.new.items ≡ out.old.items) }
+{
+    let mut text = Vec::new(*out.allocator());
+    append_all(&mut text, analysis, chosen.verdicts.as_slice())?;
+    out.extend_from_slice(text.as_slice())?;
+    Ok(())
+}
+
+/// Appends the lines of each of the verdicts.
+fn append_all(
+    out: &mut Vec<u8>,
+    analysis: &Analysis<'_>,
+    verdicts: &[Verdict],
+) -> Result<(), OutOfMemory>
+    ensures { OnOk result (out.new.items ≡ out.old.items ++ all_lines analysis.now verdicts.now) }
+{
+    for verdict in verdicts {
+        append_verdict(out, analysis, verdict)?;
+    }
+    Ok(())
+}

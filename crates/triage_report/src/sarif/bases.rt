@@ -1,0 +1,127 @@
+//! The folder of the code, and how many verdicts were left out, as objects.
+ghost use Rattle.std.specs.Prelude.{◌≡◌, [], IfOk, OnOk};
+ghost use Rattle.serde_json.specs.Data.{object};
+ghost use Rattle.serde_json.specs.View.{members_view, view};
+ghost use Rattle.triage_report.specs.sarif.Logs.{about_object, base_object, count_members, left_object, root_object, uri_object};
+
+use crate::json::{put_number, put_text};
+use crate::sarif::locations::message_of;
+use crate::sarif::places::{append_uri, is_absolute};
+use rapid_text::OutOfMemory;
+use serde_json::{Map, Value, put};
+use std::alloc::Global;
+
+/// The folder of the code under its name, if one is named.
+pub(crate) fn base_of(alloc: Global, root: &[u8]) -> Result<Value, OutOfMemory>
+    ensures { IfOk result (λ made. view made ≡ base_object root.now) }
+{
+    let mut members = Map::new(alloc);
+    match put_base(&mut members, alloc, root) {
+        Ok(()) => Ok(Value::Object(members)),
+        Err(refused) => Err(refused),
+    }
+}
+
+/// Puts its member.
+fn put_base(members: &mut Map<String, Value>, alloc: Global, root: &[u8]) -> Result<(), OutOfMemory>
+    requires { members.old.entries ≡ [] }
+    ensures { OnOk result (object (members_view members.new.entries) ≡ base_object root.now) }
+{
+    if root.is_empty() {
+        return Ok(());
+    }
+    let value = root_of(alloc, root)?;
+    put(members, alloc, "SRCROOT", value)?;
+    Ok(())
+}
+
+/// The folder of the code: its URI if the path is an absolute one, else what it is.
+fn root_of(alloc: Global, root: &[u8]) -> Result<Value, OutOfMemory>
+    ensures { IfOk result (λ made. view made ≡ root_object root.now) }
+{
+    let mut members = Map::new(alloc);
+    match put_root(&mut members, alloc, root) {
+        Ok(()) => Ok(Value::Object(members)),
+        Err(refused) => Err(refused),
+    }
+}
+
+/// Puts its member.
+fn put_root(members: &mut Map<String, Value>, alloc: Global, root: &[u8]) -> Result<(), OutOfMemory>
+    requires { members.old.entries ≡ [] }
+    ensures { OnOk result (object (members_view members.new.entries) ≡ root_object root.now) }
+{
+    if is_absolute(root) {
+        put_uri(members, alloc, root)
+    } else {
+        put_about(members, alloc)
+    }
+}
+
+/// Puts the URI of a path.
+fn put_uri(members: &mut Map<String, Value>, alloc: Global, path: &[u8]) -> Result<(), OutOfMemory>
+    requires { members.old.entries ≡ [] }
+    ensures { OnOk result (object (members_view members.new.entries) ≡ uri_object path.now) }
+{
+    let mut uri = Vec::new(alloc);
+    append_uri(&mut uri, path)?;
+    put_text(members, alloc, "uri", uri.as_slice())?;
+    Ok(())
+}
+
+/// Puts what the folder is.
+fn put_about(members: &mut Map<String, Value>, alloc: Global) -> Result<(), OutOfMemory>
+    requires { members.old.entries ≡ [] }
+    ensures { OnOk result (object (members_view members.new.entries) ≡ about_object) }
+{
+    let value = message_of(alloc, b"The folder that --source named")?;
+    put(members, alloc, "description", value)?;
+    Ok(())
+}
+
+/// How many verdicts were left out, as known or by a filter.
+pub(crate) fn left_of(
+    alloc: Global,
+    known: Option<u64>,
+    hidden: Option<u64>,
+) -> Result<Value, OutOfMemory>
+    ensures { IfOk result (λ made. view made ≡ left_object known hidden) }
+{
+    let mut members = Map::new(alloc);
+    match put_left(&mut members, alloc, known, hidden) {
+        Ok(()) => Ok(Value::Object(members)),
+        Err(refused) => Err(refused),
+    }
+}
+
+/// Puts its members.
+fn put_left(
+    members: &mut Map<String, Value>,
+    alloc: Global,
+    known: Option<u64>,
+    hidden: Option<u64>,
+) -> Result<(), OutOfMemory>
+    requires { members.old.entries ≡ [] }
+    ensures { OnOk result (object (members_view members.new.entries) ≡ left_object known hidden) }
+{
+    put_count(members, alloc, "known", known)?;
+    put_count(members, alloc, "hidden", hidden)
+}
+
+/// Puts a number, if there is one.
+fn put_count(
+    members: &mut Map<String, Value>,
+    alloc: Global,
+    name: &str,
+    count: Option<u64>,
+) -> Result<(), OutOfMemory>
+    ensures { OnOk result (members_view members.new.entries ≡ count_members name.now count (members_view members.old.entries)) }
+{
+    match count {
+        Some(count) => {
+            put_number(members, alloc, name, count)?;
+            Ok(())
+        }
+        None => Ok(()),
+    }
+}

@@ -1,0 +1,248 @@
+//! Locations as objects.
+ghost use Rattle.std.specs.Prelude.{◌≡◌, [], codes, IfOk, OnOk};
+ghost use Rattle.serde_json.specs.Data.{Data, object, put as with_member};
+ghost use Rattle.serde_json.specs.View.{members_view, view};
+ghost use Rattle.triage_report.specs.sarif.Locations.{artifact, base_members, function_members, location, logical, message, physical, physical_members, region, region_members, single};
+
+use crate::json::{put_number, put_text, put_word};
+use crate::sarif::places::{MOST_LINE, append_uri, file_of, is_absolute, line_of, relative};
+use explain_report::places::is_line;
+use rapid_text::OutOfMemory;
+use serde_json::{Map, Value, put};
+use std::alloc::Global;
+
+/// Where something is, and what is said of it.
+#[derive(Clone, Copy)]
+pub(crate) struct Spot<'a> {
+    /// The place; nothing if it is not known.
+    pub place: &'a [u8],
+    /// The function; nothing if it is not known.
+    pub function: &'a [u8],
+    /// What is said.
+    pub words: &'a [u8],
+}
+
+/// A list of one value.
+pub(crate) fn single_of(alloc: Global, value: Value) -> Result<Value, OutOfMemory>
+    ensures { IfOk result (λ list. view list ≡ single (view value)) }
+{
+    let mut items = Vec::new(alloc);
+    match items.push(value) {
+        Ok(()) => Ok(Value::Array(items)),
+        Err(_) => Err(OutOfMemory),
+    }
+}
+
+/// Puts a list of one value.
+pub(crate) fn put_single(
+    members: &mut Map<String, Value>,
+    alloc: Global,
+    name: &str,
+    value: Value,
+) -> Result<(), OutOfMemory>
+    ensures { OnOk result (members_view members.new.entries ≡ with_member name.now (single (view value)) (members_view members.old.entries)) }
+{
+    let list = single_of(alloc, value)?;
+    put(members, alloc, name, list)?;
+    Ok(())
+}
+
+/// A location.
+pub(crate) fn location_of(alloc: Global, root: &[u8], spot: Spot<'_>) -> Result<Value, OutOfMemory>
+    ensures { IfOk result (λ made. view made ≡ location root.now spot.entry.place.now spot.entry.function.now spot.entry.words.now) }
+{
+    let mut members = Map::new(alloc);
+    match put_location(&mut members, alloc, root, spot) {
+        Ok(()) => Ok(Value::Object(members)),
+        Err(refused) => Err(refused),
+    }
+}
+
+/// Puts the members of a location.
+fn put_location(
+    members: &mut Map<String, Value>,
+    alloc: Global,
+    root: &[u8],
+    spot: Spot<'_>,
+) -> Result<(), OutOfMemory>
+    requires { members.old.entries ≡ [] }
+    ensures { OnOk result (object (members_view members.new.entries)
+        ≡ location root.now spot.entry.place.now spot.entry.function.now spot.entry.words.now) }
+{
+    put_message(members, alloc, spot.words)?;
+    put_function(members, alloc, spot.function)?;
+    put_physical(members, alloc, root, spot.place)
+}
+
+/// Puts what is said.
+pub(crate) fn put_message(
+    members: &mut Map<String, Value>,
+    alloc: Global,
+    words: &[u8],
+) -> Result<(), OutOfMemory>
+    ensures { OnOk result (members_view members.new.entries ≡ with_member (codes "message") (message words.now) (members_view members.old.entries)) }
+{
+    let value = message_of(alloc, words)?;
+    put(members, alloc, "message", value)?;
+    Ok(())
+}
+
+/// What is said.
+pub(crate) fn message_of(alloc: Global, words: &[u8]) -> Result<Value, OutOfMemory>
+    ensures { IfOk result (λ made. view made ≡ message words.now) }
+{
+    let mut members = Map::new(alloc);
+    match put_text(&mut members, alloc, "text", words) {
+        Ok(()) => Ok(Value::Object(members)),
+        Err(_) => Err(OutOfMemory),
+    }
+}
+
+/// Puts the function, if it is known.
+fn put_function(
+    members: &mut Map<String, Value>,
+    alloc: Global,
+    function: &[u8],
+) -> Result<(), OutOfMemory>
+    ensures { OnOk result (members_view members.new.entries ≡ function_members function.now (members_view members.old.entries)) }
+{
+    if function.is_empty() {
+        return Ok(());
+    }
+    let value = logical_of(alloc, function)?;
+    put_single(members, alloc, "logicalLocations", value)
+}
+
+/// A function as a location.
+fn logical_of(alloc: Global, function: &[u8]) -> Result<Value, OutOfMemory>
+    ensures { IfOk result (λ made. view made ≡ logical function.now) }
+{
+    let mut members = Map::new(alloc);
+    match put_logical(&mut members, alloc, function) {
+        Ok(()) => Ok(Value::Object(members)),
+        Err(refused) => Err(refused),
+    }
+}
+
+/// Puts its members.
+fn put_logical(
+    members: &mut Map<String, Value>,
+    alloc: Global,
+    function: &[u8],
+) -> Result<(), OutOfMemory>
+    requires { members.old.entries ≡ [] }
+    ensures { OnOk result (object (members_view members.new.entries) ≡ logical function.now) }
+{
+    put_text(members, alloc, "fullyQualifiedName", function)?;
+    put_word(members, alloc, "kind", "function")?;
+    Ok(())
+}
+
+/// Puts the file and the line of a place, if it has a file.
+fn put_physical(
+    members: &mut Map<String, Value>,
+    alloc: Global,
+    root: &[u8],
+    place: &[u8],
+) -> Result<(), OutOfMemory>
+    ensures { OnOk result (members_view members.new.entries ≡ physical_members root.now place.now (members_view members.old.entries)) }
+{
+    if !is_line(place) {
+        return Ok(());
+    }
+    let value = physical_of(alloc, root, place)?;
+    put(members, alloc, "physicalLocation", value)?;
+    Ok(())
+}
+
+/// The file and the line of a place.
+fn physical_of(alloc: Global, root: &[u8], place: &[u8]) -> Result<Value, OutOfMemory>
+    ensures { IfOk result (λ made. view made ≡ physical root.now place.now) }
+{
+    let mut members = Map::new(alloc);
+    match put_parts(&mut members, alloc, root, place) {
+        Ok(()) => Ok(Value::Object(members)),
+        Err(refused) => Err(refused),
+    }
+}
+
+/// Puts its members.
+fn put_parts(
+    members: &mut Map<String, Value>,
+    alloc: Global,
+    root: &[u8],
+    place: &[u8],
+) -> Result<(), OutOfMemory>
+    requires { members.old.entries ≡ [] }
+    ensures { OnOk result (object (members_view members.new.entries) ≡ physical root.now place.now) }
+{
+    let value = artifact_of(alloc, root, relative(root, file_of(place)))?;
+    put(members, alloc, "artifactLocation", value)?;
+    put_region(members, alloc, line_of(place))
+}
+
+/// Puts the line, if it is one.
+fn put_region(members: &mut Map<String, Value>, alloc: Global, line: u64) -> Result<(), OutOfMemory>
+    ensures { OnOk result (members_view members.new.entries ≡ region_members line (members_view members.old.entries)) }
+{
+    if line == 0 || line > MOST_LINE {
+        return Ok(());
+    }
+    let value = region_of(alloc, line)?;
+    put(members, alloc, "region", value)?;
+    Ok(())
+}
+
+/// A line.
+fn region_of(alloc: Global, line: u64) -> Result<Value, OutOfMemory>
+    ensures { IfOk result (λ made. view made ≡ region line) }
+{
+    let mut members = Map::new(alloc);
+    match put_number(&mut members, alloc, "startLine", line) {
+        Ok(()) => Ok(Value::Object(members)),
+        Err(_) => Err(OutOfMemory),
+    }
+}
+
+/// A file.
+fn artifact_of(alloc: Global, root: &[u8], path: &[u8]) -> Result<Value, OutOfMemory>
+    ensures { IfOk result (λ made. view made ≡ artifact root.now path.now) }
+{
+    let mut members = Map::new(alloc);
+    match put_artifact(&mut members, alloc, root, path) {
+        Ok(()) => Ok(Value::Object(members)),
+        Err(refused) => Err(refused),
+    }
+}
+
+/// Puts its members.
+fn put_artifact(
+    members: &mut Map<String, Value>,
+    alloc: Global,
+    root: &[u8],
+    path: &[u8],
+) -> Result<(), OutOfMemory>
+    requires { members.old.entries ≡ [] }
+    ensures { OnOk result (object (members_view members.new.entries) ≡ artifact root.now path.now) }
+{
+    let mut uri = Vec::new(alloc);
+    append_uri(&mut uri, path)?;
+    put_text(members, alloc, "uri", uri.as_slice())?;
+    put_base(members, alloc, root, path)
+}
+
+/// Puts the name of the folder, if there is one and the path is within it.
+fn put_base(
+    members: &mut Map<String, Value>,
+    alloc: Global,
+    root: &[u8],
+    path: &[u8],
+) -> Result<(), OutOfMemory>
+    ensures { OnOk result (members_view members.new.entries ≡ base_members root.now path.now (members_view members.old.entries)) }
+{
+    if root.is_empty() || is_absolute(path) {
+        return Ok(());
+    }
+    put_word(members, alloc, "uriBaseId", "SRCROOT")?;
+    Ok(())
+}

@@ -1,0 +1,186 @@
+//! The whole log: one run of the tool, with a result for each verdict.
+ghost use Rattle.std.specs.Prelude.{◌≡◌, ◌++◌, ℕ, List, nat_lt, OnOk, OnErr, false, option_map};
+ghost use Rattle.serde_json.specs.Data.{Data};
+ghost use Rattle.serde_json.specs.View.{view};
+ghost use Rattle.serde_json.specs.Written.{compact_text, has_float};
+ghost use Rattle.triage_report.specs.sarif.Logs.{base_object, item_text, joined, left_object, rest_text, AreResults, IsResult, IsSarif};
+ghost use Rattle.triage_report.specs.sarif.Results.{result_object};
+
+use crate::sarif::bases::{base_of, left_of};
+use crate::sarif::results::result_of;
+use crate::sarif::schedules::steps_of;
+use crate::sarif::sources::Sources;
+use event_index::Indexed;
+use must_order::Analysis;
+use race_triage::{Chosen, Verdict};
+use rapid_text::OutOfMemory;
+use serde_json::Value;
+
+/// The most races with a code flow; they are the first ones.
+pub const MOST_FLOWS: usize = 200;
+
+/// What comes before the results.
+pub const HEAD: &[u8] =
+    b"{\"$schema\":\"https://json.schemastore.org/sarif-2.1.0.json\",\"version\":\"2.1.0\",\"runs\":[{\"results\":[";
+
+/// What comes after the results: the tool, its rules, and what comes before the folder of the code.
+pub const TAIL: &[u8] = b"],\"tool\":{\"driver\":{\"name\":\"racebench\",\"rules\":[\
+{\"id\":\"data-race\",\"name\":\"DataRace\",\
+\"shortDescription\":{\"text\":\"Two threads access the same memory at the same time, and one of them writes.\"},\
+\"help\":{\"text\":\"A schedule of the recorded run brings the two accesses next to each other. Protect both with one lock, make \
+them atomic, or order them.\"},\"defaultConfiguration\":{\"level\":\"error\"}},\
+{\"id\":\"undecided-pair\",\"name\":\"UndecidedPair\",\
+\"shortDescription\":{\"text\":\"Two accesses that may race: no schedule that shows it was found, and nothing rules one out.\"},\
+\"help\":{\"text\":\"Raise --tries, or record another seed.\"},\"defaultConfiguration\":{\"level\":\"warning\"}},\
+{\"id\":\"apart\",\"name\":\"Apart\",\
+\"shortDescription\":{\"text\":\"Two accesses that every correct reordering of the recorded run keeps apart.\"},\
+\"defaultConfiguration\":{\"level\":\"none\"}}]}},\"originalUriBaseIds\":";
+
+/// What comes before how many verdicts were left out.
+pub const PROPERTIES: &[u8] = b",\"properties\":";
+
+/// What comes at the end.
+pub const END: &[u8] = b"}]}\n";
+
+/// Appends what was found as SARIF 2.1.0: a result for each of the chosen verdicts, in their order. A race has a schedule as a code flow, if it is
+/// one of the first `MOST_FLOWS` verdicts. If memory is refused `out` stays as it was.
+pub fn triage_sarif(
+    analysis: &Analysis<'_>,
+    chosen: &Chosen,
+    sources: Sources<'_>,
+    out: &mut Vec<u8>,
+) -> Result<(), OutOfMemory>
+    // The text is the one that belongs to the trace, the chosen verdicts and the code.
+    ensures ok { OnOk result ((text : List ℕ) × IsSarif analysis.now sources.entry chosen.now text × (out.new.items ≡ out.old.items ++ text)) }
+    ensures err { OnErr result (out.new.items ≡ out.old.items) }
+{
+    let mut text = Vec::new(*out.allocator());
+    append_log(&mut text, analysis, chosen, sources)?;
+    out.extend_from_slice(text.as_slice())?;
+    Ok(())
+}
+
+/// Appends the whole log.
+fn append_log(
+    out: &mut Vec<u8>,
+    analysis: &Analysis<'_>,
+    chosen: &Chosen,
+    sources: Sources<'_>,
+) -> Result<(), OutOfMemory>
+    ensures { OnOk result ((text : List ℕ) × IsSarif analysis.now sources.entry chosen.now text × (out.new.items ≡ out.old.items ++ text)) }
+{
+    out.extend_from_slice(HEAD)?;
+    append_results(out, analysis, sources, chosen.verdicts.as_slice())?;
+    append_rest(out, sources.root, chosen.known, chosen.hidden)?;
+    Ok(())
+}
+
+/// Appends what comes after the results.
+pub(crate) fn append_rest(
+    out: &mut Vec<u8>,
+    root: &[u8],
+    known: Option<u64>,
+    hidden: Option<u64>,
+) -> Result<(), OutOfMemory>
+    ensures { OnOk result (out.new.items ≡ out.old.items ++ rest_text root.now known hidden) }
+{
+    out.extend_from_slice(TAIL)?;
+    append_base(out, root)?;
+    out.extend_from_slice(PROPERTIES)?;
+    append_left(out, known, hidden)?;
+    out.extend_from_slice(END)?;
+    Ok(())
+}
+
+/// Appends the results.
+fn append_results(
+    out: &mut Vec<u8>,
+    analysis: &Analysis<'_>,
+    sources: Sources<'_>,
+    verdicts: &[Verdict],
+) -> Result<(), OutOfMemory>
+    ensures { OnOk result ((ds : List Data) × AreResults analysis.now sources.entry verdicts.now ds × (out.new.items ≡ out.old.items ++ joined ds)) }
+{
+    for at in 0..verdicts.len() {
+        append_result(out, analysis, sources, at, &verdicts[at])?;
+    }
+    Ok(())
+}
+
+/// Appends the result of a verdict after so many others.
+fn append_result(
+    out: &mut Vec<u8>,
+    analysis: &Analysis<'_>,
+    sources: Sources<'_>,
+    at: usize,
+    verdict: &Verdict,
+) -> Result<(), OutOfMemory>
+    ensures { OnOk result ((d : Data) × IsResult analysis.now sources.entry (nat_lt at MOST_FLOWS) verdict.now d
+        × (out.new.items ≡ out.old.items ++ item_text (nat_lt 0 at) d)) }
+{
+    let alloc = *out.allocator();
+    let steps = steps_of(alloc, analysis, at < MOST_FLOWS, verdict)?;
+    append_shown(out, analysis.indexed(), sources, at > 0, verdict, &steps)?;
+    Ok(())
+}
+
+/// Appends the result of a verdict, which these steps show if there are any.
+fn append_shown(
+    out: &mut Vec<u8>,
+    indexed: &Indexed,
+    sources: Sources<'_>,
+    is_later: bool,
+    verdict: &Verdict,
+    steps: &Option<Vec<u32>>,
+) -> Result<(), OutOfMemory>
+    ensures { OnOk result (out.new.items
+        ≡ out.old.items ++ item_text is_later (result_object indexed.now sources.entry verdict.now (option_map (λ s. s.items) steps.now))) }
+{
+    let object = result_of(*out.allocator(), indexed, sources, verdict, steps)?;
+    append_item(out, is_later, &object)
+}
+
+/// Appends a value that has no fraction in it, after a comma if it is a later one.
+pub(crate) fn append_item(
+    out: &mut Vec<u8>,
+    is_later: bool,
+    object: &Value,
+) -> Result<(), OutOfMemory>
+    requires { has_float (view object.now) ≡ false }
+    ensures { OnOk result (out.new.items ≡ out.old.items ++ item_text is_later (view object.now)) }
+{
+    if is_later {
+        out.push(b',')?;
+    }
+    append_value(out, object)
+}
+
+/// Appends a value that has no fraction in it.
+fn append_value(out: &mut Vec<u8>, object: &Value) -> Result<(), OutOfMemory>
+    requires { has_float (view object.now) ≡ false }
+    ensures { OnOk result (out.new.items ≡ out.old.items ++ compact_text (view object.now)) }
+{
+    let text = object.to_vec(*out.allocator())?;
+    out.extend_from_slice(text.as_slice())?;
+    Ok(())
+}
+
+/// Appends the folder of the code, if one is named.
+fn append_base(out: &mut Vec<u8>, root: &[u8]) -> Result<(), OutOfMemory>
+    ensures { OnOk result (out.new.items ≡ out.old.items ++ compact_text (base_object root.now)) }
+{
+    let object = base_of(*out.allocator(), root)?;
+    append_value(out, &object)
+}
+
+/// Appends how many verdicts were left out.
+fn append_left(
+    out: &mut Vec<u8>,
+    known: Option<u64>,
+    hidden: Option<u64>,
+) -> Result<(), OutOfMemory>
+    ensures { OnOk result (out.new.items ≡ out.old.items ++ compact_text (left_object known hidden)) }
+{
+    let object = left_of(*out.allocator(), known, hidden)?;
+    append_value(out, &object)
+}

@@ -1,0 +1,111 @@
+//! The file, the line and the URI of a place.
+ghost use Rattle.std.specs.Prelude.{◌≡◌, ◌<◌, ◌++◌, OnOk};
+ghost use Rattle.triage_report.specs.sarif.Places.{encoded, encoded_byte, file_of, hex_digit, is_absolute, is_plain, line_number, line_of, relative, uri_of};
+
+use explain_report::places::{cut_at_last, is_line};
+use rapid_text::OutOfMemory;
+
+/// The largest number of a line.
+pub const MOST_LINE: u64 = 1_000_000_000;
+
+/// The file of a place `FILE:LINE`; any other place as it is.
+pub fn file_of(place: &[u8]) -> &[u8]
+    ensures { result.now ≡ file_of place.now }
+{
+    let (file, _) = cut_at_last(b':', place);
+    if is_line(place) { file } else { place }
+}
+
+/// The line of a place `FILE:LINE`; 0 of any other. A number above `MOST_LINE` may be any such number.
+pub fn line_of(place: &[u8]) -> u64
+    ensures { result ≡ line_of place.now }
+{
+    let (_, digits) = cut_at_last(b':', place);
+    if is_line(place) {
+        line_number(digits)
+    } else {
+        0
+    }
+}
+
+/// The number that the digits are, if it is `MOST_LINE` or less; else one that is larger than that.
+fn line_number(digits: &[u8]) -> u64
+    ensures { result ≡ line_number digits.now }
+{
+    digits.iter().fold(0, |number, digit| {
+        number.min(MOST_LINE) * 10 + u64::from(digit.saturating_sub(b'0'))
+    })
+}
+
+/// What comes after this folder in the path; the path as it is, if it does not begin with the folder.
+pub fn relative<'a>(root: &[u8], path: &'a [u8]) -> &'a [u8]
+    ensures { result.now ≡ relative root.now path.now }
+{
+    if path.starts_with(root) {
+        &path[root.len()..]
+    } else {
+        path
+    }
+}
+
+/// Whether the path begins at the root of the file system.
+pub(crate) fn is_absolute(path: &[u8]) -> bool
+    ensures { result ≡ is_absolute path.now }
+{
+    path.starts_with(b"/")
+}
+
+/// Appends the path as a URI.
+pub(crate) fn append_uri(out: &mut Vec<u8>, path: &[u8]) -> Result<(), OutOfMemory>
+    ensures { OnOk result (out.new.items ≡ out.old.items ++ uri_of path.now) }
+{
+    if is_absolute(path) {
+        out.extend_from_slice(b"file://")?;
+    }
+    append_encoded(out, path)
+}
+
+/// Appends the path, encoded.
+fn append_encoded(out: &mut Vec<u8>, path: &[u8]) -> Result<(), OutOfMemory>
+    ensures { OnOk result (out.new.items ≡ out.old.items ++ encoded path.now) }
+{
+    for byte in path {
+        append_byte(out, *byte)?;
+    }
+    Ok(())
+}
+
+/// Appends a byte, encoded.
+fn append_byte(out: &mut Vec<u8>, byte: u8) -> Result<(), OutOfMemory>
+    ensures { OnOk result (out.new.items ≡ out.old.items ++ encoded_byte byte) }
+{
+    if is_plain(byte) {
+        out.push(byte)?;
+    } else {
+        out.extend_from_slice(&[b'%', hex_digit(byte / 16), hex_digit(byte % 16)])?;
+    }
+    Ok(())
+}
+
+/// Whether the byte may be in a path of a URI as it is.
+fn is_plain(byte: u8) -> bool
+    ensures { result ≡ is_plain byte }
+{
+    (b'-' <= byte && byte <= b'9')
+        || (b'A' <= byte && byte <= b'Z')
+        || byte == b'_'
+        || (b'a' <= byte && byte <= b'z')
+        || byte == b'~'
+}
+
+/// A digit of a number to base 16.
+fn hex_digit(value: u8) -> u8
+    requires { value < 16 }
+    ensures { result ≡ hex_digit value }
+{
+    if value < 10 {
+        b'0' + value
+    } else {
+        b'A' + (value - 10)
+    }
+}

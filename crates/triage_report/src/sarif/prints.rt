@@ -1,0 +1,124 @@
+//! What tells a pair from another, although its lines have moved.
+ghost use Rattle.std.specs.Prelude.{◌≡◌, ◌++◌, [], IfOk, OnOk};
+ghost use Rattle.serde_json.specs.Data.{object};
+ghost use Rattle.serde_json.specs.View.{members_view, view};
+ghost use Rattle.triage_report.specs.sarif.Accesses.{access_told};
+ghost use Rattle.triage_report.specs.sarif.Prints.{both, ordered, print_object, side};
+
+use crate::json::put_text;
+use crate::sarif::accesses::Access;
+use crate::sarif::places::{file_of, relative};
+use crate::sarif::sources::{Sources, line_text};
+use crate::sarif::stacks::own_function;
+use explain_report::places::cut_at_arrow;
+use rapid_text::OutOfMemory;
+use report::{Piece, append_pieces};
+use serde_json::{Map, Value};
+use std::alloc::Global;
+use std::cmp::Ordering;
+
+/// The fingerprint of a pair.
+pub(crate) fn print_of(
+    alloc: Global,
+    sources: Sources<'_>,
+    first: Access<'_>,
+    second: Access<'_>,
+) -> Result<Value, OutOfMemory>
+    ensures { IfOk result (λ made. view made ≡ print_object sources.entry (access_told first.entry) (access_told second.entry)) }
+{
+    let mut members = Map::new(alloc);
+    match put_print(&mut members, alloc, sources, first, second) {
+        Ok(()) => Ok(Value::Object(members)),
+        Err(refused) => Err(refused),
+    }
+}
+
+/// Puts its member.
+fn put_print(
+    members: &mut Map<String, Value>,
+    alloc: Global,
+    sources: Sources<'_>,
+    first: Access<'_>,
+    second: Access<'_>,
+) -> Result<(), OutOfMemory>
+    requires { members.old.entries ≡ [] }
+    ensures { OnOk result (object (members_view members.new.entries) ≡ print_object sources.entry (access_told first.entry) (access_told second.entry)) }
+{
+    let mut text = Vec::new(alloc);
+    append_print(&mut text, sources, first, second)?;
+    put_text(members, alloc, "racePair/v1", text.as_slice())?;
+    Ok(())
+}
+
+/// Appends the two sides of a pair.
+fn append_print(
+    out: &mut Vec<u8>,
+    sources: Sources<'_>,
+    first: Access<'_>,
+    second: Access<'_>,
+) -> Result<(), OutOfMemory>
+    ensures { OnOk result (out.new.items ≡ out.old.items
+        ++ ordered (side sources.entry (access_told first.entry)) (side sources.entry (access_told second.entry))) }
+{
+    let mut one = Vec::new(*out.allocator());
+    append_side(&mut one, sources, first)?;
+    append_beside(out, sources, one.as_slice(), second)
+}
+
+/// Appends this side and that of the access.
+fn append_beside(
+    out: &mut Vec<u8>,
+    sources: Sources<'_>,
+    first: &[u8],
+    access: Access<'_>,
+) -> Result<(), OutOfMemory>
+    ensures { OnOk result (out.new.items ≡ out.old.items ++ ordered first.now (side sources.entry (access_told access.entry))) }
+{
+    let mut second = Vec::new(*out.allocator());
+    append_side(&mut second, sources, access)?;
+    append_ordered(out, first, second.as_slice())
+}
+
+/// Appends the two sides, the lesser first.
+fn append_ordered(out: &mut Vec<u8>, first: &[u8], second: &[u8]) -> Result<(), OutOfMemory>
+    ensures { OnOk result (out.new.items ≡ out.old.items ++ ordered first.now second.now) }
+{
+    match first.cmp(second) {
+        Ordering::Greater => append_both(out, second, first),
+        Ordering::Less => append_both(out, first, second),
+        Ordering::Equal => append_both(out, first, second),
+    }
+}
+
+/// Appends the two sides.
+fn append_both<'a>(out: &mut Vec<u8>, one: &'a [u8], other: &'a [u8]) -> Result<(), OutOfMemory>
+    ensures { OnOk result (out.new.items ≡ out.old.items ++ both one.now other.now) }
+{
+    append_pieces(
+        out,
+        &[Piece::Words(one), Piece::Words(b"\n"), Piece::Words(other)],
+    )
+}
+
+/// Appends the file, the function, the variable and the line of an access.
+fn append_side<'a>(
+    out: &mut Vec<u8>,
+    sources: Sources<'a>,
+    access: Access<'a>,
+) -> Result<(), OutOfMemory>
+    ensures { OnOk result (out.new.items ≡ out.old.items ++ side sources.entry (access_told access.entry)) }
+{
+    let (place, _) = cut_at_arrow(access.location);
+    append_pieces(
+        out,
+        &[
+            Piece::Words(relative(sources.root, file_of(place))),
+            Piece::Words(b"\n"),
+            Piece::Words(own_function(access.location)),
+            Piece::Words(b"\n"),
+            Piece::Words(access.variable),
+            Piece::Words(b"\n"),
+            Piece::Words(line_text(sources.lines, place)),
+        ],
+    )
+}

@@ -1,0 +1,189 @@
+//! What was found of pairs as results.
+ghost use Rattle.std.specs.Prelude.{◌≡◌, [], IfOk, OnOk, option_map};
+ghost use Rattle.serde_json.specs.Data.{Data, object};
+ghost use Rattle.serde_json.specs.View.{members_view, view};
+ghost use Rattle.triage_report.specs.sarif.Accesses.{access_told};
+ghost use Rattle.triage_report.specs.sarif.Results.{access_members, flow_members, found_members, place_members, print_members, result_object, step_members, word_members};
+
+use crate::json::{put_number, put_word};
+use crate::sarif::accesses::{Access, access_at};
+use crate::sarif::flows::{Flow, flow_of};
+use crate::sarif::locations::{put_message, put_single};
+use crate::sarif::prints::print_of;
+use crate::sarif::sources::Sources;
+use crate::sarif::stacks::{stacks_of, told_of};
+use crate::sarif::words::{
+    append_message, kind_word, level_word, outcome_rank, rule_number, rule_word,
+};
+use event_index::Indexed;
+use race_triage::Verdict;
+use rapid_text::OutOfMemory;
+use serde_json::{Map, Value, put};
+use std::alloc::Global;
+
+/// The result of a verdict, which these steps show if there are any.
+pub(crate) fn result_of(
+    alloc: Global,
+    indexed: &Indexed,
+    sources: Sources<'_>,
+    verdict: &Verdict,
+    steps: &Option<Vec<u32>>,
+) -> Result<Value, OutOfMemory>
+    ensures { IfOk result (λ made. view made ≡ result_object indexed.now sources.entry verdict.now (option_map (λ s. s.items) steps.now)) }
+{
+    let mut members = Map::new(alloc);
+    match put_result(&mut members, alloc, indexed, sources, verdict, steps) {
+        Ok(()) => Ok(Value::Object(members)),
+        Err(refused) => Err(refused),
+    }
+}
+
+/// Puts its members.
+fn put_result(
+    members: &mut Map<String, Value>,
+    alloc: Global,
+    indexed: &Indexed,
+    sources: Sources<'_>,
+    verdict: &Verdict,
+    steps: &Option<Vec<u32>>,
+) -> Result<(), OutOfMemory>
+    requires { members.old.entries ≡ [] }
+    ensures { OnOk result (object (members_view members.new.entries)
+        ≡ result_object indexed.now sources.entry verdict.now (option_map (λ s. s.items) steps.now)) }
+{
+    let mut words = Vec::new(alloc);
+    append_message(&mut words, indexed, verdict)?;
+    let found = Found {
+        rank: outcome_rank(verdict.outcome),
+        words: words.as_slice(),
+        first: access_at(indexed, verdict.first),
+        second: access_at(indexed, verdict.second),
+    };
+    put_found(members, alloc, sources, found)?;
+    put_flow(members, alloc, indexed, sources.root, steps)
+}
+
+/// What was found of a pair: its rank, what is said of it, and its two accesses.
+#[derive(Clone, Copy)]
+pub struct Found<'a> {
+    /// 0 for a race, 1 for what is undecided, 2 for what is apart.
+    pub rank: u8,
+    /// What is said.
+    pub words: &'a [u8],
+    /// The earlier access.
+    pub first: Access<'a>,
+    /// The later one.
+    pub second: Access<'a>,
+}
+
+/// Puts what every result has: the rule, what is said, the accesses and the fingerprint.
+pub(crate) fn put_found(
+    members: &mut Map<String, Value>,
+    alloc: Global,
+    sources: Sources<'_>,
+    found: Found<'_>,
+) -> Result<(), OutOfMemory>
+    ensures { OnOk result (members_view members.new.entries
+        ≡ found_members sources.entry found.entry.rank found.entry.words.now (access_told found.entry.first) (access_told found.entry.second)
+        (members_view members.old.entries)) }
+{
+    put_words(members, alloc, found.rank)?;
+    put_message(members, alloc, found.words)?;
+    put_accesses(members, alloc, sources.root, found.first, found.second)?;
+    put_print(members, alloc, sources, found.first, found.second)
+}
+
+/// Puts the rule, and how bad it is.
+fn put_words(members: &mut Map<String, Value>, alloc: Global, rank: u8) -> Result<(), OutOfMemory>
+    ensures { OnOk result (members_view members.new.entries ≡ word_members rank (members_view members.old.entries)) }
+{
+    put_word(members, alloc, "kind", kind_word(rank))?;
+    put_word(members, alloc, "level", level_word(rank))?;
+    put_word(members, alloc, "ruleId", rule_word(rank))?;
+    put_number(members, alloc, "ruleIndex", rule_number(rank))?;
+    Ok(())
+}
+
+/// Puts the two accesses, the later first, and their stacks.
+fn put_accesses(
+    members: &mut Map<String, Value>,
+    alloc: Global,
+    root: &[u8],
+    first: Access<'_>,
+    second: Access<'_>,
+) -> Result<(), OutOfMemory>
+    ensures { OnOk result (members_view members.new.entries
+        ≡ access_members root.now (access_told first.entry) (access_told second.entry) (members_view members.old.entries)) }
+{
+    put_place(members, alloc, root, "locations", second)?;
+    put_place(members, alloc, root, "relatedLocations", first)?;
+    let both = stacks_of(alloc, root, second, first)?;
+    put(members, alloc, "stacks", both)?;
+    Ok(())
+}
+
+/// Puts the location of an access.
+fn put_place(
+    members: &mut Map<String, Value>,
+    alloc: Global,
+    root: &[u8],
+    name: &str,
+    access: Access<'_>,
+) -> Result<(), OutOfMemory>
+    ensures { OnOk result (members_view members.new.entries ≡ place_members root.now name.now (access_told access.entry) (members_view members.old.entries)) }
+{
+    let location = told_of(alloc, root, access)?;
+    put_single(members, alloc, name, location)
+}
+
+/// Puts the fingerprint.
+fn put_print(
+    members: &mut Map<String, Value>,
+    alloc: Global,
+    sources: Sources<'_>,
+    first: Access<'_>,
+    second: Access<'_>,
+) -> Result<(), OutOfMemory>
+    ensures { OnOk result (members_view members.new.entries
+        ≡ print_members sources.entry (access_told first.entry) (access_told second.entry) (members_view members.old.entries)) }
+{
+    let made = print_of(alloc, sources, first, second)?;
+    put(members, alloc, "partialFingerprints", made)?;
+    Ok(())
+}
+
+/// Puts the code flow of these steps, if there are any.
+fn put_flow(
+    members: &mut Map<String, Value>,
+    alloc: Global,
+    indexed: &Indexed,
+    root: &[u8],
+    steps: &Option<Vec<u32>>,
+) -> Result<(), OutOfMemory>
+    ensures { OnOk result (members_view members.new.entries
+        ≡ flow_members indexed.now root.now (option_map (λ s. s.items) steps.now) (members_view members.old.entries)) }
+{
+    match steps {
+        Some(steps) => put_steps(members, alloc, indexed, root, steps.as_slice()),
+        None => Ok(()),
+    }
+}
+
+/// Puts the code flow of these steps.
+fn put_steps(
+    members: &mut Map<String, Value>,
+    alloc: Global,
+    indexed: &Indexed,
+    root: &[u8],
+    steps: &[u32],
+) -> Result<(), OutOfMemory>
+    ensures { OnOk result (members_view members.new.entries ≡ step_members indexed.now root.now steps.now (members_view members.old.entries)) }
+{
+    let told = Flow {
+        indexed,
+        root,
+        steps,
+    };
+    let flow = flow_of(alloc, told)?;
+    put_single(members, alloc, "codeFlows", flow)
+}

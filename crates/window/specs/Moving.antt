@@ -1,0 +1,58 @@
+-- The numbers of events in a line of JSON, and the line that has other numbers in their place.
+use Rattle.std.specs.Prelude.{◌≡◌, ℕ, ◌+◌, ◌^◌, ◌<◌, ◌≤◌, ◌&&◌, nat_lt, nat_le, if◌then◌else◌, List, [], ◌∷◌, ◌++◌, length, slice_index, Some, None, codes}
+use Rattle.std.specs.Char.{digit_value}
+use Rattle.std.specs.Fmt.{decimal}
+use Rattle.std.specs.Str.Parse.{AllDigits, digits_value}
+use Rattle.memchr.specs.Find.{FindsNeedle}
+use Rattle.window.specs.Window.{back}
+
+-- what stands before the number of an event; in a text of JSON each quote has a backslash before it
+abbrev pub event_mark : List ℕ
+event_mark = codes "{\"event\":"
+
+-- the text does not go on with a digit
+abbrev pub HasNoDigit : List ℕ → Type 0
+HasNoDigit text = 0 < length text → 10 ≤ digit_value (slice_index text 0)
+
+-- a number of an event in a line: what stands before it, from the end of the number before, and its digits
+pub record Marked : Type 0 where
+  pub front : List ℕ
+  pub digits : List ℕ
+
+-- the line that has these numbers, their digits shown so, and then this text
+abbrev pub line_with : (List ℕ → List ℕ) → List Marked → List ℕ → List ℕ
+line_with shown [] last = last
+line_with shown (m ∷ ms) last = m.front ++ (shown m.digits ++ line_with shown ms last)
+
+-- the digits as they are
+abbrev pub as_written : List ℕ → List ℕ
+as_written digits = digits
+
+-- What stands before the number ends with the first mark of the text that begins with both, and its digits are all that stand there.
+pub record IsMarked (m : Marked) (rest : List ℕ) : Type 0 where
+  pub place : ℕ
+  pub ends : length m.front ≡ place + length event_mark
+  pub first : FindsNeedle (m.front ++ (m.digits ++ rest)) event_mark 0 (Some place)
+  pub digits : AllDigits 10 m.digits
+  pub all : HasNoDigit rest
+
+-- these are all numbers of events in their line, in order
+abbrev pub AreAll : List Marked → List ℕ → Type 0
+AreAll [] last = FindsNeedle last event_mark 0 None
+AreAll (m ∷ ms) last = IsMarked m (line_with as_written ms last) × AreAll ms last
+
+-- the digits of the number that the event has in the trace; those of an event of the prologue stay, and so do those of a number that
+-- is too large
+abbrev pub moved_digits : ℕ → ℕ → List ℕ → List ℕ
+moved_digits n k digits =
+    let event = digits_value 10 digits in
+    if nat_lt event (2 ^ 64) && (nat_le n event && nat_lt (back n k event) (2 ^ 64)) then decimal (back n k event) else digits
+
+-- The line `moved` is the line `line`, but that each event has the number that it has in the trace of which the window begins at k, with a
+-- prologue of n events.
+pub record IsMoved (n k : ℕ) (line moved : List ℕ) : Type 0 where
+  pub numbers : List Marked
+  pub last : List ℕ
+  pub all : AreAll numbers last
+  pub line_is : line ≡ line_with as_written numbers last
+  pub moved_is : moved ≡ line_with (moved_digits n k) numbers last

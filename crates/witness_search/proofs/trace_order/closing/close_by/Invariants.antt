@@ -1,0 +1,19 @@
+use Rattle.std.proofs.Common.{◌≡◌, ℕ, ◌*◌, ◌-◌, ◌≤◌, None, length, get_or, IfSome}
+use Rattle.must_order.proofs.RowLemmas.{total}
+use Rattle.witness_search.specs.trace_order.Layout.{IsEither, IsBehind}
+use Rattle.witness_search.proofs.trace_order.ClosingLemmas.{IsClosing}
+use Rattle.witness_search.proofs.trace_order.closing.close_by.Given as goal
+
+abbrev pub invariant-loop-next : goal.invariant-loop-next
+invariant-loop-next l =
+    record {
+      row : length l.row.items ≡ length l.indexed.threads;
+      visited : length l.visited.items ≡ length l.indexed.threads;
+      locks : length l.latest.items ≡ length l.indexed.locks;
+      found : IfSome l.next (IsBehind l.row.items l.visited.items);
+      none : l.next ≡ None → (t : ℕ) → get_or l.row.items t 0 ≤ get_or l.visited.items t 0;
+      closing : IsClosing l.indexed.events (IsEither l.fn.first l.fn.second) (λ t. get_or l.row.items t 0) (λ t. get_or l.visited.items t 0) (λ k. get_or l.latest.items k None);
+    }
+
+abbrev pub decreases-loop-next : goal.decreases-loop-next
+decreases-loop-next l = length l.indexed.threads * length l.indexed.events - total l.visited.items

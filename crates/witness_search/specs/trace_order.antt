@@ -1,0 +1,13 @@
+pub mod Acquires
+pub mod Aims
+pub mod Counting
+pub mod InOrder
+pub mod Joining
+pub mod Laws
+pub mod Layout
+pub mod Orders
+pub mod Refusals
+pub mod Rows
+pub mod Sizes
+pub mod Standing
+pub mod Tables

@@ -1,0 +1,18 @@
+-- What a search by counts starts from, and what it wants. No public clause cites this module.
+use Rattle.std.specs.Prelude.{◌≡◌, ℕ, ◌≤◌, length, slice_index}
+use Rattle.rapid_text.specs.Recording.{Recording}
+use Rattle.event_index.specs.Lookups.{events_of}
+use Rattle.witness_search.specs.trace_order.Counting.{IsWantedRow}
+use Rattle.witness_search.specs.trace_order.Laws.{IsBaseOf}
+use Rattle.witness_search.specs.trace_order.Layout.{IsNeededRow}
+use Rattle.witness_search.specs.declared.trace_order.enabling.Aim.{Aim}
+
+-- the start counts what is needed for b, and the other row what is wanted for the pair
+pub record IsAimFor (r : Recording) (a b : ℕ) (aim : Aim) : Type 0 where
+  pub first : aim.first ≡ a
+  pub second : aim.second ≡ b
+  pub start : length aim.start.items ≡ length r.threads
+  pub wanted : length aim.wanted.items ≡ length r.threads
+  pub needs : IsNeededRow r.events (IsBaseOf r.events b) (λ t. slice_index aim.start.items t)
+  pub within : (t : ℕ) → slice_index aim.start.items t ≤ length (events_of r.events t)
+  pub wants : IsWantedRow r.events a b (λ t. slice_index aim.wanted.items t)

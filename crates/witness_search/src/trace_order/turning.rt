@@ -1,0 +1,168 @@
+//! A search beyond the order of the trace.
+ghost use Rattle.std.specs.Prelude.{◌≡◌, ◌<◌, ◌≤◌, ◌↔◌, length, IsTrue, IfOk, IfSome, None, true};
+ghost use Rattle.event_index.specs.Relations.{IsConflicting};
+ghost use Rattle.schedule.specs.Reordering.{IsCorrectReordering};
+ghost use Rattle.schedule.specs.Shows.{IsReady, Shows};
+ghost use Rattle.witness_search.specs.trace_order.Counting.{SizeIfTurned, IsLeftOf};
+ghost use Rattle.witness_search.specs.trace_order.Aims.{IsAimFor};
+ghost use Rattle.witness_search.specs.trace_order.InOrder.{AreNeeded};
+ghost use Rattle.witness_search.specs.trace_order.Laws.{IsBaseOf};
+ghost use Rattle.witness_search.specs.trace_order.Orders.{IsTurned};
+ghost use Rattle.witness_search.specs.trace_order.Standing.{start_of, HasCome};
+
+use crate::greedy;
+use crate::trace_order::acquires::Acquires;
+use crate::trace_order::closing::needed_row;
+use crate::trace_order::counting::search;
+use crate::trace_order::enabling::{Aim, Reached};
+use crate::trace_order::joining::joined_row;
+use crate::trace_order::listing::list_of;
+use crate::trace_order::sizing::{events_counted, threads_counted};
+use crate::trace_order::wanting::wanted_row;
+use event_index::{EventList, Indexed};
+use must_order::Must;
+use rapid_text::OutOfMemory;
+use schedule::{ListRefusal, Schedule};
+use std::alloc::Global;
+use std::collections::HashMap;
+
+/// Looks for a schedule that shows the pair, in which critical sections may stand in another order than in the trace:
+/// the greedy search with this budget, from the least list in the order of the trace after which the second event is
+/// the next of its thread.
+pub fn turned(
+    alloc: Global,
+    indexed: &Indexed,
+    first: u32,
+    second: u32,
+    budget: u32,
+) -> Result<Option<EventList>, OutOfMemory>
+    ensures answer { IfOk result (IsTurned indexed.now.events first second budget) }
+    ensures reordering { IfOk result (λ found. IfSome found (IsCorrectReordering indexed.now.events)) }
+    ensures shows { IfOk result (λ r. IfSome r (λ P. Shows indexed.now.events P first second)) }
+{
+    if !are_conflicting(indexed, first, second) {
+        return Ok(None);
+    }
+    let list = ready_list(alloc, indexed, second)?;
+    let start = schedule_of(alloc, indexed, list.items())?;
+    let found = greedy(alloc, indexed, &start, first, second, budget)?;
+    Ok(found)
+}
+
+/// Looks for such a schedule by no more steps than are left, and makes none: how many events it has, and of how many threads. Where none is
+/// found, as many fewer steps are left as were taken. It costs steps by threads, by acquires and by the events that it takes.
+pub fn turned_size(
+    alloc: Global,
+    indexed: &Indexed,
+    must: &Must,
+    acquires: &Acquires,
+    pair: (u32, u32),
+    left: &mut u32,
+) -> Result<Option<(u32, u32)>, OutOfMemory>
+    requires must { must.now ≡ indexed.now }
+    requires acquires { acquires.now ≡ indexed.now }
+    ensures size { IfOk result (SizeIfTurned indexed.now.events pair.0 pair.1 left.old) }
+    ensures none { IfOk result (λ r. r ≡ None → IsTurned indexed.now.events pair.0 pair.1 left.old None) }
+    ensures left { IfOk result (λ r. r ≡ None → IsLeftOf indexed.now.events pair.0 pair.1 left.old left.new) }
+    ensures fewer { left.new ≤ left.old }
+{
+    if !are_conflicting(indexed, pair.0, pair.1) {
+        return Ok(None);
+    }
+    let _len = indexed.len();
+    let aim = aim_for(alloc, indexed, must, acquires, pair)?;
+    let mut reached = reached_from(alloc, indexed, &aim)?;
+    if !search(&mut reached, indexed, acquires, &aim, left)? {
+        return Ok(None);
+    }
+    Ok(Some((
+        events_counted(indexed, reached.row.as_slice()),
+        threads_counted(indexed, reached.row.as_slice()),
+    )))
+}
+
+// What a search for the pair starts from, and what it wants.
+fn aim_for(
+    alloc: Global,
+    indexed: &Indexed,
+    must: &Must,
+    acquires: &Acquires,
+    pair: (u32, u32),
+) -> Result<Aim, OutOfMemory>
+    requires must { must.now ≡ indexed.now }
+    requires acquires { acquires.now ≡ indexed.now }
+    requires first { pair.0 < length indexed.now.events }
+    requires second { pair.1 < length indexed.now.events }
+    ensures { IfOk result (IsAimFor indexed.now pair.0 pair.1) }
+{
+    let start = joined_row(alloc, indexed, must, acquires, indexed.base(pair.1), None)?;
+    let row = Vec::from_slice(alloc, start.as_slice())?;
+    let wanted = wanted_row(row, indexed, must, acquires, pair.0, pair.1);
+    Ok(Aim {
+        first: pair.0,
+        second: pair.1,
+        start,
+        wanted,
+    })
+}
+
+// Where the search stands before its first step.
+fn reached_from(alloc: Global, indexed: &Indexed, aim: &Aim) -> Result<Reached, OutOfMemory>
+    requires aim { IsAimFor indexed.now aim.now.first aim.now.second aim.now }
+    requires second { aim.now.second < length indexed.now.events }
+    ensures row { IfOk result (λ reached. length reached.row.items ≡ length indexed.now.threads) }
+    ensures at { IfOk result (λ r. HasCome indexed.now aim.now r (start_of indexed.now aim.now)) }
+{
+    let _len = indexed.len();
+    let row = Vec::from_slice(alloc, aim.start.as_slice())?;
+    Ok(Reached {
+        row,
+        last: HashMap::new(alloc),
+    })
+}
+
+// Whether the two are events and conflict.
+fn are_conflicting(indexed: &Indexed, first: u32, second: u32) -> bool
+    ensures first { result ≡ true → first < length indexed.now.events }
+    ensures second { result ≡ true → second < length indexed.now.events }
+    ensures conflict { IsTrue result ↔ IsConflicting indexed.now.events first second }
+{
+    if first >= indexed.len() {
+        return false;
+    }
+    if second >= indexed.len() {
+        return false;
+    }
+    indexed.conflict(first, second)
+}
+
+// The least list in the order of the trace after which the event is ready.
+fn ready_list(alloc: Global, indexed: &Indexed, event: u32) -> Result<EventList, OutOfMemory>
+    requires event { event < length indexed.now.events }
+    ensures needed { IfOk result (AreNeeded indexed.now.events (IsBaseOf indexed.now.events event)) }
+    ensures ready { IfOk result (λ list. IsReady indexed.now.events list event) }
+    ensures reordering { IfOk result (IsCorrectReordering indexed.now.events) }
+{
+    let _len = indexed.len();
+    let row = needed_row(alloc, indexed, indexed.base(event), None)?;
+    let list = list_of(alloc, indexed, row.as_slice())?;
+    Ok(list)
+}
+
+// The schedule that has the events of the list.
+fn schedule_of(alloc: Global, indexed: &Indexed, list: &[u32]) -> Result<Schedule, OutOfMemory>
+    requires reordering { IsCorrectReordering indexed.now.events list.now }
+    ensures trace { IfOk result (λ s. s.trace ≡ indexed.now) }
+    ensures events { IfOk result (λ s. s.events ≡ list.now) }
+{
+    match Schedule::from_list(alloc, indexed, list) {
+        Ok(schedule) => Ok(schedule),
+        Err(ListRefusal::OutOfMemory) => Err(OutOfMemory),
+        Err(
+            ListRefusal::NotReordering {
+                position: _,
+                cause: _,
+            },
+        ) => unreachable!(),
+    }
+}
