@@ -44,7 +44,8 @@ def compiled(folder):
             [compiler(), *WORDS, source, "-o", path, *LIBRARIES], capture_output=True, text=True, errors="replace"
         )
         wrong = [line for line in done.stderr.splitlines() if "error" in line or "cannot find" in line]
-        why.extend(wrong[:1] if done.returncode else [])
+        if done.returncode:
+            why.append(wrong[0] if wrong else "%s ended with status %d" % (compiler(), done.returncode))
         return done.returncode
 
     path = built.built("decoder", parts, [compiler(), *WORDS, *LIBRARIES], make, folder)

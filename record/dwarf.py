@@ -33,6 +33,8 @@ SCOPES, BLOCKS = (CLASS, STRUCTURE, UNION, NAMESPACE), (LEXICAL_BLOCK, CATCH, TR
 NAME, ABSTRACT_ORIGIN, SPECIFICATION, CALL_FILE, CALL_LINE = 0x03, 0x31, 0x47, 0x58, 0x59
 # Scopes in each other beyond this number are not looked into.
 MOST_DEPTH = 200
+# Rows without a line, one after another, beyond this number are not looked into.
+MOST_ROWS = 64
 
 
 class Die(ctypes.Structure):
@@ -58,6 +60,7 @@ FUNCTIONS = {
     "dwarf_formudata": (c_int, [ATTRIBUTE, POINTER(c_uint64)]),
     "dwarf_getsrc_die": (c_void_p, [DIE, c_uint64]),
     "dwarf_lineno": (c_int, [c_void_p, POINTER(c_int)]),
+    "dwarf_lineaddr": (c_int, [c_void_p, POINTER(c_uint64)]),
     "dwarf_linesrc": (c_char_p, [c_void_p, c_void_p, c_void_p]),
     "dwarf_getsrcfiles": (c_int, [DIE, POINTER(c_void_p), POINTER(c_size_t)]),
     "dwarf_filesrc": (c_char_p, [c_void_p, c_size_t, c_void_p, c_void_p]),
@@ -211,13 +214,31 @@ class Unit:
             level = found.inside
         return chain
 
+    def row_at(self, place, chain):
+        """The row of a place in the table of lines. Code that the compiler made itself has line 0: then it is the row
+        before it in its body."""
+        first = row = DW.dwarf_getsrc_die(byref(self.die), place)
+        number, start = c_int(), c_uint64()
+        for _ in range(MOST_ROWS if chain else 0):
+            if not row or DW.dwarf_lineno(row, byref(number)) != 0:
+                break
+            if number.value > 0:
+                return row
+            if DW.dwarf_lineaddr(row, byref(start)) != 0 or not start.value:
+                break
+            if self.bodies_at(start.value - 1) != chain:
+                break
+            row = DW.dwarf_getsrc_die(byref(self.die), start.value - 1)
+        return first
+
     def frames(self, place):
         """Where a place is, the innermost first: function, path, line. What the compiler gave no line is left out."""
-        line, number = DW.dwarf_getsrc_die(byref(self.die), place), c_int()
+        chain, number = self.bodies_at(place), c_int()
+        line = self.row_at(place, chain)
         if not line or DW.dwarf_lineno(line, byref(number)) != 0:
             return []
         path, number, frames = DW.dwarf_linesrc(line, None, None) or b"", number.value, []
-        for body in reversed(self.bodies_at(place)):
+        for body in reversed(chain):
             frames.append((self.name_of(body.die), normal(path), number))
             path, number = self.paths[body.file] if body.file < len(self.paths) else b"", body.line
         return [frame for frame in frames or [(b"", normal(path), number)] if frame[2] > 0]

@@ -37,6 +37,53 @@ def plain(name):
     return bytes(ord("?") if byte < 32 or byte == 127 else ord("!") if byte == ord("|") else byte for byte in name)
 
 
+def parameters_of(name):
+    """Where the parameters of a function begin: at the bracket of its last one."""
+    depth = 0
+    for k in range(name.rfind(b")"), -1, -1):
+        depth += {b")": 1, b"(": -1}.get(name[k : k + 1], 0)
+        if not depth:
+            return k
+    return len(name)
+
+
+def without_parameters(name):
+    """A function that C++ writes in full, without its result, its parameters, and what is in angles or braces."""
+    name = name.replace(b"(anonymous namespace)::", b"")
+    kept, depth = b"", 0
+    for byte in re.findall(rb".", name[: parameters_of(name)], re.DOTALL):
+        if byte == b"{" and not depth:
+            kept = kept.rpartition(b"::")[0] if b"::" in kept else kept
+        if byte in b"<{":
+            depth += 1
+        elif byte in b">}":
+            depth -= 1
+        elif not depth:
+            kept = b"" if byte == b" " else kept + byte
+    return kept
+
+
+def with_section(name):
+    """The lock of a critical section of OpenMP that has a name: `omp.critical:NAME`; clang puts `.var` after it."""
+    found = re.match(rb"\.gomp_critical_user_(.*?)(\.var)?$", name, re.DOTALL)
+    return b"omp.critical:" + found[1] if found else name
+
+
+DEMANGLED = elf.demangler()
+
+
+def with_region(name):
+    """GCC makes a function of each region and task of OpenMP, and so does clang, which does not name the one around
+    it."""
+    if name.startswith(b".omp_"):
+        return b"(OpenMP)"
+    found = re.match(rb"(.*?)\._omp_(cpy)?fn\.", name, re.DOTALL)
+    if not found:
+        return name
+    around = found[1].rpartition(b"::")[2]
+    return (without_parameters(DEMANGLED(around)) if around.startswith(b"_Z") else around) + b"(OpenMP)"
+
+
 def short_paths(paths):
     """For each path its shortest end that no other path ends in."""
     count, ends = {}, {}
@@ -75,7 +122,7 @@ class Modules:
         if not found:
             return None
         library = b"" if self.modules[k][3] else self.file_name(k) + b":"
-        return self.modules[k][0] + found[0], library + plain(found[2])
+        return self.modules[k][0] + found[0], library + plain(with_section(found[2]))
 
     def file_name(self, k):
         return plain(self.modules[k][2].encode("utf-8", "surrogateescape").split(b"/")[-1])
@@ -113,7 +160,7 @@ class Modules:
 
     @staticmethod
     def function(name):
-        return fitting(plain(name).replace(b" ", b"_"), MOST_FUNCTION_BYTES)
+        return fitting(plain(with_region(name)).replace(b" ", b"_"), MOST_FUNCTION_BYTES)
 
     def is_bare(self, address):
         """Whether a place is in a program or library with hooks and no lines at all. In one with lines, code

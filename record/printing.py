@@ -17,6 +17,8 @@ MOST_FRAMES = 8
 NO_LIMIT = (1 << 64) - 1
 STREAM_ROOM = 1 << 36
 ROOM_AT = 8
+# How the files of clang's library of OpenMP begin, whose barriers and locks the recorder does not see.
+UNKNOWN_OPENMP = ("libomp", "libiomp")
 # So many seconds are between two looks whether a program has begun.
 LOOK = 0.005
 
@@ -66,6 +68,15 @@ def stop_recording_after(seconds, file):
     threading.Thread(target=stop, daemon=True).start()
 
 
+def libraries_of(file):
+    """The names of the files that a recorded program and its libraries are in."""
+    file.seek(0)
+    head = file.read(raw_file.HEAD_SIZE)
+    count = min(raw_file.Words(head).module_count, raw_file.MOST_MODULES)
+    modules = [raw_file.MODULE.unpack_from(head, raw_file.WORDS.size + k * raw_file.MODULE.size) for k in range(count)]
+    return [os.path.basename(os.fsdecode(path.split(b"\0")[0])) for _, _, path in modules]
+
+
 def print_trace(given, status, file):
     """Writes the trace, and its clock if that is wanted; the status of this command."""
     recorded = Recorded(file, bool(given.clock))
@@ -86,7 +97,7 @@ def print_trace(given, status, file):
         )
         os.dup2(os.open(os.devnull, os.O_WRONLY), 1)
         return 1
-    tell(given, recorded.head, facts)
+    tell(given, recorded.head, facts, libraries_of(file))
     if given.status and status:
         return status if status > 0 else 128 - status
     return 0 if facts["written"] else 1
@@ -114,8 +125,11 @@ def tell_left_out(given, head, facts):
         say("some accesses have more than %d parts, and the rest of these was left out" % MOST_PARTS)
 
 
-def tell(given, head, facts):
+def tell(given, head, facts, libraries):
     tell_left_out(given, head, facts)
+    for library in libraries:
+        if library.startswith(UNKNOWN_OPENMP):
+            say("a race in a region of OpenMP may be false: the recorder does not know %s; compile with gcc" % library)
     if head.strangers:
         say("%d threads were not made by pthread_create, so they have no fork" % head.strangers)
     if facts["no_sections"]:
@@ -127,6 +141,8 @@ def tell(given, head, facts):
         say("%d atomic accesses are written with more order than they have" % facts["stronger"])
     if facts["written"] > MOST_EVENTS:
         say("racebench reads the first %d events of a trace at once" % MOST_EVENTS)
-    if not facts["written"]:
+    if not facts["written"] and (facts["before"] or facts["left_out"] or facts["not_chosen"]):
+        say("no event was written: the options leave out all of them")
+    elif not facts["written"]:
         say("no event was recorded: the program has no second thread, or its threads share nothing")
     say("recorded %d events, %d turns, %d taken by force" % (facts["written"], head.turns, head.forced))

@@ -1,5 +1,6 @@
 """Running a program that was compiled for recording: its raw file, its environment, its end."""
 import ctypes
+import errno
 import os
 import shutil
 import signal
@@ -15,6 +16,9 @@ C_LIBRARY = ctypes.CDLL(None)
 BUILT = os.path.join(os.path.dirname(os.path.dirname(os.path.realpath(__file__))), "crates/racebench/out/racebench")
 
 
+# The signals of keys, which go to the program too, and those that ask this script to end.
+KEYS, REQUESTS = (signal.SIGINT, signal.SIGQUIT), (signal.SIGTERM, signal.SIGHUP)
+ENDING = KEYS + REQUESTS
 # The signals that asked this script to end while its program ran.
 passed_on = []
 
@@ -49,13 +53,37 @@ def open_standard_files(command):
         sys.exit(1)
 
 
-def prepare(parent):
+def prepare(parent, blocked):
     """In the child: the same addresses at each run, if the system allows it; and the child ends with this process, also
-    if that has ended by now."""
+    if that has ended by now. A signal that came meanwhile is the child's from here on."""
     C_LIBRARY.personality(NO_RANDOM_ADDRESSES)
     C_LIBRARY.prctl(SIGNAL_AT_PARENTS_DEATH, signal.SIGKILL)
     if os.getppid() != parent:
         os._exit(1)
+    if signal.getsignal(signal.SIGINT) == signal.default_int_handler:
+        signal.signal(signal.SIGINT, signal.SIG_DFL)
+    signal.pthread_sigmask(signal.SIG_SETMASK, blocked)
+
+
+def look_before_writing(path):
+    """Refuses a file that can't be written before the program runs, since its run may be long."""
+    folder, code = os.path.dirname(path) or ".", 0
+    if os.path.isdir(path):
+        code = errno.EISDIR
+    elif os.path.exists(path):
+        code = 0 if os.access(path, os.W_OK) else errno.EACCES
+    elif not os.path.isdir(folder):
+        code = errno.ENOENT
+    elif not os.access(folder, os.W_OK | os.X_OK):
+        code = errno.EACCES
+    if code:
+        raise Unrunnable("%s: %s" % (path, os.strerror(code)))
+
+
+def why_not_begun(program, error):
+    """Why a program could not be run; a source or a trace in its place is none."""
+    is_file = os.path.isfile(program) and not os.access(program, os.X_OK)
+    return "%s: %s%s" % (program, error.strerror, "; it is not a program: record/cc makes one" if is_file else "")
 
 
 def path_of(program):
@@ -78,16 +106,17 @@ def run(words, surroundings, out, patience=None, source=None, begun=None):
     does not end this script, and a signal that asks this script to end is passed on. `begun` is called when the program
     has begun: a thread that was there before could keep `prepare` from its end."""
     parent = os.getpid()
+    # A signal may come as soon as the program has begun, before this script knows what to do with it: it waits.
+    blocked = signal.pthread_sigmask(signal.SIG_BLOCK, ENDING)
     try:
         started = subprocess.Popen(
-            words, stdin=source, stdout=out, env=surroundings, preexec_fn=lambda: prepare(parent)
+            words, stdin=source, stdout=out, env=surroundings, preexec_fn=lambda: prepare(parent, blocked)
         )
+        take_signals(started)
     except OSError as error:
-        raise Unrunnable("%s: %s" % (words[0], error.strerror)) from None
-    signal.signal(signal.SIGINT, signal.SIG_IGN)
-    signal.signal(signal.SIGQUIT, signal.SIG_IGN)
-    for number in (signal.SIGTERM, signal.SIGHUP):
-        signal.signal(number, lambda number, _: pass_on(started, number))
+        raise Unrunnable(why_not_begun(words[0], error)) from None
+    finally:
+        signal.pthread_sigmask(signal.SIG_SETMASK, blocked)
     if begun:
         begun()
     try:
@@ -95,6 +124,13 @@ def run(words, surroundings, out, patience=None, source=None, begun=None):
     except subprocess.TimeoutExpired:
         started.kill()
         return started.wait(), True
+
+
+def take_signals(started):
+    for number in KEYS:
+        signal.signal(number, signal.SIG_IGN)
+    for number in REQUESTS:
+        signal.signal(number, lambda number, _: pass_on(started, number))
 
 
 def pass_on(started, number):

@@ -52,7 +52,10 @@ PROGRAMS = [
     ("tests/recorded/openmp.c", [], {"RACE"}),
     ("tests/recorded/teams.c", [], {"RACE"}),
     ("tests/recorded/region.c", [], {"RACE"}),
+    ("tests/recorded/taskloop.c", [], set()),
 ]
+# Those with OpenMP, of which the recorder knows the one of GCC.
+OPENMP = ("openmp.c", "teams.c", "region.c", "taskloop.c")
 
 
 def done(words, wanted=0, **more):
@@ -114,7 +117,7 @@ def compiled(source, c, cxx):
         ["-std=c++17"]
         if source.endswith(".cpp")
         else ["-fopenmp"]
-        if source.endswith(("openmp.c", "teams.c", "region.c"))
+        if source.endswith(OPENMP)
         else []
     )
     if c == "gcc":
@@ -199,8 +202,10 @@ def cases_of(racebench, pairs):
             cases += recorded_options.cases(c) + recorded_runs.cases(c) + recorded_follow.cases(racebench)
             cases += recorded_chance.cases(racebench) + recorded_ci.cases(racebench)
             cases += recorded_strangers.cases(racebench, c, cxx)
+        if cxx:
+            cases.append((f"regions of OpenMP, {c}", recorded_strangers.judge_regions, (c, cxx)))
         for source, words, races in PROGRAMS:
-            if source.endswith(("openmp.c", "teams.c", "region.c")) and c != "gcc":
+            if source.endswith(OPENMP) and c != "gcc":
                 continue
             if source.endswith(".cpp") and cxx is None:
                 print(f"record/: {source} is not tested with {c}, since its C++ compiler is not here")

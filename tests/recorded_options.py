@@ -147,5 +147,45 @@ def judge_options(c):
     judge_length()
 
 
+def refused(*words):
+    """The lines that record/run says where it writes nothing and ends with status 1."""
+    words = [os.path.join(RECORD, "run"), *words]
+    done = subprocess.run(words, capture_output=True, timeout=PATIENCE, check=False)
+    if done.returncode != 1 or done.stdout:
+        raise Wrong(f"{words[1:]}: status {done.returncode}, {done.stdout[:300]!r}")
+    return done.stderr.decode(errors="replace").splitlines()
+
+
+def judge_refusals(c):
+    """A file that can't be written is refused before the program runs; what is no program is called so; and if the
+    options leave out all events, it is not said that there are none."""
+    compile_with(c, "each_kind.c")
+    for option in ("--raw", "--clock"):
+        said = refused(option, "no_folder/file", "./program")
+        if said != ["record/run: no_folder/file: No such file or directory"]:
+            raise Wrong(f"{option} in a folder that is not there: {said}")
+        if refused(option, ".", "./program") != ["record/run: .: Is a directory"]:
+            raise Wrong(f"{option} of a folder is not refused")
+    source = os.path.join(SOURCES, "each_kind.c")
+    if refused(source) != [f"record/run: {source}: Permission denied; it is not a program: record/cc makes one"]:
+        raise Wrong(f"a source: {refused(source)}")
+    for words in (["--from", "1000000"], ["--max", "0"]):
+        said = refused(*words, "./program")
+        if "record/run: no event was written: the options leave out all of them" not in said or "thread" in said[-2]:
+            raise Wrong(f"{words}: {said}")
+    judge_no_decoder()
+
+
+def judge_no_decoder():
+    """If the decoder can't be compiled, it is said why, and the one in Python writes the trace."""
+    environment = dict(os.environ, RECORD_CXX="false", XDG_CACHE_HOME=os.path.join(os.getcwd(), "cache"))
+    words = [os.path.join(RECORD, "run"), "./program"]
+    done = subprocess.run(words, capture_output=True, timeout=PATIENCE, env=environment, check=False)
+    told = done.stderr.decode(errors="replace")
+    if done.returncode or not done.stdout or "can't be compiled (false ended with status 1; it needs" not in told:
+        raise Wrong(f"a compiler that fails: status {done.returncode}: {told[:600]}")
+
+
 def cases(c):
-    return [(f"beginning, files and length of a trace, {c}", judge_options, (c,))]
+    refusals = (f"refusals of options, {c}", judge_refusals, (c,))
+    return [refusals, (f"beginning, files and length of a trace, {c}", judge_options, (c,))]

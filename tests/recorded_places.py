@@ -156,6 +156,38 @@ def judge_places(c):
     judge_stripped()
 
 
+NO_LINE = """#include <pthread.h>
+static volatile int x, y;
+static void *work(void *p) {
+    x = 1;
+#line 0
+    y++;
+#line 8
+    return p;
+}
+int main(void) {
+    pthread_t t;
+    pthread_create(&t, 0, work, 0);
+    x++, y++;
+    return pthread_join(t, 0);
+}
+"""
+
+
+def judge_no_line(c):
+    """Code of line 0, as compilers have it for what they made themselves, has the line before it; by both decoders."""
+    with open("made.c", "w", encoding="ascii") as source:
+        source.write(NO_LINE)
+    ran([os.path.join(RECORD, "cc"), "-O1", "made.c", "-o", "program"], env=dict(os.environ, RECORD_CC=c))
+    for decoder in ("", "python"):
+        environment = dict(os.environ, RECORD_DECODER=decoder)
+        trace = ran([os.path.join(RECORD, "run"), "./program"], env=environment).splitlines()
+        places = {line.split("|")[2] for line in trace if line.startswith("T1|")}
+        if places != {"made.c:4 < work"}:
+            raise Wrong(f"the places of line 0 are {sorted(places)} {decoder}")
+
+
 def cases(c, cxx):
     """The cases for a C compiler, and for its C++ compiler where there is one."""
-    return [(f"places, {c}", judge_places, (c,))] + ([(f"lines of places, {cxx}", judge_lines, (cxx,))] if cxx else [])
+    found = [(f"places, {c}", judge_places, (c,)), (f"code without a line, {c}", judge_no_line, (c,))]
+    return found + ([(f"lines of places, {cxx}", judge_lines, (cxx,))] if cxx else [])

@@ -11,6 +11,7 @@ import re
 import signal
 import struct
 import subprocess
+import sys
 import tempfile
 import time
 
@@ -288,7 +289,7 @@ def judge_full_disk(c):
 
 def judge_killed(c):
     """A run that is killed leaves neither a file nor its program."""
-    compiled('#include <unistd.h>\nint main(void) { write(1, "on\\n", 3); sleep(600); return 0; }\n')
+    compiled('#include <unistd.h>\nint main(void) { write(1, "on\\n", 3); for (;;) pause(); }\n')
     os.mkdir("records")
     words = [os.path.join(RECORD, "run"), "./program"]
     started = subprocess.Popen(
@@ -328,6 +329,32 @@ def judge_group(c):
         raise Wrong(f"a group that is ended: {told}{out}")
 
 
+# Has record/running.py run a program, and sends it a signal before it comes to anything else.
+AT_ONCE = """import os, subprocess, sys
+sys.path.insert(0, sys.argv[1])
+import running
+class Started(subprocess.Popen):
+    def __init__(self, *words, **more):
+        super().__init__(*words, **more)
+        os.kill(os.getpid(), int(sys.argv[2]))
+subprocess.Popen = Started
+print(*running.run(sys.argv[3:], dict(os.environ), None))
+"""
+
+
+def judge_at_once(_):
+    """A signal that comes as soon as the program has begun is passed on, and a key ends the program alone."""
+    for number, words, ended in (
+        (signal.SIGTERM, ["sleep", str(PATIENCE)], -signal.SIGTERM),
+        (signal.SIGHUP, ["sleep", str(PATIENCE)], -signal.SIGHUP),
+        (signal.SIGINT, ["sh", "-c", "exit 7"], 7),
+        (signal.SIGQUIT, ["sh", "-c", "exit 7"], 7),
+    ):
+        out, said = ran([sys.executable, "-c", AT_ONCE, RECORD, str(int(number)), *words], wanted=None)
+        if out != f"{ended} False\n":
+            raise Wrong(f"signal {number} at once: {out}{said}")
+
+
 def is_ours(pid):
     try:
         return os.readlink(f"/proc/{pid}/exe").startswith(os.path.abspath("program"))
@@ -358,6 +385,7 @@ JUDGES = [
     ("a full disk", judge_full_disk),
     ("a killed run", judge_killed),
     ("a group that is ended", judge_group),
+    ("a signal at once", judge_at_once),
     ("the recorder is compiled once", judge_once),
     ("C++ by the compiler of C", judge_language),
     ("usages", judge_usages),

@@ -11,6 +11,8 @@ namespace {
 
 // Scopes in each other beyond this number are not looked into.
 constexpr int MOST_DEPTH = 200;
+// Rows without a line, one after another, beyond this number are not looked into.
+constexpr int MOST_ROWS = 64;
 
 // The linker moves what it drops to 0 or 1.
 Ranges ranges_of(Dwarf_Die &die) {
@@ -134,14 +136,28 @@ std::vector<const Body *> Unit::bodies_at(Dwarf_Addr place) {
     return chain;
 }
 
+// The row of a place in the table of lines. Code that the compiler made itself has line 0: then it is the row before it
+// in its body.
+Dwarf_Line *Unit::row_at(Dwarf_Addr place, const std::vector<const Body *> &chain) {
+    Dwarf_Line *first = dwarf_getsrc_die(&die, place), *row = first;
+    Dwarf_Addr start = 0;
+    int line = 0;
+    for (int steps = 0; row && !chain.empty() && steps < MOST_ROWS && dwarf_lineno(row, &line) == 0; steps++) {
+        if (line > 0) return row;
+        if (dwarf_lineaddr(row, &start) != 0 || !start || bodies_at(start - 1) != chain) return first;
+        row = dwarf_getsrc_die(&die, start - 1);
+    }
+    return first;
+}
+
 std::vector<Frame> Unit::frames(Dwarf_Addr place) {
-    Dwarf_Line *row = dwarf_getsrc_die(&die, place);
+    std::vector<const Body *> chain = bodies_at(place);
+    Dwarf_Line *row = row_at(place, chain);
     int line = 0;
     if (!row || dwarf_lineno(row, &line) != 0) return {};
     const char *source = dwarf_linesrc(row, nullptr, nullptr);
     std::string path = source ? source : "";
     std::vector<Frame> frames;
-    std::vector<const Body *> chain = bodies_at(place);
     if (chain.empty()) frames.push_back({"", text::normal(path), line});
     for (auto body = chain.rbegin(); body != chain.rend(); ++body) {
         frames.push_back({name_of((*body)->die), text::normal(path), line});

@@ -43,6 +43,7 @@ private:
     void walk_body(Dwarf_Die &entry, int tag, std::string scope, std::vector<Body> *around, int depth);
     std::string name_of(Dwarf_Die entry) const;
     std::vector<const Body *> bodies_at(Dwarf_Addr place);
+    Dwarf_Line *row_at(Dwarf_Addr place, const std::vector<const Body *> &chain);
     Dwarf_Die top;
     bool was_read = false;
     std::vector<Body> bodies;

@@ -11,16 +11,6 @@
 
 namespace elf {
 
-namespace {
-
-struct Found {
-    uint64_t start;
-    std::string name;
-    uint64_t size;
-    int kind;
-    bool code;
-};
-
 std::string demangled(const std::string &name) {
     if (name.rfind("_Z", 0) != 0) return name;
     int status = 0;
@@ -30,6 +20,16 @@ std::string demangled(const std::string &name) {
     free(text);
     return whole;
 }
+
+namespace {
+
+struct Found {
+    uint64_t start;
+    std::string name;
+    uint64_t size;
+    int kind;
+    bool code;
+};
 
 template <class T> bool read(const std::string &image, uint64_t at, T &to) {
     if (at > image.size() || image.size() - at < sizeof to) return false;

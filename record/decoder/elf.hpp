@@ -6,6 +6,9 @@
 
 namespace elf {
 
+// How C++ writes a name of the linker's.
+std::string demangled(const std::string &name);
+
 struct Symbol {
     uint64_t start, size;
     std::string name;

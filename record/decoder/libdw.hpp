@@ -35,6 +35,7 @@ Dwarf_Die *dwarf_formref_die(Dwarf_Attribute *, Dwarf_Die *);
 int dwarf_formudata(Dwarf_Attribute *, Dwarf_Word *);
 Dwarf_Line *dwarf_getsrc_die(Dwarf_Die *, Dwarf_Addr);
 int dwarf_lineno(Dwarf_Line *, int *);
+int dwarf_lineaddr(Dwarf_Line *, Dwarf_Addr *);
 const char *dwarf_linesrc(Dwarf_Line *, Dwarf_Word *time, Dwarf_Word *size);
 int dwarf_getsrcfiles(Dwarf_Die *, Dwarf_Files **, size_t *);
 const char *dwarf_filesrc(Dwarf_Files *, size_t, Dwarf_Word *time, Dwarf_Word *size);

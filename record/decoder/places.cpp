@@ -55,7 +55,7 @@ Variable Modules::variable_at(u64 address) {
         module ? elf::Symbols::at(symbols_of(*module).variables, address - module->base) : nullptr;
     if (!found) return {0, ""};
     std::string library = module->is_program ? "" : text::plain(text::last_part(module->path)) + ":";
-    return {module->base + found->start, library + text::plain(found->name)};
+    return {module->base + found->start, library + text::plain(text::with_section(found->name))};
 }
 
 std::string Modules::short_path(const std::string &path) {

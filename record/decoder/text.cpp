@@ -1,4 +1,6 @@
 #include "text.hpp"
+#include "elf.hpp"
+#include <algorithm>
 #include <array>
 #include <cstdio>
 #include <unordered_map>
@@ -69,11 +71,55 @@ std::string without_template(const std::string &name) {
     return begins(name, "operator") || begins(name, "<") ? name : name.substr(0, name.find('<'));
 }
 
+// Where the parameters of a function begin: at the bracket of its last one.
+static size_t parameters_of(const std::string &name) {
+    int depth = 0;
+    for (size_t end = name.rfind(')'), k = end + 1; end != std::string::npos && k-- > 0;) {
+        depth += name[k] == ')' ? 1 : name[k] == '(' ? -1 : 0;
+        if (!depth) return k;
+    }
+    return name.size();
+}
+
+// A function that C++ writes in full, without its result, its parameters, and what is in angles or braces.
+static std::string without_parameters(std::string name) {
+    static const std::string nameless = "(anonymous namespace)::";
+    for (size_t at; (at = name.find(nameless)) != std::string::npos;) name.erase(at, nameless.size());
+    std::string kept;
+    int depth = 0;
+    for (char c : name.substr(0, parameters_of(name))) {
+        if (c == '{' && !depth) kept = kept.substr(0, kept.rfind("::"));
+        if (c == '<' || c == '{') depth++;
+        else if (c == '>' || c == '}') depth--;
+        else if (!depth) kept = c == ' ' ? "" : kept + c;
+    }
+    return kept;
+}
+
+// GCC makes a function of each region and task of OpenMP, and so does clang, which does not name the one around it.
+static std::string with_region(const std::string &name) {
+    size_t end = std::min(name.find("._omp_fn."), name.find("._omp_cpyfn."));
+    if (begins(name, ".omp_")) return "(OpenMP)";
+    if (end == std::string::npos) return name;
+    std::string around = name.substr(0, end);
+    size_t scope = around.rfind("::");
+    if (scope != std::string::npos) around.erase(0, scope + 2);
+    return (begins(around, "_Z") ? without_parameters(elf::demangled(around)) : around) + "(OpenMP)";
+}
+
 std::string function_name(const std::string &name) {
-    std::string whole = plain(name);
+    std::string whole = plain(with_region(name));
     for (char &c : whole)
         if (c == ' ') c = '_';
     return fitting(whole, MOST_FUNCTION_BYTES);
+}
+
+std::string with_section(const std::string &name) {
+    static const std::string before = ".gomp_critical_user_", after = ".var";
+    if (name.rfind(before, 0) != 0) return name;
+    std::string section = name.substr(before.size());
+    bool has_end = section.size() >= after.size() && section.substr(section.size() - after.size()) == after;
+    return "omp.critical:" + (has_end ? section.substr(0, section.size() - after.size()) : section);
 }
 
 bool in_cxx_library(const std::string &path) {

@@ -20,6 +20,8 @@ std::string normal(const std::string &path);
 // A part of a name without the arguments of its template.
 std::string without_template(const std::string &name);
 std::string function_name(const std::string &name);
+// The lock of a critical section of OpenMP that has a name: `omp.critical:NAME`; clang puts `.var` after it.
+std::string with_section(const std::string &name);
 bool in_cxx_library(const std::string &path);
 // For each path its shortest end that no other path ends in.
 std::map<std::string, std::string> short_paths(const std::set<std::string> &paths);

@@ -26,6 +26,7 @@ static int comes_at_once(int f, u32 channel, short what, int flags) {
     while (!at_once(f, what)) {
         if (has_forked) return WITHOUT_TURN;
         if (was_interrupted) return INTERRUPTED;
+        pthread_testcancel();
         park(key_of(channel), NULL, 0);
     }
     return IN_TURN;

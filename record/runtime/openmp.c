@@ -270,7 +270,8 @@ static void let_go(void *at) {
     unpark(at);
 }
 
-static char one_for_all, one_for_atomics;
+/* Their names in a trace. */
+static char one_for_all __asm__("omp.critical"), one_for_atomics __asm__("omp.atomic");
 #define BEGINS(name, at, given, passed_on) \
     void name given { \
         static void(*real) given; \

@@ -49,7 +49,8 @@ static struct head *head;
 static struct record *records;
 static volatile int on;
 static u32 one_in = 40;
-static __thread u8 inside;
+/* Volatile: the C library calls back into the recorder, as into malloc, although its headers say that it does not. */
+static __thread volatile u8 inside;
 static __thread u32 me = NOBODY;
 /* The clock of this thread: the hooks that it passed, and the blocks that it gave back since. */
 static __thread u64 tick;

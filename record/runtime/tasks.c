@@ -2,15 +2,20 @@
  * over, before the end of its task group, and before the end of the next barrier of its team. */
 
 #define DEPENDS 8
+#define WITHOUT_GROUP 2048
 #define DEPENDS_AT_MOST 16
 
-/* What a task carries before its own data; libgomp copies it by copy_task(). */
+/* What a task carries before its own data; libgomp copies it by copy_task(). In a task of a loop libgomp writes the
+ * part of the loop over the first two words; the third says what the loop sums up. */
 struct task {
+    u64 part[2];
+    void *sums;
     void (*body)(void *);
     void (*copy)(void *, void *);
     void *data;
     u64 size, offset, number, waits, wait_round, team, round, group, pc;
     u32 depends;
+    u8 has_part;
     void *depend[DEPENDS_AT_MOST];
 };
 struct group {
@@ -26,14 +31,18 @@ static __thread struct group *my_groups;
 
 static u64 new_number(void) { return __atomic_add_fetch(&teams, 1, SC); }
 
+/* A constructor of the program's may be called by the copy, and has hooks. */
 static void copy_task(void *to, void *from) {
     struct task *t = from;
     u8 was = inside;
     inside = 1;
     __real_memcpy(to, t, sizeof *t);
     inside = was;
+    int had = IDLE || holder == me || !t->copy;
+    if (!had) take();
     if (t->copy) t->copy((char *)to + t->offset, t->data);
     else __real_memcpy((char *)to + t->offset, t->data, t->size);
+    if (!had) give();
 }
 
 static void meet_depends(struct task *t, int kind) {
@@ -58,6 +67,7 @@ static void in_task(void *p) {
     my_waits = 0, my_wait_round = 1, my_group = t->group, my_groups = NULL, my_team = t->team, my_round = t->round;
     meet(WENT_ON, OF_TEAM, t->number, 1, t->pc);
     meet_depends(t, WENT_ON);
+    if (t->has_part) __real_memcpy((char *)p + t->offset, t->part, sizeof t->part);
     t->body((char *)p + t->offset);
     end_task(t);
     my_waits = waits, my_wait_round = wait_round, my_group = group, my_groups = groups;
@@ -71,6 +81,29 @@ static void read_depends(struct task *t, void **depend) {
     for (u64 k = 0; k < count && k < DEPENDS_AT_MOST; k++) t->depend[t->depends++] = depend[from + k];
 }
 
+#define WIDE_OF(align) ((align) < 16 ? 16 : (u64)(align))
+
+/* What a task of this thread carries, whose number its maker has still to pass. */
+static struct task new_task(void (*body)(void *), void *data, void (*copy)(void *, void *), long size, long align,
+                            u64 pc) {
+    u64 wide = WIDE_OF(align);
+    maybe_give();
+    if (my_region) my_region->has_tasks = 1;
+    if (!my_waits) my_waits = new_number(), my_wait_round = 1;
+    return (struct task){.body = body,
+                         .copy = copy,
+                         .data = data,
+                         .size = (u64)size,
+                         .pc = pc,
+                         .number = new_number(),
+                         .offset = (sizeof(struct task) + wide - 1) / wide * wide,
+                         .waits = my_waits,
+                         .wait_round = my_wait_round,
+                         .team = my_team,
+                         .round = my_round,
+                         .group = my_group};
+}
+
 void GOMP_task(void (*body)(void *), void *data, void (*copy)(void *, void *), long size, long align, _Bool deferred,
                unsigned flags, void **depend, int priority, void *detach) {
     REAL(GOMP_task, void, void (*)(void *), void *, void (*)(void *, void *), long, long, _Bool, unsigned, void **, int,
@@ -79,14 +112,8 @@ void GOMP_task(void (*body)(void *), void *data, void (*copy)(void *, void *), l
         real(body, data, copy, size, align, deferred, flags, depend, priority, detach);
         return;
     }
-    maybe_give();
-    if (my_region) my_region->has_tasks = 1;
-    if (!my_waits) my_waits = new_number(), my_wait_round = 1;
-    u64 wide = align < 16 ? 16 : (u64)align;
-    /* clang-format off */
-    struct task t = {body, copy, data, (u64)size, (sizeof(struct task) + wide - 1) / wide * wide, new_number(),
-                     my_waits, my_wait_round, my_team, my_round, my_group, PC, 0, {0}};
-    /* clang-format on */
+    struct task t = new_task(body, data, copy, size, align, PC);
+    u64 wide = WIDE_OF(align);
     if (flags & DEPENDS) read_depends(&t, depend);
     meet(ARRIVED, OF_TEAM, t.number, 1, PC);
     int waits = (flags & DEPENDS) && !deferred;
@@ -95,6 +122,31 @@ void GOMP_task(void (*body)(void *), void *data, void (*copy)(void *, void *), l
     take();
     if (deferred && t.number < LEFT_TO_OTHERS) let_others();
 }
+
+/* Tasks that share out a loop: all are made by one call, which waits for them as for a group of its own, unless the
+ * program says `nogroup`. */
+#define TASKLOOP(name, T) \
+    void name(void (*body)(void *), void *data, void (*copy)(void *, void *), long size, long align, unsigned flags, \
+              unsigned long tasks, int priority, T from, T to, T by) { \
+        REAL(name, void, void (*)(void *), void *, void (*)(void *, void *), long, long, unsigned, unsigned long, int, \
+             T, T, T); \
+        if (IDLE || align > 64) { \
+            real(body, data, copy, size, align, flags, tasks, priority, from, to, by); \
+            return; \
+        } \
+        struct task t = new_task(body, data, copy, size, align, PC); \
+        int has_group = !(flags & WITHOUT_GROUP); \
+        if (has_group) t.group = new_number(); \
+        t.has_part = 1, t.sums = size > 16 ? ((void **)data)[2] : NULL; \
+        meet(ARRIVED, OF_TEAM, t.number, 1, PC); \
+        give(); \
+        real(in_task, &t, copy_task, (long)t.offset + size, (long)WIDE_OF(align), flags, tasks, priority, from, to, \
+             by); \
+        take(); \
+        if (has_group) meet(WENT_ON, OF_TEAM, t.group, 1, PC); \
+    }
+TASKLOOP(GOMP_taskloop, long)
+TASKLOOP(GOMP_taskloop_ull, ull)
 
 void GOMP_taskwait(void) {
     REAL(GOMP_taskwait, void, void);

@@ -188,6 +188,18 @@ static void wait_for_end(u32 number) {
     }
 }
 
+/* What the C library gives back of a thread that is gone is its own. No cancelling leaves this call. */
+static int join_gone(int (*real)(pthread_t, void **), pthread_t id, void **value) {
+    u8 was = inside;
+    int state;
+    pthread_setcancelstate(PTHREAD_CANCEL_DISABLE, &state);
+    inside = 1;
+    int answer = real(id, value);
+    inside = was;
+    pthread_setcancelstate(state, NULL);
+    return answer;
+}
+
 static int join(pthread_t id, void **value, u64 pc) {
     REAL_OF(pthread_join, "GLIBC_2.34", int, pthread_t, void **);
     if (IDLE) return real(id, value);
@@ -196,7 +208,7 @@ static int join(pthread_t id, void **value, u64 pc) {
     if (number == NOBODY || number == me) return OUTSIDE(real(id, value));
     wait_for_end(number);
     short_wait = 1;
-    int answer = real(id, value);
+    int answer = join_gone(real, id, value);
     short_wait = 0;
     return joined(answer, number, pc);
 }
