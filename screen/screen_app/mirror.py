@@ -55,18 +55,23 @@ class Mirror:
         return size != self.offset + 1
 
     def sync(self) -> int:
-        """Reads what stands behind the known end; the number of new entries."""
+        """Reads what stands behind the known end; the number of new entries.
+
+        There may be nothing, not even a gate: a session that takes away what a killed one left cuts the file at the
+        gate, and then closes it.
+        """
         if self.fault:
             return 0
         try:
             with open(self.path, "rb") as file:
                 self.digest = self.digest or file.read(HEAD).decode("ascii", "replace").strip()[-64:]
+                size = file.seek(0, os.SEEK_END)
                 file.seek(self.offset - len(self.tail))
                 text = file.read()
         except OSError as why:
             self.fault = f"the log cannot be read: {why.strerror}"
             return 0
-        if len(text) <= len(self.tail):
+        if size < self.offset:
             self.fault = "the log is shorter than it was"
         elif not text.startswith(self.tail):
             self.fault = "the log is not the one that was read before"

@@ -12,6 +12,8 @@ import time
 
 import aiohttp
 
+from judged import within
+
 KEYS = {
     "Enter": 13,
     "Backspace": 8,
@@ -185,7 +187,7 @@ class Browser:
         future = asyncio.get_running_loop().create_future()
         self.waiting[self.number] = (session, future)
         await self.socket.send_str(json.dumps(message))
-        told = await asyncio.wait_for(future, PATIENCE)
+        told = await within(PATIENCE, future)
         if "error" in told:
             raise RuntimeError(f"{method}: {told['error']}")
         return told["result"]

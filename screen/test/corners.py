@@ -234,6 +234,25 @@ async def test_what_a_killed_session_left(program):
         is_clean(page, screen)
 
 
+async def test_a_log_without_its_last_gate(program):
+    """A session that takes away what a killed one left cuts the file, and then closes the gate. A disk may take long
+    in between, and the page goes on behind that."""
+    traces.write("trace", traces.COUNT)
+    async with Screen(program, "trace", "log") as screen, Browser() as browser:
+        page = await browser.page(screen.link)
+        await new(page, 3)
+        await press(page, "1")
+        size = os.stat("log").st_size
+        os.truncate("log", size - 1)
+        await asyncio.sleep(1)  # the screen looks twenty times
+        with open("log", "ab") as file:
+            file.write(b"!")
+        await press(page, "1")
+        await page.until(f"{LENGTH} === '2 events'")
+        same(await page.run("!!document.querySelector('#live .bad')"), False)
+        is_clean(page, screen)
+
+
 async def test_escape_everywhere(program):
     """It closes what is open, and does nothing else."""
     traces.write("trace", traces.COUNT)

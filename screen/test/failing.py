@@ -7,12 +7,13 @@ import json
 import os
 import sys
 import threading
+import time
 
 import aiohttp
 
 sys.path.insert(0, os.path.dirname(os.path.dirname(os.path.abspath(__file__))))
 import traces  # noqa: E402
-from judged import same  # noqa: E402
+from judged import same, within  # noqa: E402
 from screen_app import command, outlet, pairs, readers, server, session  # noqa: E402
 from screen_app.bench import Bench  # noqa: E402
 from screen_app.kept import Confirmed, Names  # noqa: E402
@@ -194,6 +195,7 @@ async def test_an_outlet_that_is_stopped_ends(program):
 async def test_a_socket_is_read_while_requests_wait(program):
     """So the browser's sign of life is seen, and the socket is not ended as one of a browser that is gone."""
     screen = served(program)
+    patience, server.PATIENCE = server.PATIENCE, PATIENCE
     await screen.start(0)
     try:
         async with aiohttp.ClientSession() as client:
@@ -212,6 +214,7 @@ async def test_a_socket_is_read_while_requests_wait(program):
                 left.discard(json.loads((await socket.receive(timeout=PATIENCE)).data).get("id"))
             await socket.close()
     finally:
+        server.PATIENCE = patience
         await screen.stop()
 
 
@@ -334,12 +337,20 @@ def test_a_process_that_cannot_be_made(program):
             pass
 
 
-HUNG = """import asyncio, sys
+# The end by force comes after what waits was told, however slow that is: it is wanted as the telling is, and begins
+# after it.
+HUNG = """import asyncio, faulthandler, sys
 sys.path.insert(0, {!r})
 from screen_app import command, server
 async def never(self):
     await asyncio.Event().wait()
-server.Server.stop, command.ENDING = never, 0.2
+wanted, end, tell = [], faulthandler.dump_traceback_later, command.tell_tasks
+def tell_and_end():
+    tell()
+    (seconds, is_exit), = wanted
+    end(seconds, exit=is_exit)
+faulthandler.dump_traceback_later = lambda seconds, exit: wanted.append((seconds, exit))
+server.Server.stop, command.ENDING, command.tell_tasks = never, 0.2, tell_and_end
 command.main()
 """
 
@@ -356,3 +367,21 @@ async def test_it_ends_though_something_does_not(program):
     process.terminate()
     said = (await asyncio.wait_for(process.communicate(), PATIENCE))[1].decode()
     assert "Stack for" in said and "Timeout" in said, said
+
+
+async def test_patience_is_counted_in_seconds(program):
+    """If the machine stands still for longer than the patience, what comes after that is in time."""
+    loop = asyncio.get_running_loop()
+    came = loop.create_future()
+
+    def stand_still():
+        time.sleep(2.5)
+        loop.call_later(0.2, came.set_result, "here")
+
+    loop.call_soon(stand_still)
+    same(await within(2, came), "here")
+    try:
+        await within(1, loop.create_future())
+        raise AssertionError("it waits for ever")
+    except asyncio.TimeoutError:
+        pass

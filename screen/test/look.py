@@ -82,7 +82,7 @@ async def test_texts_are_told_from_their_ground(program):
         await page.until("!document.getElementById('pair').hidden")
         for scheme in ("light", "dark"):
             await page.call("Emulation.setEmulatedMedia", features=[{"name": "prefers-color-scheme", "value": scheme}])
-            await page.until(f"{PALE} === ''", 10)
+            await page.until(f"{PALE} === ''")
         await page.key("e")
         await page.until(f"{NEXT} === 3")
         await focus(page, "next-list")
@@ -95,7 +95,7 @@ async def test_texts_are_told_from_their_ground(program):
         await page.mouse("mouseMoved", 700, 500)
         for scheme in ("light", "dark"):
             await page.call("Emulation.setEmulatedMedia", features=[{"name": "prefers-color-scheme", "value": scheme}])
-            await page.until(f"{PALE} === ''", 10)
+            await page.until(f"{PALE} === ''")
         is_clean(page, screen)
 
 

@@ -8,7 +8,7 @@ import re
 
 import aiohttp
 
-from judged import same
+from judged import same, within
 
 SCREEN = os.path.join(os.path.dirname(os.path.dirname(os.path.abspath(__file__))), "screen")
 HEAD = 81
@@ -43,7 +43,7 @@ class Screen:
         )
         self.saying = asyncio.ensure_future(self.process.stderr.read())  # so that it never waits for a reader
         try:
-            self.link = (await asyncio.wait_for(self.process.stdout.readline(), PATIENCE)).decode().strip()
+            self.link = (await within(PATIENCE, self.process.stdout.readline())).decode().strip()
         except asyncio.TimeoutError:
             self.process.kill()
             raise
@@ -57,7 +57,7 @@ class Screen:
         if self.process.returncode is None:
             self.process.terminate()
         try:
-            await asyncio.wait_for(self.process.wait(), GRACE)
+            await within(GRACE, self.process.wait())
         except asyncio.TimeoutError:
             self.process.kill()
             raise
