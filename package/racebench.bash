@@ -1,7 +1,7 @@
 # Completion of racebench for bash. `tools/flags --write` writes the commands and flags of the help.
 
 _racebench() {
-    local commands="info replay session log threads triage explain witness cut merge" word=${COMP_WORDS[COMP_CWORD]} command= flags= at
+    local commands="info replay session log threads triage explain witness cut merge help" word=${COMP_WORDS[COMP_CWORD]} command= flags= at
     for ((at = 1; at < COMP_CWORD; at++)); do
         if [[ " $commands " == *" ${COMP_WORDS[at]} "* ]]; then
             command=${COMP_WORDS[at]}
@@ -20,12 +20,13 @@ _racebench() {
         witness) flags="--script --std --svg --help -h" ;;
         cut) flags="--windows --window --into --help -h" ;;
         merge) flags="--known --only --hide --apart --json --page --sarif --source --triage --today --fail --help -h" ;;
+        help) flags= ;;
     esac
     if [[ " --workers --client --tries --only --hide --windows --window " == *" ${COMP_WORDS[COMP_CWORD - 1]} "* ]]; then
         COMPREPLY=() # a number or a text
     elif [[ $word == -* ]]; then
         COMPREPLY=($(compgen -W "$flags" -- "$word"))
-    elif [[ -z $command ]]; then
+    elif [[ -z $command || $command == help ]]; then
         COMPREPLY=($(compgen -W "$commands" -- "$word"))
     else
         COMPREPLY=() # a file, which bash completes

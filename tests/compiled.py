@@ -32,11 +32,16 @@ def access_lines(access):
     ]
 
 
+def counted(count, word):
+    """A number and what is counted."""
+    return f"{count} {word}" if count == 1 else f"{count} {word}s"
+
+
 def why(told):
     if told["kind"] == "race":
-        return f"a schedule of {told['events']} events of {told['threads']} threads shows it"
+        return f"a schedule of {counted(told['events'], 'event')} of {counted(told['threads'], 'thread')} shows it"
     if told["kind"] == "undecided":
-        return f"no schedule was found for {told['tried']} pairs of events"
+        return f"no schedule was found for {counted(told['tried'], 'pair')} of events"
     return "every correct reordering of this trace keeps the two apart"
 
 

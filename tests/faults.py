@@ -2,13 +2,13 @@
 program writes, and the log that a session leaves.
 
 Each run has to write what is wanted, or to end with the fault's status and text after a beginning of it, and to write
-nothing else:
+nothing else. Standard error may have several messages: those before the fault are as the case wants them.
   an allocation    `out of memory`; in a thread or a session the call's line may say so, and the others go on; beside workers one slice may not be
                    proposed, whose worker wanted memory; or `no thread`, where the system wanted it to start one; or only
                    notes are missing, as below
   a read, a file   `read failed` and nothing on standard output, or in a session the answers before it (there also `write failed`, of a file that is to be
-                   made); or only notes are missing, for which a file is read once more
-  a write          `write failed`; or only standard error is cut, where the fault's own text could not be written
+                   made); or only notes are missing or say less, for which a file is read once more
+  a write          `write failed`; or only standard error is cut, where one of its messages could not be written
   a thread         what is wanted, since another thread makes the calls of such a script; or, where workers are asked for, `no thread`
   a write at a place, a cut, a sync, a lock, a new name of a session's log: `write failed`, or `read failed` if the lock
                    is not had; never what is wanted, but for a write of one byte that cannot be cut
@@ -97,23 +97,63 @@ def runs_of(made, program, words, stdin, here, way, files, left=None):
         yield Run(ended, met == 1, *texts)
 
 
-def has_fault(run, text, behind=b""):
-    """Whether the run ended with this fault and notes of this beginning alone."""
-    first, *notes = run.err.removesuffix(b"\n").split(b"\n")
-    return (
-        run.status == 1
-        and first == b"racebench: " + text
-        and all(behind and note.startswith(behind) for note in notes)
-    )
+def says_less(line, known):
+    """Whether the line is the note on a file that was not read once more, and the known note says what it looks like."""
+    name = re.match(rb"note: (.+?) is (?:.+, and (?:not what|no part: )|no log of a session: )", known)
+    if not name:
+        return False
+    less = rb"is not (?:whole, or not )?what `[^`]+` writes|was made with another trace: .+"
+    return re.fullmatch(rb"note: " + re.escape(name[1]) + rb" (?:" + less + rb")", line) is not None
+
+
+def are_but_for_notes(lines, known):
+    """Whether the lines are the known ones, in their order, but for notes that are missing or say less."""
+    at = 0
+    for line in known:
+        if lines[at : at + 1] == [line] or any(says_less(told, line) for told in lines[at : at + 1]):
+            at += 1
+        elif not line.startswith(b"note: "):
+            return False
+    return at == len(lines)
+
+
+def messages_before(wanted):
+    """The lines of standard error that the case wants and that another fault may follow: all but its own fault."""
+    lines = wanted.err.splitlines()
+    if wanted.status in (0, 3):
+        return lines
+    own = [at for at, line in enumerate(lines) if line.startswith(b"racebench: ")]
+    return lines[: own[-1]] if own else []
+
+
+def has_fault(run, text, wanted, behind=b""):
+    """Whether the run ended with this fault, after messages that the case wants, and with notes of this beginning alone
+    after it."""
+    lines = run.err.removesuffix(b"\n").split(b"\n")
+    fault = b"racebench: " + text
+    if run.status != 1 or fault not in lines:
+        return False
+    at = lines.index(fault)
+    known = messages_before(wanted)
+    are_wanted = any(are_but_for_notes(lines[:at], known[:end]) for end in range(len(known) + 1))
+    return are_wanted and all(behind and note.startswith(behind) for note in lines[at + 1 :])
 
 
 def lacks_notes(run, wanted):
     """Whether the run ended as the case wants, but for notes that are missing."""
     lines, known = run.err.splitlines(), wanted.err.splitlines()
-    fault = [line for line in known[:1] if not line.startswith(b"note: ")]
-    notes = lines[len(fault) :]
-    are_known = all(line in known for line in notes)
-    return (run.status, run.out, lines[: len(fault)]) == (wanted.status, wanted.out, fault) and are_known
+    return (run.status, run.out) == (wanted.status, wanted.out) and are_but_for_notes(lines, known)
+
+
+def lacks_a_write(err, known):
+    """Whether a standard error is the known one, but for one write to it that failed: from some byte up to a line's
+    start, or up to the end."""
+    starts = [at + 1 for at, byte in enumerate(known) if byte == ord("\n")]
+    for start in [0, *starts, len(known)]:
+        begun, rest = err[: len(err) - len(known[start:])], known[start:]
+        if err.endswith(rest) and known[:start].startswith(begun):
+            return True
+    return False
 
 
 def is_told_in_threads(run, wanted):
@@ -161,8 +201,8 @@ def lacks_a_slice(run, wanted):
 
 def has_disk_fault(run, wanted, kind):
     """Whether a call on the log's file that failed is told, after the answers of the turns before."""
-    is_told = has_fault(run, b"write failed", b"note: ") or (
-        kind == "flock" and has_fault(run, b"read failed", b"note: ")
+    is_told = has_fault(run, b"write failed", wanted, b"note: ") or (
+        kind == "flock" and has_fault(run, b"read failed", wanted, b"note: ")
     )
     return is_told and wanted.out.startswith(run.out)
 
@@ -177,9 +217,9 @@ def is_right(run, wanted, kind, how):
     if not run.met or how in ("interrupted", "short"):
         return False
     if kind == "thread":
-        return wanted.has_workers and has_fault(run, b"no thread") and not run.out
+        return wanted.has_workers and has_fault(run, b"no thread", wanted) and not run.out
     if kind == "memory":
-        if wanted.has_workers and has_fault(run, b"no thread") and not run.out:
+        if wanted.has_workers and has_fault(run, b"no thread", wanted) and not run.out:
             return True
         if wanted.in_session and is_told_in_session(run, wanted):
             return True
@@ -188,18 +228,18 @@ def is_right(run, wanted, kind, how):
         ):
             return True
         is_told = (
-            has_fault(run, b"out of memory") and wanted.out.startswith(run.out) and not (wanted.in_threads and run.out)
+            has_fault(run, b"out of memory", wanted) and wanted.out.startswith(run.out) and not (wanted.in_threads and run.out)
         )
         return is_told or (wanted.err and lacks_notes(run, wanted))
     if kind in ("read", "open"):
         is_begun = wanted.out.startswith(run.out) if wanted.in_session else not run.out
-        is_told = has_fault(run, b"read failed", b"note: ") or (
-            wanted.in_session and kind == "open" and has_fault(run, b"write failed", b"note: ")
+        is_told = has_fault(run, b"read failed", wanted, b"note: ") or (
+            wanted.in_session and kind == "open" and has_fault(run, b"write failed", wanted, b"note: ")
         )
         return (is_told and is_begun) or (wanted.err and lacks_notes(run, wanted))
     if run.out != wanted.out:
-        return has_fault(run, b"write failed", b"note: ") and wanted.out.startswith(run.out)
-    return run.status == wanted.status and wanted.err.startswith(run.err)
+        return has_fault(run, b"write failed", wanted, b"note: ") and wanted.out.startswith(run.out)
+    return run.status == wanted.status and lacks_a_write(run.err, wanted.err)
 
 
 def turns_of(text):
@@ -257,7 +297,7 @@ def judge_left(run, wanted, kind, log):
     if now is None and log.before is None and len(states) == 1:
         return
     # Only where a write failed may the turn at work be there: of the file, or of the answers.
-    more = lines_behind_turns(log, wanted.out)[len(states) :] if has_fault(run, b"write failed", b"note: ") else []
+    more = lines_behind_turns(log, wanted.out)[len(states) :] if has_fault(run, b"write failed", wanted, b"note: ") else []
     if now not in [states[-1], *more[:1]]:
         raise Wrong(f"{states[-1]} was answered, or {more[:1]} may have been, and the log that is left has {now}")
     if kind == "write" and now != (more or states[-1:])[0]:

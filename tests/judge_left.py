@@ -20,6 +20,7 @@ import tempfile
 
 sys.dont_write_bytecode = True
 import by_chance
+import compiled
 import judge_merge
 import judge_merged_sarif
 import judge_triage_file
@@ -32,6 +33,7 @@ from judge_triage_file import side_of
 LISTS = 120
 DAY = judge_triage_file.TODAY.isoformat()
 REACHED = [
+    "page without a race",
     "known",
     "known and undecided",
     "known alone",
@@ -46,6 +48,7 @@ REACHED = [
     "without a block",
     "failed",
     "not failed",
+    "no events",
     "merged again",
     "windows",
     "page",
@@ -225,8 +228,9 @@ class Judge(judge_merge.Judge):
         tail = "".join(f"{word} {count}\n" for word, count in counts if count is not None)
         for flags in [[], ["--apart"], ["--fail"]]:
             text = plain.merged_of(stay, len(parts), "--apart" in flags) + tail
-            status = 3 if races and "--fail" in flags else 0
-            self.ends(["merge", *parts, *words, *flags], status, text.encode(), wanted.notes(parts))
+            status, line = judge_merge.failed(parts, races) if flags == ["--fail"] else (0, b"")
+            self.ends(["merge", *parts, *words, *flags], status, text.encode(), wanted.notes(parts) + line)
+            self.seen["no events"] += status == 4
         self.seen["failed" if races else "not failed"] += 1
 
     def lines(self, parts, wanted, words):
@@ -252,14 +256,24 @@ class Judge(judge_merge.Judge):
         self.seen["merged again"] += 1
 
     def logs(self, parts, wanted, words):
-        """The log: a result for each pair that stays."""
-        stay, _, _ = wanted.left(parts)
+        """The log: a result for each pair that stays, and how much is left out."""
+        stay, known, hidden = wanted.left(parts)
+        left = {name: count for name, count in [("known", known), ("hidden", hidden)] if count is not None}
         for flags in [[], ["--apart"]]:
             _, out, err = running.ended(self.program, ["merge", *parts, *words, *flags, "--sarif"])
             if err != wanted.notes(parts):
                 raise Wrong(f"with the log standard error has {err.decode()}")
             shown = [pair for pair in stay if flags or pair.rank < 2]
-            self.sarif.check_run(json.loads(out)["runs"][0], parts, shown, "")
+            self.sarif.check_run(json.loads(out)["runs"][0], parts, shown, "", left)
+
+    def pages(self, parts, wanted, words):
+        """The page: a row for each pair that stays, and how much is left out."""
+        stay, known, hidden = wanted.left(parts)
+        said = f"; {compiled.counted(known, 'known race')} left out" if known is not None else ""
+        if hidden is not None:
+            said += f"; {compiled.counted(hidden, 'pair')} left out by --only and --hide"
+        self.page([*parts, *words], parts, stay, said)
+        self.seen["page without a race"] += bool(known) and all(pair.rank for pair in stay)
 
     def printed(self, words):
         """As in judge_merge, but for the notes."""
@@ -289,8 +303,7 @@ class Judge(judge_merge.Judge):
             wanted = running.ended(self.program, ["merge", "windows.json", *words, *flags])
             if flags in ([], ["--apart"], ["--fail"]):
                 out = out.split(b"\n", 4)[4]
-            if "--fail" in flags and not parts:
-                wanted = (4, wanted[1], wanted[2] + b"racebench: the trace has no events: nothing was judged\n")
+            wanted = (*wanted[:2], wanted[2].replace(b": no part has events:", b": the trace has no events:"))
             if (status, out, err) != wanted:
                 said = (out + err).decode()
                 raise Wrong(f"triage {most} {words} {flags} ends with {status}, and prints\n{said}and not\n{wanted}")
@@ -306,7 +319,7 @@ class Judge(judge_merge.Judge):
                 self.texts(parts, wanted, words)
                 self.lines(parts, wanted, words)
                 self.logs(parts, wanted, words)
-                self.page([*parts, *words], parts, wanted.left(parts)[0])
+                self.pages(parts, wanted, words)
         self.windows(chance)
 
 

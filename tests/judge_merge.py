@@ -25,7 +25,7 @@ from judging import Wrong
 
 LISTS = 150
 PLACES = ["a.c:1 < f", "a.c:2", "b.c:10", "b.c:9", "é.c:3", "", 'q"\\.c:4', "<b>&.c:5 < </td>"]
-REACHED = ["race", "undecided", "apart", "least", "unmet", "twice", "grouped", "cut", "cut at a line", "refused", "other version", "clash", "failed", "triage", "no parts apart", "page", "escaped"]
+REACHED = ["race", "undecided", "apart", "least", "unmet", "twice", "grouped", "cut", "cut at a line", "refused", "other version", "clash", "failed", "no events", "triage", "no parts apart", "page", "escaped"]
 
 
 def access(chance, place):
@@ -53,7 +53,8 @@ def part(chance):
     counts = {word: sum(told["kind"] == kind for told in rows) for word, kind in [("races", "race"), ("undecided", "undecided"), ("apart", "apart")]}
     if chance.random() < 0.2:
         rows = [told for told in rows if told["kind"] != "apart"]
-    return [{"kind": "counts", "events": chance.randint(0, 99), "threads": 3, **counts}, *rows]
+    events = 0 if not rows and chance.random() < 0.9 else chance.randint(0, 99)
+    return [{"kind": "counts", "events": events, "threads": 3, **counts}, *rows]
 
 
 def line(told):
@@ -107,6 +108,15 @@ def row_in(details):
     )
 
 
+def failed(parts, races):
+    """The status of `--fail` if races are printed or not, and what standard error has beside notes."""
+    if races:
+        return 3, b""
+    if any(objects[0]["events"] for objects in parts.values()):
+        return 0, b""
+    return 4, b"racebench: no part has events: nothing was judged\n"
+
+
 class Judge:
     def __init__(self, run):
         self.program, self.seen = run.program, run.tally
@@ -150,15 +160,15 @@ class Judge:
             if found != wanted:
                 raise Wrong(f"merge {words} {flags} prints\n{found.decode()}and not\n{wanted.decode()}")
 
-    def page(self, words, parts, pairs=None):
-        """The page of these words has the rows of the parts, or of these pairs of them."""
+    def page(self, words, parts, pairs=None, left=""):
+        """The page of these words has the rows of the parts, or of these pairs of them, and says what was left out."""
         with_apart = bool(self.seen["page"] % 2)
         found = self.printed([*words, "--page", *(["--apart"] if with_apart else [])])
         root = judge_page.read(found)
         pairs = plain.merged_pairs(parts) if pairs is None else pairs
         kinds = [pair.told["kind"] for pair in pairs]
         races, count = kinds.count("race"), len(parts)
-        begin = f"{races or 'No'} race{'' if races == 1 else 's'} in {count} part{'' if count == 1 else 's'}"
+        begin = f"{races or 'No'} race{'' if races == 1 else 's'} in {count} part{'' if count == 1 else 's'}{left}"
         if root.one("h1").text() != begin or root.one("title").text() != begin:
             raise Wrong(f"the page begins with {root.one('h1').text()!r} and not {begin!r}")
         sections = list(root.all("section"))
@@ -237,9 +247,13 @@ class Judge:
         self.same(list(parts), parts)
         self.judge_groups(chance, parts)
         races = plain.merged(parts, False).split("\n")[1] != "races 0"
-        if running.ended(self.program, ["merge", *parts, "--fail"])[0] != (3 if races else 0):
-            raise Wrong("--fail ends with another status")
+        status, line = failed(parts, races)
+        for flags in [[], ["--json"], ["--page"], ["--sarif"]]:
+            found, _, err = running.ended(self.program, ["merge", *parts, "--fail", *flags])
+            if (found, err) != (status, line):
+                raise Wrong(f"--fail {flags} ends with {found} and {err} and not with {status} and {line}")
         self.seen["failed"] += races
+        self.seen["no events"] += status == 4
         self.judge_refusals(chance, parts)
 
 

@@ -45,7 +45,8 @@ class Words:
     def __init__(self, program):
         whole = printed(program, "--help")
         listed = part(r"^Commands:\n((?:  [^\n]*\n)+)", whole, "commands in --help")
-        self.commands = [name for name in re.findall(r"^  (\w[\w-]*)", listed, re.MULTILINE) if name != "help"]
+        self.offered = re.findall(r"^  (\w[\w-]*)", listed, re.MULTILINE)
+        self.commands = [name for name in self.offered if name != "help"]
         self.flags = {"": self.flags_of(whole)}
         for command in self.commands:
             self.flags[command] = self.flags_of(printed(program, command, "--help"))
@@ -81,7 +82,7 @@ def page_lacks(words):
 
 def zsh_lacks(words):
     text = text_of("package", "_racebench")
-    lacks = [f"command {name}" for name in words.commands if f"'{name}:" not in text or f"        {name})" not in text]
+    lacks = [f"command {name}" for name in words.offered if f"'{name}:" not in text or f"        {name})" not in text]
     for command in words.commands:
         case = (re.search(rf"^        {command}\)(.*?);;", text, re.MULTILINE | re.DOTALL) or [None, ""])[1]
         lacks += [
@@ -101,8 +102,10 @@ def completed(*given, command="racebench"):
 
 
 def bash_lacks(words):
-    offered = completed("")
-    lacks = [f"command {name}" for name in words.commands if name not in offered]
+    lacks = []
+    for given in ([""], ["help", ""]):
+        offered = completed(*given)
+        lacks += [f"command {name} after {given[:-1]}" for name in words.offered if name not in offered]
     for command, flags in words.flags.items():
         offered = completed(*([command] if command else []), "-")
         lacks += [f"flag {flag} of `racebench {command}`" for flag in flags if flag not in offered]

@@ -261,6 +261,13 @@ def counted(number, word):
     return f"{number} {word}{'' if number == '1' else 's'}"
 
 
+def left_out(lines):
+    """What the first line of the page says of rows that the text counts behind its blocks."""
+    counts = dict(line.decode("ascii").split() for line in lines if re.fullmatch(rb"(known|hidden) \d+", line))
+    said = f"; {counted(counts['known'], 'known race')} left out" if "known" in counts else ""
+    return said + (f"; {counted(counts['hidden'], 'pair')} left out by --only and --hide" if "hidden" in counts else "")
+
+
 def facts_of(block):
     """What the page says in short of a block."""
     facts = dict(zip(block.facts[block.sort == "race" :: 2], block.facts[1 + (block.sort == "race") :: 2]))
@@ -540,6 +547,7 @@ class Judge:
         blocks = blocks_of(lines[11:])
         races = sum(block.sort == "race" for block in blocks)
         first = f"{counted(str(races), 'race') if races else 'No races'} in {shown(os.path.basename(name).encode())}"
+        first += left_out(lines[11:])
         if root.one("h1").text() != first or root.one("head").one("title").text() != first:
             raise Wrong(f"the first line is {root.one('h1').text()!r}, and plainly {first!r}")
         sections = list(root.one("main").all("section"))

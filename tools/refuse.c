@@ -14,7 +14,7 @@
  *   REFUSE_IN   the path of the standard input of these runs
  *   REFUSE_FILES the folder whose files each of them finds where it runs, and nothing else there; without it they find
  *               what is left by the one before
- * A run of these may take 20 seconds. */
+ * A run of these may take 20 minutes: a machine may be slow and busy. */
 #define _GNU_SOURCE
 #include <errno.h>
 #include <fcntl.h>
@@ -33,7 +33,7 @@
 
 #include "refuse.h"
 
-enum { MOST_RUNS = 20000, SECONDS = 120 };
+enum { MOST_RUNS = 20000, SECONDS = 1200 };
 
 extern void *__libc_malloc(size_t);
 extern void *__libc_realloc(void *, size_t);
