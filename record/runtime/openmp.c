@@ -43,9 +43,7 @@ static u32 size_of_team(void) {
 /* Without the token: waits until it is brought in line, and for the turn. */
 static void come_back(struct region *r) {
     struct comer mine = {me, NULL};
-    int error = errno;
-    u8 was = inside;
-    inside = 1;
+    struct before b = enter_turns();
     lock_turns();
     struct comer **at = &r->comers;
     while (*at && (*at)->thread < me) at = &(*at)->next;
@@ -54,8 +52,7 @@ static void come_back(struct region *r) {
     __atomic_fetch_add(&r->back, 1, SC);
     unlock_turns();
     wait_in_line();
-    inside = was;
-    errno = error;
+    end_turns(b);
 }
 
 /* With the token: brings all others in line when they are back. */

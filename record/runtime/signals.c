@@ -1,8 +1,15 @@
 /* Signals. A handler that comes while its thread waits outside of its turn takes the turn at its first hook, and gives
  * it back at its end: else the thread would wait on with the token. One that comes while its thread waits in the
- * recorder gets the turn first, and the thread goes on in it. */
+ * recorder gets the turn first, and the thread goes on in it. Signals that are pending at its end come at once, and
+ * their handlers run in the same turn. A signal that comes while its thread works on turns is put off until it waits
+ * or is done. */
 
 static struct sigaction handlers[NSIG];
+
+/* So many handlers may run in one turn of a thread that waits. Later ones come at once, unrecorded, until it waits again:
+ * so it goes on also if signals come faster than their handlers are recorded. */
+#define MOST_IN_A_ROW 16
+static __thread u32 in_a_row;
 
 static int is_in_line(void) {
     for (u32 k = 0; k < waiting_count; k++)
@@ -26,16 +33,35 @@ static int gets_turn(void) {
     return comes;
 }
 
+static int is_of_fault(int number) {
+    return number == SIGSEGV || number == SIGBUS || number == SIGFPE || number == SIGILL || number == SIGTRAP;
+}
+
+/* Puts a signal off, where its thread works on turns: sends it again, and blocks it from the end of this handler on. */
+static int is_put_off(int number, siginfo_t *info, void *context) {
+    int works = (inside & (IN_TURNS | HAS_LOCK)) && !is_waiting && in_a_row < MOST_IN_A_ROW;
+    if (!works || !on || following || is_of_fault(number) || (handlers[number].sa_flags & SA_RESETHAND)) return 0;
+    int error = errno;
+    long answer = syscall(SYS_rt_tgsigqueueinfo, syscall(SYS_getpid), syscall(SYS_gettid), number, info);
+    errno = error;
+    if (answer) return 0;
+    sigaddset(&((ucontext_t *)context)->uc_sigmask, number);
+    put_off |= 1ull << (number - 1);
+    return 1;
+}
+
 static void handle(int number, siginfo_t *info, void *context) {
+    if (is_put_off(number, info, context)) return;
     struct sigaction *a = &handlers[number];
-    int outside = !IDLE && me < MOST_THREADS && holder != me, error = errno, waits = gets_turn();
-    if (waits) inside = 0;
+    int had_turn = me < MOST_THREADS && holder == me, outside = !IDLE && me < MOST_THREADS && !had_turn;
+    int error = errno, waits = gets_turn();
+    if (waits) in_a_row = had_turn ? in_a_row + 1 : 0, inside = 0;
     if (!(a->sa_flags & SA_RESTART)) was_interrupted = 1;
     errno = error;
     if (a->sa_flags & SA_SIGINFO) a->sa_sigaction(number, info, context);
     else a->sa_handler(number);
     if (outside) give();
-    if (waits) keep_turn(), inside = 1;
+    if (waits) keep_turn(), inside = IN_TURNS, is_waiting = in_a_row < MOST_IN_A_ROW;
 }
 
 static int is_handler(const struct sigaction *a) {

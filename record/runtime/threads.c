@@ -70,10 +70,15 @@ static void leave_robust_mutexes(void) {
     }
 }
 
-/* Destructors of other keys may run code of the program: the last turn ends in the last round of them. */
+/* Destructors of other keys may run code of the program: the last turn ends in the last round of them. No handler comes
+ * in it or later. */
 static void end_of_thread(void *round) {
     u64 k = (u64)round;
     if (k < PTHREAD_DESTRUCTOR_ITERATIONS && pthread_setspecific(last_turn, (void *)(k + 1)) == 0) return;
+    if (me < MOST_THREADS && on && !in_library[me]) take();
+    sigset_t all;
+    sigfillset(&all);
+    pthread_sigmask(SIG_SETMASK, &all, NULL);
     if (me < MOST_THREADS) {
         if (on && !in_library[me]) take(), leave_robust_mutexes();
         gone[me] = 1;
@@ -150,10 +155,10 @@ static int create(pthread_t *id, const pthread_attr_t *attributes, void *(*body)
     inside = 1;
     hold_signals(attributes, &c->mask, &before);
     int answer = real(id, attributes, child_body, c);
-    pthread_sigmask(SIG_SETMASK, &before, NULL);
     if (!answer)
         while (!__atomic_load_n(&came[number], SC)) syscall(SYS_sched_yield);
     inside = 0;
+    pthread_sigmask(SIG_SETMASK, &before, NULL);
     if (answer) {
         __libc_free(c);
         __atomic_fetch_sub(&living, 1, SC);
@@ -188,14 +193,15 @@ static void wait_for_end(u32 number) {
     }
 }
 
-/* What the C library gives back of a thread that is gone is its own. No cancelling leaves this call. */
+/* What the C library gives back of a thread that is gone is its own. No cancelling leaves this call, and handlers come
+ * after it. */
 static int join_gone(int (*real)(pthread_t, void **), pthread_t id, void **value) {
     u8 was = inside;
     int state;
     pthread_setcancelstate(PTHREAD_CANCEL_DISABLE, &state);
-    inside = 1;
+    inside = IN_TURNS;
     int answer = real(id, value);
-    inside = was;
+    leave_turns(was);
     pthread_setcancelstate(state, NULL);
     return answer;
 }

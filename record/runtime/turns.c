@@ -22,11 +22,55 @@ static volatile u8 short_wait;
 /* Parked threads look whether what they wait for came from outside: nothing is drawn meanwhile. */
 static u8 rescuing;
 
+/* What `inside` has while a thread passes the turn on or waits for it, and while it has the turns' lock. A signal that
+ * comes meanwhile is handled when the thread waits or is done: signals.c. */
+#define IN_TURNS 2
+#define HAS_LOCK 4
+
+/* Signals of this thread that came in the midst of its work on turns; it blocks them until they may come. */
+static __thread u64 put_off;
+
+/* Their handlers run here. */
+static void let_signals_come(void) {
+    u64 signals = put_off;
+    if (!signals) return;
+    put_off = 0;
+    syscall(SYS_rt_sigprocmask, SIG_UNBLOCK, &signals, NULL, sizeof signals);
+}
+
+static void leave_turns(u8 was) {
+    inside = was;
+    if (!(was & (IN_TURNS | HAS_LOCK))) let_signals_come();
+}
+
 static void lock_turns(void) {
+    inside |= HAS_LOCK;
     while (__atomic_exchange_n(&turns_lock, 1, __ATOMIC_ACQUIRE)) syscall(SYS_sched_yield);
 }
 
-static void unlock_turns(void) { __atomic_store_n(&turns_lock, 0, __ATOMIC_RELEASE); }
+static void unlock_turns(void) {
+    __atomic_store_n(&turns_lock, 0, __ATOMIC_RELEASE);
+    leave_turns(inside & (u8)~HAS_LOCK);
+}
+
+/* What a thread has again after its work on turns. */
+struct before {
+    int error;
+    u8 inside, holds_cancel;
+};
+
+static struct before enter_turns(void) {
+    struct before b = {errno, inside, 0};
+    b.holds_cancel = hold_cancel();
+    inside = IN_TURNS;
+    return b;
+}
+
+static void end_turns(struct before b) {
+    leave_turns(b.inside);
+    errno = b.error;
+    let_cancel(b.holds_cancel);
+}
 
 /* xorshift64*: all choices come from the seed. */
 static u32 draw(u32 below) {
@@ -83,8 +127,13 @@ static __thread volatile u8 is_waiting;
 /* A handler came that ends the call it interrupts. */
 static __thread volatile u8 was_interrupted;
 
-static void wait_in_line(void) {
+static void begin_waiting(void) {
     is_waiting = 1;
+    let_signals_come();
+}
+
+static void wait_in_line(void) {
+    begin_waiting();
     while (!__atomic_load_n(&woken[me], __ATOMIC_SEQ_CST))
         syscall(SYS_futex, &woken[me], FUTEX_WAIT_PRIVATE, 0, NULL, NULL, 0);
     is_waiting = 0;
@@ -94,27 +143,19 @@ static void wait_in_line(void) {
 static void take(void) {
     if (me == NOBODY) stranger();
     if (me >= MOST_THREADS || holder == me) return;
-    int error = errno;
-    u8 was = inside, held = hold_cancel();
-    inside = 1;
+    struct before b = enter_turns();
     get_in_line();
     wait_in_line();
-    inside = was;
-    errno = error;
-    let_cancel(held);
+    end_turns(b);
 }
 
 static void give(void) {
     if (me >= MOST_THREADS || holder != me) return;
-    int error = errno;
-    u8 was = inside, held = hold_cancel();
-    inside = 1;
+    struct before b = enter_turns();
     lock_turns();
     if (holder == me) hand_on();
     unlock_turns();
-    inside = was;
-    errno = error;
-    let_cancel(held);
+    end_turns(b);
 }
 
 /* Gives the token to another thread that waits for it, and gets in line, in one step: else that thread could come to
@@ -125,9 +166,7 @@ static void give_and_take(void) {
         take();
         return;
     }
-    int error = errno;
-    u8 was = inside, held = hold_cancel();
-    inside = 1;
+    struct before b = enter_turns();
     lock_turns();
     u32 k = choose();
     if (k != NOBODY) {
@@ -138,9 +177,7 @@ static void give_and_take(void) {
     }
     unlock_turns();
     if (k != NOBODY) wait_in_line();
-    inside = was;
-    errno = error;
-    let_cancel(held);
+    end_turns(b);
 }
 
 /* For a thread that can't go on yet: it looks again after others ran, or after a moment where no other waits. */
@@ -166,7 +203,7 @@ static void leave_parked(u32 k) {
 static int wait_parked(const struct timespec *until, clockid_t clock) {
     int how = FUTEX_WAIT_BITSET | FUTEX_PRIVATE_FLAG | (clock == CLOCK_REALTIME ? FUTEX_CLOCK_REALTIME : 0), late = 0;
     while (until && !late && !__atomic_load_n(&woken[me], __ATOMIC_SEQ_CST)) {
-        is_waiting = 1;
+        begin_waiting();
         long answer = syscall(SYS_futex, &woken[me], how, 0, until, NULL, FUTEX_BITSET_MATCH_ANY);
         is_waiting = 0;
         if (answer == 0 || (errno != ETIMEDOUT && errno != EINVAL)) continue;
@@ -190,9 +227,7 @@ static int park(const volatile void *at, const struct timespec *until, clockid_t
         let_others();
         return 0;
     }
-    int error = errno;
-    u8 was = inside, held = hold_cancel();
-    inside = 1;
+    struct before b = enter_turns();
     lock_turns();
     __atomic_store_n(&woken[me], 0, __ATOMIC_SEQ_CST);
     parked_at[me] = at;
@@ -200,9 +235,7 @@ static int park(const volatile void *at, const struct timespec *until, clockid_t
     if (holder == me) hand_on();
     unlock_turns();
     int late = wait_parked(until, clock);
-    inside = was;
-    errno = error;
-    let_cancel(held);
+    end_turns(b);
     return late;
 }
 

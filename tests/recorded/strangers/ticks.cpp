@@ -10,7 +10,7 @@
 #include <thread>
 #include <unistd.h>
 #include <vector>
-// A handler that comes in the midst of a hook is not recorded, so one of each is not enough.
+// A handler may come where it is not recorded, so one of each is not enough.
 enum { COUNTED = 50, ENOUGH = 5, MOST = 1500 };
 static std::atomic<long> ticks, of_main, of_others;
 static volatile int plain_ticks;
