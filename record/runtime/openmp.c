@@ -17,8 +17,10 @@ struct region {
     u64 made;
     volatile u32 back;
     struct comer *comers;
-    /* In a team with tasks the library runs these while it waits. */
+    /* In a team with tasks the library runs these while it waits: how many no thread has begun, and how many threads wait
+     * without one. */
     volatile u8 has_tasks;
+    volatile u32 ready, idle;
     /* A team that began while a plan was followed: the library alone lets it go on, in any order. */
     u8 is_planned;
 };
@@ -28,6 +30,8 @@ static u32 teams;
 static __thread struct region *my_region;
 static __thread u64 my_team, my_round, my_share;
 static __thread u8 has_stack;
+/* The team in whose barrier this thread waits without a task. */
+static __thread struct region *idle_in;
 #define FIRST_ROUND 1
 #define LAST_ROUND 0xffffffff
 
@@ -38,6 +42,15 @@ static void meet_team(int kind, u64 team, u64 round, u64 pc) {
 static u32 size_of_team(void) {
     REAL(omp_get_num_threads, int, void);
     return (u32)real();
+}
+
+static void become_idle(struct region *r) {
+    if (r) __atomic_fetch_add(&r->idle, 1, SC), idle_in = r;
+}
+
+static void end_idle(void) {
+    if (idle_in) __atomic_fetch_sub(&idle_in->idle, 1, SC);
+    idle_in = NULL;
 }
 
 /* Without the token: waits until it is brought in line, and for the turn. */
@@ -85,6 +98,7 @@ static void begin_region(struct region *r) {
 /* The last one that ends gives the token to the one that began, which comes back from the library at once. */
 static void end_region(struct region *r) {
     if (me >= MOST_THREADS || r->is_planned || r->has_tasks || ++r->in < r->size) {
+        become_idle(r);
         give();
         return;
     }
@@ -98,7 +112,7 @@ static void in_region(void *p) {
     struct region *r = p, *region_before = my_region;
     u64 team_before = my_team, round_before = my_round, share_before = my_share;
     int idle = IDLE;
-    making_team = 0;
+    making_team = 0, idle_in = NULL;
     my_region = r, my_team = r->team, my_share = FIRST_ROUND + 1, my_round = FIRST_ROUND + 2;
     if (!idle) begin_region(r);
     /* The library lets the team go on when all of its threads are made: after that the master is here. */
@@ -130,7 +144,7 @@ static int is_of_openmp(void *(*body)(void *)) {
         else if (!idle) short_wait = 1; \
         making_team = PC; \
         real passed_on; \
-        making_team = 0; \
+        making_team = 0, idle_in = NULL; \
         if (!idle) take(), short_wait = 0, meet_team(WENT_ON, r.team, LAST_ROUND, PC); \
     }
 REGION(GOMP_parallel, (void (*body)(void *), void *data, unsigned n, unsigned g), (in_region, &r, n, g))
@@ -164,12 +178,13 @@ static int comes_to_barrier(u64 pc) {
     int is_last = !is_any_order(r) && ++r->in >= r->size;
     if (is_last) r->in = 0;
     is_last = is_last && !r->has_tasks;
-    if (!is_last) give();
+    if (!is_last) become_idle(r), give();
     return is_last;
 }
 
 static void leaves_barrier(int was_last, u64 pc) {
     struct region *r = my_region;
+    end_idle();
     if (was_last) bring_back(r), give_and_take();
     else if (is_any_order(r) || r->has_tasks) take();
     else come_back(r);

@@ -2,7 +2,11 @@
  * over, before the end of its task group, and before the end of the next barrier of its team. */
 
 #define DEPENDS 8
+#define UPWARDS 256
+#define BY_GRAIN 512
+#define DEFERRED 1024
 #define WITHOUT_GROUP 2048
+#define STRICTLY 16384
 #define DEPENDS_AT_MOST 16
 
 /* What a task carries before its own data; libgomp copies it by copy_task(). In a task of a loop libgomp writes the
@@ -14,8 +18,10 @@ struct task {
     void (*copy)(void *, void *);
     void *data;
     u64 size, offset, number, waits, wait_round, team, round, group, pc;
+    /* The team of its maker, which counts it as ready. */
+    struct region *region;
     u32 depends;
-    u8 has_part;
+    u8 has_part, is_counted;
     void *depend[DEPENDS_AT_MOST];
 };
 struct group {
@@ -28,6 +34,11 @@ static __thread struct group *my_groups;
 
 /* The first tasks are left to other threads of the team for a moment: else their maker may do all. */
 #define LEFT_TO_OTHERS 1000
+/* A thread that has a task waits so long for idle threads to begin the ready ones, and so often in vain: one thread that
+ * does all would hide what races. Threads that are not idle may get so many turns first. */
+#define MOMENTS 1000
+#define TURNS_OF_OTHERS 8
+#define MOST_IN_VAIN 20
 
 static u64 new_number(void) { return __atomic_add_fetch(&teams, 1, SC); }
 
@@ -57,13 +68,29 @@ static void end_task(struct task *t) {
     meet_team(ARRIVED, t->team, LAST_ROUND, t->pc);
 }
 
+static void leave_ready_tasks(struct region *r) {
+    static u32 in_vain;
+    if (!r || following || in_vain >= MOST_IN_VAIN) return;
+    for (u32 k = 0; r->ready && (r->idle || (k < TURNS_OF_OTHERS && waiting_count)); k++) {
+        if (k == MOMENTS) {
+            in_vain++;
+            return;
+        }
+        let_others();
+    }
+}
+
 static void in_task(void *p) {
     struct task *t = p;
     u64 waits = my_waits, wait_round = my_wait_round, group = my_group;
     u64 team = my_team, round = my_round, share = my_share;
     struct group *groups = my_groups;
+    struct region *region = my_region, *was_idle_in = idle_in;
     int had = IDLE || holder == me;
-    if (!had) take();
+    end_idle();
+    if (t->is_counted) __atomic_fetch_sub(&t->region->ready, 1, SC);
+    if (!had) take(), leave_ready_tasks(t->region);
+    my_region = t->region;
     my_waits = 0, my_wait_round = 1, my_group = t->group, my_groups = NULL, my_team = t->team, my_round = t->round;
     meet(WENT_ON, OF_TEAM, t->number, 1, t->pc);
     meet_depends(t, WENT_ON);
@@ -71,7 +98,8 @@ static void in_task(void *p) {
     t->body((char *)p + t->offset);
     end_task(t);
     my_waits = waits, my_wait_round = wait_round, my_group = group, my_groups = groups;
-    my_team = team, my_round = round, my_share = share;
+    my_team = team, my_round = round, my_share = share, my_region = region;
+    become_idle(was_idle_in);
     if (!had) give();
 }
 
@@ -101,7 +129,23 @@ static struct task new_task(void (*body)(void *), void *data, void (*copy)(void 
                          .wait_round = my_wait_round,
                          .team = my_team,
                          .round = my_round,
+                         .region = my_region,
                          .group = my_group};
+}
+
+/* So many tasks of this thread wait for a thread of the team. */
+static void make_ready(struct task *t, u64 count) {
+    t->is_counted = t->region != NULL;
+    if (t->region) __atomic_fetch_add(&t->region->ready, (u32)count, SC);
+}
+
+/* How many tasks libgomp makes of a loop that goes so far, by such steps. */
+static u64 tasks_of_loop(int is_empty, u64 way, u64 by, unsigned flags, u64 wanted) {
+    u64 rounds = is_empty ? 0 : (way + by - 1) / by;
+    if (!wanted) wanted = size_of_team();
+    if (!(flags & BY_GRAIN) || !rounds) return rounds < wanted ? rounds : wanted;
+    u64 whole = rounds / wanted + ((flags & STRICTLY) && rounds % wanted);
+    return whole ? whole : 1;
 }
 
 void GOMP_task(void (*body)(void *), void *data, void (*copy)(void *, void *), long size, long align, _Bool deferred,
@@ -115,6 +159,7 @@ void GOMP_task(void (*body)(void *), void *data, void (*copy)(void *, void *), l
     struct task t = new_task(body, data, copy, size, align, PC);
     u64 wide = WIDE_OF(align);
     if (flags & DEPENDS) read_depends(&t, depend);
+    else if (deferred) make_ready(&t, 1);
     meet(ARRIVED, OF_TEAM, t.number, 1, PC);
     int waits = (flags & DEPENDS) && !deferred;
     if (waits) give();
@@ -138,6 +183,9 @@ void GOMP_task(void (*body)(void *), void *data, void (*copy)(void *, void *), l
         int has_group = !(flags & WITHOUT_GROUP); \
         if (has_group) t.group = new_number(); \
         t.has_part = 1, t.sums = size > 16 ? ((void **)data)[2] : NULL; \
+        int up = (flags & UPWARDS) != 0; \
+        u64 way = up ? (u64)to - (u64)from : (u64)from - (u64)to, step = up ? (u64)by : -(u64)by; \
+        if (flags & DEFERRED) make_ready(&t, tasks_of_loop(up ? from >= to : from <= to, way, step, flags, tasks)); \
         meet(ARRIVED, OF_TEAM, t.number, 1, PC); \
         give(); \
         real(in_task, &t, copy_task, (long)t.offset + size, (long)WIDE_OF(align), flags, tasks, priority, from, to, \

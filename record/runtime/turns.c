@@ -182,13 +182,15 @@ static void give_and_take(void) {
 
 /* For a thread that can't go on yet: it looks again after others ran, or after a moment where no other waits. */
 static void let_others(void) {
-    int error = errno, alone = waiting_count == 0;
+    int error = errno;
     if (following && waits_in_plan()) return;
-    give();
-    if (alone) {
-        struct timespec moment = {0, 50000};
-        syscall(SYS_nanosleep, &moment, NULL);
+    if (waiting_count) {
+        give_and_take();
+        return;
     }
+    give();
+    struct timespec moment = {0, 50000};
+    syscall(SYS_nanosleep, &moment, NULL);
     take();
     errno = error;
 }
