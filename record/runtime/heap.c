@@ -9,8 +9,13 @@ extern void __libc_free(void *);
 /* A library that the thread is in without its turn, as one that waits or that made the thread, goes on without it. */
 static int is_outside(void) { return !IDLE && !following && (me == NOBODY || me < MOST_THREADS) && holder != me; }
 
+/* The library of OpenMP takes and gives back blocks of its own in its barriers, also after the last thread came. To wait
+ * for a turn there could be to wait for a thread that begins the next region, and that waits for this one. */
+static int is_of_barrier(void) { return idle_in && is_outside(); }
+
 static void *got(void *block, size_t n, u64 pc) {
     int outside = is_outside();
+    if (is_of_barrier()) return block;
     if (block) put(ALLOCATED, (u64)block, n, pc);
     if (outside) give();
     return block;
@@ -36,7 +41,7 @@ static __thread u8 is_counted;
 /* Recorded before it is done: from then on another thread may be given the block. */
 static inline void give_back(void *block, u64 pc) {
     int outside = is_outside();
-    if (block && !is_counted) put(FREED, (u64)block, 0, pc);
+    if (block && !is_counted && !is_of_barrier()) put(FREED, (u64)block, 0, pc);
     if (outside) give();
     __libc_free(block);
 }

@@ -30,8 +30,6 @@ static u32 teams;
 static __thread struct region *my_region;
 static __thread u64 my_team, my_round, my_share;
 static __thread u8 has_stack;
-/* The team in whose barrier this thread waits without a task. */
-static __thread struct region *idle_in;
 #define FIRST_ROUND 1
 #define LAST_ROUND 0xffffffff
 

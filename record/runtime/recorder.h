@@ -62,6 +62,8 @@ static __thread u64 stack_start, stack_size;
 static __thread u8 cancels_at_once, holds_cancel;
 /* Where the program begins a region of OpenMP, while the library makes threads for it. */
 static __thread u64 making_team;
+/* The team of OpenMP in whose barrier this thread waits without a task. */
+static __thread struct region *idle_in;
 
 /* callers.c: where the program called what led here. */
 static u64 caller_in_program(u64 pc);
