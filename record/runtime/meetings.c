@@ -84,6 +84,7 @@ int sem_clockwait(sem_t *s, clockid_t c, const struct timespec *t) {
 /* What threads of this process meet at: a barrier, or what is made once. */
 struct meeting {
     const void *at;
+    /* `round` counts the meetings at a barrier, or how often what is done once failed. */
     u32 inside, round, who;
     struct meeting *next;
 };
@@ -136,9 +137,9 @@ int pthread_barrier_wait(pthread_barrier_t *b) {
 
 static void begin_once(struct meeting *m) { m->who = me; }
 
-static void end_once(struct meeting **m) {
-    (*m)->who = NOBODY;
-    unpark((*m)->at);
+static void end_once(struct meeting *m) {
+    m->who = NOBODY;
+    unpark(m->at);
 }
 
 static void wait_for_once(struct meeting *m) {
@@ -151,14 +152,27 @@ static __thread struct {
     u64 pc;
 } once;
 
-/* The routine passes when it is done; it may itself call pthread_once, or throw. */
+struct doing {
+    struct meeting *m;
+    void *at;
+    u64 pc;
+    u8 is_done;
+};
+
+/* Who returns or tries again comes after this. */
+static void end_doing(struct doing *d) {
+    meet(ARRIVED, OF_MEMORY, (u64)d->at, 0, d->pc);
+    if (!d->is_done) d->m->round++;
+    end_once(d->m);
+}
+
+/* The routine may itself call pthread_once, or throw: then it is called again, and comes after the tries that failed. */
 static void once_body(void) {
-    __attribute__((cleanup(end_once))) struct meeting *m = meeting_of(once.at);
-    void *at = once.at;
-    u64 pc = once.pc;
-    begin_once(m);
+    __attribute__((cleanup(end_doing))) struct doing d = {meeting_of(once.at), once.at, once.pc, 0};
+    begin_once(d.m);
+    if (d.m->round) meet(WENT_ON, OF_MEMORY, (u64)d.at, 0, d.pc);
     once.routine();
-    meet(ARRIVED, OF_MEMORY, (u64)at, 0, pc);
+    d.is_done = 1;
 }
 
 static int do_once(pthread_once_t *o, void (*routine)(void), u64 pc) {
@@ -190,10 +204,10 @@ int __cxa_guard_acquire(u64 *guard) {
     maybe_give();
     struct meeting *m = meeting_of(guard);
     wait_for_once(m);
-    int mine = real(guard);
+    int mine = real(guard), is_first = mine && !m->round;
     if (mine) begin_once(m);
     put_record(
-        (struct record){.kind = mine ? ANSWER : ATOMIC_READ, .at = (u64)guard, .size = 1, .pc = PC, .order = SC});
+        (struct record){.kind = is_first ? ANSWER : ATOMIC_READ, .at = (u64)guard, .size = 1, .pc = PC, .order = SC});
     return mine;
 }
 
@@ -202,15 +216,17 @@ void __cxa_guard_release(u64 *guard) {
     struct meeting *m = meeting_of(guard);
     if (!IDLE) put_record((struct record){.kind = ATOMIC_WRITE, .at = (u64)guard, .size = 1, .pc = PC, .order = SC});
     real(guard);
-    end_once(&m);
+    end_once(m);
 }
 
+/* Who makes the static after one that failed comes after it. */
 void __cxa_guard_abort(u64 *guard) {
     GUARD("__cxa_guard_abort", void, own_abort);
     struct meeting *m = meeting_of(guard);
-    if (!IDLE) keep_turn();
+    if (!IDLE) put_record((struct record){.kind = ATOMIC_WRITE, .at = (u64)guard, .size = 1, .pc = PC, .order = SC});
     real(guard);
-    end_once(&m);
+    m->round++;
+    end_once(m);
 }
 
 /* What a program says itself to ThreadSanitizer of an order that it keeps. */
