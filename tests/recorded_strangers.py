@@ -25,6 +25,8 @@ STATIC = ["-std=c++17", "-static-libstdc++", "-static-libgcc"]
 COMPILED = {
     "statics.cpp": STATIC,
     "cxx20.cpp": ["-std=c++20", "-latomic"],
+    "stop_tokens.cpp": ["-std=c++20"],
+    "waits_atomic.cpp": ["-std=c++20"],
     "wide_atomic.cpp": ["-std=c++17", "-latomic"],
     "shared_tasks.cpp": ["-fopenmp"],
 }
@@ -272,7 +274,7 @@ def judge_descriptors(c):
         raise Wrong(f"the recorder's descriptors are the program's: {said}{told}")
 
 
-# Looks, for some seconds at least, for a thread that has no more than one descriptor.
+# Looks, for a minute at least, for a thread that has no more than one descriptor.
 DESCRIPTORS = """#include <dirent.h>
 #include <pthread.h>
 #include <semaphore.h>
@@ -305,7 +307,7 @@ int main(void) {
     int there = 0;
     sem_init(&end, 0, 0);
     pthread_create(&t, NULL, work, NULL);
-    for (int k = 0; k < 500 && !there; k++) there = is_there(), usleep(10000);
+    for (int k = 0; k < 6000 && !there; k++) there = is_there(), usleep(10000);
     puts(there ? "a thread has its own" : "no thread has its own");
     x++, sem_post(&end);
     return pthread_join(t, NULL);
