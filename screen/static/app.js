@@ -65,7 +65,7 @@ function latest() {
   return own.sort((one, other) => other.touched - one.touched)[0] ?? [...state.rows.values()].at(-1);
 }
 
-on("open", async () => {
+async function begin() {
   races.load();
   if (!state.title) fill($("live"), "reading the trace …");
   const looked = views.looked();
@@ -87,6 +87,12 @@ on("open", async () => {
     views.close();
     reveal("races");
   }
+}
+
+// Keys that are typed meanwhile are for what it opens.
+on("open", () => {
+  const begun = begin();
+  later(() => begun);
 });
 on("closed", (text) => fill($("live"), bad(text)));
 on("races", () => races.load());

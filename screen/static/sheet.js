@@ -103,7 +103,7 @@ async function fetchRows({ to, toggle }) {
   if (goal !== wanted) return isLatest ? load() : latest; // somebody scrolled meanwhile
   taken = mine;
   take(told);
-  return isLatest ? null : latest;
+  return null; // others may go on for ever, so nobody waits for what came after it
 }
 
 function take(told) {

@@ -16,8 +16,9 @@ LOST = """(() => {
   new MutationObserver(() => { window.lives += document.getElementById("live")?.textContent; })
     .observe(document, { childList: true, subtree: true });
 })()"""
-# While `endless` is set, news of another come before each list of what may come next.
+# While `endless` is set, news of another come before each list of what may come next, or before other answers.
 ENDLESS = """(() => {
+  const kind = "frontier";
   const lists = new Set();
   const send = WebSocket.prototype.send;
   let news = null;
@@ -25,7 +26,7 @@ ENDLESS = """(() => {
   window.came = 0;
   WebSocket.prototype.send = function (text) {
     const asked = text.startsWith("{") ? JSON.parse(text) : {};
-    if (asked.do === "frontier") lists.add(asked.id);
+    if (asked.do === kind) lists.add(asked.id);
     send.call(this, text);
   };
   Object.defineProperty(WebSocket.prototype, "onmessage", {
@@ -73,6 +74,28 @@ async def test_keys_while_another_works_all_the_time(program):
         await page.run("window.endless = false")
         await page.until(f"{ROWS} === 3 && {NEXT} === 2")
         same(logged(), ["1 new A", "1 add A 0", "1 add A 1", "1 add A 2"])
+        is_clean(page, screen)
+
+
+async def test_a_schedule_that_another_works_on_all_the_time(program):
+    """Keys for a schedule that opens wait for its rows, and not until the other analyst rests."""
+    write("trace", "".join(f"T{thread}|w(a{thread})|a:{at}\n" for at in range(9) for thread in (1, 2)))
+    await session(program, 1, "new A\nadd A 0\nnew B\n")
+    async with Screen(program, "trace", "log") as screen, Browser() as browser:
+        page = await browser.page("about:blank")
+        await page.call("Page.addScriptToEvaluateOnNewDocument", source=ENDLESS.replace('"frontier"', '"view"'))
+        await page.open(screen.link)
+        await page.until(f"document.querySelector('#bar h2').textContent === 'B' && {NEXT} === 2")
+        await session(program, 2, "add A 1\n")  # the news that come again and again
+        await page.until("document.querySelector('.sched .num').textContent === '2'")
+        await page.run("window.endless = true")
+        await page.click(".sched")
+        await page.key("1")
+        await page.until("document.getElementById('next-list').dataset.length === '3'")
+        assert await page.run("window.came") > 2
+        await page.run("window.endless = false")
+        await page.until(f"{ROWS} === 3 && {LENGTH} === '3 events'")
+        same(logged()[-1], "1 add A 2")
         is_clean(page, screen)
 
 
