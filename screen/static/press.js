@@ -60,6 +60,7 @@ addEventListener("click", (event) => {
   if (mine?.act) before = mine;
   pressed = null;
   const here = meant(event.target);
-  if (!mine) here?.act(here);
-  else if (mine.act && (here?.node === mine.node || isNear(event, mine))) mine.act(mine);
+  const clicks = event.detail; // 2 if it is the second one of a double click
+  if (!mine) here?.act({ ...here, clicks });
+  else if (mine.act && (here?.node === mine.node || isNear(event, mine))) mine.act({ ...mine, clicks });
 });

@@ -185,16 +185,15 @@ function withoutWitness() {
   return [el("h2", "title", "No witness"), el("span", "bad", none)];
 }
 
-let isMaking = false;
+const making = new Set(); // buttons whose steps are under way, each with the look at which it was clicked
 
-// A button whose step waits for those before it, and is made once by a double click.
+// A button whose step waits for those before it, and is made once by a double click. Other buttons wait for no button.
 function inTurn(text, key, step, classes) {
-  return button(text, key, () => {
-    if (isMaking) return;
-    isMaking = true;
-    later(step).then(() => {
-      isMaking = false;
-    });
+  return button(text, key, ({ clicks }) => {
+    const mine = `${looks} ${text}`;
+    if (clicks > 1 || making.has(mine)) return;
+    making.add(mine);
+    later(step).then(() => making.delete(mine));
   }, classes);
 }
 

@@ -1,11 +1,13 @@
 """Tired and quick hands: keys before the page is there, one button after another, steps taken back in any order."""
 
+import time
+
 import traces
-from browser import Browser
+from browser import DOUBLE, Browser
 from judged import same
 from live import session
 from sight import HOLD
-from stage import ROWS, Screen, is_clean, logged
+from stage import NEXT, ROWS, Screen, focus, is_clean, logged, press
 
 OPEN = "document.querySelector('#bar h2').textContent"
 NEXT_LENGTH = "document.getElementById('next-list').dataset.length"
@@ -35,3 +37,44 @@ async def test_keys_typed_while_the_page_opens(program):
             await page.click("#link")
             screen.link = await page.until("document.querySelector('#help input.link')?.value")
     same(logged(), ["1 new A", "1 add A 0", "1 add A 1"])
+
+
+async def test_one_button_after_another(program):
+    """A click is not lost because the step of another button is under way."""
+    traces.write("trace", traces.COUNT)
+    async with Screen(program, "trace", "log") as screen, Browser() as browser:
+        page = await held_page(browser, screen, "frontier")
+        await page.until("document.querySelectorAll('.race').length === 1")
+        await page.click(".race")
+        await page.until(f"{OPEN} === 'Witness'")
+        await page.click("#bar button", 1)  # start empty
+        await page.until(f"{OPEN} === 'r7-12' && held.length === 1")
+        await page.click("#bar button", 1)  # drop
+        await page.run("letGo()")
+        await page.until(f"{OPEN} === 'No schedule'")
+        same(logged(), ["1 new r7-12", "1 drop r7-12"])
+        is_clean(page, screen)
+
+
+async def test_a_double_click_makes_one_schedule(program):
+    """However quick the program is: the second press may come when the first one's schedule is there."""
+    traces.write("trace", traces.COUNT)
+    async with Screen(program, "trace", "log") as screen, Browser() as browser:
+        page = await browser.page(screen.link)
+        await page.until("document.querySelectorAll('.race').length === 1")
+        await page.click(".race")
+        await page.until(f"{OPEN} === 'Witness'")
+        await page.click("#bar button", 1)  # start empty
+        await page.until(f"{OPEN} === 'r7-12' && {NEXT_LENGTH} === '0'")
+        began = time.time()
+        x, y = await page.press("#bar .of-aim button", 2, timestamp=began)  # start empty once more
+        await page.release(x, y, timestamp=began)
+        await page.until(f"{OPEN} === 'r7-12.2' && {NEXT} === 3")
+        await focus(page, "next-list")
+        await press(page, "1")  # the step of the button has ended
+        await page.mouse("mousePressed", x, y, button="left", clickCount=2, timestamp=began + DOUBLE)
+        await page.release(x, y, 2, timestamp=began + DOUBLE)
+        await focus(page, "next-list")
+        await press(page, "1")
+        same(logged(), ["1 new r7-12", "1 new r7-12.2", "1 add r7-12.2 0", "1 add r7-12.2 1"])
+        is_clean(page, screen)
