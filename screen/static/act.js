@@ -13,7 +13,7 @@ const LONG = 400;
 const UNDONE = 4096;
 
 let sayings = 0;
-let made = []; // the entries of this page's latest step, the newest first, where they are several
+let runs = []; // of each step of this page that made several entries: these, the newest first
 let acting = 0;
 
 // Whether a step of this page is under way: what the log has more may be of another tab of the same analyst.
@@ -40,7 +40,7 @@ export async function act(what, given) {
   acting++;
   const told = await awaited(ask(what, given));
   acting--;
-  made = leftOf(what, told, given);
+  note(what, told, given);
   if (told.gone) say(bad(`the program ended: ${told.gone}`));
   else if (told.mistake) say(bad(told.mistake));
   else {
@@ -51,14 +51,24 @@ export async function act(what, given) {
   return told;
 }
 
-// The entries of this page's latest step after another one, or what an undo left of them.
-function leftOf(what, told, given) {
-  if (what !== "undo") return [...(told.entries ?? [])].reverse();
-  return given.entries?.[0] === made[0] ? made.slice(told.undone || made.length) : [];
+const keepRuns = (isLeft) => {
+  runs = runs.map((made) => made.filter(isLeft)).filter((made) => made.length > 1);
+};
+
+// Keeps the entries of a step, and not those that an undo took back.
+function note(what, told, given) {
+  if (what !== "undo") runs.push([...(told.entries ?? [])].reverse());
+  const gone = new Set(what === "undo" ? given.entries?.slice(0, told.undone ?? 0) : []);
+  keepRuns((entry) => !gone.has(entry));
 }
 
-// A long run is many entries of the log, and one step of the analyst.
-export const undoLatest = () => act("undo", made.length > 1 ? { entries: made.slice(0, UNDONE) } : {});
+// A long run is many entries of the log, and one step of the analyst. What he did after it is taken back before it.
+export async function undoLatest() {
+  keepRuns((entry) => !feed.isDead(entry));
+  const made = runs.at(-1);
+  const isLatest = made && !(await feed.didAfter(made[0]));
+  return act("undo", isLatest ? { entries: made.slice(0, UNDONE) } : {});
+}
 
 function outcome(what, told, given) {
   if (told.rests) return rests(told.rests.entry, told.undone);

@@ -12,6 +12,8 @@ import * as schedules from "./schedules.js";
 const SHOWN = 120;
 const MORE = 200;
 const MOST = 520;
+// So many entries are looked at for later steps than a long one.
+const FAR = 1_000;
 const KEPT = 8_000;
 // So many entries behind one that is jumped to are shown, and so many before it.
 const BEHIND = 40;
@@ -228,6 +230,20 @@ async function know(first, last) {
     for (const entry of told.entries) state.entries.set(entry.i, entry);
   }
 }
+// Whether it is known that an entry was taken back.
+export const isDead = (number) => state.entries.get(number)?.u !== undefined;
+
+// Whether this analyst made a live entry after another one, as far back as is looked for.
+export async function didAfter(number) {
+  const first = Math.max(number + 1, state.n - FAR);
+  for (let at = state.n - 1; at >= first; at--) {
+    if (!state.entries.has(at)) await know(Math.max(first, at + 1 - MORE), at + 1);
+    const entry = state.entries.get(at);
+    if (entry?.c === state.client && isLive(entry)) return true;
+  }
+  return false;
+}
+
 
 async function older() {
   if (shown + MORE <= MOST) shown += MORE;

@@ -7,7 +7,7 @@ from browser import DOUBLE, Browser
 from judged import same
 from live import session
 from sight import HOLD
-from stage import NEXT, ROWS, Screen, focus, is_clean, logged, press
+from stage import LENGTH, NEXT, ROWS, SAID, Screen, focus, is_clean, logged, new, press
 
 OPEN = "document.querySelector('#bar h2').textContent"
 NEXT_LENGTH = "document.getElementById('next-list').dataset.length"
@@ -77,4 +77,29 @@ async def test_a_double_click_makes_one_schedule(program):
         await focus(page, "next-list")
         await press(page, "1")
         same(logged(), ["1 new r7-12", "1 new r7-12.2", "1 add r7-12.2 0", "1 add r7-12.2 1"])
+        is_clean(page, screen)
+
+
+async def test_runs_are_taken_back_in_their_order(program):
+    """A run is one step, also if other steps came after it and were taken back before it."""
+    lines = [f"T1|w(a{at % 9})|a:{at}\n" for at in range(300)]
+    traces.write("trace", "".join(lines) + "".join(f"T2|w(b)|b:{at}\n" for at in range(200)))
+    async with Screen(program, "trace", "log") as screen, Browser() as browser:
+        page = await browser.page(screen.link)
+        await new(page, 2)
+        await press(page, "r")  # T1: five entries
+        await page.until(f"{LENGTH} === '300 events'")
+        await press(page, "2")
+        await focus(page, "next-list")
+        await press(page, "r")  # T2, which is the one that is left: four entries
+        await page.until(f"{LENGTH} === '500 events'")
+        await session(program, 2, "new B\n" + "add B 0\nback B\n" * 300)
+        await page.until("document.getElementById('feed-count').textContent === '612'")
+        steps = (("took back 4 entries", 301), ("entry 616: took back 6", 300), ("took back 5 entries", 0))
+        for said, length in steps:
+            await press(page, "u")
+            same((await page.run(SAID))[: len(said)], said)
+            await page.until(f"{LENGTH} === '{length} events'")
+        await press(page, "u")
+        same([line for line in logged() if line.startswith("1")][-1], "1 undo 0")
         is_clean(page, screen)
