@@ -1,8 +1,7 @@
 // The log as a feed: who did what, in groups; and what others did since this analyst last looked.
-import { $, el, fill, button, count, many } from "./make.js";
+import { $, el, fill, button, linked, count, many } from "./make.js";
 import { ask } from "./net.js";
 import { part } from "./morph.js";
-import { does } from "./press.js";
 import { later } from "./queue.js";
 import { state, tag, who, short } from "./words.js";
 import { reveal } from "./frame.js";
@@ -12,9 +11,9 @@ import * as schedules from "./schedules.js";
 const SHOWN = 120;
 const MORE = 200;
 const MOST = 520;
+const KEPT = 8_000;
 // So many entries are looked at for later steps than a long one.
 const FAR = 1_000;
-const KEPT = 8_000;
 // So many entries behind one that is jumped to are shown, and so many before it.
 const BEHIND = 40;
 const BEFORE = 20;
@@ -78,14 +77,14 @@ function groups(list) {
 }
 
 function nameLink(text) {
-  return does(el("a", "sched-name", text), () => {
+  return linked(text, () => {
     if (state.rows.has(text)) events.open({ schedule: text });
     else events.say(`there is no schedule ${text} any more`);
-  });
+  }, "sched-name");
 }
 
 function proposalLink(entry) {
-  const made = does(el("a", "num", `p${entry.p}`), () => events.adopt(entry));
+  const made = linked(`p${entry.p}`, () => events.adopt(entry), "num");
   made.title = "Adopt it";
   return made;
 }
@@ -121,10 +120,10 @@ const SENTENCES = {
 const sentence = (group) => (group.adds ? added(group) : SENTENCES[group.entries[0].k](group.entries[0]));
 
 export function link(number) {
-  return does(el("a", "num", String(number)), () => {
+  return linked(String(number), () => {
     reveal("side");
     jump(number);
-  });
+  }, "num");
 }
 
 // Shows an entry and lets it flash.
@@ -230,6 +229,7 @@ async function know(first, last) {
     for (const entry of told.entries) state.entries.set(entry.i, entry);
   }
 }
+
 // Whether it is known that an entry was taken back.
 export const isDead = (number) => state.entries.get(number)?.u !== undefined;
 
@@ -243,7 +243,6 @@ export async function didAfter(number) {
   }
   return false;
 }
-
 
 async function older() {
   if (shown + MORE <= MOST) shown += MORE;

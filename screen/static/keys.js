@@ -116,6 +116,15 @@ function meant(event) {
 // Those that lead from a field to the panes.
 const isPaneKey = (event) => event.key === "F6" && !event.target.closest("dialog");
 
+// A link without an address is followed by the same key as one that has one.
+function follow(event) {
+  const link = event.key === "Enter" ? event.target.closest("a[role=link]") : null;
+  if (!link) return false;
+  event.preventDefault(); // the key is not for what the link opens
+  link.click();
+  return true;
+}
+
 addEventListener("keydown", (event) => {
   const isField = event.target.closest("input, textarea, dialog");
   if (event.key === "Escape") {
@@ -125,7 +134,7 @@ addEventListener("keydown", (event) => {
     if (!isField && state.view) views.hideNote();
     return;
   }
-  if ((isField && !isPaneKey(event)) || event.metaKey) return;
+  if ((isField && !isPaneKey(event)) || event.metaKey || follow(event)) return;
   const does = meant(event);
   if (!does) return;
   event.preventDefault();

@@ -44,6 +44,14 @@ export function button(text, key, act, classes = "") {
   return does(made, act);
 }
 
+// A link inside a text. It leads to a part of the page, so it has no address, and the keyboard has to be let to it.
+export function linked(text, act, classes) {
+  const made = el("a", classes, text);
+  made.tabIndex = 0;
+  made.setAttribute("role", "link");
+  return does(made, act);
+}
+
 export function svg(tag, given) {
   const made = document.createElementNS("http://www.w3.org/2000/svg", tag);
   for (const [name, value] of Object.entries(given)) made.setAttribute(name, value);

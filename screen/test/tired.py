@@ -103,3 +103,30 @@ async def test_runs_are_taken_back_in_their_order(program):
         await press(page, "u")
         same([line for line in logged() if line.startswith("1")][-1], "1 undo 0")
         is_clean(page, screen)
+
+
+async def test_links_by_the_keyboard(program):
+    """The links of the log are reached by Tab and followed by Enter, as those that have an address."""
+    traces.write("trace", traces.COUNT)
+    await session(program, 2, "new B\npropose 7 12 0 2 3 4 5 6 1 8 9 10 11\n")
+    await session(program, 1, "new A\nundo\nnew C\n")
+    async with Screen(program, "trace", "log") as screen, Browser() as browser:
+        page = await browser.page(screen.link)
+        await page.until("document.querySelectorAll('.entry').length === 5")
+        await focus(page, "feed")
+        found = []
+        while len(found) < 6:  # both ends of the log are links or buttons
+            await page.key("Tab")
+            found.append(await page.run("document.activeElement.localName + ' ' + document.activeElement.textContent"))
+        same([one for one in found if one.startswith("a ")], ["a C", "a 2", "a A", "a p0", "a B"])
+        await page.key("Enter")
+        await page.until(f"{OPEN} === 'B'")
+        await page.run("[...document.querySelectorAll('.entry a')].find((a) => a.textContent === 'p0').focus()")
+        await page.key("Enter")
+        await page.until("document.getElementById('ask').open")
+        await page.key("Escape")
+        await page.until("!document.getElementById('ask').open")
+        roles = "[...document.querySelectorAll('.entry a')].every((a) => a.getAttribute('role') === 'link')"
+        same(await page.run(roles), True)
+        same(len(logged()), 5)  # Enter opened the dialog, and did not end it
+        is_clean(page, screen)
