@@ -283,6 +283,33 @@ async def test_a_window_as_narrow_as_a_page_that_is_enlarged(program):
         is_clean(page, screen)
 
 
+# What is in sight when the page is scrolled to its end: the foot of the schedule, and the next events in a list of
+# more than one line.
+FOOT = """(() => { scrollTo(0, 1e9);
+  const [said, next] = ["said", "next-list"].map((id) => document.getElementById(id).getBoundingClientRect());
+  return said.bottom <= innerHeight + 1 && next.height > 40 && next.bottom <= said.top + 1; })()"""
+
+
+async def test_a_low_window(program):
+    """As when a page is enlarged fourfold: what has no room in the window is scrolled to."""
+    traces.write("trace", traces.COUNT)
+    async with Screen(program, "trace", "log") as screen, Browser() as browser:
+        page = await browser.page(screen.link)
+        await page.until("document.querySelectorAll('.race').length === 1")
+        await page.click(".race")
+        await page.until("!document.getElementById('pair').hidden")
+        await page.click("#bar button", 1)  # start empty
+        await page.until(f"{NEXT} === 3")
+        await press(page, "t", "2", "t", "3", "t")
+        await page.until("document.querySelector('.pair-title')?.textContent === 'Aim: side by side'")
+        for width, height in ((1440, 300), (1000, 300), (720, 450), (360, 225), (320, 256), (1440, 900)):
+            await page.size(width, height)
+            await page.until(f"innerWidth === {width} && innerHeight === {height} && {FOOT}")
+            await page.until("document.documentElement.scrollWidth <= innerWidth")
+        same(await page.run("document.documentElement.scrollHeight <= innerHeight"), True)
+        is_clean(page, screen)
+
+
 async def test_colours_of_the_system(program):
     """What is chosen, and what is news, is told without colours of the page."""
     traces.write("trace", traces.COUNT)
