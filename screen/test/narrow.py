@@ -310,6 +310,32 @@ async def test_a_low_window(program):
         is_clean(page, screen)
 
 
+# Buttons of the chosen thread that are cut at the end of its line.
+CUT = """(() => { const line = document.querySelector("#next-list .next.on").getBoundingClientRect();
+  return [...document.querySelectorAll("#next-list .next.on button")].filter((one) => {
+    const [box, around] = [one, one.parentElement].map((part) => part.getBoundingClientRect());
+    return box.width < 10 || box.right > Math.min(line.right, around.right) + 1 || box.left < around.left - 1;
+  }).map((one) => one.textContent).join("; "); })()"""
+
+
+async def test_buttons_have_room_beside_long_names(program):
+    """Names and places are cut before the buttons are."""
+    traces.write("trace", PLACES)
+    async with Screen(program, "trace", "log") as screen, Browser() as browser:
+        page = await browser.page(screen.link)
+        await page.until("document.querySelectorAll('.race').length === 1")
+        await page.click(".chip", 2)
+        await page.until("document.querySelectorAll('.race').length === 2")
+        await page.click(".race", 1)  # apart: the aim, and each thread is some events from it
+        await page.until("!document.getElementById('note').hidden")
+        await press(page, "e")
+        await page.until(f"{NEXT} === 2 && document.querySelectorAll('#next-list .next.on button').length === 4")
+        for width in (320, 560, 600, 760, 900, 1000, 1180, 1440):
+            await page.size(width, 900)
+            await page.until(f"innerWidth === {width} && {CUT} === ''")
+        is_clean(page, screen)
+
+
 async def test_colours_of_the_system(program):
     """What is chosen, and what is news, is told without colours of the page."""
     traces.write("trace", traces.COUNT)
