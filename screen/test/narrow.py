@@ -68,6 +68,7 @@ async def test_places_beside_their_source(program):
         is_clean(page, screen)
 
 
+DARK = [{"name": "prefers-color-scheme", "value": "dark"}]
 SHOWN = "[...document.querySelectorAll('#main > section')].filter((s) => s.offsetHeight).map((s) => s.id).join()"
 
 
@@ -333,6 +334,29 @@ async def test_buttons_have_room_beside_long_names(program):
         for width in (320, 560, 600, 760, 900, 1000, 1180, 1440):
             await page.size(width, 900)
             await page.until(f"innerWidth === {width} && {CUT} === ''")
+        is_clean(page, screen)
+
+
+async def test_paper_is_light(program):
+    """Also if the page is dark, by the system or by its button. Nothing on it asks to be pressed."""
+    traces.write("trace", traces.COUNT)
+    async with Screen(program, "trace", "log") as screen, Browser() as browser:
+        page = await browser.page(screen.link, dark=True)
+        await new(page, 3)
+        ink = "getComputedStyle(document.body).color"
+        for _ in range(2):
+            dark = await page.run(ink)
+            await page.call("Emulation.setEmulatedMedia", media="print", features=DARK)
+            await page.until(f"{ink} !== {dark!r}")
+            same(await page.run(ink), "rgb(35, 33, 30)")
+            shown = "[...document.querySelectorAll('button:not(.chip), input')].filter((b) => b.offsetWidth).length"
+            same(await page.run(shown), 0)
+            await page.call("Emulation.setEmulatedMedia", media="", features=DARK)
+            await page.until(f"{ink} === {dark!r}")
+            await page.click("#theme")
+            await page.until(f"{ink} !== {dark!r}")
+            await page.click("#theme")
+            await page.until(f"{ink} === {dark!r} && document.documentElement.dataset.theme === 'dark'")
         is_clean(page, screen)
 
 
