@@ -123,16 +123,18 @@ async def test_what_others_did_meanwhile(program):
 
 
 def children(process):
-    """The sessions that a screen started."""
-    with open(f"/proc/{process.pid}/task/{process.pid}/children", encoding="ascii") as file:
-        for child in map(int, file.read().split()):
-            with contextlib.suppress(OSError), open(f"/proc/{child}/cmdline", "rb") as words:  # it may end meanwhile
-                if b"session" in words.read().split(b"\0"):
-                    yield child
+    """The sessions that a screen started. Each process says whose child it is, which all systems tell."""
+    for child in filter(str.isdigit, os.listdir("/proc")):
+        with contextlib.suppress(OSError):  # it may end meanwhile
+            with open(f"/proc/{child}/stat", "rb") as file:
+                parent = int(file.read().rpartition(b")")[2].split()[1])
+            with open(f"/proc/{child}/cmdline", "rb") as file:
+                if parent == process.pid and b"session" in file.read().split(b"\0"):
+                    yield int(child)
 
 
 async def kill_sessions(screen):
-    """Kills them, and gives their numbers. The list of children may miss one while another of them ends."""
+    """Kills them, and gives their numbers."""
     killed = await comes(lambda: list(children(screen.process)))
     for child in killed:
         with contextlib.suppress(ProcessLookupError):
