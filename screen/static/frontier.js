@@ -78,7 +78,7 @@ function render() {
   if (!told || told.witness) return;
   const free = told.next.filter((one) => !one.why).length;
   const ended = told.ended ? `, ${told.ended} at an end` : "";
-  $("next-count").textContent = `${free} of ${told.next.length} threads may go on${ended}`;
+  $("next-count").textContent = `${free} of ${many(told.next.length, "thread")} may go on${ended}`;
   filter.hidden = told.next.length <= FEW;
   const lit = new Set(told.pairs.flat());
   const longest = Math.max(0, ...told.next.map((one) => threadName(one.t).length));
