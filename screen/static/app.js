@@ -114,6 +114,12 @@ function isStep(entry, name) {
   return isMine && !isElsewhere && !about?.swaps && !["swap", "propose"].includes(about?.k);
 }
 
+// The name of the schedule that came back, if an entry is this page's undo of a drop.
+function broughtBack(entry) {
+  const undone = entry.k === "undo" && entry.c === state.client && isActing() ? state.entries.get(entry.of) : null;
+  return undone?.k === "drop" ? undone.name : null;
+}
+
 // What is drawn is asked for first, and the feed is drawn while the answer is under way.
 on("log", async (told) => {
   const name = state.view?.schedule;
@@ -122,6 +128,7 @@ on("log", async (told) => {
   const isTouched = name && name in told.rows;
   const drawn = isTouched && told.rows[name] ? [sheet.refresh(isMine), frontier.load()] : [];
   feed.render();
+  for (const back of told.entries.map(broughtBack)) if (back) views.reopen(back);
   if (isTouched) views.bar();
   if (isTouched && !told.rows[name]) {
     sheet.reset();

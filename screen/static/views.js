@@ -201,7 +201,8 @@ function viewButtons() {
   if (state.view?.witness) {
     return [inTurn("Work on it", "w", take, "main"), inTurn("Start empty", "e", startEmpty), inTurn("Why", "x", why)];
   }
-  return state.view?.schedule ? [button("Branch", "b", branch), inTurn("Drop", "", drop)] : null;
+  const isThere = state.rows.has(state.view?.schedule); // another analyst may have dropped it
+  return isThere ? [button("Branch", "b", branch), inTurn("Drop", "", drop)] : null;
 }
 
 function aimLine() {
@@ -279,6 +280,11 @@ export async function drop() {
   if (!name || !isDone(await act("drop", { name }))) return;
   close();
   remember({});
+}
+
+// Opens a schedule again whose drop was taken back, unless something else is looked at.
+export function reopen(name) {
+  if (!state.view && !none && !sought && state.rows.has(name)) later(() => open({ schedule: name }));
 }
 
 export async function adopt(entry) {

@@ -130,3 +130,30 @@ async def test_links_by_the_keyboard(program):
         same(await page.run(roles), True)
         same(len(logged()), 5)  # Enter opened the dialog, and did not end it
         is_clean(page, screen)
+
+
+async def test_a_drop_that_is_taken_back(program):
+    """The schedule is open again. One that another analyst dropped offers nothing that cannot be done."""
+    traces.write("trace", traces.COUNT)
+    buttons = "[...document.querySelectorAll('#bar button')].map((b) => b.dataset.does).join()"
+    async with Screen(program, "trace", "log") as screen, Browser() as browser:
+        page = await browser.page(screen.link)
+        await new(page, 3)
+        await press(page, "1")
+        await page.click("#bar button", 1)  # drop
+        await page.until(f"{OPEN} === 'No schedule'")
+        await press(page, "u")
+        await page.until(f"{OPEN} === 'A' && {ROWS} === 1 && {NEXT} === 3 && {buttons} === 'b,Drop'")
+        await session(program, 2, "drop A\n")
+        await page.until(f"document.querySelector('#bar .line').textContent === 'Adropped' && {buttons} === ''")
+        await session(program, 2, "undo\n")
+        await page.until(f"{OPEN} === 'A' && {ROWS} === 1 && {NEXT} === 3 && {buttons} === 'b,Drop'")
+        await page.click("#bar button", 1)
+        await page.until(f"{OPEN} === 'No schedule'")
+        await page.click(".race")
+        await page.until(f"{OPEN} === 'Witness'")
+        await press(page, "u")  # something else is looked at
+        await page.until("document.querySelectorAll('.sched').length === 1")
+        await press(page, "p")
+        same(await page.run(SAID), "a witness is looked at: w works on it, e starts empty")
+        is_clean(page, screen)
