@@ -40,6 +40,8 @@ LOOK = 6
 DOUBLE = 0.05
 # How long the browser has to end, in seconds.
 GRACE = 60
+# The longest path of a folder in which the browser can make a socket: with the names in it 107 bytes are allowed.
+SOCKET_FOLDER = 50
 CRASHED = "the page ended: the browser ran out of memory, or failed"
 # How much slower than it could a page works, so that tests are tried as on a slow machine; and up to how many
 # milliseconds later than it could a message comes to the page.
@@ -77,6 +79,13 @@ DELAY = f"""(() => {{
 def chromium():
     """Chromium itself; the script in /usr/bin starts it with more words."""
     return next(filter(os.path.exists, ("/usr/lib/chromium/chromium", "/usr/bin/chromium")))
+
+
+def short_paths():
+    """An environment for the browser, which makes a socket in the folder for temporary files: its path is short."""
+    folder = tempfile.gettempdir()
+    is_long = len(folder) > SOCKET_FOLDER and os.access("/tmp", os.W_OK | os.X_OK)
+    return {**os.environ, "TMPDIR": "/tmp" if is_long else folder}
 
 
 class Browser:
@@ -137,6 +146,7 @@ class Browser:
             "about:blank",
             stdout=asyncio.subprocess.DEVNULL,
             stderr=asyncio.subprocess.PIPE,
+            env=short_paths(),
         )
         address = None
         while not address:
