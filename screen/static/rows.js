@@ -39,7 +39,7 @@ function label(row) {
 
 function finish(made, row, isOn) {
   made.dataset.p = row.p;
-  does(made, () => events.click(row));
+  does(made, ({ clicks }) => events.click(row, clicks));
   made.setAttribute("role", "option");
   made.setAttribute("aria-label", label(row));
   made.setAttribute("aria-selected", isOn);

@@ -268,11 +268,18 @@ addEventListener("pointerup", () => {
   swap(mine.p, Math.max(-FARTHEST, Math.min(FARTHEST, other.p - mine.p)));
 });
 
-drawn.events.click = (row) => (row.b ? toggle(row.p) : select(row.p, { into: false }));
+// A double click on a block opens it, whether its events stand there by the second press or not. One on an event that
+// stood there before closes the block.
+let wasBlock = false;
+drawn.events.click = (row, clicks) => {
+  if (clicks < 2) wasBlock = Boolean(row.b);
+  if (!row.b) select(row.p, { into: false });
+  else if (clicks < 2) toggle(row.p);
+};
 stage.addEventListener("dblclick", (event) => {
   const row = event.target.closest(".row");
   const at = Number(row?.dataset.p);
-  if (row && !row.dataset.block && win.rows.find((one) => one.p === at)?.x) toggle(at);
+  if (row && !wasBlock && !row.dataset.block && win?.rows.find((one) => one.p === at)?.x) toggle(at);
 });
 stage.addEventListener("mousemove", (event) => {
   const row = event.target.closest(".row");

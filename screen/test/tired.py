@@ -157,3 +157,31 @@ async def test_a_drop_that_is_taken_back(program):
         await press(page, "p")
         same(await page.run(SAID), "a witness is looked at: w works on it, e starts empty")
         is_clean(page, screen)
+
+
+async def test_a_double_click_on_a_block(program):
+    """It opens the block, whether the rows come before the second press or after it; another one closes it."""
+    traces.write("trace", "".join(f"T1|w(a)|a:{at}\n" for at in range(40)) + "T2|w(b)|b:1\n")
+    await session(program, 1, "new A\n" + "".join(f"add A {event}\n" for event in range(20)))
+    async with Screen(program, "trace", "log") as screen, Browser() as browser:
+        page = await browser.page("about:blank")
+        await page.call("Page.addScriptToEvaluateOnNewDocument", source=HOLD)
+        await page.open(screen.link)
+        await page.until(f"{ROWS} === 7 && {NEXT} === 2")
+        for is_late in (False, True):
+            began = time.time()
+            if is_late:
+                await page.run("hold()")
+            x, y = await page.press("#space .block .pos", timestamp=began)
+            await page.release(x, y, timestamp=began)
+            await page.until("owed === 0 && held.length === 1" if is_late else f"{ROWS} === 20")
+            await page.mouse("mousePressed", x, y, button="left", clickCount=2, timestamp=began + DOUBLE)
+            await page.release(x, y, 2, timestamp=began + DOUBLE)
+            if is_late:
+                await page.run("letGo()")
+            await page.until(f"{ROWS} === 20")
+            await press(page, "p")
+            await page.until(f"owed === 0 && {ROWS} === 20")
+            await page.click("#space .row[data-p='3'] .pos", times=2)
+            await page.until(f"{ROWS} === 7")
+        is_clean(page, screen)
