@@ -181,9 +181,10 @@ function drawn(group, first, last, isFlashed, isFresh) {
   const entries = group.entries.map((entry) => entry.i).reverse();
   const classes = `${group.dead ? " dead" : ""}${isFlashed ? " flash" : ""}${isFresh ? " fresh" : ""}`;
   const numbers = first === last ? String(first) : `${first}–${last}`;
+  const undo = isMine ? button("undo", "", () => later(() => events.act("undo", { entries })), "quiet") : null;
+  undo?.setAttribute("aria-label", `undo ${numbers}`);
   const made = el("div", `entry${classes}`, el("span", "num dim at", numbers),
-    who(group.c), el("span", "did", sentence(group)),
-    isMine ? button("undo", "", () => later(() => events.act("undo", { entries })), "quiet") : null);
+    who(group.c), el("span", "did", sentence(group)), undo);
   made.setAttribute("role", "listitem");
   const taken = group.dead ? `\ntaken back by entry ${group.entries[0].u}` : "";
   made.title = entries.length === 1 ? group.entries[0].w + taken : many(entries.length, "entry", "entries");

@@ -158,6 +158,8 @@ async def test_what_a_screen_reader_finds(program):
             ("separator", "Height of the next events"),
             ("region", "Races"),
             ("button", "Undo mine"),
+            ("button", "undo 0"),
+            ("button", "undo 1"),
             ("option", "position 0, event 0, T0 forks T1, count.c:17"),
             (
                 "option",
@@ -179,6 +181,10 @@ async def test_what_a_screen_reader_finds(program):
         await focus(page, "stage")
         await page.key("ArrowUp")
         await page.until(f"{active}.getAttribute('aria-label') === 'position 0, event 0, T0 forks T1, count.c:17'")
+        await page.click(".race")
+        await page.until("document.querySelector('#bar h2').textContent === 'Witness'")
+        await page.until("document.getElementById('next').hidden")
+        same([one for one in await spoken(page) if one[0] == "separator"], [])  # there is nothing to split
         is_clean(page, screen)
 
 
