@@ -48,23 +48,27 @@ export async function restore(look) {
   if (!look?.schedule) return close();
   const mine = ++looks;
   await aimAt(look.aim ?? null);
-  return mine === looks ? open({ schedule: look.schedule }) : null;
+  return mine === looks ? open({ schedule: look.schedule }, { isAsItWas: true }) : null;
 }
 
 addEventListener("popstate", (event) => {
   if (!location.hash) now(() => restore(event.state));
 });
 
-export async function open(view, { end = true } = {}) {
+const rememberView = (view) =>
+  remember(view.schedule ? { schedule: view.schedule, aim: state.aim } : { pair: view.witness });
+
+// A schedule that is opened as it was before has the aim that it had, or none.
+export async function open(view, { end = true, isAsItWas = false } = {}) {
   looks++;
   none = sought = null;
   state.view = view;
-  remember(view.schedule ? { schedule: view.schedule, aim: state.aim } : { pair: view.witness });
+  rememberView(view);
   hideNote();
   sheet.reset({ end });
   bar();
   reveal("centre");
-  if (view.schedule) await openSchedule(view.schedule);
+  if (view.schedule) await openSchedule(view, isAsItWas);
   else {
     await sheet.load();
     if (state.view !== view) return; // something else is open by now, and has its own list of what comes next
@@ -74,9 +78,13 @@ export async function open(view, { end = true } = {}) {
   bar();
 }
 
-async function openSchedule(name) {
-  const aim = /^r(\d+)-(\d+)/.exec(name);
-  if (aim && !state.aim) await aimAt([Number(aim[1]), Number(aim[2])]);
+async function openSchedule(view, isAsItWas) {
+  const name = view.schedule;
+  const aim = isAsItWas ? null : /^r(\d+)-(\d+)/.exec(name);
+  if (aim && !state.aim) {
+    await aimAt([Number(aim[1]), Number(aim[2])]);
+    if (state.view === view) rememberView(view);
+  }
   await Promise.all([sheet.load(), frontier.load()]);
   schedules.render();
   check(name);
@@ -117,6 +125,7 @@ export async function clearAim() {
   looks++;
   none = sought = null;
   await aimAt(null);
+  if (state.view?.schedule) rememberView(state.view);
   frontier.load();
   sheet.load();
 }

@@ -69,6 +69,35 @@ async def test_a_reload_shows_what_was_shown(program):
         is_clean(page, screen)
 
 
+async def test_an_aim_that_was_dropped(program):
+    """A reload and a connection that comes back leave it so. A schedule that is opened by hand has that of its name."""
+    traces.write("trace", SEVERAL)
+    there = f"{OPEN}.startsWith('r') && {ROWS} === 0 && {NEXT} === 2"
+    async with Screen(program, "trace", "log") as screen, Browser() as browser:
+        page = await browser.page("about:blank")
+        await page.call("Page.addScriptToEvaluateOnNewDocument", source=HOLD)
+        await page.open(screen.link)
+        await page.until(f"{RACES} === 2")
+        await page.click(".race", 0)
+        await page.until(f"{OPEN} === 'Witness'")
+        aim = await page.run(AIM)
+        await press(page, "e")
+        await page.until(f"{there} && {AIM} === '{aim}'")
+        await page.call("Page.reload")
+        await page.until(f"{there} && {AIM} === '{aim}' && {RACES} === 2")
+        await page.click("#bar .of-aim button")  # drop the aim
+        await page.until(f"{AIM} === ''")
+        await page.call("Page.reload")
+        await page.until(f"{there} && {RACES} === 2 && owed === 0")
+        same(await page.run(AIM), "")
+        before = await page.run("window.socket.close(); window.views")
+        await page.until(f"window.views > {before} && {there} && owed === 0")
+        same(await page.run(AIM), "")
+        await page.click(".sched")
+        await page.until(f"{there} && {AIM} === '{aim}'")
+        is_clean(page, screen)
+
+
 async def test_two_tabs_of_one_analyst(program):
     """What is done in one is not scrolled to in the other, and each looks at its own race."""
     traces.write("trace", "".join(f"T{at % 2}|w(a{at % 2})|a:{at}\n" for at in range(400)))
