@@ -108,15 +108,13 @@ async function check(name) {
     "Do not go by the drawing; reload the page, and report this."));
 }
 
+// Until its events are known, the line of the aim shows those that it had.
 export async function aimAt(pair) {
   state.aim = pair;
-  state.aimTold = [];
-  if (pair) {
-    const told = await ask("pair", { pair });
-    if (state.aim !== pair) return;
-    if (told.mistake) state.aim = null;
-    else state.aimTold = told.told;
-  }
+  const told = pair ? await ask("pair", { pair }) : { told: [] };
+  if (state.aim !== pair) return;
+  if (told.mistake) state.aim = null;
+  state.aimTold = told.told ?? [];
   bar();
 }
 

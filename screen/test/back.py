@@ -70,7 +70,7 @@ async def test_a_reload_shows_what_was_shown(program):
 
 
 async def test_an_aim_that_was_dropped(program):
-    """A reload and a connection that comes back leave it so. A schedule that is opened by hand has that of its name."""
+    """A reload and a connection that comes back leave it so. A schedule that is opened anew has that of its name."""
     traces.write("trace", SEVERAL)
     there = f"{OPEN}.startsWith('r') && {ROWS} === 0 && {NEXT} === 2"
     async with Screen(program, "trace", "log") as screen, Browser() as browser:

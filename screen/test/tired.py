@@ -132,6 +132,43 @@ async def test_links_by_the_keyboard(program):
         is_clean(page, screen)
 
 
+# Keeps what the line of the aim showed.
+AIMS = """(() => { window.aims = [];
+  const look = () => { const line = document.querySelector("#bar .of-aim .aim");
+    if (line) aims.push([...line.querySelectorAll(".short .num")].map((one) => one.textContent).join()); };
+  new MutationObserver(look).observe(document.getElementById("bar"), { childList: true, subtree: true });
+})()"""
+
+
+async def test_a_race_after_another(program):
+    """The line of the aim has the events of one or of the other, also while answers come late, and never none."""
+    traces.write("trace", "T1|w(x)|a:1\nT1|w(y)|a:2\nT2|w(x)|b:1\nT2|w(y)|b:2\n")
+    async with Screen(program, "trace", "log") as screen, Browser() as browser:
+        page = await browser.page("about:blank")
+        script = HOLD.replace('["view"]', '["view", "pair"]')
+        await page.call("Page.addScriptToEvaluateOnNewDocument", source=script)
+        await page.open(screen.link)
+        await page.until("document.querySelectorAll('.race').length === 2")
+        await page.click(".race", 0)
+        await page.until(f"{OPEN} === 'Witness' && {ROWS} === 0 && owed === 0")
+        await page.run(AIMS)
+        await page.click(".race", 1)
+        await page.until(f"{OPEN} === 'Witness' && {ROWS} === 2 && owed === 0")
+        await page.run("hold()")
+        await page.click(".race", 0)
+        await page.until("owed === 0 && held.length === 1")
+        before = await page.run("held.shift()(); window.views")  # the events of the aim
+        await page.until(f"owed === 0 && held.length === 1 && window.views === {before + 1}")  # its rows are there
+        await page.click(".race", 1)
+        await page.until("owed === 0 && held.length === 2")
+        await page.run("held.shift()()")
+        await page.run("letGo()")
+        await page.until(f"{OPEN} === 'Witness' && {ROWS} === 2 && owed === 0")
+        same(await page.run("window.aims.filter((one) => one !== '0,2' && one !== '1,3')"), [])
+        assert await page.run("window.aims.length") > 1
+        is_clean(page, screen)
+
+
 async def test_a_drop_that_is_taken_back(program):
     """The schedule is open again. One that another analyst dropped offers nothing that cannot be done."""
     traces.write("trace", traces.COUNT)
