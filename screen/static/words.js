@@ -40,7 +40,7 @@ export function tag(thread) {
 
 export function who(client) {
   const made = el("bdi", `who${client === state.client ? " me" : ""}`, clientName(client));
-  made.title = `client ${client}`;
+  made.title = ["client", client, state.names[client]].filter(Boolean).join(" ");
   return made;
 }
 

@@ -284,6 +284,31 @@ async def test_a_window_as_narrow_as_a_page_that_is_enlarged(program):
         is_clean(page, screen)
 
 
+LONG_NAMES = """(() => {
+  const box = (selector) => document.querySelector(selector).getBoundingClientRect();
+  const [feed, all] = ["feed", "side"].map((id) => document.getElementById(id));
+  return [box("#schedule-B .sched-name").width > 5, box(".proposal .told").width > 60, box(".entry .did").width > 60,
+    box(".proposal button").right <= all.getBoundingClientRect().right, feed.scrollWidth <= feed.clientWidth].join();
+})()"""
+
+
+async def test_long_names_of_clients(program):
+    """They are cut, and not what the clients did. Their titles have all of them."""
+    traces.write("trace", traces.COUNT)
+    traces.write("log.names", "1 Ada\n2 " + "W" * 40 + "\n")
+    await session(program, 2, f"new B\npropose 7 12 0 2 3 4 5 6 1 8 9 10 11\nnew {'C' * 64}\n")
+    async with Screen(program, "trace", "log") as screen, Browser() as browser:
+        page = await browser.page(screen.link)
+        await page.until("document.querySelectorAll('.entry').length === 3")
+        for width in (1440, 1000, 320):
+            await page.size(width, 900)
+            if width == 320:
+                await page.click("#tabs button", 2)
+            await page.until(f"innerWidth === {width} && {LONG_NAMES} === 'true,true,true,true,true'")
+        same(await page.run("document.querySelector('#schedule-B .who').title"), f"client 2 {'W' * 40}")
+        is_clean(page, screen)
+
+
 # What is in sight when the page is scrolled to its end: the foot of the schedule, and the next events in a list of
 # more than one line.
 FOOT = """(() => { scrollTo(0, 1e9);
