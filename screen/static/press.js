@@ -4,8 +4,8 @@
 
 // A hand that presses stays within so many pixels.
 const NEAR = 6;
-// A click comes so soon after the button went up, and the second press of a double click so soon after the first, in
-// milliseconds.
+// A click comes so soon after the button went up, and the second tap of a double tap so soon after the first, in
+// milliseconds. The browser itself counts the presses of a mouse.
 const SOON = 600;
 const DOUBLE = 400;
 
@@ -32,17 +32,17 @@ function meant(target) {
   return null;
 }
 
-const isNear = (event, from) => Math.hypot(event.clientX - from.x, event.clientY - from.y) <= NEAR;
+const isNear = (one, other) => Math.hypot(one.x - other.x, one.y - other.y) <= NEAR;
+const isSecond = (mine, clicks) => clicks > 1 || (mine.isTap && mine.at - before.at < DOUBLE);
 
 // The second press of a double click means what the first one meant: if something else stands there by now, nothing.
-const isStray = (found, event) =>
-  before && before.node !== found?.node && isNear(event, before) && event.timeStamp - before.at < DOUBLE;
+const isStray = (mine, clicks) =>
+  before && before.node !== mine.node && isNear(mine, before) && isSecond(mine, clicks);
 
 addEventListener("pointerdown", (event) => {
-  const found = meant(event.target);
-  if (event.button) pressed = null;
-  else if (isStray(found, event)) pressed = { x: event.clientX, y: event.clientY };
-  else pressed = { x: event.clientX, y: event.clientY, at: event.timeStamp, ...found };
+  const isTap = event.pointerType === "touch";
+  pressed = event.button ? null :
+    { x: event.clientX, y: event.clientY, at: event.timeStamp, isTap, ...meant(event.target) };
 }, true);
 addEventListener("pointerup", () => {
   const mine = pressed;
@@ -56,11 +56,14 @@ addEventListener("pointercancel", () => {
 
 // A key on a button has no press before it. Who presses one thing and lets go over another has thought better of it.
 addEventListener("click", (event) => {
-  const mine = event.detail ? pressed : null;
-  if (mine?.act) before = mine;
+  const clicks = event.detail; // 2 if it is the second one of a double click
+  const mine = clicks ? pressed : null;
   pressed = null;
   const here = meant(event.target);
-  const clicks = event.detail; // 2 if it is the second one of a double click
   if (!mine) here?.act({ ...here, clicks });
-  else if (mine.act && (here?.node === mine.node || isNear(event, mine))) mine.act({ ...mine, clicks });
+  else if (!isStray(mine, clicks)) {
+    before = mine;
+    const isThere = here?.node === mine.node || isNear({ x: event.clientX, y: event.clientY }, mine);
+    if (mine.act && isThere) mine.act({ ...mine, clicks });
+  }
 });

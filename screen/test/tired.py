@@ -56,6 +56,27 @@ async def test_one_button_after_another(program):
         is_clean(page, screen)
 
 
+async def test_quick_clicks_at_one_place(program):
+    """Each acts on what it hits, however soon it comes. The second one of a double click does so on the same alone."""
+    traces.write("trace", traces.COUNT)
+    await session(program, 2, "new B\nnew C\nnew D\nnew E\nadd B 0\n")
+    async with Screen(program, "trace", "log") as screen, Browser() as browser:
+        page = await browser.page(screen.link)
+        await page.until(f"document.querySelectorAll('.sched').length === 4 && {NEXT} === 3")
+        began = time.time()
+        x, y = await page.press(".sched", 0, timestamp=began)
+        await page.release(x, y, timestamp=began)
+        await page.until(f"{OPEN} === 'B' && {ROWS} === 1")
+        for number, name, clicks, there in ((1, "B", 1, "C"), (2, "C", 2, "C"), (3, "D", 1, "E")):
+            await session(program, 2, f"drop {name}\n")  # the one below it comes to its place
+            await page.until(f"document.querySelectorAll('.sched').length === {4 - number}")
+            now = began + DOUBLE * number
+            await page.mouse("mousePressed", x, y, button="left", clickCount=clicks, timestamp=now)
+            await page.release(x, y, clicks, timestamp=now)
+            await page.until(f"{OPEN} === '{there}'")
+        is_clean(page, screen)
+
+
 async def test_a_double_click_makes_one_schedule(program):
     """However quick the program is: the second press may come when the first one's schedule is there."""
     traces.write("trace", traces.COUNT)
