@@ -127,6 +127,43 @@ async def test_the_keyboard_alone(program):
         is_clean(page, screen)
 
 
+# Whether the list that has the focus, or its chosen line, shows so.
+SEEN = """(() => {
+  const list = document.activeElement;
+  return [list, list.querySelector(".on")].filter(Boolean).map((one) => getComputedStyle(one)).some((style) =>
+    (style.outlineStyle !== "none" && parseFloat(style.outlineWidth) > 0) || style.boxShadow !== "none") && list.id;
+})()"""
+
+
+async def test_the_focus_is_seen(program):
+    """In each pane, also in one that has no chosen line."""
+    traces.write("trace", traces.COUNT)
+    async with Screen(program, "trace", "log") as screen, Browser() as browser:
+        page = await browser.page(screen.link)
+        await page.until("document.querySelectorAll('.race').length === 1")
+        panes = ("race-list", "stage", "next-list", "row-list", "feed")
+        for pane in ("race-list", "row-list", "feed"):  # nothing is chosen, and no schedule is open
+            await page.run("document.activeElement.blur()")
+            while await page.run("document.activeElement.id") != pane:
+                await page.key("F6")
+            same(await page.run(SEEN), pane)
+        await new(page, 3)
+        await press(page, "1")
+        await page.until(f"{ROWS} === 1")
+        for keys in ((), ("ArrowDown",)):
+            for pane in panes:
+                await page.key("F6")
+                while await page.run("document.activeElement.id") != pane:
+                    await page.key("F6")
+                for key in keys if pane != "race-list" else ():
+                    await page.key(key)
+                await page.until(f"{SEEN} === '{pane}'")
+        await focus(page, "race-list")
+        await page.key("ArrowDown")
+        await page.until(f"document.querySelector('.race.on') && {SEEN} === 'race-list'")
+        is_clean(page, screen)
+
+
 async def spoken(page):
     """What a screen reader finds: pairs of a role and a name, from the browser's accessibility tree."""
     await page.call("Accessibility.enable")
