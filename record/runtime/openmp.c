@@ -9,6 +9,8 @@ struct comer {
 };
 
 struct region {
+    /* The library looks here for what the tasks of a region sum up, as in the program's own data. */
+    void *sums;
     void (*body)(void *);
     void *data;
     u64 team, pc;
@@ -131,23 +133,43 @@ static int is_of_openmp(void *(*body)(void *)) {
     return is;
 }
 
+static struct region new_region(void (*body)(void *), void *data, u64 pc) {
+    int idle = IDLE;
+    struct region r = {.body = body, .data = data, .team = __atomic_add_fetch(&teams, 1, SC), .pc = pc};
+    if (!idle) maybe_give(), r.master = me, r.is_planned = (u8)following;
+    if (r.is_planned) give();
+    else if (!idle) short_wait = 1;
+    making_team = pc;
+    return r;
+}
+
+static void leave_region(struct region *r) {
+    making_team = 0, idle_in = NULL;
+    if (!IDLE) take(), short_wait = 0, meet_team(WENT_ON, r->team, LAST_ROUND, r->pc);
+}
+
 #define REGION(name, given, passed_on) \
     void name given { \
         static void(*real) given; \
         if (!real) real = (void(*) given)next(#name, NULL); \
-        struct region r = {.body = body, .data = data, .team = __atomic_add_fetch(&teams, 1, SC), .pc = PC}; \
-        int idle = IDLE; \
-        if (!idle) maybe_give(), r.master = me, r.is_planned = (u8)following; \
-        if (r.is_planned) give(); \
-        else if (!idle) short_wait = 1; \
-        making_team = PC; \
+        struct region r = new_region(body, data, PC); \
         real passed_on; \
-        making_team = 0, idle_in = NULL; \
-        if (!idle) take(), short_wait = 0, meet_team(WENT_ON, r.team, LAST_ROUND, PC); \
+        leave_region(&r); \
     }
 REGION(GOMP_parallel, (void (*body)(void *), void *data, unsigned n, unsigned g), (in_region, &r, n, g))
 REGION(GOMP_parallel_sections, (void (*body)(void *), void *data, unsigned n, unsigned k, unsigned g),
        (in_region, &r, n, k, g))
+
+/* A region whose tasks sum up. */
+unsigned GOMP_parallel_reductions(void (*body)(void *), void *data, unsigned n, unsigned g) {
+    REAL(GOMP_parallel_reductions, unsigned, void (*)(void *), void *, unsigned, unsigned);
+    struct region r = new_region(body, data, PC);
+    r.sums = *(void **)data;
+    unsigned size = real(in_region, &r, n, g);
+    leave_region(&r);
+    return size;
+}
+
 #define LOOP(kind) \
     REGION(GOMP_parallel_loop_##kind, \
            (void (*body)(void *), void *data, unsigned n, long from, long to, long by, long chunk, unsigned g), \
@@ -196,6 +218,24 @@ static void leaves_barrier(int was_last, u64 pc) {
         real(); \
         if (!idle) leaves_barrier(was_last, PC); \
     }
+/* The same in a region that may be cancelled: then not all of its threads come. */
+#define CANCELLED_BARRIER(name) \
+    _Bool name(void) { \
+        REAL(name, _Bool, void); \
+        int idle = IDLE; \
+        if (!idle && may_be_cancelled() && my_region) my_region->has_tasks = 1; \
+        int was_last = idle ? 0 : comes_to_barrier(PC); \
+        _Bool is_cancelled = real(); \
+        if (!idle) leaves_barrier(was_last, PC); \
+        return is_cancelled; \
+    }
+static int may_be_cancelled(void) {
+    REAL(omp_get_cancellation, int, void);
+    return real();
+}
+CANCELLED_BARRIER(GOMP_barrier_cancel)
+CANCELLED_BARRIER(GOMP_loop_end_cancel)
+CANCELLED_BARRIER(GOMP_sections_end_cancel)
 BARRIER(GOMP_barrier)
 BARRIER(GOMP_loop_end)
 BARRIER(GOMP_sections_end)

@@ -205,6 +205,18 @@ void GOMP_taskwait(void) {
     if (my_waits) meet(WENT_ON, OF_TEAM, my_waits, my_wait_round++, PC);
 }
 
+/* Waits for the tasks that its variables hang on. */
+void GOMP_taskwait_depend(void **depend) {
+    REAL(GOMP_taskwait_depend, void, void **);
+    struct task waited = {.pc = PC};
+    if (!IDLE) maybe_give(), give();
+    real(depend);
+    if (IDLE) return;
+    take();
+    read_depends(&waited, depend);
+    meet_depends(&waited, WENT_ON);
+}
+
 void GOMP_taskgroup_start(void) {
     REAL(GOMP_taskgroup_start, void, void);
     struct group *g = __libc_malloc(sizeof *g);
