@@ -11,7 +11,7 @@ static int is_outside(void) { return !IDLE && !following && (me == NOBODY || me 
 
 /* The library of OpenMP takes and gives back blocks of its own in its barriers, also after the last thread came. To wait
  * for a turn there could be to wait for a thread that begins the next region, and that waits for this one. */
-static int is_of_barrier(void) { return idle_in && is_outside(); }
+static int is_of_barrier(void) { return idle_in != NULL; }
 
 static void *got(void *block, size_t n, u64 pc) {
     int outside = is_outside();
