@@ -135,6 +135,15 @@ SEEN = """(() => {
 })()"""
 
 
+async def to_pane(page, pane):
+    """Presses the key for the next pane until this one has the focus."""
+    for _ in range(10):
+        await page.key("F6")
+        if await page.run("document.activeElement.id") == pane:
+            return
+    raise AssertionError(f"no key leads to {pane}")
+
+
 async def test_the_focus_is_seen(program):
     """In each pane, also in one that has no chosen line."""
     traces.write("trace", traces.COUNT)
@@ -143,18 +152,14 @@ async def test_the_focus_is_seen(program):
         await page.until("document.querySelectorAll('.race').length === 1")
         panes = ("race-list", "stage", "next-list", "row-list", "feed")
         for pane in ("race-list", "row-list", "feed"):  # nothing is chosen, and no schedule is open
-            await page.run("document.activeElement.blur()")
-            while await page.run("document.activeElement.id") != pane:
-                await page.key("F6")
+            await to_pane(page, pane)
             same(await page.run(SEEN), pane)
         await new(page, 3)
         await press(page, "1")
         await page.until(f"{ROWS} === 1")
         for keys in ((), ("ArrowDown",)):
             for pane in panes:
-                await page.key("F6")
-                while await page.run("document.activeElement.id") != pane:
-                    await page.key("F6")
+                await to_pane(page, pane)
                 for key in keys if pane != "race-list" else ():
                     await page.key(key)
                 await page.until(f"{SEEN} === '{pane}'")
