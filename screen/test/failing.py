@@ -5,6 +5,7 @@ import contextlib
 import io
 import json
 import os
+import signal
 import sys
 import threading
 import time
@@ -21,6 +22,7 @@ from screen_app.session import Gone, Session  # noqa: E402
 from screen_app.source import Source  # noqa: E402
 from screen_app.trace import Trace  # noqa: E402
 
+SCREEN = os.path.join(os.path.dirname(os.path.dirname(os.path.abspath(__file__))), "screen")
 # How long what has to come may take on a busy machine, in seconds.
 PATIENCE = 600
 # A program whose output ends while it goes on, and a process of its own that has its error.
@@ -377,6 +379,38 @@ async def test_it_ends_though_something_does_not(program):
     process.terminate()
     said = (await asyncio.wait_for(process.communicate(), PATIENCE))[1].decode()
     assert "Stack for" in said and "Timeout" in said, said
+
+
+async def status_of(client, base, ticket=None):
+    """The status of the first page, or of a ticket."""
+    asked = client.post(base + "/enter", data=ticket, headers={"Origin": base}) if ticket else client.get(base + "/")
+    async with asked as answer:
+        return answer.status
+
+
+async def test_the_terminal(program):
+    """Enter prints another link, the end of the input prints none, and control-C ends it."""
+    traces.write("trace", traces.COUNT)
+    terminal, its = os.openpty()
+    pipe = asyncio.subprocess.PIPE
+    words = ("/usr/bin/python3", SCREEN, "trace", "log", "--program", program)
+    process = await asyncio.create_subprocess_exec(*words, stdin=its, stdout=pipe, stderr=pipe)
+    os.close(its)
+    links = [await within(PATIENCE, process.stdout.readline())]
+    for _ in range(2):
+        os.write(terminal, b"\n")
+        links.append(await within(PATIENCE, process.stdout.readline()))
+    base, *tickets = links[0].decode().split("/#")[0], *(link.decode().strip().split("/#")[1] for link in links)
+    same(len(set(tickets)), 3)
+    async with aiohttp.ClientSession() as client:
+        same([await status_of(client, base, ticket) for ticket in [*tickets, tickets[0]]], [200, 200, 200, 403])
+        os.write(terminal, b"\x04")
+        same(await status_of(client, base), 200)
+    process.send_signal(signal.SIGINT)
+    out, said = await within(PATIENCE, process.communicate())
+    os.close(terminal)
+    same((out, said.split(b"\n")[0]), (b"", b"The link opens once. Enter prints another; control-C ends."))
+    assert process.returncode == 0 or b"Timeout" in said, said  # a very slow machine ends it by force
 
 
 async def test_patience_is_counted_in_seconds(program):
