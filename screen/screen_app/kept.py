@@ -13,6 +13,8 @@ BYTES, LONGEST = 16_384, 40
 CLIENTS = 32
 # The number of a client is read up to so many digits; Python reads no number of thousands.
 DIGITS = 9
+# So many bytes at each end of a trace are kept, to tell it from another one.
+ENDS = 1 << 16
 # A file of endings is read up to so many bytes.
 MOST = 16 << 20
 MATTERS: dict[object, str] = {True: "the order matters", False: "the order makes no difference"}
@@ -56,6 +58,43 @@ class Seen:
             os.replace(own, self.path)
         except OSError:
             pass  # then the next start calls more news than there are
+
+
+class Original:
+    """The file of the trace, as it was at the start: the program reads it again when it looks for a witness.
+
+    Another time of the file says nothing if its size is the same, and the bytes at both ends.
+    """
+
+    def __init__(self, path: str) -> None:
+        self.path = path
+        self.stamp, self.ends = self._stamp(), self._ends()
+
+    def _stamp(self) -> tuple[int, int, int] | None:
+        try:
+            found = os.stat(self.path)
+        except OSError:
+            return None
+        return found.st_size, found.st_ino, found.st_mtime_ns
+
+    def _ends(self) -> tuple[bytes, bytes]:
+        try:
+            with open(self.path, "rb") as file:
+                first = file.read(ENDS)
+                file.seek(max(0, file.seek(0, os.SEEK_END) - ENDS))
+                return first, file.read(ENDS)
+        except OSError:
+            return b"", b""
+
+    def is_changed(self) -> bool:
+        """Whether another trace is there now. One that was taken away is not: what was read is drawn."""
+        stamp = self._stamp()
+        if stamp is None or self.stamp is None or stamp == self.stamp:
+            return False
+        if stamp[0] == self.stamp[0] and self._ends() == self.ends:
+            self.stamp = stamp
+            return False
+        return True
 
 
 class Names:

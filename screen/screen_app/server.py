@@ -13,7 +13,7 @@ from aiohttp import WSMsgType, web
 from .bench import Bench
 from .checked import Mistake
 from .guard import Guard, guarded, put_headers
-from .kept import Names, Seen
+from .kept import Names, Original, Seen
 from .outlet import Outlet
 from .pairs import Pairs, Races
 from .readers import Readers
@@ -30,8 +30,8 @@ TYPES = {".html": "text/html", ".js": "text/javascript", ".css": "text/css", ".s
 FIRST_PAGE = 0.5
 # So long after a request the page is in use, and so long portions of other work are apart then, in seconds.
 USED, BREATH = 0.5, 0.02
-# How often the log is looked at, in seconds.
-POLL = 0.05
+# How often the log is looked at, in seconds; and the trace is each time that the log was so often.
+POLL, SELDOM = 0.05, 20
 # The longest message, the most sockets, the most that have not named their key, and how long they have for it.
 MESSAGE, SOCKETS, WAITING, PATIENCE = 1 << 16, 16, 16, 5
 # Why a socket is closed: its key is wrong; or no key came in time, or there is no room, and it may try again.
@@ -65,6 +65,7 @@ class Server:
     def __init__(self, bench: Bench, source: Source, title: str) -> None:
         self.bench, self.races = bench, Races()
         self.guard, self.pairs = Guard(), Pairs(bench)
+        self.original = Original(bench.trace.path)
         seen, self.names = Seen(bench.mirror.path, bench.client), Names(bench.mirror.path)
         self.requests = Requests(bench, self.races, self.pairs, source, seen, clean(title))
         self.requests.link, self.requests.names = self.guard.link, self.names
@@ -189,9 +190,12 @@ class Server:
 
     async def watch(self) -> None:
         """Looks at the size of the log: that also sees what another machine wrote, which inotify does not."""
-        mirror = self.bench.mirror
+        mirror, looks = self.bench.mirror, 0
         while not mirror.fault:
             await asyncio.sleep(POLL)
+            looks += 1
+            if looks % SELDOM == 0 and self.original.is_changed():
+                mirror.fault = "the trace was changed since screen began"
             if self.names.changed():
                 self.push("names", {"names": self.names.names})
             if mirror.grew():

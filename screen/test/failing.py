@@ -17,7 +17,7 @@ import traces  # noqa: E402
 from judged import same, within  # noqa: E402
 from screen_app import command, outlet, pairs, readers, server, session  # noqa: E402
 from screen_app.bench import Bench  # noqa: E402
-from screen_app.kept import Confirmed, Names  # noqa: E402
+from screen_app.kept import Confirmed, Names, Original  # noqa: E402
 from screen_app.session import Gone, Session  # noqa: E402
 from screen_app.source import Source  # noqa: E402
 from screen_app.trace import Trace  # noqa: E402
@@ -271,6 +271,22 @@ def test_files_beside_the_log_that_are_odd(program):
     lines = ['{"events": [Infinity, 1], "ended": "x"}', "[" * 100_000, '{"events": [2, 1], "ended": "stands"}']
     traces.write("trace.confirmed", "\n".join(lines) + "\n")
     same(list(Confirmed("trace").read()), [(1, 2)])
+
+
+def test_a_trace_that_is_another_one(program):
+    """Another time of its file says nothing, nor that it was taken away; other bytes do."""
+    traces.write("trace", traces.COUNT)
+    original = Original("trace")
+    for change, is_changed in (
+        (lambda: os.utime("trace", ns=(7, 7)), False),
+        (lambda: os.rename("trace", "other"), False),
+        (lambda: traces.write("trace", traces.COUNT), False),
+        (lambda: traces.write("trace", traces.COUNT.replace("count.c:18", "count.c:19")), True),
+        (lambda: os.replace("other", "trace"), False),
+        (lambda: traces.write("trace", traces.COUNT + "T0|w(x)|count.c:20\n"), True),
+    ):
+        change()
+        same(original.is_changed(), is_changed)
 
 
 def test_names_that_are_read_while_they_are_written(program):

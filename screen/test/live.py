@@ -170,6 +170,17 @@ async def test_a_log_that_breaks_is_said(program):
         is_clean(page, screen)
 
 
+async def test_a_trace_that_is_recorded_anew_is_said(program):
+    """Its witnesses would be of another trace."""
+    traces.write("trace", traces.COUNT)
+    async with Screen(program, "trace", "log") as screen, Browser() as browser:
+        page = await browser.page(screen.link)
+        await new(page, 3)
+        traces.write("trace", traces.COUNT.replace("count.c:12", "count.c:14"))
+        await page.until("document.getElementById('live').textContent.includes('the trace was changed since')")
+        is_clean(page, screen)
+
+
 async def test_a_log_of_another_trace(program):
     traces.write("trace", traces.COUNT)
     await session(program, 1, "new A\n")
