@@ -198,18 +198,36 @@ WAITS = {
 }
 
 
-def judge_wait(trace, tally, listed, last, line):
-    """Judges a line that tells which event waits for the last one of a run."""
-    for words, waits in WAITS.items():
-        if line.startswith(f"  {words} "):
-            waiter = event_of(trace, line[len(words) + 3 :], 0)
-            if trace.thread(waiter) == trace.thread(last) or waiter not in listed[listed.index(last) :]:
-                raise Wrong(f"{waiter} is no later event of another thread: {line!r}")
-            if not waits(trace, listed, last, waiter):
-                raise Wrong(f"of {last} that is not so: {line!r}")
-            tally[f"waits|{words}"] += 1
-            return
-    raise Wrong(f"no line of an event that waits: {line!r}")
+def waiters_of(trace, listed):
+    """Of each event for which one of another thread waits the first that does."""
+    waiters, forks, lasts, writes, reads, releases = {}, {}, {}, {}, {}, {}
+    for event in listed:
+        thread, word, name = trace.events[event]
+        needs = [] if thread in lasts else [forks.get(thread)]
+        if word in ("r", "w"):
+            needs += [*(reads.pop(name, []) if word == "w" else []), writes.get(name)]
+        if word == "acq":
+            needs.append(releases.get(name))
+        if word == "join":
+            needs.append(lasts.get(name, forks.get(name)))
+        for need in needs:
+            if need is not None and trace.thread(need) != thread:
+                waiters.setdefault(need, event)
+        if word == "r":
+            reads.setdefault(name, []).append(event)
+        lasts[thread] = event
+        {"w": writes, "rel": releases, "fork": forks}.get(word, {})[name] = event
+    return waiters
+
+
+def judge_wait(trace, tally, listed, last, waiter, line):
+    """Judges a line that tells that this event waits for the last one of a run, and why."""
+    words = line.removesuffix(f" {numbered(trace, waiter)}").removeprefix("  ")
+    if line != f"  {words} {numbered(trace, waiter)}" or words not in WAITS:
+        raise Wrong(f"no line that says for what {waiter} waits: {line!r}")
+    if not WAITS[words](trace, listed, last, waiter):
+        raise Wrong(f"of {last} that is not so: {line!r}")
+    tally[f"waits|{words}"] += 1
 
 
 def judge_race(trace, tally, text, how, pair, listed, is_all):
@@ -219,6 +237,9 @@ def judge_race(trace, tally, text, how, pair, listed, is_all):
     lines.expect(f"race {how}: after {count(len(listed), 'event')} in {count(len(runs), 'run')} both are next")
     lines.expect(*with_locks(trace, pair[0]), *with_locks(trace, pair[1]))
     first = 0 if is_all or len(runs) <= MOST_RUNS else len(runs) - LAST_RUNS
+    tally["as many runs as are told"] += len(runs) == MOST_RUNS and not is_all
+    tally["one run more"] += len(runs) == MOST_RUNS + 1 and not is_all
+    waiters = waiters_of(trace, listed)
     if first:
         lines.expect(*folded(trace, runs[:first]))
         tally["folded"] += 1
@@ -227,8 +248,8 @@ def judge_race(trace, tally, text, how, pair, listed, is_all):
             f"run {number} of {trace.thread(run[0])}, {count(len(run), 'event')}", f"  {numbered(trace, run[0])}"
         )
         lines.expect(*["  .."] * (len(run) > 2), *[f"  {numbered(trace, run[-1])}"] * (len(run) > 1))
-        if lines.next() is not None and lines.next().startswith("  "):
-            judge_wait(trace, tally, listed, run[-1], lines.take())
+        if run[-1] in waiters:
+            judge_wait(trace, tally, listed, run[-1], waiters[run[-1]], lines.take())
     lines.end()
 
 

@@ -38,7 +38,10 @@ FORMS = [[], ["--script"], ["--std"], ["--svg"]]
 # chain rests on which one rests.
 REACHED = [
     *"none candidate beyond turned forced guarded undecided small folded links|section chains|2 pictures arrows".split(),
-    "pictures with earlier runs",
+    *["as many runs as are told", "one run more"],
+    *["pictures with earlier runs", "pictures of 40 runs", "pictures of 41 runs"],
+    *["pictures of 4 threads", "pictures of 5 threads", "lines that are cut", "shades"],
+    *["accesses under 8 locks", "accesses under more locks"],
     "reads that race",
     "reads that do not race",
     *[f"links|{words}" for words in explained.LINKS],
@@ -202,11 +205,22 @@ def in_turns(times):
     return made(*turns, "A w last", "B w last")
 
 
+def under(locks):
+    """A write under so many locks, and one under none."""
+    return made(*[f"A acq l{lock}" for lock in range(locks)], "A w x", "B w x")
+
+
+def named(thread, variable):
+    """Two writes of this variable, the first by this thread."""
+    return made(f"{thread} acq {variable}", f"{thread} w {variable}", f"B w {variable}")
+
+
 # What chance draws seldom: many runs; a thread without an event, and one that is forked and joined; accesses that stay
 # before others; a pair that SHB orders and a list in the order of the trace shows, one that is shown by sections in
 # another order, and one of which no schedule is found; a chain that rests on one that rests on another; a section that
 # has to end before another thread, which holds its lock, takes another lock; two locks that both threads hold, one of
-# them twice.
+# them twice; as many locks and threads as a picture tells, and more; names as long as it tells, and longer ones that
+# can't be cut everywhere.
 MADE = [
     in_turns(14),
     in_turns(70),
@@ -245,6 +259,12 @@ MADE = [
         "B rel l",
     ),
     made("A acq l", "A acq m", "A w x", "A rel m", "A rel l", "B acq m", "B acq l", "B acq m", "B w x", "B rel m"),
+    *[under(8), under(9), under(10)],
+    made("C w a", "A r a", "D w b", "B r b", "A w x", "B w x"),
+    made("C w a", "A r a", "D w b", "B r b", "E w c", "B r c", "A w x", "B w x"),
+    made("A acq l", "A rel l", "A w a", "A acq l", "A w b", "A rel l", "A w x", "B r a", "B r b", "B w x"),
+    *[named("A" * 46, "x"), named("A" * 47, "x"), named("aä" * 16, "y" + "ä" * 40)],
+    *[named("a" * size + "\U0001f600" * 12, "z" * size + "\U0001f600" * 12) for size in range(4)],
 ]
 
 

@@ -8,7 +8,7 @@ box, and where the arrows lead.
 import collections
 import xml.etree.ElementTree
 
-from explained import Wrong, WAITS, count, runs_of
+from explained import Wrong, WAITS, count, runs_of, waiters_of
 
 SVG = "{http://www.w3.org/2000/svg}"
 # A line of text has at most so many bytes, and takes so many pixels for each character.
@@ -25,6 +25,8 @@ COLUMN = 320
 NAMES = 48
 # So many locks of an access are named.
 MOST_LOCKS = 8
+# How wide the bar at the left edge of a box is.
+BAR = 6
 # A picture is shown a fifth larger than it is drawn; so many pixels are seen of it where the page is 400 wide.
 SHOWN = 1.2
 NARROW = 376
@@ -43,7 +45,8 @@ Box = collections.namedtuple("Box", "left top right bottom")
 
 def cut(text):
     """The text as it is drawn."""
-    return text if len(text.encode()) <= MOST_BYTES else text.encode()[: MOST_BYTES - 1].decode() + "…"
+    begin = text.encode()[: MOST_BYTES - 1].decode("utf-8", "ignore")
+    return text if len(text.encode()) <= MOST_BYTES else begin + "…"
 
 
 def label(trace, event):
@@ -74,18 +77,18 @@ class Picture:
         return found.text
 
     def lines_in(self, box):
-        """The lines of text in the box from top to bottom; each has to fit into it."""
+        """The lines of text in the box from top to bottom, each with its class; each has to fit into it."""
         lines = []
         for element in self.root.iter(SVG + "text"):
             left, base = int(element.get("x")), int(element.get("y"))
             if box.left <= left < box.right and box.top <= base <= box.bottom:
                 if left + CHARACTER * len(element.text or "") > box.right:
                     raise Wrong(f"a line runs over its box: {element.text!r}")
-                lines.append((base, element.text or ""))
-        bases = [base for base, _ in sorted(lines)]
+                lines.append((base, element.get("class"), element.text or ""))
+        bases = [base for base, _, _ in sorted(lines)]
         if any(below - above < 10 for above, below in zip(bases, bases[1:])):
             raise Wrong(f"two lines of a box overlap: {sorted(lines)}")
-        return [line for _, line in sorted(lines)]
+        return [(kind, line) for _, kind, line in sorted(lines)]
 
 
 def box_of(rect):
@@ -93,39 +96,11 @@ def box_of(rect):
     return Box(left, top, left + width, top + height)
 
 
-def judge_waiter(trace, listed, last, line):
-    """Judges the line that tells which event waits for the last one of a run."""
+def judge_waiter(trace, listed, last, waiter, line):
+    """Judges the line that tells that this event waits for the last one of a run, and why."""
     words, _, number = line.rpartition(" ")
-    waiter = int(number)
-    if (
-        words not in WAITS
-        or waiter not in listed[listed.index(last) :]
-        or not WAITS[words](trace, listed, last, waiter)
-    ):
-        raise Wrong(f"of {last} that is not so: {line!r}")
-    return waiter
-
-
-def waiters_of(trace, listed):
-    """Of each event for which one of another thread waits the first that does."""
-    waiters, forks, lasts, writes, reads, releases = {}, {}, {}, {}, {}, {}
-    for event in listed:
-        thread, word, name = trace.events[event]
-        needs = [] if thread in lasts else [forks.get(thread)]
-        if word in ("r", "w"):
-            needs += [*(reads.pop(name, []) if word == "w" else []), writes.get(name)]
-        if word == "acq":
-            needs.append(releases.get(name))
-        if word == "join":
-            needs.append(lasts.get(name, forks.get(name)))
-        for need in needs:
-            if need is not None and trace.thread(need) != thread:
-                waiters.setdefault(need, event)
-        if word == "r":
-            reads.setdefault(name, []).append(event)
-        lasts[thread] = event
-        {"w": writes, "rel": releases, "fork": forks}.get(word, {})[name] = event
-    return waiters
+    if number != str(waiter) or words not in WAITS or not WAITS[words](trace, listed, last, waiter):
+        raise Wrong(f"for {last} waits {waiter}, and the line is {line!r}")
 
 
 def drawn_of(trace, listed, runs):
@@ -140,16 +115,65 @@ def drawn_of(trace, listed, runs):
     return waited[LAST_RUNS - MOST_RUNS :] + last
 
 
-def judge_run(trace, listed, number, run, lines):
-    """Judges the lines of a run's box. Which event waits for it, if that is told."""
+def judge_run(trace, listed, number, run, waiter, lines):
+    """Judges the lines of a run's box, for which this event waits if one does."""
     wanted = [
-        cut(f"run {number}, {count(len(run), 'event')} of {trace.thread(run[0])}"),
-        *[label(trace, run[0])] * (len(run) > 1),
-        label(trace, run[-1]),
+        ("note", cut(f"run {number}, {count(len(run), 'event')} of {trace.thread(run[0])}")),
+        *[("event", label(trace, run[0]))] * (len(run) > 1),
+        ("event", label(trace, run[-1])),
     ]
-    if lines[: len(wanted)] != wanted or len(lines) > len(wanted) + 1:
-        raise Wrong(f"the box of run {number} has {lines}, and plainly {wanted}")
-    return judge_waiter(trace, listed, run[-1], lines[-1]) if len(lines) > len(wanted) else None
+    if lines[: len(wanted)] != wanted or len(lines) != len(wanted) + (waiter is not None):
+        raise Wrong(f"the box of run {number} has {lines}, and plainly {wanted}, and {waiter} waits for it")
+    if waiter is not None:
+        kind, line = lines[-1]
+        if kind != "note":
+            raise Wrong(f"the line {line!r} looks like {kind}")
+        judge_waiter(trace, listed, run[-1], waiter, line)
+
+
+def has_locks(trace, listed):
+    """The events of the list before or after which their threads hold a lock."""
+    holds, depths = set(), collections.Counter()
+    for event in listed:
+        thread, word, _ = trace.events[event]
+        before = depths[thread]
+        depths[thread] += {"acq": 1, "rel": -1}.get(word, 0)
+        if max(before, depths[thread]):
+            holds.add(event)
+    return holds
+
+
+def shades_of(run, holds):
+    """From which event of the run to which its thread holds a lock, by their places in it; several times, if it holds
+    none between."""
+    shades = []
+    for place, event in enumerate(run):
+        if event in holds and place and run[place - 1] in holds:
+            shades[-1] = (shades[-1][0], place + 1)
+        elif event in holds:
+            shades.append((place, place + 1))
+    return shades
+
+
+def judge_bars(picture, boxes, runs, holds):
+    """Judges the bars at the left edges of the boxes: each is as high as its box, beside the lines, and shaded from
+    and to where the parts of a height that has one part for each event begin and end."""
+    bars = [box_of(rect) for rect in picture.all("rect", "edge")]
+    if sorted(bars) != sorted(Box(box.left, box.top, box.left + BAR, box.bottom) for box in boxes):
+        raise Wrong(f"the bars stand at {bars}, and the boxes at {boxes}")
+    found = sorted(box_of(rect) for rect in picture.all("rect", "held"))
+    wanted = []
+    for box, run in zip(boxes, runs):
+        part = (box.bottom - box.top) / len(run)
+        for start, end in shades_of(run, holds):
+            wanted.append((box.left, box.top + start * part, box.left + BAR, box.top + end * part))
+    wanted.sort()
+    is_near = lambda shade, plain: all(abs(one - other) <= 1 for one, other in zip(shade, plain))
+    if len(found) != len(wanted) or not all(map(is_near, found, wanted)):
+        raise Wrong(f"the bars are shaded at {found}, and plainly at {wanted}")
+    if any(shade.top >= shade.bottom for shade in found):
+        raise Wrong(f"a shade is not seen: {found}")
+    return len(found)
 
 
 def judge_earlier(trace, picture, boxes, runs):
@@ -157,7 +181,7 @@ def judge_earlier(trace, picture, boxes, runs):
     found = [picture.lines_in(box) for box in boxes]
     threads = {trace.thread(run[0]) for run in runs}
     told = f"{count(len(runs), 'earlier run')} of {count(len(threads), 'thread')}"
-    wanted = [[told, count(sum(map(len, runs)), "event")]] if runs else []
+    wanted = [[("note", told), ("note", count(sum(map(len, runs)), "event"))]] if runs else []
     if found != wanted:
         raise Wrong(f"the box of earlier runs has {found}, and plainly {wanted}")
 
@@ -188,8 +212,11 @@ def judge_places(trace, picture, boxes, runs, pair):
     for box in [*picture.boxes["box"], *picture.boxes["race"]]:
         if box.left < 0 or box.top < 0 or box.right > picture.width or box.bottom > picture.height:
             raise Wrong(f"{box} lies beyond the picture")
-    if int(picture.root.get("width")) > WIDEST or int(picture.root.get("width")) < picture.width:
+    if int(picture.root.get("width")) > WIDEST:
         raise Wrong(f"the picture is {picture.root.get('width')} wide")
+    shown = [int(picture.root.get(name)) for name in ("width", "height")]
+    if shown != [size + size // 5 for size in (picture.width, picture.height)]:
+        raise Wrong(f"of {picture.width} and {picture.height} the picture is shown {shown} large")
     return is_shared
 
 
@@ -219,12 +246,12 @@ def judge_accesses(trace, picture, pair):
     wanted = []
     for event in pair:
         locks = trace.locks_before(event)
-        more = [f"and {count(len(locks) - MOST_LOCKS, 'lock')} more"] * (len(locks) > MOST_LOCKS)
+        more = [("note", f"and {count(len(locks) - MOST_LOCKS, 'lock')} more")] * (len(locks) > MOST_LOCKS)
         wanted.append(
             [
-                cut(trace.thread(event)),
-                label(trace, event),
-                *[cut(f"holds {lock}") for lock in locks[:MOST_LOCKS]],
+                ("name", cut(trace.thread(event))),
+                ("access", label(trace, event)),
+                *[("event", cut(f"holds {lock}")) for lock in locks[:MOST_LOCKS]],
                 *more,
             ]
         )
@@ -235,6 +262,39 @@ def judge_accesses(trace, picture, pair):
         raise Wrong(f"the boxes of the accesses stand at {boxes}")
     if max(box.right for box in boxes) * SHOWN > NARROW:
         raise Wrong(f"the boxes of the accesses are not both seen on a narrow page: {boxes}")
+
+
+def judge_words(picture, pair, listed, runs, boxes):
+    """Judges the line on top and the one over the accesses, and that no line stands outside of the boxes but these and
+    the names."""
+    after = f"after {count(len(listed), 'event')} in {count(len(runs), 'run')}"
+    under = max((box.bottom for box in boxes), default=0)
+    over = min(box.top for box in picture.boxes["race"])
+    wanted = [f"{pair[0]} and {pair[1]}: {after} both are next", "then both are next:"]
+    names = sorted((int(line.get("y")), line.text or "") for line in picture.all("text", "name"))
+    alone = [(base, text) for base, text in names if base < NAMES or under < base < over and base != NAMES]
+    if [text for _, text in alone] != wanted or not alone[0][0] < NAMES < alone[1][0]:
+        raise Wrong(f"alone stand {alone}, and plainly {wanted}")
+    lines = sum(len(picture.lines_in(box)) for kind in picture.boxes.values() for box in kind)
+    heads = sum(base == NAMES for base, _ in names)
+    if len(list(picture.root.iter(SVG + "text"))) != lines + heads + len(alone):
+        raise Wrong("a line stands in no box")
+
+
+def note_kinds(trace, tally, pair, runs, drawn):
+    """Counts what kind of picture it is."""
+    threads = {trace.thread(event) for event in [*pair, *(run[0] for run in drawn)]}
+    texts = [text.encode() for event in pair for text in [trace.thread(event), label(trace, event)]]
+    tally["pictures"] += 1
+    tally["pictures with earlier runs"] += len(drawn) < len(runs)
+    tally["pictures of 40 runs"] += len(runs) == MOST_RUNS
+    tally["pictures of 41 runs"] += len(runs) == MOST_RUNS + 1
+    tally["pictures of 4 threads"] += len(threads) == MOST_COLUMNS
+    tally["pictures of 5 threads"] += len(threads) == MOST_COLUMNS + 1
+    tally["lines that are cut"] += any(text.endswith("…".encode()) for text in texts)
+    for event in pair:
+        tally["accesses under 8 locks"] += len(trace.locks_before(event)) == MOST_LOCKS
+        tally["accesses under more locks"] += len(trace.locks_before(event)) > MOST_LOCKS
 
 
 def judge_picture(trace, tally, text, pair, listed):
@@ -254,13 +314,14 @@ def judge_picture(trace, tally, text, pair, listed):
         raise Wrong(f"{len(boxes)} boxes are drawn of {len(runs)} runs")
     judge_earlier(trace, picture, boxes[:split], earlier)
     boxes = boxes[split:]
-    waiters = [
-        judge_run(trace, listed, number + 1, run, picture.lines_in(box))
-        for number, box, run in zip(numbers, boxes, drawn)
-    ]
+    first = waiters_of(trace, listed)
+    waiters = [first.get(run[-1]) for run in drawn]
+    for number, box, run, waiter in zip(numbers, boxes, drawn, waiters):
+        judge_run(trace, listed, number + 1, run, waiter, picture.lines_in(box))
     tally["pictures with a shared column"] += judge_places(trace, picture, boxes, drawn, pair)
     judge_arrows(trace, picture, boxes, drawn, waiters)
     judge_accesses(trace, picture, pair)
-    tally["pictures"] += 1
+    judge_words(picture, pair, listed, runs, picture.boxes["box"])
+    tally["shades"] += judge_bars(picture, boxes, drawn, has_locks(trace, listed))
     tally["arrows"] += sum(waiter is not None for waiter in waiters)
-    tally["pictures with earlier runs"] += bool(earlier)
+    note_kinds(trace, tally, pair, runs, drawn)

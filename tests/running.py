@@ -10,7 +10,7 @@ PATIENCE = 900
 
 
 def write(name, text):
-    with open(name, "w", encoding="ascii") as out:
+    with open(name, "w", encoding="utf-8") as out:
         out.write(text)
 
 
