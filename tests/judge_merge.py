@@ -25,7 +25,7 @@ from judging import Wrong
 
 LISTS = 150
 PLACES = ["a.c:1 < f", "a.c:2", "b.c:10", "b.c:9", "é.c:3", "", 'q"\\.c:4', "<b>&.c:5 < </td>"]
-REACHED = ["race", "undecided", "apart", "least", "unmet", "twice", "grouped", "cut", "cut at a line", "refused", "other version", "clash", "failed", "no events", "triage", "no parts apart", "page", "escaped"]
+REACHED = ["race", "undecided", "apart", "least", "unmet", "twice", "grouped", "cut", "cut at a line", "refused", "other version", "clash", "clash behind others", "spoiled", "failed", "no events", "triage", "no parts apart", "page", "escaped"]
 
 
 def access(chance, place):
@@ -103,7 +103,7 @@ def row_in(details):
     return (
         summary.one("h3").text(),
         " ".join(facts),
-        [judge_page.access_of(line) for line in lines],
+        [judge_page.access_of(line, lambda locks: "".join(f"{lock} " for lock in locks)) for line in lines],
         [words.text() for words in details.all("p")],
     )
 
@@ -233,12 +233,39 @@ class Judge:
         write("newer", "".join(map(line, [{**objects[0], "version": 2}, *objects[1:]])).encode())
         self.refused(["newer"], "newer: another version of the format")
         self.seen["other version"] += 1
+        self.refused(["other", "newer"], f"other line {index + 1}: no line of a report")
+        self.refused(["newer", "other"], "newer: another version of the format")
+        write("cut", b"")
+        self.refused([*parts, "cut"], "cut line 1: no line of a report")
+        self.judge_spoiled(chance, list(parts))
         write("one", self.printed([name, "--json"]))
         changed = part(chance)
         if changed != objects:
             write(name, "".join(map(line, changed)).encode())
-            self.refused(["one", name], f"one and {name}: two different parts of one name")
-            self.seen["clash"] += 1
+            self.judge_clash(chance, name, [other for other in parts if other != name])
+
+    def judge_spoiled(self, chance, names):
+        """A merged report that is cut anywhere, or in which a part is no part, is refused at that line."""
+        whole = self.printed([*names, "--json"])
+        at = chance.randrange(len(whole))
+        write("cut", whole[:at])
+        number = whole[:at].count(b"\n") + 1
+        self.refused(["cut"], f"cut line {number}: no line of a report")
+        lines = whole.decode().splitlines(keepends=True)
+        index = chance.randint(1, len(names))
+        told = json.loads(lines[index])
+        lines[index] = line({**told, "text": told["text"][:-1]})
+        write("spoiled", "".join(lines).encode())
+        self.refused(["spoiled"], f"spoiled line {index + 1}: no line of a report")
+        self.seen["spoiled"] += 1
+
+    def judge_clash(self, chance, name, others):
+        """The fault names the two files that the two parts of one name are in, wherever they stand among others."""
+        one, other = chance.sample(["one", name], 2)
+        before, between = (chance.sample(others, chance.randint(0, len(others))) for _ in range(2))
+        self.refused([*before, one, *between, other], f"{one} and {other}: two different parts of one name")
+        self.seen["clash"] += 1
+        self.seen["clash behind others"] += before != []
 
     def judge(self, seed):
         chance = random.Random(seed)

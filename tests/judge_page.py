@@ -42,6 +42,8 @@ REACHED = [
     "known",
     "hidden",
     "left out",
+    "apart left out",
+    "runs told in part",
     "undrawn",
     "pictures",
     "arrows",
@@ -312,11 +314,12 @@ def title_of(block, tally):
     return f"{variable}{others}: {access_title(lines[0], tally)}, {access_title(lines[1], tally)}"
 
 
-def access_of(line):
+def access_of(line, joined=", ".join):
+    """The event, the line of the trace and the locks in a line of a table, which joins their names so."""
     event, code, locks = line.children
     found = [lock.text() for lock in locks.all("bdi")]
-    if not found and locks.text() != "none":
-        raise Wrong(f"no locks: {locks.text()}")
+    if locks.text() != (joined(found) if found else "none"):
+        raise Wrong(f"the locks are {locks.text()!r}")
     return int(event.text()), code.text(), found
 
 
@@ -371,6 +374,47 @@ def shell_word(name):
     return ("./" if name.startswith("-") else "") + (name if plain else "'" + name.replace("'", "'\\''") + "'")
 
 
+def commands_of(block, name):
+    """The commands with which a reader of a row goes on."""
+    word = shell_word(name)
+    lines = [f"racebench explain {word} {block.first} {block.second} --all"]
+    if block.sort == "race":
+        lines += [
+            f"racebench witness {word} {block.first} {block.second} --script > script.txt",
+            f"racebench replay {word} script.txt",
+            f"racebench session {word} session.log < script.txt",
+        ]
+    if block.sort == "undecided":
+        lines.append(f"racebench triage {word} --tries 4096")
+    return "".join(f"{line}\n" for line in lines)
+
+
+def more_of(sort, kept, name):
+    """What stands under so many rows of a sort, of which not all are there, or not all have a picture."""
+    told, word = [], shell_word(name)
+    if sort == "race" and kept > MOST_PICTURES:
+        left = counted(str(kept - MOST_PICTURES), "race")
+        told += [
+            f"Without a picture here: {left}. The picture of one, by its two events:",
+            f"racebench witness {word} FIRST SECOND --svg > picture.svg\n",
+        ]
+    if kept > MOST_ROWS:
+        left = counted(str(kept - MOST_ROWS), "row")
+        option = " --apart" if sort == "apart" else ""
+        told += [f"Left out here: {left}. All of them, as text:", f"racebench triage {word}{option}\n"]
+    return told
+
+
+def texts_in(element, *tags):
+    """The texts of the paragraphs and lines that stand in the element itself, and not deeper."""
+    return [child.text() for child in element.children if isinstance(child, Element) and child.tag in tags]
+
+
+def heads_of(table):
+    """What stands over the columns of the table."""
+    return [head.text() for head in table.one("thead").all("th")]
+
+
 def locations_of(lines):
     """The two locations of each race of a text, as bytes, by its two events."""
     found, block = {}, []
@@ -401,6 +445,24 @@ WHY = {
     "order not known": "Whether the order matters is not known",
 }
 ELSEWHERE = "The two locations are those of this race, and the events are not. The file is of another recording, or of another triage of this one."
+BESIDE = "The word beside a race is what following it on the real program came to, once with each access first. Runs showed it, and it is not proved. The file has "
+UNLISTED = "Pairs of places that are apart have no rows here; with --apart they have."
+ACCESSES = ["Event", "Line of the trace", "Locks held before it"]
+FOLLOWED = ["Access", "Event", "Place", "How the program ended with it first"]
+DRAWN = "A column is a thread, a box is a run of its events, and time goes downwards. Of a long schedule the picture has the last runs, and the last of those that they waited for."
+ALL_TOLD = "All runs stand in words below."
+LAST_TOLD = "The last runs stand in words below, and the command under them prints all."
+# So many rows of each sort, pictures, and runs in words a page has at most.
+MOST_ROWS = 2000
+MOST_PICTURES = 200
+MOST_TOLD = 2000
+# What is said of words at the end of a page, behind how it begins.
+MEANINGS = {
+    "A place is ": "the location of an access in the source. Two places are a race if a schedule brings an access at each of them next in its thread. A schedule is an order of events of this trace that the program could have taken too.",
+    "An access is next in its thread ": "if all that comes before it there has happened, and it has not. If two accesses of one variable are both next and one of them writes, nothing keeps the two threads from making them at once. That is a data race.",
+    "Two places are apart ": "if no schedule of this trace shows a race of them, and undecided if the search found neither. A read keeps the write that it saw, so places that are apart here may race in another run.",
+}
+BESIDE_RACES = "Beside a race: order matters, if the program ended or printed otherwise with the other access first; same in both orders; order not known, if its output varies by itself; other memory, if the two accesses were on different memory; departed, if the run went another way than the schedule; not followed, if the file has no line on it. This is what runs showed, and no proof rests on it."
 
 
 def beside(entry):
@@ -423,8 +485,8 @@ class Judge:
         self.followed = None
         self.locations = {}
 
-    def explained(self, name, block):
-        out = running.printed(self.program, ["explain", name, str(block.first), str(block.second), "--all"])
+    def explained(self, name, block, *words):
+        out = running.printed(self.program, ["explain", name, str(block.first), str(block.second), *words])
         return [shown(line) for line in out.split(b"\n")[:-1]]
 
     def judge_picture(self, name, block):
@@ -474,7 +536,10 @@ class Judge:
         wanted = [WHY[word] + (f": {why}" if why else "") + "."] + [ELSEWHERE] * (entry["events"] != list(pair))
         if told != wanted:
             raise Wrong(f"{told} beside {pair}, and plainly {wanted}")
-        lines = [[cell.text() for cell in line.children] for line in list(row.all("table"))[1].one("tbody").all("tr")]
+        table = list(row.all("table"))[1]
+        if heads_of(table) != FOLLOWED[: 3 if word == "departed" else 4]:
+            raise Wrong(f"over the columns beside {pair} stand {heads_of(table)}")
+        lines = [[cell.text() for cell in line.children] for line in table.one("tbody").all("tr")]
         ends = (
             [[], []] if word == "departed" else [[shown(entry.get(name, "").encode())] for name in ("first", "second")]
         )
@@ -491,12 +556,26 @@ class Judge:
         self.tally["told twice"] += entry_on(self.followed[self.followed.index(entry) + 1 :], locations) is not None
         return 1
 
+    def judge_schedule(self, row, runs, block, name):
+        """Judges the picture of the row of a race, what stands over it, and the runs of the schedule in words."""
+        listed = self.judge_picture(name, block)
+        explained = self.explained(name, block, "--all")
+        is_told = int(re.search(r" in (\d+) runs? both are next$", explained[0])[1]) <= MOST_TOLD
+        wanted = f"After {counted(str(len(listed)), 'event')} both are next: {block.first} and {block.second}. "
+        wanted += f"{DRAWN} {ALL_TOLD if is_told else LAST_TOLD}"
+        if row.one("figcaption").text() != wanted:
+            raise Wrong(f"the caption is {row.one('figcaption').text()!r}, and plainly {wanted!r}")
+        told = explained if is_told else self.explained(name, block)
+        if runs.text().split("\n")[:-1] != told:
+            raise Wrong(f"{runs.text()}, and not {told}")
+        self.tally["runs told in part"] += not is_told
+
     def judge_row(self, row, block, name, is_drawn):
         if row.attributes != {"id": f"{block.sort}-{block.first}-{block.second}"}:
             raise Wrong(f"a row {row.attributes}, and not {block}")
         facts = [span.text() for span in row.one("summary").all("span") if span.attributes["class"] == "facts"]
         followed = self.judge_followed(row, block)
-        explained = self.explained(name, block)
+        explained = self.explained(name, block, "--all")
         is_untried = facts_of(block).endswith(" 0 tried")
         reasons = [UNTRIED] if is_untried else reasons_of(explained) if block.sort == "apart" else explained[:1]
         wanted = [[facts_of(block), reason] for reason in reasons] if block.sort != "race" else [[facts_of(block)]]
@@ -505,27 +584,25 @@ class Judge:
         if row.one("h3").text() != title_of(block, self.tally):
             raise Wrong(f"the title is {row.one('h3').text()!r}, and plainly {title_of(block, self.tally)!r}")
         self.tally["raced"] += block.sort == "apart" and reasons != explained[:1]
-        lines = [access_of(line) for line in next(row.all("table")).one("tbody").all("tr")]
+        table = next(row.all("table"))
+        if heads_of(table) != ACCESSES:
+            raise Wrong(f"over the columns stand {heads_of(table)}")
+        lines = [access_of(line) for line in table.one("tbody").all("tr")]
         accesses = [(event, *access) for event, access in zip((block.first, block.second), block.accesses)]
         if lines != accesses:
             raise Wrong(f"{lines}, and not {accesses}")
         pictures = list(row.all("svg"))
-        runs, commands = [], list(row.all("pre"))[-1].text()
+        if len(pictures) != is_drawn:
+            raise Wrong(f"{len(pictures)} pictures")
         if is_drawn:
-            runs = list(row.all("pre"))[followed].text().split("\n")[:-1]
-            if len(pictures) != 1:
-                raise Wrong(f"{len(pictures)} pictures")
-            listed = self.judge_picture(name, block)
-            caption = row.one("figcaption").text()
-            begin = f"After {counted(str(len(listed)), 'event')} both are next: {block.first} and {block.second}. "
-            if not caption.startswith(begin) or not caption.endswith("All runs stand in words below."):
-                raise Wrong(f"the caption is {caption}")
-            if runs != explained:
-                raise Wrong(f"{runs}, and not {explained}")
-        elif pictures:
-            raise Wrong("a picture")
-        if f"racebench explain {shell_word(name)} {block.first} {block.second} --all\n" not in commands:
-            raise Wrong(f"the commands are {commands}")
+            self.judge_schedule(row, list(row.all("pre"))[followed], block, name)
+        heads = ["The two accesses", *["Seen in a run, not proved"] * (self.followed is not None and block.sort == "race")]
+        heads += ["A schedule that shows them", "Its runs in words"] * is_drawn + ["To go on"]
+        if [head.text() for head in row.all("h4")] != heads:
+            raise Wrong(f"the headings of a row are not {heads}")
+        commands = list(row.all("pre"))[-1].text()
+        if commands != commands_of(block, name):
+            raise Wrong(f"the commands are {commands!r}, and plainly {commands_of(block, name)!r}")
         self.tally[block.sort] += 1
         self.tally["untried"] += is_untried
         self.tally["picture"] += len(pictures)
@@ -561,40 +638,43 @@ class Judge:
         if [section.one("h2").text() for section in sections] != headings:
             raise Wrong("other sections")
         for sort, section in zip(sorts, sections):
-            self.judge_section(section, [block for block in blocks if block.sort == sort], name)
-        told = "".join(paragraph.text() for paragraph in root.one("main").all("p"))
-        if (
-            f"Runs showed it, and it is not proved. The file has {counted(str(len(followed or [])), 'line')}." in told
-        ) != (followed is not None and races > 0):
-            raise Wrong("no word of what was seen and is not proved")
-        if ("This is what runs showed, and no proof rests on it." in told) != (followed is not None):
-            raise Wrong("no word of what stands beside a race")
-        for line in lines[11:]:
+            self.judge_section(section, sort, [block for block in blocks if block.sort == sort], name)
+        self.judge_words(root.one("main"), sections[-1], lines[11:], "--apart" in words)
+
+    def judge_words(self, main, meanings, left, is_apart):
+        """Judges what stands between the rows and the counts, and what the words mean."""
+        told = [UNLISTED] * (not is_apart)
+        for line in left:
             if re.fullmatch(rb"(known|hidden) [1-9]\d*", line):
                 word, number = line.decode("ascii").split(" ")
                 end = " left out as known before." if word == "known" else " left out by --only and --hide."
-                if counted(number, "row") + end not in told:
-                    raise Wrong(f"no word of {line}")
+                told.append(counted(number, "row") + end)
                 self.tally[word] += 1
+        if texts_in(main, "p", "pre") != told:
+            raise Wrong(f"over the counts stands {texts_in(main, 'p', 'pre')}, and plainly {told}")
+        wanted = [begin + rest for begin, rest in MEANINGS.items()] + [BESIDE_RACES] * (self.followed is not None)
+        if [paragraph.text() for paragraph in meanings.all("p")] != wanted:
+            raise Wrong("the words mean something else")
 
-    def judge_section(self, section, blocks, name):
+    def judge_section(self, section, sort, blocks, name):
         rows = list(section.all("details"))
-        if len(rows) != min(len(blocks), 2000):
+        if len(rows) != min(len(blocks), MOST_ROWS):
             raise Wrong(f"{len(rows)} rows of {len(blocks)}")
-        told = section.text()
-        if len(blocks) > 2000 and counted(str(len(blocks) - 2000), "row") not in told:
-            raise Wrong("no word of what is left out")
-        self.tally["left out"] += len(blocks) > 2000
+        told = ["None."] * (not blocks)
+        if self.followed is not None and sort == "race" and blocks:
+            told.append(BESIDE + counted(str(len(self.followed)), "line") + ".")
+        told += more_of(sort, len(blocks), name)
+        if texts_in(section, "p", "pre") != told:
+            raise Wrong(f"a section has {texts_in(section, 'p', 'pre')}, and plainly {told}")
+        self.tally["left out"] += len(blocks) > MOST_ROWS
+        self.tally["apart left out"] += len(blocks) > MOST_ROWS and sort == "apart"
         pictures = len(list(section.all("svg")))
-        if pictures != (min(len(blocks), 200) if blocks and blocks[0].sort == "race" else 0):
+        if pictures != (min(len(blocks), MOST_PICTURES) if sort == "race" else 0):
             raise Wrong(f"{pictures} pictures of {len(blocks)} rows")
-        if pictures and len(blocks) > 200:
-            if f"Without a picture here: {counted(str(len(blocks) - 200), 'race')}." not in told:
-                raise Wrong("no word of what is not drawn")
-            self.tally["undrawn"] += 1
+        self.tally["undrawn"] += pictures > 0 and len(blocks) > MOST_PICTURES
         for number, (row, block) in enumerate(zip(rows, blocks)):
             if number < 20 or number >= len(rows) - 3 or number in (199, 200):
-                self.judge_row(row, block, name, block.sort == "race" and number < 200)
+                self.judge_row(row, block, name, block.sort == "race" and number < MOST_PICTURES)
 
 
 def named(names):
@@ -631,6 +711,24 @@ def many(races):
     return b"".join(
         b"%s|w(x%d)|%s%d\n" % (thread, number, thread, number) for thread in (b"A", b"B") for number in range(races)
     )
+
+
+def guarded(pairs):
+    """A trace with so many pairs of places that one lock keeps apart."""
+    lines = []
+    for thread in ("A", "B"):
+        accesses = [f"{thread}|w(x{number})|{thread}{number}" for number in range(pairs)]
+        lines += [f"{thread}|acq(l)|", *accesses, f"{thread}|rel(l)|"]
+    return "".join(f"{line}\n" for line in lines).encode()
+
+
+def in_turns(runs):
+    """A trace in which the schedule of the last two accesses has so many runs: each reads what the one before wrote."""
+    lines = ["A|w(x0)|1"]
+    for number in range(runs - 1):
+        thread = "BA"[number % 2]
+        lines += [f"{thread}|r(x{number})|1", f"{thread}|w(x{number + 1})|1"]
+    return "".join(f"{line}\n" for line in [*lines[:-1], "A|w(last)|2", "B|w(last)|2"]).encode()
 
 
 # Locations as the recorder writes them, with functions, with the places of calls, and with a block that is given back.
@@ -710,6 +808,14 @@ def judge_made(judge, here):
     write("many", many(2003))
     judge.judge("many", [])
     judge.judge("many", ["--only", "|A12|", "--only", "A7"])
+    for races in (MOST_PICTURES, MOST_ROWS):
+        write("many", many(races))
+        judge.judge("many", [])
+    for runs in (MOST_TOLD, MOST_TOLD + 1):
+        write("turns", in_turns(runs))
+        judge.judge("turns", [])
+    write("guarded", guarded(MOST_ROWS + 1))
+    judge.judge("guarded", ["--apart"])
     write("undecided", UNDECIDED)
     judge.judge("undecided", ["--tries", "0"])
     write("framed", FRAMED)
