@@ -35,6 +35,8 @@ CALLS = [""] * 6 + [
     " < operator< <int> p.cc:7 < main m+0x1 < x.c:",
     " < f < g :7 <  h.c:1",
 ]
+# What is said with `--fail` of a trace without events.
+NO_EVENTS = b"racebench: the trace has no events: nothing was judged\n"
 # What JSON tells by number, in the order of the text.
 COUNTS = "events threads pairs candidates open guarded forced places races undecided apart".split()
 NUMBERS = "pairs variables events threads tried".split()
@@ -52,16 +54,17 @@ REACHED = [
     "one place",
     "more variables",
     "called",
+    "16 of more tries",
 ]
 
 
 class Located:
     """A trace with a drawn location for each event."""
 
-    def __init__(self, trace, chance):
+    def __init__(self, trace, chance, places=None):
         self.trace = trace
-        places = [f"p{number}.c:{number}" + chance.choice(CALLS) for number in range(chance.randint(1, 6))]
-        self.places = [chance.choice(places) for _ in trace.events]
+        drawn = [f"p{number}.c:{number}" + chance.choice(CALLS) for number in range(chance.randint(1, 6))]
+        self.places = places or [chance.choice(drawn) for _ in trace.events]
 
     def line(self, event):
         return self.trace.line(event) + self.places[event]
@@ -208,11 +211,13 @@ class Judge:
             if line != want and not (" turned " in want and line.startswith(want + " ")):
                 raise Wrong(f"`{line}` is printed, and not `{want}`")
 
-    def judge_trace(self, located, chance):
+    def judge_trace(self, located, chance, is_usual):
+        """Judges what is printed of the trace, with as many tries as are usual, or as are drawn."""
         running.write("trace", located.text())
-        tries = chance.choice(TRIES)
+        tries = 16 if is_usual else chance.choice(TRIES)
         counts, blocks = self.wanted(located, tries)
-        flag = ["--tries", str(tries)]
+        flag = [] if is_usual else ["--tries", str(tries)]
+        self.tally["16 of more tries"] += is_usual and any(block[0].endswith(" variables 17 tried 16") for block in blocks)
         out = running.printed(self.program, ["triage", "trace", "--apart", *flag])
         self.compare(counts + sum(blocks, []), out)
         self.judge_json(out, "--apart", *flag)
@@ -232,11 +237,15 @@ class Judge:
                 f"status {status} with {len(races)} known races, and on standard error {err!r}, and not {said!r}"
             )
         self.compare(counts + sum(kept, []) + [f"known {len(races)}"], out)
+        if races:
+            self.judge_json(out, "--known", "known", *flag)
         self.tally["known"] += len(races)
         self.judge_filters(counts, rest, flag, chance)
-        status, _, _ = running.ended(self.program, ["triage", "trace", "--fail", *flag])
-        if status != (3 if races else 0 if located.trace.events else 4):
-            raise Wrong(f"the status is {status} at {len(races)} races")
+        words = ["triage", "trace", *chance.choice([[], ["--json"], ["--lines"], ["--page"], ["--sarif"]]), *flag]
+        status, out, err = running.ended(self.program, [*words, "--fail"])
+        wanted = (3, b"") if races else (0, b"") if located.trace.events else (4, NO_EVENTS)
+        if (status, err) != wanted or out != running.printed(self.program, words):
+            raise Wrong(f"{words} --fail ends with {status} and {err!r} at {len(races)} races, or prints something else")
         self.tally["failed"] += bool(races)
         self.tally["traces"] += 1
         self.tally["pairs"] += int(counts[2].split(" ")[1])
@@ -273,11 +282,23 @@ def made(*lines):
     return plain.Trace(plain.Event(*line.split(" ")) for line in lines)
 
 
-# What chance draws seldom: a pair that sections in another order show.
+def undecided(variables):
+    """A trace and the places of its events: two places that have so many open pairs, of as many variables, none of
+    which is shown."""
+    names = range(variables)
+    reads = [line for name in names for line in (f"A r {name}", f"A w {name}")]
+    writes = [f"B w {name}" for name in names]
+    trace = made("A acq l", *reads, "A rel l", "B acq l", *writes, "B rel l", *writes)
+    return trace, ["l", *["1", "2"] * variables, "l", "l", *["3"] * variables, "l", *["4"] * variables]
+
+
+# What chance draws seldom, with places where they matter: a pair that sections in another order show; more open pairs
+# than are tried if nothing is said of it.
 MADE = [
-    made("A acq l", "A fork W", "A w x", "A rel l", "B acq l", "B r y", "B rel l", "B r x"),
-    made("A w x", "A acq l", "A rel l", "B acq l", "B rel l", "B w x"),
-    made("A acq l", "A r x", "A w y", "A w x", "A rel l", "B acq l", "B w x", "B rel l", "B w x"),
+    (made("A acq l", "A fork W", "A w x", "A rel l", "B acq l", "B r y", "B rel l", "B r x"), None),
+    (made("A w x", "A acq l", "A rel l", "B acq l", "B rel l", "B w x"), None),
+    (made("A acq l", "A r x", "A w y", "A w x", "A rel l", "B acq l", "B w x", "B rel l", "B w x"), None),
+    undecided(17),
 ]
 
 
@@ -289,9 +310,9 @@ def judge_some(program, first, numbers):
         for number in numbers:
             chance = random.Random(first + number)
             draw = chance.choice([by_chance.trace, by_chance.locked_trace])
-            located = Located(MADE[number] if number < 0 else draw(chance, chance.choice(MOST_EVENTS)), chance)
+            trace, places = MADE[number] if number < 0 else (draw(chance, chance.choice(MOST_EVENTS)), None)
             with judging.about(f"seed {first + number}", "trace"):
-                judge.judge_trace(located, chance)
+                judge.judge_trace(Located(trace, chance, places), chance, number < 0 or chance.random() < 0.2)
     return judge.tally
 
 
