@@ -14,6 +14,7 @@ Says what is wrong, if something is, and ends with status 1 then, also if a kind
 """
 
 import datetime
+import json
 import os
 import random
 import re
@@ -46,6 +47,9 @@ REACHED = [
     "refused entry",
     "expired",
     "more than entries",
+    "more behind entries",
+    "no TOML at a column",
+    "days of the clock",
 ]
 WORDS = {
     "table": "is no table",
@@ -233,6 +237,7 @@ def spoiled(chance, text):
         lambda: text + "expires = 2027-06-02T00:00:00\n",
         lambda: text + "expires = 2027-05-31\n",
         lambda: text + "author = 3\n",
+        lambda: text + f"{chance.choice(['[owner]', '[[owner]]', '[path]', '[verdicts]', '[owner.verdict]'])}\n",
         lambda: text[: chance.randint(0, len(text))],
     ]
     return chance.choice(changes)()
@@ -257,6 +262,24 @@ def write(folder, name, text):
 def demand(holds, what):
     if not holds:
         raise Wrong(what)
+
+
+def judge_forms(program, folder, kept, races, notes):
+    """In each form the same races are left out and counted, and the same notes are written."""
+    words = ["--triage", "f.toml", "--today", TODAY.isoformat()]
+    made = {form: run(program, folder, form, *words) for form in ("--json", "--lines", "--page", "--sarif")}
+    demand(all((done.returncode, done.stderr) == (0, notes) for done in made.values()), "another form has other notes")
+    told = [json.loads(line) for line in made["--json"].stdout.splitlines()]
+    pairs = [tuple(access["event"] for access in row["accesses"]) for row in told if row["kind"] == "race"]
+    left = [row["count"] for row in told if row["kind"] == "known"]
+    demand((pairs, left) == (kept, [races - len(kept)]), f"the JSON has {pairs} and {left}")
+    log = json.loads(made["--sarif"].stdout)["runs"][0]
+    results = [result for result in log["results"] if result["ruleId"] == "data-race"]
+    demand((len(results), log["properties"]) == (len(kept), {"known": races - len(kept)}), "the log has other races")
+    warned = re.findall(rb"\[data-race\]$", made["--lines"].stdout, re.MULTILINE)
+    rows = re.findall(rb'<details id="race-(\d+)-(\d+)">', made["--page"].stdout)
+    demand(len(warned) == len(kept), f"there are lines for {len(warned)} races, and not {len(kept)}")
+    demand([tuple(map(int, row)) for row in rows] == kept, f"the page has {rows}, and not {kept}")
 
 
 def judge_file(program, folder, lines, races, text, reached):
@@ -285,6 +308,7 @@ def judge_file(program, folder, lines, races, text, reached):
             if "not a" in refusal
             else "refused entry"
         ] += 1
+        reached["more behind entries"] += "not a" in refusal and " line 1 " not in refusal
         return
     entries = tomllib.loads(text).get("race", [])
     kept = [
@@ -308,6 +332,7 @@ def judge_file(program, folder, lines, races, text, reached):
         reached["by function"] += met and "functions" in entry and "variables" in entry
         reached["by line"] += met and "lines" in entry and "functions" not in entry
     demand(done.stderr.decode() == notes, f"{done.stderr.decode()} in place of {notes}")
+    judge_forms(program, folder, kept, len(races), done.stderr)
     with_workers = run(program, folder, "--triage", "f.toml", "--today", day, "--workers", "3")
     demand(
         (with_workers.stdout, with_workers.stderr) == (done.stdout, done.stderr), "three workers print another text"
@@ -346,10 +371,44 @@ def judge_trace(program, folder, seed, reached):
         judge_file(program, folder, lines, races, spoiled(chance, text), reached)
 
 
+def judge_columns(program, folder, chance, reached):
+    """A text that stops to be TOML behind a key and its value is refused at that character."""
+    begin = text_of([{"paths": ["u.c", "u.c"], "verdict": "known"}] * chance.randint(0, 3))
+    value = "".join(chance.choices("aä€\U0001f600", k=chance.randint(0, 9)))
+    write(folder, "f.toml", f'{begin}other = "{value}" ?\n')
+    place = f"line {begin.count(chr(10)) + 1} column {len(value) + 12}"
+    done = run(program, folder, "--triage", "f.toml")
+    wanted = (1, b"", f"racebench: triage file {place}: not TOML\n".encode())
+    demand((done.returncode, done.stdout, done.stderr) == wanted, f"{done.stderr} in place of {wanted[2]}")
+    reached["no TOML at a column"] += 1
+
+
+def judge_clock(program, folder, reached):
+    """Without `--today` an entry is in force up to its last day by the system's clock in UTC."""
+    clock = lambda: datetime.datetime.now(datetime.timezone.utc).date()
+    for days in (0, 1, 40, 400, -1, -2, -40, -400):
+        while True:
+            today = clock()
+            entry = {"paths": ["no.c", "no.c"], "verdict": "known", "expires": today + datetime.timedelta(days=days)}
+            write(folder, "f.toml", text_of([entry]))
+            done = run(program, folder, "--triage", "f.toml")
+            if clock() == today:
+                break
+        place = "racebench: triage file line 4 column 1"
+        told = f"{place}: entry 1 has expired\n" if days < 0 else "racebench: f.toml: entry 1 is about no race\n"
+        demand(
+            (done.returncode, done.stderr.decode()) == (int(days < 0), told),
+            f"{days} days from {today}: {done.stderr.decode()} in place of {told}",
+        )
+        reached["days of the clock"] += 1
+
+
 def judged(run):
     for seed in run.seeds():
         with judging.about(f"seed {seed}"):
             judge_trace(run.program, ".", seed, run.tally)
+            judge_columns(run.program, ".", random.Random(seed), run.tally)
+    judge_clock(run.program, ".", run.tally)
     return ", ".join(f"{what} {run.tally[what]}" for what in REACHED)
 
 
