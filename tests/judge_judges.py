@@ -56,6 +56,7 @@ FOUND = {
     "judge_progress": ["writes a line more on standard error"],
     "judge_texts": [*USUAL, "writes a line more on standard error", "always ends well"],
     "judge_windows": [*USUAL, "writes a window less", "forgets races before a fault"],
+    "judge_words": ["prints nothing", "always ends well", "cuts its last argument"],
 }
 # Arguments that make a judge look at little, since it goes on after a wrong answer.
 ARGUMENTS = {"judge_pages": ["docs/EXPLAIN.md"], "judge_record": ["tests/recorded/relaxed.c"]}

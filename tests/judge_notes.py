@@ -6,6 +6,7 @@ Takes the program's path. Says what is wrong, if something is, and ends with sta
 """
 
 import os
+import shutil
 import subprocess
 import sys
 import tty
@@ -23,7 +24,42 @@ RUNS = [
     (["replay", "good", "none"], "racebench: read failed\n", "note: none does not exist\n"),
     ([], "", "note: there is no line `---`, so there is no script\n"),
     (["info", "good"], "", ""),
+    (["info", "shut"], "racebench: read failed\n", "note: shut may not be read: permission denied\n"),
+    (["info", "in/good"], "racebench: read failed\n", "note: in/good may not be read: permission denied\n"),
 ]
+# How each line of a script is written.
+USAGES = {
+    "new": "new NAME",
+    "add": "add NAME EVENT",
+    "back": "back NAME",
+    "swap": "swap NAME POSITION",
+    "branch": "branch NAME LENGTH NAME",
+    "drop": "drop NAME",
+    "adopt": "adopt NAME PROPOSAL",
+    "batch": "batch COMMAND ; COMMAND",
+    "undo": "undo [ENTRY]",
+    "propose": "propose EVENT EVENT EVENT*",
+    "show": "show NAME",
+    "list": "list",
+    "races": "races NAME",
+}
+
+
+def runs():
+    """All runs, with one for each word of a script that has no arguments, or too many."""
+    scripts = []
+    for word, usage in USAGES.items():
+        line = f"7 {word}" + " A 0 B 1" * (word in ("undo", "list"))
+        running.write(f"script_{word}", f"\n{line}\n")
+        told = f"note: line 2 of script_{word} is `{line}`\nnote: the command is `{word}`\nnote: it is written `{usage}`\n"
+        scripts.append((["replay", "good", f"script_{word}"], "racebench: script line 2: 81 bad word\n", told))
+    return RUNS + scripts
+
+
+def user_of(words):
+    """What makes a run on files that may not be read that of a user for whom it is so."""
+    is_shut = any(word in ("shut", "in/good") for word in words)
+    return {"user": 65534, "group": 65534, "extra_groups": []} if is_shut and os.geteuid() == 0 else {}
 
 
 def environment(value):
@@ -40,6 +76,7 @@ def through_pipe(program, words, value):
         env=environment(value),
         timeout=running.PATIENCE,
         check=False,
+        **user_of(words),
     )
     return done.stderr.decode("ascii")
 
@@ -48,7 +85,12 @@ def on_terminal(program, words):
     mine, theirs = os.openpty()
     tty.setraw(theirs)
     with subprocess.Popen(
-        [program, *words], stdin=subprocess.DEVNULL, stdout=subprocess.DEVNULL, stderr=theirs, env=environment(None)
+        [program, *words],
+        stdin=subprocess.DEVNULL,
+        stdout=subprocess.DEVNULL,
+        stderr=theirs,
+        env=environment(None),
+        **user_of(words),
     ) as run:
         os.close(theirs)
         shown = b""
@@ -70,13 +112,20 @@ def judge(words, how, shown, wanted):
 def judged(run):
     running.write("bad", "T1|w(x)|1\nT1 w(x)\n")
     running.write("good", "T1|w(x)|1\n")
-    for words, line, notes in RUNS:
+    running.write("shut", "T1|w(x)|1\n")
+    os.chmod("shut", 0)
+    os.mkdir("in", 0o700 if os.geteuid() == 0 else 0)
+    program = "./racebench"
+    shutil.copy(run.program, program)
+    os.chmod(program, 0o755)
+    os.chmod(".", 0o755)
+    for words, line, notes in runs():
         for value in (None, "0", "", "11"):
-            judge(words, f"with RACEBENCH_NOTES {value!r}", through_pipe(run.program, words, value), line)
-        judge(words, "with RACEBENCH_NOTES 1", through_pipe(run.program, words, "1"), line + notes)
-        judge(words, "on a terminal", on_terminal(run.program, words), line + notes)
+            judge(words, f"with RACEBENCH_NOTES {value!r}", through_pipe(program, words, value), line)
+        judge(words, "with RACEBENCH_NOTES 1", through_pipe(program, words, "1"), line + notes)
+        judge(words, "on a terminal", on_terminal(program, words), line + notes)
         run.tally["runs"] += 1
-    return f"notes: {len(RUNS)} runs, each through a pipe and on a terminal"
+    return f"notes: {run.tally['runs']} runs, each through a pipe and on a terminal"
 
 
 if __name__ == "__main__":
