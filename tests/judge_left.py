@@ -52,6 +52,7 @@ REACHED = [
     "merged again",
     "windows",
     "page",
+    "line of code",
 ]
 
 
@@ -259,12 +260,14 @@ class Judge(judge_merge.Judge):
         """The log: a result for each pair that stays, and how much is left out."""
         stay, known, hidden = wanted.left(parts)
         left = {name: count for name, count in [("known", known), ("hidden", hidden)] if count is not None}
-        for flags in [[], ["--apart"]]:
-            _, out, err = running.ended(self.program, ["merge", *parts, *words, *flags, "--sarif"])
+        for flags, folder in [([], ""), (["--apart"], ""), (["--apart"], "code")]:
+            code = ["--source", folder] if folder else []
+            _, out, err = running.ended(self.program, ["merge", *parts, *words, *flags, "--sarif", *code])
             if err != wanted.notes(parts):
                 raise Wrong(f"with the log standard error has {err.decode()}")
             shown = [pair for pair in stay if flags or pair.rank < 2]
-            self.sarif.check_run(json.loads(out)["runs"][0], parts, shown, "", left)
+            self.sarif.check_run(json.loads(out)["runs"][0], parts, shown, folder, left)
+        self.seen["line of code"] = self.sarif.tally["line of code"]
 
     def pages(self, parts, wanted, words):
         """The page: a row for each pair that stays, and how much is left out."""
@@ -293,7 +296,8 @@ class Judge(judge_merge.Judge):
         words = Wanted(chance, parts, self.seen).words()
         if not words:
             return
-        for flags in [[], ["--apart"], ["--json"], ["--page"], ["--sarif"], ["--fail"]]:
+        code = ["--sarif", "--source", "code"]
+        for flags in [[], ["--apart"], ["--json"], ["--page"], ["--sarif"], code, ["--fail"]]:
             if flags == ["--apart"]:
                 apart = running.printed(self.program, ["triage", "trace", most, "--json", *flags])
                 judge_merge.write("windows.json", apart)
@@ -312,6 +316,7 @@ class Judge(judge_merge.Judge):
     def judge(self, seed):
         chance = random.Random(seed)
         parts = self.list_of(chance, seed)
+        write_code()
         for _ in range(3):
             wanted = Wanted(chance, parts, self.seen)
             words = wanted.words()
@@ -321,6 +326,15 @@ class Judge(judge_merge.Judge):
                 self.logs(parts, wanted, words)
                 self.pages(parts, wanted, words)
         self.windows(chance)
+
+
+def write_code():
+    """Writes a folder with the code of places that drawn parts name."""
+    os.mkdir("code")
+    for place in judge_merge.PLACES:
+        path, line, _ = side_of(place)
+        if line.isdecimal() and "/" not in path:
+            judge_merge.write(f"code/{path}", b"".join(b"  line %d;\n" % number for number in range(1, 40)))
 
 
 def judged(run):

@@ -15,7 +15,9 @@ also if something that has to be seen was never met.
 import json
 import os
 import random
+import resource
 import shutil
+import signal
 import subprocess
 import sys
 
@@ -53,7 +55,13 @@ REACHED = [
     "failed",
     "progress",
     "many threads",
+    "lines of code",
+    "workers before a fault",
+    "file too long",
+    "mark",
 ]
+# The words for a log with the code in a folder.
+WITH_CODE = ["--sarif", "--source", "code"]
 # Lines that are no events.
 SKIPPED = ["\n", " \t\n", "\r\n", "T1|begin(block)|\n", " T2 | end(block) | 7\n"]
 
@@ -134,6 +142,8 @@ class Judge:
         """The windows that are written, as texts by their first events; each must be that of the trace."""
         events, wanted = located.trace.events, plain.windows(len(located.trace.events), most)
         shutil.rmtree(folder, ignore_errors=True)
+        if most % 2:
+            os.mkdir(folder)
         told = running.printed(self.program, ["cut", "trace", "--windows", str(most), "--into", folder]).decode()
         counts = f"windows {len(wanted)}\nshorter 0\nevents {len(events)}\nthreads {len(located.trace.threads())}\n"
         if told != counts:
@@ -170,7 +180,7 @@ class Judge:
             part = running.printed(self.program, words)
             with open(names[start], "w", encoding="utf-8") as out:
                 out.write(moved(part.decode(), place))
-        forms = [["--json"], ["--page", *flags], ["--sarif", *flags], flags]
+        forms = [["--json"], ["--page", *flags], ["--sarif", *flags], [*WITH_CODE, *flags], flags]
         made = [running.printed(self.program, ["merge", *names.values(), *more]) for more in forms]
         for name in names.values():
             os.remove(name)
@@ -185,13 +195,15 @@ class Judge:
         """The report of `triage --windows`, which is returned as objects."""
         flags = chance.choice([[], ["--apart"]])
         tries = chance.choice([[], [], ["--tries", "0"]])
-        told, page, log, text = self.report(places, most, flags, tries)
+        told, page, log, coded, text = self.report(places, most, flags, tries)
         events, threads = len(located.trace.events), len(located.trace.threads())
         head = f"windows {len(places)}\nshorter 0\nevents {events}\nthreads {threads}\n".encode()
         words = ["triage", "trace", f"--windows={most}", *flags, *tries]
         self.same([*words, "--json"], told)
         self.same([*words, "--page"], page)
         self.same([*words, "--sarif"], log)
+        self.same([*words, *WITH_CODE], coded)
+        self.seen["lines of code"] += coded != log
         self.same(words, head + text)
         workers = chance.choice([1, 2, 5])
         self.same([*words, "--workers", str(workers)], head + text)
@@ -285,6 +297,13 @@ class Judge:
         races = [[line for line in text.splitlines() if line.startswith(b"race ")] for text in (out, whole)]
         if races[0] != races[1] and len(ends) < 2:
             raise Wrong(f"before the fault it prints\n{out.decode()}and not\n{whole.decode()}")
+        for more in (["--workers", str(chance.choice([1, 2, 5]))], ["--fail"]):
+            if self.refused(["triage", "wrong", f"--windows={most}", *more], fault) != out:
+                raise Wrong(f"{more} print another text before a fault than\n{out.decode()}")
+        running.write("told", self.refused(["triage", "wrong", f"--windows={most}", "--json"], fault).decode())
+        if out and running.printed(self.program, ["merge", "told"]) != out.split(b"\n", 4)[4]:
+            raise Wrong(f"the JSON before a fault is not that of\n{out.decode()}")
+        self.seen["workers before a fault"] += races[0] != []
         self.seen[kind] += 1
 
     def judge_threads(self, chance):
@@ -311,6 +330,32 @@ class Judge:
             pass
         self.refused(["cut", "trace", "--windows", str(most), "--into", "odd"], "the folder has files: odd")
         self.seen["full folder"] += 1
+
+    def judge_limit(self):
+        """If the file of a window is not written whole, no part of it is left."""
+
+        def limit():
+            signal.signal(signal.SIGXFSZ, signal.SIG_IGN)
+            resource.setrlimit(resource.RLIMIT_FSIZE, (60, 60))
+
+        running.write("trace", "A|w(x)|a long place\n" * 3)
+        words = [self.program, "cut", "trace", "--windows", "2", "--into", "limited"]
+        done = subprocess.run(words, capture_output=True, preexec_fn=limit, timeout=running.PATIENCE, check=False)
+        found = done.returncode, done.stdout, done.stderr, os.listdir("limited")
+        if found != (1, b"", b"racebench: write failed\n", []):
+            raise Wrong(f"a window whose file may not be so long ends with {found}")
+        self.seen["file too long"] += 1
+
+    def judge_mark(self):
+        """A byte order mark is part of the first thread's name, and no note is written."""
+        text = "\ufeffA|w(x)|\nB|w(x)|\n"
+        running.write("trace", text)
+        found = running.ended(self.program, ["cut", "trace", "--into", "marked"], {"RACEBENCH_NOTES": "1"})
+        with open("marked/window-000000000.std", encoding="utf-8") as window:
+            told = window.read()
+        if (found, told) != ((0, b"windows 1\nshorter 0\nevents 2\nthreads 2\n", b""), f"window|begin(FROM 0 TO 2 PROLOGUE 0)|\n{text}"):
+            raise Wrong(f"cut --into of a marked trace ends with {found}, and the window is\n{told}")
+        self.seen["mark"] += 1
 
     def write(self, chance, text):
         """Writes the trace, sometimes with other ends of lines."""
@@ -359,8 +404,16 @@ class Judge:
         self.seen["no events"] += 1
 
 
+def write_code():
+    """Writes a folder with the code of which places of drawn traces name lines."""
+    os.mkdir("code")
+    for number in range(6):
+        running.write(f"code/p{number}.c", "".join(f"  line {line} of {number};\n" for line in range(1, 7)))
+
+
 def judged(run):
     judge = Judge(run)
+    write_code()
     for seed in run.seeds():
         with judging.about(f"seed {seed}", "trace"):
             judge.judge(seed)
@@ -368,6 +421,8 @@ def judged(run):
         judge.judge_empty(text)
     if run.numbers[0]:
         judge.judge_threads(random.Random(run.numbers[1]))
+        judge.judge_limit()
+        judge.judge_mark()
     return f"{run.numbers[0]} traces: " + ", ".join(f"{what} {count}" for what, count in sorted(run.tally.items()))
 
 
