@@ -156,12 +156,17 @@ def lacks_a_write(err, known):
     return False
 
 
+def is_well(run, wanted):
+    """Whether the run ended well, and wrote nothing on standard error but what the case wants of a run that does."""
+    return run.status == 0 and (not run.err or (wanted.status == 0 and run.err == wanted.err))
+
+
 def is_told_in_threads(run, wanted):
     """Whether one call's line tells want of memory, and as many scripts are told as there are."""
     lines, known = run.out.splitlines(), wanted.out.splitlines()
     clients = [line for line in lines if line.startswith(b"client ")]
     return (
-        (run.status, run.err) == (0, b"")
+        is_well(run, wanted)
         and lines.count(b"refused 56 out of memory") == 1
         and len(lines) <= len(known)
         and clients == [line for line in known if line.startswith(b"client ")]
@@ -174,7 +179,7 @@ def is_told_in_session(run, wanted):
     lines, known = run.out.splitlines(), wanted.out.splitlines()
     at = next((at for at, line in enumerate(lines) if line == b"refused 56 out of memory"), 0)
     is_one = lines.count(b"refused 56 out of memory") == 1
-    return (run.status, run.err) == (0, b"") and is_one and len(lines) == len(known) and lines[:at] == known[:at]
+    return is_well(run, wanted) and is_one and len(lines) == len(known) and lines[:at] == known[:at]
 
 
 def parts_of(out):
