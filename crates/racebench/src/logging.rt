@@ -60,6 +60,7 @@ fn write_log<K: Sink>(
 }
 
 /// Writes the log of the parts, with the code in this folder, if one is named. Answers how many races are told of.
+/// A folder of code without a file that it names is told.
 pub(crate) fn write_log_in<K: Sink>(
     rt: &HostRuntime,
     parts: &Parts,
@@ -73,7 +74,11 @@ pub(crate) fn write_log_in<K: Sink>(
         return Ok(write_log(rt, parts, apart, b"", writer)?.races);
     };
     let root = root_of(rt.alloc(), folder)?;
-    Ok(write_log(rt, parts, apart, root.as_slice(), writer)?.races)
+    let written = write_log(rt, parts, apart, root.as_slice(), writer)?;
+    if written.lacks_code {
+        tell_codeless(rt, folder)?;
+    }
+    Ok(written.races)
 }
 
 /// The status after the log was printed. A folder of code without a file that it names is told.
