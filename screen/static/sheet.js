@@ -9,7 +9,9 @@ import * as map from "./map.js";
 
 // So many rows beyond the sight are drawn on both sides.
 const AHEAD = 24;
-// The height of the words that stand where there is no event.
+// The words that stand where there is no event, and their height.
+const NONE_YET = "No events yet. Choose one below.";
+const NONE_NEEDED = "No event is needed before the two.";
 const NOTHING = 36;
 // The farthest that an event is moved at once.
 const FARTHEST = 64;
@@ -157,7 +159,7 @@ function render() {
 
 function inside() {
   const made = [...rails(), ...bars(win.locks), ...drawn.rows(win, cursor)];
-  if (win.total === 0) made.push(el("p", "empty", "No events yet. Choose one below."));
+  if (win.total === 0) made.push(el("p", "empty", state.view?.witness ? NONE_NEEDED : NONE_YET));
   if (stop) {
     const told = el("div", "stop", stop.text);
     told.style.top = `${stop.row * HEIGHT}px`;

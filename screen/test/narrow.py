@@ -284,6 +284,27 @@ async def test_a_window_as_narrow_as_a_page_that_is_enlarged(program):
         is_clean(page, screen)
 
 
+async def test_a_witness_of_no_events(program):
+    """It does not ask for any, and an explanation with a long place is read without scrolling it sideways."""
+    traces.write("trace", f"T1|w(x)|{'p' * 3000}:1\nT2|w(x)|b:1\n")
+    note = "document.getElementById('note')"
+    async with Screen(program, "trace", "log") as screen, Browser() as browser:
+        page = await browser.page(screen.link)
+        await page.until("document.querySelectorAll('.race').length === 1")
+        await page.click(".race")
+        empty = "document.querySelector('#space .empty')?.textContent"
+        await page.until(f"{empty} === 'No event is needed before the two.'")
+        await page.key("x")
+        await page.until(f"!{note}.hidden && {note}.textContent.includes('ppp')")
+        for width in (1440, 320):
+            await page.size(width, 900)
+            await page.until(f"innerWidth === {width} && {note}.scrollWidth <= {note}.clientWidth")
+        await page.key("e")
+        await page.until(f"{NEXT} === 2")
+        await page.until(f"{empty} === 'No events yet. Choose one below.'")
+        is_clean(page, screen)
+
+
 LONG_NAMES = """(() => {
   const box = (selector) => document.querySelector(selector).getBoundingClientRect();
   const [feed, all] = ["feed", "side"].map((id) => document.getElementById(id));
