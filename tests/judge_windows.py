@@ -7,8 +7,9 @@ after a prologue that takes what is held, whatever the order of its locks and th
 what `merge` makes of `triage --json` of each window, with the numbers that the events have in the trace, with and
 without workers, of a file and of standard input. Each race of it is shown by a correct reordering of the whole trace
 that begins as recorded up to its window; and each pair with two accesses in one window that such a reordering shows,
-before the window's end, is there as a race or undecided. A trace with a line that is refused, an event that breaks a
-rule, or a thread too many, is judged up to there. Says what is wrong, if something is, and ends with status 1 then,
+before the window's end, is there as a race or undecided. A window of more threads than a trace may have is cut
+shorter, which is counted. A trace with a line that is refused, an event that breaks a rule, or an event that needs a
+thread too many beside those that hold a lock, is judged up to there. Says what is wrong, if something is, and ends with status 1 then,
 also if something that has to be seen was never met.
 """
 
@@ -31,7 +32,6 @@ from judge_triage import Located
 from judging import Wrong
 
 TRACES = 60
-MOST_THREADS = 256
 REACHED = [
     "held",
     "several holds",
@@ -59,6 +59,8 @@ REACHED = [
     "workers before a fault",
     "file too long",
     "mark",
+    "shorter",
+    "threads that come and go",
 ]
 # The words for a log with the code in a folder.
 WITH_CODE = ["--sarif", "--source", "code"]
@@ -97,6 +99,39 @@ def crossed_trace(chance, most):
         variable = chance.choice(["x", "y"])
         events += [plain.Event(one, "w", variable), plain.Event(one, "acq", "l"), plain.Event(one, "rel", "l")]
         events += [plain.Event(other, "acq", "l"), plain.Event(other, "rel", "l"), plain.Event(other, "w", variable)]
+    return plain.Trace(events)
+
+
+def coming_trace(chance, count):
+    """A trace of so many threads that come and go: each may be forked, does a little, and may be joined. Some of them
+    hold a lock meanwhile, and some for ever."""
+    events, here, holders = [], [], {}
+
+    def work(thread):
+        word, name = chance.choice([("r", "x"), ("w", "x"), ("w", "y"), ("acq", "l"), ("acq", "m"), ("rel", "l"), ("rel", "m")])
+        depth = holders.setdefault(name, [])
+        if word == "rel" and (not depth or depth[-1] != thread) or word == "acq" and depth and depth[-1] != thread:
+            return
+        events.append(plain.Event(thread, word, name))
+        if word in ("acq", "rel"):
+            depth.append(thread) if word == "acq" else depth.pop()
+
+    def leave(thread):
+        for lock, depth in holders.items():
+            while depth and depth[-1] == thread and chance.random() < 0.99:
+                events.append(plain.Event(thread, "rel", lock))
+                depth.pop()
+        if chance.random() < 0.6:
+            events.append(plain.Event("main", "join", thread))
+
+    for number in range(count):
+        here.append(f"T{number}")
+        if chance.random() < 0.8:
+            events.append(plain.Event("main", "fork", here[-1]))
+        for _ in range(chance.randint(1, 3)):
+            work(chance.choice([*here, "main"]))
+        while len(here) > chance.randint(1, 12):
+            leave(here.pop(chance.randrange(len(here))))
     return plain.Trace(events)
 
 
@@ -140,12 +175,14 @@ class Judge:
 
     def windows(self, located, most, folder):
         """The windows that are written, as texts by their first events; each must be that of the trace."""
-        events, wanted = located.trace.events, plain.windows(len(located.trace.events), most)
+        events, wanted = located.trace.events, plain.narrow_windows(located.trace.events, most)
         shutil.rmtree(folder, ignore_errors=True)
         if most % 2:
             os.mkdir(folder)
         told = running.printed(self.program, ["cut", "trace", "--windows", str(most), "--into", folder]).decode()
-        counts = f"windows {len(wanted)}\nshorter 0\nevents {len(events)}\nthreads {len(located.trace.threads())}\n"
+        shorter = sum(end - start < most and end < len(events) for start, end in wanted)
+        self.seen["shorter"] += shorter > 0
+        counts = f"windows {len(wanted)}\nshorter {shorter}\nevents {len(events)}\nthreads {len(located.trace.threads())}\n"
         if told != counts:
             raise Wrong(f"cut --into prints {told!r} and not {counts!r}")
         if sorted(os.listdir(folder)) != [f"window-{start:09}.std" for start, _ in wanted]:
@@ -307,9 +344,10 @@ class Judge:
         self.seen[kind] += 1
 
     def judge_threads(self, chance):
-        """A thread that is one too many over the whole trace is refused with its line; windows before it are written."""
+        """An event that needs a thread too many, beside those that hold a lock, is refused with its line; windows before
+        it are written."""
         most, skipped = chance.randint(2, 40), chance.randint(0, 5)
-        before = [f"T{number}|w(x)|{number}\n" for number in range(MOST_THREADS)]
+        before = [f"T{number}|acq(l{number})|{number}\n" for number in range(plain.THREAD_LIMIT)]
         running.write("wrong", "\n" * skipped + "".join(before) + "T0|w(x)|\nmain|w(x)|\n" + "|\n")
         shutil.rmtree("some", ignore_errors=True)
         fault = f"trace line {skipped + len(before) + 2}: 8 too many names"
@@ -318,6 +356,15 @@ class Judge:
         if max(ends) != len(before) + 1:
             raise Wrong(f"windows before a thread too many end at {sorted(ends)}")
         self.seen["many threads"] += 1
+
+    def judge_coming(self, chance):
+        """A trace of more threads than one may have at once is cut into windows of as many as fit."""
+        located = Located(coming_trace(chance, chance.randint(300, 2000)), chance)
+        running.write("trace", located.text())
+        most = chance.choice([400, 1000, 3000])
+        places = self.windows(located, most, "whole")
+        self.judge_one(places, most, chance)
+        self.seen["threads that come and go"] += 1
 
     def judge_folder(self, most):
         """A folder with a file is refused, and stays as it was."""
@@ -423,6 +470,7 @@ def judged(run):
         judge.judge_threads(random.Random(run.numbers[1]))
         judge.judge_limit()
         judge.judge_mark()
+        judge.judge_coming(random.Random(run.numbers[1]))
     return f"{run.numbers[0]} traces: " + ", ".join(f"{what} {count}" for what, count in sorted(run.tally.items()))
 
 

@@ -14,6 +14,7 @@ from typing import Any, Concatenate, NamedTuple, ParamSpec, TypeVar
 import judging
 
 LOG_LIMIT = 1_000_000
+THREAD_LIMIT = 256
 CANDIDATE_LIMIT = 1_000
 BATCH_LIMIT = 64
 
@@ -512,6 +513,40 @@ def windows(length: int, most: int) -> list[tuple[int, int]]:
     for start in range(0, length, (most + 1) // 2):
         if not found or found[-1][1] < length:
             found.append((start, min(start + most, length)))
+    return found
+
+
+def threads_needed(events: Sequence[Event], start: int, end: int) -> int:
+    """How many threads a window with these events has to know: those of its events, with those that they fork and join,
+    those that hold a lock at its start, and those that forked and joined some of the first before, in its place."""
+    before, part = events[:start], events[start:end]
+    named = {event.thread for event in part} | {event.name for event in part if event.word in ("fork", "join")}
+    seen = list(dict.fromkeys(event.thread for event in before))
+    forked = {event.name for event in before if event.word == "fork"}
+    joined = {event.name for event in before if event.word == "join"}
+    depths: dict[tuple[str, str], int] = {}
+    for event in before:
+        if event.word in ("acq", "rel"):
+            depths[event.thread, event.name] = depths.get((event.thread, event.name), 0) + (1 if event.word == "acq" else -1)
+    needed = named | {thread for (thread, _), depth in depths.items() if depth}
+    if named & forked:
+        needed.add(seen[0])
+    if named & joined:
+        needed.add(next(thread for thread in seen if thread not in joined))
+    return len(needed)
+
+
+def narrow_windows(events: Sequence[Event], most: int) -> list[tuple[int, int]]:
+    """The same where a window that would need more threads than a trace may have is halved until it does not."""
+    found: list[tuple[int, int]] = []
+    start, length = 0, len(events)
+    while not found or found[-1][1] < length:
+        half = most
+        while threads_needed(events, start, min(start + half, length)) > THREAD_LIMIT:
+            half //= 2
+        count = min(half, length - start)
+        found.append((start, start + count))
+        start += (count + 1) // 2
     return found
 
 

@@ -26,7 +26,7 @@ pub(crate) fn room_of(front: &Front) -> u32 {
 }
 
 /// How many threads the events have that were read, with those that are only forked or joined.
-pub(crate) fn threads_of(alloc: Global, front: &Front) -> Result<u32, OutOfMemory> {
+pub(crate) fn threads_of(alloc: Global, front: &Front) -> Result<usize, OutOfMemory> {
     front.threads(alloc)
 }
 

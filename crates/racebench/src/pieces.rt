@@ -78,6 +78,17 @@ pub(crate) fn end_of_line(bytes: &[u8], number: u64) -> usize {
     end
 }
 
+/// How many lines end before this place.
+pub(crate) fn lines_before(bytes: &[u8], at: usize) -> u64 {
+    let mut lines = 0u64;
+    for byte in before(bytes, at).iter() {
+        if *byte == b'\n' {
+            lines = lines.saturating_add(1);
+        }
+    }
+    lines
+}
+
 /// Where the lines before the event of this number end, from 0.
 pub(crate) fn start_of_event(bytes: &[u8], number: u64) -> usize {
     let mut start = 0;

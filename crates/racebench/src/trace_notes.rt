@@ -21,7 +21,7 @@ const LONG: &[u8] =
 
 /// What to do with a trace that has too many threads.
 const WIDE: &[u8] =
-    b"note: a trace has at most 256 threads, also with `--windows`: record a run with fewer threads\n";
+    b"note: a trace has at most 256 threads; `triage --windows` reads more, in windows of at most 256\n";
 
 /// Appends the note on a trace that is too long or has too many threads, if it is so.
 pub(crate) fn append_limit_note(

@@ -1,12 +1,14 @@
 //! The windows of a trace of any length, one after the other.
 
-use crate::front::{begun, events_of, lines_of, read_on, room_of, threads_of, window_of};
-use crate::pieces::{Pieces, Span, before, end_of_line, start_of_event};
+mod faults;
+mod one;
+
+use crate::front::{begun, events_of, read_on, room_of, threads_of, window_of};
+use crate::pieces::{Pieces, Span, before};
 use calls::BenchFault;
-use client_scripts::{ReadCause, ReplayFault};
-use rapid_text::{OutOfMemory, TextCause, TextRefusal};
+use client_scripts::ReplayFault;
+use rapid_text::OutOfMemory;
 use std::alloc::Global;
-use trace_rules::RuleRefusal;
 use window::{Front, FrontFault, Window};
 
 /// The windows of a trace of at most so many events, as far as they were made.
@@ -21,11 +23,34 @@ pub(crate) struct Windows {
     short: u64,
     // The lines at the front that were found for the window before, if they were.
     found: Option<Span>,
+    // How often the number of events was halved for the last window, since more have too many threads.
+    halvings: u32,
+    // No more events than so many are gone past at once: twice as many as the last time.
+    stride: u64,
 }
 
 /// Half of so many, rounded up.
 fn half_of(count: usize) -> usize {
     (count / 2).saturating_add(count % 2)
+}
+
+/// More often than a number of events is halved and doubled for one window.
+const HALVINGS: u32 = 128;
+
+/// So many events, halved so often; at least one.
+fn halved(most: u32, halvings: u32) -> u32 {
+    most.checked_shr(halvings).unwrap_or(0).max(1)
+}
+
+/// What came of making a window of some lines.
+#[derive(Drop)]
+enum Tried {
+    /// The window, if there is one.
+    Made(Option<Window>),
+    /// The lines are a window, and more lines may be one.
+    Fits,
+    /// The lines have more threads than a trace may have, with those that hold a lock.
+    TooWide,
 }
 
 /// The lines of a window: those that the next window does not have, and all.
@@ -45,11 +70,6 @@ impl Spans {
     }
 }
 
-/// The fault of a line that is refused.
-fn refused_line(line: u64, why: TextCause) -> BenchFault {
-    BenchFault::Replay(ReplayFault::from(TextRefusal { line, why }))
-}
-
 impl Windows {
     /// No window was made yet.
     pub(crate) fn new(alloc: Global, pieces: Pieces, most: u32) -> Windows {
@@ -61,6 +81,8 @@ impl Windows {
             is_done: false,
             short: 0,
             found: None,
+            halvings: 0,
+            stride: u64::MAX,
         }
     }
 
@@ -81,7 +103,7 @@ impl Windows {
 
     /// How many threads the events have that were read, with those that are only forked or joined.
     pub(crate) fn threads(&self, alloc: Global) -> Result<u64, OutOfMemory> {
-        Ok(u64::from(threads_of(alloc, &self.front)?))
+        Ok(threads_of(alloc, &self.front)? as u64)
     }
 
     // How many events fit after the text in the place of what was read.
@@ -109,12 +131,7 @@ impl Windows {
             return Ok(None);
         }
         let most = self.room();
-        let spans = self.spans(most)?;
-        if spans.all.events == 0 {
-            self.is_done = true;
-            return Ok(None);
-        }
-        self.made(alloc, spans, most)
+        self.made(alloc, most)
     }
 
     // The lines of a window of so many events, or of as many as are kept at once.
@@ -163,15 +180,53 @@ impl Windows {
         window_of(alloc, &self.front, before(self.pieces.bytes(), end), most)
     }
 
-    // The window of these lines; if one of them is refused, or breaks a rule, that of the lines before it.
-    fn made(
+    // The window of at most so many events. If they have too many threads, it has half of them, or half of these, and so on. The last
+    // window says where to begin, so that no window costs more than it has events.
+    fn made(&mut self, alloc: Global, most: u32) -> Result<Option<Window>, BenchFault> {
+        let mut halvings = self.halvings.saturating_sub(1);
+        let mut is_widest = halvings == 0;
+        for _ in 0..HALVINGS {
+            let spans = self.spans(halved(most, halvings))?;
+            if spans.all.events == 0 {
+                self.is_done = true;
+                return Ok(None);
+            }
+            match self.tried(alloc, spans, most, is_widest)? {
+                Tried::Made(window) => {
+                    self.halvings = halvings;
+                    return Ok(window);
+                }
+                Tried::Fits => {
+                    halvings = halvings.saturating_sub(1);
+                    is_widest = halvings == 0;
+                }
+                Tried::TooWide => {
+                    self.check_width(spans.all)?;
+                    halvings = halvings.saturating_add(1);
+                    is_widest = true;
+                }
+            }
+        }
+        Err(BenchFault::NoSuchEvent)
+    }
+
+    // The window of these lines, if they are the most that may be one; if one of them is refused, or breaks a rule, that of the lines
+    // before it.
+    fn tried(
         &mut self,
         alloc: Global,
         spans: Spans,
         most: u32,
-    ) -> Result<Option<Window>, BenchFault> {
+        is_widest: bool,
+    ) -> Result<Tried, BenchFault> {
         match self.window_before(alloc, spans.all.end, most) {
-            Ok(window) => self.made_of(alloc, window, spans),
+            Ok(window) => {
+                if !is_widest {
+                    return Ok(Tried::Fits);
+                }
+                Ok(Tried::Made(self.made_of(alloc, window, spans)?))
+            }
+            Err(FrontFault::TooManyThreads) => Ok(Tried::TooWide),
             Err(fault) => self.made_before(alloc, fault, most),
         }
     }
@@ -182,7 +237,7 @@ impl Windows {
         alloc: Global,
         fault: FrontFault,
         most: u32,
-    ) -> Result<Option<Window>, BenchFault> {
+    ) -> Result<Tried, BenchFault> {
         let mut fault = fault;
         // Before a line that is refused there may be an event that breaks a rule.
         for _ in 0..2 {
@@ -193,8 +248,12 @@ impl Windows {
                 return Err(told);
             }
             match self.window_before(alloc, end, most) {
-                Ok(window) => return self.ended(alloc, window, end),
+                Ok(window) => return Ok(Tried::Made(self.ended(alloc, window, end)?)),
                 Err(FrontFault::NoSuchEvent) => return Err(told),
+                Err(FrontFault::TooManyThreads) => {
+                    self.fault = None;
+                    return Ok(Tried::TooWide);
+                }
                 Err(other) => fault = other,
             }
         }
@@ -210,43 +269,6 @@ impl Windows {
     ) -> Result<Option<Window>, BenchFault> {
         self.go_on(alloc, end)?;
         Ok(Some(window))
-    }
-
-    // Where the lines end before the one that is refused, or breaks a rule.
-    fn sound_end(&self, fault: FrontFault) -> usize {
-        let bytes = self.pieces.bytes();
-        match fault {
-            FrontFault::Text { line, why: _ } => {
-                let number = line.saturating_sub(lines_of(&self.front));
-                end_of_line(bytes, number.saturating_sub(1))
-            }
-            FrontFault::Rule { event, why: _ } => {
-                start_of_event(bytes, event.saturating_sub(events_of(&self.front)))
-            }
-            _ => 0,
-        }
-    }
-
-    // The fault, as it is printed.
-    fn told_of(&self, fault: FrontFault) -> BenchFault {
-        match fault {
-            FrontFault::Text { line, why } => refused_line(line, why),
-            FrontFault::Rule { event, why } => {
-                let event = u32::try_from(event).unwrap_or(u32::MAX);
-                BenchFault::Replay(ReplayFault::from(RuleRefusal { event, why }))
-            }
-            FrontFault::Unended => BenchFault::Replay(ReplayFault::Read {
-                input: 1,
-                why: ReadCause::Device,
-            }),
-            FrontFault::NoSuchEvent => BenchFault::NoSuchEvent,
-            FrontFault::NoName => BenchFault::NoName,
-            FrontFault::TooLong => refused_line(
-                lines_of(&self.front).saturating_add(1),
-                TextCause::TooManyEvents,
-            ),
-            FrontFault::OutOfMemory => BenchFault::Replay(ReplayFault::OutOfMemory),
-        }
     }
 
     // This window, after which the next one may be made.
@@ -316,35 +338,5 @@ impl Windows {
         }
         self.pieces.take(alloc, end)?;
         Ok(())
-    }
-
-    /// The window at the event of this number.
-    pub(crate) fn at(&mut self, alloc: Global, number: u64) -> Result<Option<Window>, BenchFault> {
-        for _ in 0..number.saturating_add(1) {
-            let left = number.saturating_sub(events_of(&self.front));
-            if left == 0 {
-                return self.one(alloc);
-            }
-            let room = u64::from(room_of(&self.front).max(1));
-            let span = self.pieces.span_kept(0, left.min(room) as usize)?;
-            if span.events == 0 {
-                return Ok(None);
-            }
-            self.go_on(alloc, span.end)?;
-        }
-        Ok(None)
-    }
-
-    // The window after what was read.
-    fn one(&mut self, alloc: Global) -> Result<Option<Window>, BenchFault> {
-        let most = self.room();
-        let span = self.pieces.span_kept(0, most as usize)?;
-        if span.events == 0 {
-            return Ok(None);
-        }
-        match self.window_before(alloc, span.end, most) {
-            Ok(window) => Ok(Some(window)),
-            Err(fault) => Err(self.told_of(fault)),
-        }
     }
 }

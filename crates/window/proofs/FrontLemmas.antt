@@ -1,21 +1,24 @@
 -- What is kept of a trace that was read so far, and why a piece after it is refused.
-use Rattle.std.proofs.Common.{◌≡◌, ◌≢◌, ◌⊎◌, ℕ, zero, suc, ◌+◌, ◌-◌, ◌<◌, ◌≤◌, List, [], ◌∷◌, ◌++◌, Ok, Err, length, take, cond, count_by, slice_index, refl, sym, ap, ◌∙◌, subst, arith, inl, inr}
-use Rattle.std.proofs.lemmas.List.{length-append, length_push, take_all, take_more, get_or_push}
-use Rattle.std.proofs.lemmas.List.Sums.{sum_by-append}
-use Rattle.rapid_text.specs.Reading.{NamedEvent, is_line_feed, reading_of, recording_of}
+use Rattle.std.proofs.Common.{◌≡◌, ◌≢◌, ◌⊎◌, ℕ, zero, suc, ◌+◌, ◌-◌, ◌<◌, ◌≤◌, ◌||◌, true, bytes_eq, List, [], ◌∷◌, ◌++◌, Ok, Err, length, take, slice_index, refl, sym, ap, ap₂, ◌∙◌, subst, arith, inl, inr}
+use Rattle.std.proofs.lemmas.List.{length-append, length-map, length_push, take_all, take_more, get_or_push}
+use Rattle.rapid_text.specs.Reading.{NamedEvent, first_uses, numbered, reading_of, recording_of, thread_uses}
 use Rattle.rapid_text.specs.Recording.{Recording}
-use Rattle.rapid_text.specs.declared.refusal.TextCause.TheVariants.{TooManyEvents}
+use Rattle.rapid_text.specs.declared.refusal.TextCause.TheVariants.{TooManyEvents, TooManyNames}
 use Rattle.rapid_text.specs.declared.refusal.TextRefusal.{TextRefusal}
 use Rattle.rapid_text.specs.Refusals.{no_memory as no_text}
 use Rattle.trace_rules.specs.Rules.{IsDisciplined, IsFirstBreach, no_memory}
-use Rattle.trace_rules.specs.declared.refusal.RuleCause.{RuleCause}
 use Rattle.trace_rules.specs.declared.refusal.RuleCause.TheVariants.{OutOfMemory}
 use Rattle.trace_rules.specs.declared.refusal.RuleRefusal.{RuleRefusal}
-use Rattle.trace_rules.proofs.CallerLemmas.{IsDisciplined-from_none}
-use Rattle.window.specs.Cuts.{IsCutAs}
-use Rattle.window.specs.Streams.{IsFirstRefused, IsFront, IsUnrefused, IsKept, IsWhole, Stands, Stream, feeds, long_trace, said_in}
-use Rattle.window.specs.declared.cutting.Window.{Window}
-use Rattle.window.proofs.RefusalLemmas.{feeds-append, reads_law, refuses_law}
+use Rattle.window.specs.Fronts.{HasTooManyEvents}
+use Rattle.window.specs.Streams.{IsFirstRefused, IsFront, IsPast, IsUnrefused, IsKept, IsWhole, Past, Stands, Stream, feeds, fork_uses, join_uses, long_trace, no_past, own_uses, said_in}
+use Rattle.rapid_text.proofs.NameNumbers.{has, has-first_uses}
+use Rattle.window.proofs.NameLemmas.{few_uses}
+use Rattle.window.proofs.UsesLemmas.{forks_among, joins_among, one_of_three, own_among, three_uses}
+use Rattle.std.specs.List.{IsDistinct}
+use Rattle.std.proofs.Math.Nat.{le_antisymm}
+use Rattle.std.proofs.lemmas.Cmp.{nat_list_eq_equiv}
+use Rattle.std.proofs.lemmas.Map.Made.{length-le_from_is_member}
+use Rattle.window.proofs.RefusalLemmas.{feeds-append, unrefused-append, refuses_law, too_large}
 use Rattle.window.proofs.StreamLemmas.{begins_law, breaks_law, read_is, said-append}
 use Rattle.window.proofs.SummaryLemmas.{long_piece}
 
@@ -47,17 +50,26 @@ none_refused : IsUnrefused []
 none_refused zero lt = refl
 none_refused (suc i) lt = absurd (omega (arith, lt))
 
-pub front_begins : IsFront [] [] 0 0 0 0
-front_begins = record {
-  stands = begins_law;
-  kept_well = (recording_of [], nothing_reads, IsDisciplined-from_none [] (λ j lt. absurd (omega (arith, lt))));
-  size_is = refl;
-  unrefused = λ i lt. none_refused i lt;
-  rows_are = refl;
-  number_is = refl;
-  number_small = omega arith;
-  lines_are = refl;
-}
+past_is : (f g j : List (List ℕ)) (h : List ℕ) → f ≡ [] → g ≡ [] → j ≡ [] → h ≡ [] → (let p : Past = record { forked = f; seen = g; joined = j; held = h } in p) ≡ no_past
+past_is f g j h no_f no_g no_j no_h = cc
+
+pub front_begins : (past : Past) (holds : ℕ) → past.forked ≡ [] → past.seen ≡ [] → past.joined ≡ [] → past.held ≡ [] → holds ≡ 0 → IsFront [] past holds 0 0
+front_begins past holds no_f no_g no_j no_h none =
+    let none_kept : past ≡ no_past = past_is past.forked past.seen past.joined past.held no_f no_g no_j no_h in
+    record {
+      is_past = subst (IsPast []) (sym none_kept) begins_law;
+      unrefused = λ i lt. none_refused i lt;
+      holds_are = none ∙ sym (ap (λ (t : List ℕ). length (said_in t)) no_h);
+      number_is = refl;
+      number_small = omega arith;
+      lines_are = refl;
+    }
+
+-- how many events a text has that is read
+pub size_is : (text : List ℕ) (r : Recording) → reading_of text ≡ Ok r → length r.events ≡ length (said_in text)
+size_is text r reads =
+    let s : Recording = recording_of (said_in text) in
+    ap (λ (q : Recording). length q.events) (read_is text r reads) ∙ length-map (said_in text) (numbered s.threads s.variables s.locks)
 
 -- The text that is kept keeps the rules.
 kept_rules : (kept : List ℕ) → IsKept kept → IsDisciplined (long_trace kept)
@@ -72,27 +84,25 @@ no_events kept more r whole reads few = none (said_in more) (omega (arith, few, 
     none (e ∷ es) nil = absurd (omega (arith, nil))
 
 -- what is known of the fields, of what a clause sees
-pub front_of : (read kept : List ℕ) (size rows number lines : ℕ) (s : Stream) → (let t : Stream = record { read = read; kept = kept } in t) ≡ s → IsFront read kept size rows number lines
-    → IsFront s.read s.kept size rows number lines
-front_of read kept size rows number lines s is front = subst (λ (t : Stream). IsFront t.read t.kept size rows number lines) is front
+pub front_of : (read : List ℕ) (past : Past) (holds number lines : ℕ) (s : Stream) → (let t : Stream = record { read = read; past = past } in t) ≡ s → IsFront read past holds number lines
+    → IsFront s.read s.past holds number lines
+front_of read past holds number lines s is front = subst (λ (t : Stream). IsFront t.read t.past holds number lines) is front
 
-module _ (read kept : List ℕ) (size rows number lines : ℕ) (is : IsFront read kept size rows number lines) (more : List ℕ) where
-  pub front_after : (next : List ℕ) (size' rows' number' lines' events : ℕ) → IsWhole more → Stands (read ++ more) next → IsKept next → size' ≡ length (said_in next) → rows' ≡ feeds next
-      → ((r : Recording) × (reading_of (kept ++ more) ≡ Ok r)) → number' ≡ number + events → events ≡ length (said_in more) → number' < 1000000000000000000 → lines' ≡ lines + feeds more
-      → IsFront (read ++ more) next size' rows' number' lines'
-  front_after next size' rows' number' lines' events whole stands kept_well sized rowed reads summed counted small lined = record {
-    stands = stands;
-    kept_well = kept_well;
-    unrefused = reads_law read kept more reads.0 is.stands is.unrefused reads.1;
-    size_is = sized;
-    rows_are = rowed;
+module _ (read : List ℕ) (past : Past) (holds number lines : ℕ) (is : IsFront read past holds number lines) (more : List ℕ) where
+  -- what is kept after a piece
+  pub front_after : (next : Past) (holds' number' lines' events : ℕ) → IsPast (read ++ more) next → IsUnrefused more → holds' ≡ length (said_in next.held) → number' ≡ number + events
+      → events ≡ length (said_in more) → number' < 1000000000000000000 → lines' ≡ lines + feeds more → IsFront (read ++ more) next holds' number' lines'
+  front_after next holds' number' lines' events kept own held summed counted small lined = record {
+    is_past = kept;
+    unrefused = unrefused-append read more is.is_past.whole is.unrefused own;
+    holds_are = held;
     number_is =
         omega (
           arith,
           is.number_is,
           summed,
           counted,
-          ap (λ (es : List NamedEvent). length es) (said-append read more is.stands.whole),
+          ap (λ (es : List NamedEvent). length es) (said-append read more is.is_past.whole),
           length-append (said_in read) (said_in more),
         );
     number_small = small;
@@ -100,19 +110,57 @@ module _ (read kept : List ℕ) (size rows number lines : ℕ) (is : IsFront rea
   }
 
   -- an event that breaks a rule
-  pub breach_told : (r : Recording) (why : RuleRefusal) (event : ℕ) → reading_of (kept ++ more) ≡ Ok r → (why ≡ no_memory) ⊎ IsFirstBreach r.events why → why.why ≢ OutOfMemory
-      → event ≡ number + (why.event - size) → IsFirstBreach (long_trace (read ++ more)) (record { event = event; why = why.why })
-  breach_told r why event reads (inl none) other here = absurd (other (ap (λ (w : RuleRefusal). w.why) none))
-  breach_told r why event reads (inr first) other here =
-      let told = breaks_law read kept more r why is.stands (kept_rules kept is.kept_well) reads first in
-      let place : length (said_in read) + (why.event - length (said_in kept)) ≡ event = omega (arith, here, is.number_is, is.size_is) in
+  pub breach_told : (head : List ℕ) (size : ℕ) (r : Recording) (why : RuleRefusal) (event : ℕ) → Stands read head more → IsKept head → size ≡ length (said_in head) → reading_of (head ++ more) ≡ Ok r
+      → (why ≡ no_memory) ⊎ IsFirstBreach r.events why → why.why ≢ OutOfMemory → event ≡ number + (why.event - size)
+      → IsFirstBreach (long_trace (read ++ more)) (record { event = event; why = why.why })
+  breach_told head size r why event stands kept sized reads (inl none) other here = absurd (other (ap (λ (w : RuleRefusal). w.why) none))
+  breach_told head size r why event stands kept sized reads (inr first) other here =
+      let told = breaks_law read head more r why stands (kept_rules head kept) reads first in
+      let place : length (said_in read) + (why.event - length (said_in head)) ≡ event = omega (arith, here, is.number_is, sized) in
       subst (λ (i : ℕ). let w : RuleRefusal = record { event = i; why = why.why } in IsFirstBreach (long_trace (read ++ more)) w) place told.1
 
   -- a line that is refused
-  pub line_told : (why : TextRefusal) (line : ℕ) → (why ≡ no_text) ⊎ (reading_of (kept ++ more) ≡ Err why) → 0 < why.line → why.why ≢ TooManyEvents → line ≡ lines + (why.line - rows)
+  pub line_told : (why : TextRefusal) (line : ℕ) → (why ≡ no_text) ⊎ (reading_of more ≡ Err why) → 0 < why.line → why.why ≢ TooManyEvents → why.why ≢ TooManyNames → line ≡ lines + why.line
       → IsFirstRefused (read ++ more) line why.why
-  line_told why line (inl none) some other here = absurd (omega (arith, some, ap (λ (w : TextRefusal). w.line) none))
-  line_told why line (inr refused) some other here =
-      let told = refuses_law read kept more why is.stands is.unrefused is.kept_well refused other in
-      let place : feeds read + (why.line - feeds kept) ≡ line = omega (arith, here, is.lines_are, is.rows_are) in
-      subst (λ (i : ℕ). IsFirstRefused (read ++ more) i why.why) place told.1
+  line_told why line (inl none) some few narrow here = absurd (omega (arith, some, ap (λ (w : TextRefusal). w.line) none))
+  line_told why line (inr refused) some few narrow here =
+      let told = refuses_law read more why is.is_past.whole is.unrefused refused few narrow in
+      let place : feeds read + why.line ≡ line = omega (arith, here, is.lines_are) in
+      subst (λ (i : ℕ). IsFirstRefused (read ++ more) i why.why) place told
+
+-- a piece that is read, but not after the head
+pub size_told : (head more : List ℕ) (why : TextRefusal) → IsWhole head → IsKept head → ((s : Recording) × (reading_of more ≡ Ok s)) → (why ≡ no_text) ⊎ (reading_of (head ++ more) ≡ Err why) → 0 < why.line
+    → why.why ≢ TooManyNames → HasTooManyEvents (head ++ more)
+size_told head more why whole kept own (inl none) some narrow = absurd (omega (arith, some, ap (λ (w : TextRefusal). w.line) none))
+size_told head more why whole kept own (inr refused) some narrow =
+    elim (too_large head more kept.0 own.0 why whole kept.1 own.1 refused) [
+      | inl many ↦ (why, refused, many)
+      | inr many ↦ absurd (narrow many)
+    ]
+
+-- the refusal is one of the text
+pub refused_told : (text : List ℕ) (why : TextRefusal) → (why ≡ no_text) ⊎ (reading_of text ≡ Err why) → 0 < why.line → reading_of text ≡ Err why
+refused_told text why (inl none) some = absurd (omega (arith, some, ap (λ (w : TextRefusal). w.line) none))
+refused_told text why (inr refused) some = refused
+
+-- The threads of what was read are those that are kept.
+pub threads_are : (read : List ℕ) (past : Past) (all : List (List ℕ)) → IsPast read past → IsDistinct bytes_eq all
+    → ((name : List ℕ) → has all name ≡ ((has past.seen name || has past.forked name) || has past.joined name)) → length all ≡ length (first_uses (thread_uses (said_in read)))
+threads_are read past all is each same =
+    le_antisymm
+    (length-le_from_is_member nat_list_eq_equiv all (first_uses (thread_uses (said_in read))) each (λ x here. has-first_uses (thread_uses (said_in read)) x (named x (sym (same x) ∙ here))))
+    (few_uses (thread_uses (said_in read)) all (λ x here. same x ∙ noted x (three_uses (said_in read) x here)))
+  where
+    named : (x : List ℕ) → ((has past.seen x || has past.forked x) || has past.joined x) ≡ true → has (thread_uses (said_in read)) x ≡ true
+    named x some =
+        elim (one_of_three (has past.seen x) (has past.forked x) (has past.joined x) some) [
+          | inl seen ↦ own_among (said_in read) x (is.seen x ∙ seen)
+          | inr rest ↦ elim rest [
+            | inl forked ↦ forks_among (said_in read) x (is.forked x ∙ forked)
+            | inr joined ↦ joins_among (said_in read) x (is.joined x ∙ joined)
+          ]
+        ]
+
+    noted : (x : List ℕ) → ((has (own_uses (said_in read)) x || has (fork_uses (said_in read)) x) || has (join_uses (said_in read)) x) ≡ true
+        → ((has past.seen x || has past.forked x) || has past.joined x) ≡ true
+    noted x some = sym (ap₂ (λ a b. a || b) (ap₂ (λ a b. a || b) (is.seen x) (is.forked x)) (is.joined x)) ∙ some

@@ -14,9 +14,9 @@ use Rattle.rapid_text.specs.declared.event.Op.{Op}
 use Rattle.rapid_text.specs.declared.event.Op.TheVariants.{Read, Write, Acquire, Release, Fork, Join}
 use Rattle.trace_rules.specs.Rules.{IsDisciplined, acquire_count, release_count, hold_count, breach_of, breach_of_op, breach_at}
 use Rattle.trace_rules.specs.declared.refusal.RuleCause.TheVariants.{ReleaseNotHeld, AcquireHeld, ForkTwice, ForkLate, OwnThread, AfterJoin}
-use Rattle.trace_rules.proofs.CallerLemmas.{IsDisciplined-from_none, none-from_IsDisciplined, release_count-le, acquire-from_test, fork-from_test, join-from_test}
+use Rattle.trace_rules.proofs.CallerLemmas.{IsDisciplined-from_none, none-from_IsDisciplined, release_count-le, acquire-from_test}
 use Rattle.trace_rules.proofs.Counts.{list_any-from_count, list_any-or, is_held_by_another, is_held_by_another-false, hold_count-other}
-use Rattle.trace_rules.proofs.TableLemmas.{cond-from_none, breach_at-event}
+use Rattle.trace_rules.proofs.TableLemmas.{breach_at-event}
 use Rattle.window.proofs.WindowLemmas.{tag, arg}
 use Rattle.window.specs.Renamed.{Names, renamed, renamed_op, renamed_event}
 use Rattle.window.specs.Streams.{IsLeft}
@@ -36,41 +36,38 @@ pub even-of_rules : (A : List Event) → IsDisciplined A → IsEven A
 even-of_rules A rules t l =
     subst (λ (es : List Event). release_count es t l ≤ acquire_count es t l) (take_all (length A) A (omega arith)) (release_count-le A rules (length A) t l)
 
-pub left-refl : (A : List Event) → IsLeft A A
-left-refl A = record { holds = λ t l. refl; forked = λ u. refl; joined = λ u. refl; seen = λ u. refl }
+-- the events are of these threads, and fork these alone
+abbrev pub IsOfThreads : (ℕ → Type 0) → Event → Type 0
+IsOfThreads P e = P e.thread × ((u : ℕ) → e.op ≡ Fork u → P u)
 
-pub left-trans : (A B C : List Event) → IsLeft A B → IsLeft B C → IsLeft A C
-left-trans A B C one two = record {
-  holds = λ t l. one.holds t l ∙ two.holds t l;
-  forked = λ u. one.forked u ∙ two.forked u;
-  joined = λ u. one.joined u ∙ two.joined u;
-  seen = λ u. one.seen u ∙ two.seen u;
-}
+abbrev pub AreOfThreads : (ℕ → Type 0) → List Event → Type 0
+AreOfThreads P Q = (i : ℕ) (e : Event) → slice_get Q i ≡ Some e → IsOfThreads P e
+
+-- the same holds after both
+pub holds-append : (A B Q : List Event) → ((t l : ℕ) → hold_count A t l ≡ hold_count B t l) → IsEven A → IsEven B → (t l : ℕ) → hold_count (A ++ Q) t l ≡ hold_count (B ++ Q) t l
+holds-append A B Q same even also t l =
+    let takes : Event → Bool = λ e. e.thread == t && is_acquire l e.op in
+    let frees : Event → Bool = λ e. e.thread == t && is_release l e.op in
+    omega (arith, same t l, even t l, also t l, count_append takes A Q, count_append takes B Q, count_append frees A Q, count_append frees B Q)
 
 -- the same events after both
-pub left-append : (A B Q : List Event) → IsLeft A B → IsEven A → IsEven B → IsLeft (A ++ Q) (B ++ Q)
-left-append A B Q left even also = record {
-  holds = λ t l. holds t l;
-  forked = λ u. any (λ e. is_fork u e.op) (left.forked u);
-  joined = λ u. any (λ e. is_join u e.op) (left.joined u);
-  seen = λ u. any (λ e. e.thread == u) (left.seen u);
+pub left-append : (P : ℕ → Type 0) (A B Q : List Event) → IsLeft P A B → IsEven A → IsEven B → IsLeft P (A ++ Q) (B ++ Q)
+left-append P A B Q left even also = record {
+  holds = λ t l. holds-append A B Q left.holds even also t l;
+  forked = λ u of. any (λ e. is_fork u e.op) (left.forked u of);
+  joined = λ u of. any (λ e. is_join u e.op) (left.joined u of);
+  seen = λ u of. any (λ e. e.thread == u) (left.seen u of);
 }
   where
     any : (p : Event → Bool) → list_any p A ≡ list_any p B → list_any p (A ++ Q) ≡ list_any p (B ++ Q)
     any p same = list_any-append p A Q ∙ ap (λ b. b || list_any p Q) same ∙ sym (list_any-append p B Q)
 
-    holds : (t l : ℕ) → hold_count (A ++ Q) t l ≡ hold_count (B ++ Q) t l
-    holds t l =
-        let takes : Event → Bool = λ e. e.thread == t && is_acquire l e.op in
-        let frees : Event → Bool = λ e. e.thread == t && is_release l e.op in
-        omega (arith, left.holds t l, even t l, also t l, count_append takes A Q, count_append takes B Q, count_append frees A Q, count_append frees B Q)
-
-pub left-sym : (A B : List Event) → IsLeft A B → IsLeft B A
-left-sym A B left = record {
+pub left-sym : (P : ℕ → Type 0) (A B : List Event) → IsLeft P A B → IsLeft P B A
+left-sym P A B left = record {
   holds = λ t l. sym (left.holds t l);
-  forked = λ u. sym (left.forked u);
-  joined = λ u. sym (left.joined u);
-  seen = λ u. sym (left.seen u);
+  forked = λ u of. sym (left.forked u of);
+  joined = λ u of. sym (left.joined u of);
+  seen = λ u of. sym (left.seen u of);
 }
 
 both_ways : (a b : Bool) → (b ≡ false → a ≡ false) → (a ≡ false → b ≡ false) → a ≡ b
@@ -83,26 +80,29 @@ both_ways a b back forth =
       | inr none ↦ none ∙ sym (forth none)
     ]
 
-free_left : (A B : List Event) → IsLeft A B → (t l : ℕ) → is_held_by_another B t l ≡ false → is_held_by_another A t l ≡ false
-free_left A B left t l free = is_held_by_another-false A t l (λ u other. left.holds u l ∙ hold_count-other B t l u free other)
+free_left : (P : ℕ → Type 0) (A B : List Event) → IsLeft P A B → (t l : ℕ) → is_held_by_another B t l ≡ false → is_held_by_another A t l ≡ false
+free_left P A B left t l free = is_held_by_another-false A t l (λ u other. left.holds u l ∙ hold_count-other B t l u free other)
 
 -- an event breaks the same rule after the one as after the other
-module _ (A B : List Event) (left : IsLeft A B) where
-  op_same : (t : ℕ) (op : Op) → breach_of_op A t op ≡ breach_of_op B t op
-  op_same t (Read x) = refl
-  op_same t (Write x) = refl
-  op_same t (Acquire l) =
-      ap (λ b. cond b (Some AcquireHeld) None)
-      (both_ways (is_held_by_another A t l) (is_held_by_another B t l) (free_left A B left t l) (free_left B A (left-sym A B left) t l))
-  op_same t (Release l) = ap (λ n. cond (n == 0) (Some ReleaseNotHeld) None) (left.holds t l)
-  op_same t (Fork u) =
-      let late : list_any (λ e. e.thread == u || is_join u e.op) A ≡ list_any (λ e. e.thread == u || is_join u e.op) B =
-      list_any-or (λ e. e.thread == u) (λ e. is_join u e.op) A ∙ ap₂ (λ a b. a || b) (left.seen u) (left.joined u) ∙ sym (list_any-or (λ e. e.thread == u) (λ e. is_join u e.op) B) in
-      ap₂ (λ a b. cond (u == t) (Some OwnThread) (cond a (Some ForkTwice) (cond b (Some ForkLate) None))) (left.forked u) late
-  op_same t (Join u) = refl
+module _ (P : ℕ → Type 0) (A B : List Event) (left : IsLeft P A B) where
+  late_same : (u : ℕ) → P u → list_any (λ e. e.thread == u || is_join u e.op) A ≡ list_any (λ e. e.thread == u || is_join u e.op) B
+  late_same u of =
+      list_any-or (λ e. e.thread == u) (λ e. is_join u e.op) A ∙ ap₂ (λ a b. a || b) (left.seen u of) (left.joined u of)
+      ∙ sym (list_any-or (λ e. e.thread == u) (λ e. is_join u e.op) B)
 
-  pub breach-same : (e : Event) → breach_of A e ≡ breach_of B e
-  breach-same e = ap₂ (λ b o. cond b (Some AfterJoin) o) (left.joined e.thread) (op_same e.thread e.op)
+  op_same : (t : ℕ) (op : Op) → ((u : ℕ) → op ≡ Fork u → P u) → breach_of_op A t op ≡ breach_of_op B t op
+  op_same t (Read x) of = refl
+  op_same t (Write x) of = refl
+  op_same t (Acquire l) of =
+      ap (λ b. cond b (Some AcquireHeld) None)
+      (both_ways (is_held_by_another A t l) (is_held_by_another B t l) (free_left P A B left t l) (free_left P B A (left-sym P A B left) t l))
+  op_same t (Release l) of = ap (λ n. cond (n == 0) (Some ReleaseNotHeld) None) (left.holds t l)
+  op_same t (Fork u) of =
+      ap₂ (λ a b. cond (u == t) (Some OwnThread) (cond a (Some ForkTwice) (cond b (Some ForkLate) None))) (left.forked u (of u refl)) (late_same u (of u refl))
+  op_same t (Join u) of = refl
+
+  pub breach-same : (e : Event) → IsOfThreads P e → breach_of A e ≡ breach_of B e
+  breach-same e of = ap₂ (λ b o. cond b (Some AfterJoin) o) (left.joined e.thread of.0) (op_same e.thread e.op of.1)
 
 -- what an event of the first list breaks, whatever comes after it
 pub breach_early : (A Q : List Event) (j : ℕ) → j < length A → breach_at (A ++ Q) j ≡ breach_at A j
@@ -117,8 +117,9 @@ breach_early A Q j low =
     ∙ sym (breach_at-event A j e here)
 
 -- and what a later one breaks
-pub breach_late : (A B Q : List Event) → IsLeft A B → IsEven A → IsEven B → (i : ℕ) → i < length Q → breach_at (A ++ Q) (length A + i) ≡ breach_at (B ++ Q) (length B + i)
-breach_late A B Q left even also i lt =
+pub breach_late : (P : ℕ → Type 0) (A B Q : List Event) → IsLeft P A B → AreOfThreads P Q → IsEven A → IsEven B → (i : ℕ) → i < length Q
+    → breach_at (A ++ Q) (length A + i) ≡ breach_at (B ++ Q) (length B + i)
+breach_late P A B Q left of even also i lt =
     let nothing : Event = record { thread = 0; op = Read 0 } in
     let e : Event = get_or Q i nothing in
     let here : slice_get (A ++ Q) (length A + i) ≡ Some e =
@@ -127,63 +128,23 @@ breach_late A B Q left even also i lt =
     slice_get-get_or (B ++ Q) (length B + i) nothing (omega (arith, lt, length-append B Q)) ∙ ap Some (get_or-append-add B Q i nothing) in
     breach_at-event (A ++ Q) (length A + i) e here
     ∙ ap (λ es. breach_of es e) (take-append-add A Q i)
-    ∙ breach-same (A ++ take i Q) (B ++ take i Q) (left-append A B (take i Q) left even also) e
+    ∙ breach-same P (A ++ take i Q) (B ++ take i Q) (left-append P A B (take i Q) left even also) e (of i e (slice_get-get_or Q i nothing lt))
     ∙ sym (breach_at-event (B ++ Q) (length B + i) e there ∙ ap (λ es. breach_of es e) (take-append-add B Q i))
 
--- what breaks no rule after the one breaks none after the other
-module _ (A B : List Event) (left : IsLeft A B) where
-  op_left : (t : ℕ) (op : Op) → breach_of_op B t op ≡ None → breach_of_op A t op ≡ None
-  op_left t (Read x) none = refl
-  op_left t (Write x) none = refl
-  op_left t (Acquire l) none =
-      let free = cond-from_none (is_held_by_another B t l) None AcquireHeld none in
-      ap (λ b. cond b (Some AcquireHeld) None) (is_held_by_another-false A t l (λ u other. left.holds u l ∙ hold_count-other B t l u free.0 other))
-  op_left t (Release l) none = ap (λ n. cond (n == 0) (Some ReleaseNotHeld) None) (left.holds t l) ∙ none
-  op_left t (Fork u) none =
-      let late : list_any (λ e. e.thread == u || is_join u e.op) A ≡ list_any (λ e. e.thread == u || is_join u e.op) B =
-      list_any-or (λ e. e.thread == u) (λ e. is_join u e.op) A ∙ ap₂ (λ a b. a || b) (left.seen u) (left.joined u) ∙ sym (list_any-or (λ e. e.thread == u) (λ e. is_join u e.op) B) in
-      ap₂ (λ a b. cond (u == t) (Some OwnThread) (cond a (Some ForkTwice) (cond b (Some ForkLate) None))) (left.forked u) late ∙ none
-  op_left t (Join u) none = none
-
-  pub breach-left : (e : Event) → breach_of B e ≡ None → breach_of A e ≡ None
-  breach-left e none =
-      let parts = cond-from_none (list_any (λ d. is_join e.thread d.op) B) (breach_of_op B e.thread e.op) AfterJoin none in
-      ap (λ b. cond b (Some AfterJoin) (breach_of_op A e.thread e.op)) (left.joined e.thread ∙ parts.0) ∙ op_left e.thread e.op parts.1
-
--- events that keep the rules after the one keep them after the other
-pub rules-left : (A B Q : List Event) → IsLeft A B → IsDisciplined A → IsDisciplined (B ++ Q) → IsDisciplined (A ++ Q)
-rules-left A B Q left rules also =
-    IsDisciplined-from_none (A ++ Q) (λ j lt. elim (cases_lt j (length A)) [
-      | inl low ↦ early j low
-      | inr high ↦ subst (λ n. breach_at (A ++ Q) n ≡ None) (omega (arith, high)) (late (j - length A) (omega (arith, lt, high, length-append A Q)))
-    ])
-  where
-    nothing : Event
-    nothing = record { thread = 0; op = Read 0 }
-
-    early : (j : ℕ) → j < length A → breach_at (A ++ Q) j ≡ None
-    early j low =
-        let e : Event = get_or A j nothing in
-        let here : slice_get A j ≡ Some e = slice_get-get_or A j nothing low in
-        let there : slice_get (A ++ Q) j ≡ Some e =
-        slice_get-get_or (A ++ Q) j nothing (omega (arith, low, length-append A Q)) ∙ ap Some (get_or_append_left A Q nothing j low) in
-        breach_at-event (A ++ Q) j e there
-        ∙ ap (λ es. breach_of es e) (take-append-le j A Q (omega (arith, low)))
-        ∙ sym (breach_at-event A j e here) ∙ none-from_IsDisciplined A rules j low
-
-    late : (i : ℕ) → i < length Q → breach_at (A ++ Q) (length A + i) ≡ None
-    late i lt =
-        let e : Event = get_or Q i nothing in
-        let here : slice_get (A ++ Q) (length A + i) ≡ Some e =
-        slice_get-get_or (A ++ Q) (length A + i) nothing (omega (arith, lt, length-append A Q)) ∙ ap Some (get_or-append-add A Q i nothing) in
-        let there : slice_get (B ++ Q) (length B + i) ≡ Some e =
-        slice_get-get_or (B ++ Q) (length B + i) nothing (omega (arith, lt, length-append B Q)) ∙ ap Some (get_or-append-add B Q i nothing) in
-        let none : breach_of (B ++ take i Q) e ≡ None =
-        sym (breach_at-event (B ++ Q) (length B + i) e there ∙ ap (λ es. breach_of es e) (take-append-add B Q i))
-        ∙ none-from_IsDisciplined (B ++ Q) also (length B + i) (omega (arith, lt, length-append B Q)) in
-        breach_at-event (A ++ Q) (length A + i) e here
-        ∙ ap (λ es. breach_of es e) (take-append-add A Q i)
-        ∙ breach-left (A ++ take i Q) (B ++ take i Q) (left-append A B (take i Q) left (even-of_rules A rules) (even-from_rules B Q also)) e none
+-- what breaks no rule after the one breaks none after the other: a lock may be let go there more often than it was taken
+module _ (P : ℕ → Type 0) (A B Q : List Event) (left : IsLeft P A B) (of : AreOfThreads P Q) where
+  -- events that keep the rules after the one keep them after the other
+  pub rules-left : IsDisciplined A → IsDisciplined (B ++ Q) → IsDisciplined (A ++ Q)
+  rules-left rules also =
+      IsDisciplined-from_none (A ++ Q) (λ j lt. elim (cases_lt j (length A)) [
+        | inl low ↦ breach_early A Q j low ∙ none-from_IsDisciplined A rules j low
+        | inr high ↦ subst (λ n. breach_at (A ++ Q) n ≡ None) (omega (arith, high)) (late (j - length A) (omega (arith, lt, high, length-append A Q)))
+      ])
+    where
+      late : (i : ℕ) → i < length Q → breach_at (A ++ Q) (length A + i) ≡ None
+      late i lt =
+          breach_late P A B Q left of (even-of_rules A rules) (even-from_rules B Q also) i lt
+          ∙ none-from_IsDisciplined (B ++ Q) also (length B + i) (omega (arith, lt, length-append B Q))
 
 same_number : (f : ℕ → ℕ) → ((a b : ℕ) → f a ≡ f b → a ≡ b) → (a b : ℕ) → (f a == f b) ≡ (a == b)
 same_number f apart a b =
@@ -227,22 +188,6 @@ module _ (f : Names) (threads : (a b : ℕ) → f.thread a ≡ f.thread b → a 
   frees l (Join u) = refl
 
   -- what an operation was
-  forked : (w : ℕ) (op : Op) → renamed_op f op ≡ Fork w → (u : ℕ) × (f.thread u ≡ w)
-  forked w (Fork u) h = (u, ap arg h)
-  forked w (Read z) h = absurd (omega (arith, ap tag h))
-  forked w (Write z) h = absurd (omega (arith, ap tag h))
-  forked w (Acquire z) h = absurd (omega (arith, ap tag h))
-  forked w (Release z) h = absurd (omega (arith, ap tag h))
-  forked w (Join z) h = absurd (omega (arith, ap tag h))
-
-  joined : (w : ℕ) (op : Op) → renamed_op f op ≡ Join w → (u : ℕ) × (f.thread u ≡ w)
-  joined w (Join u) h = (u, ap arg h)
-  joined w (Read z) h = absurd (omega (arith, ap tag h))
-  joined w (Write z) h = absurd (omega (arith, ap tag h))
-  joined w (Acquire z) h = absurd (omega (arith, ap tag h))
-  joined w (Release z) h = absurd (omega (arith, ap tag h))
-  joined w (Fork z) h = absurd (omega (arith, ap tag h))
-
   taken : (w : ℕ) (op : Op) → renamed_op f op ≡ Acquire w → (l : ℕ) × (f.lock l ≡ w)
   taken w (Acquire l) h = (l, ap arg h)
   taken w (Read z) h = absurd (omega (arith, ap tag h))
@@ -282,24 +227,6 @@ module _ (f : Names) (threads : (a b : ℕ) → f.thread a ≡ f.thread b → a 
         | inr none ↦ passes p V (sym (ap (λ b. b || list_any p (renamed f V)) none) ∙ h)
       ]
 
-  -- a family of tests, which pass at numbers that are given alone
-  module _ (p : ℕ → Event → Bool) (same : (u : ℕ) (v : Event) → p (f.thread u) (renamed_event f v) ≡ p u v)
-      (given : (w : ℕ) (v : Event) → p w (renamed_event f v) ≡ true → (u : ℕ) × (f.thread u ≡ w)) (A B : List Event) (each : (u : ℕ) → list_any (p u) A ≡ list_any (p u) B) where
-    any_at : (w u : ℕ) → f.thread u ≡ w → list_any (p w) (renamed f A) ≡ list_any (p w) (renamed f B)
-    any_at w u is =
-        subst (λ n. list_any (p n) (renamed f A) ≡ list_any (p n) (renamed f B)) is
-        (any_same (p (f.thread u)) (p u) (same u) A ∙ each u ∙ sym (any_same (p (f.thread u)) (p u) (same u) B))
-
-    any_all : (w : ℕ) → list_any (p w) (renamed f A) ≡ list_any (p w) (renamed f B)
-    any_all w =
-        elim (cases_Bool (list_any (p w) (renamed f A))) [
-          | inl found ↦ let v = passes (p w) A found in let u = given w v.0 v.1 in any_at w u.0 u.1
-          | inr none ↦ elim (cases_Bool (list_any (p w) (renamed f B))) [
-            | inl found ↦ let v = passes (p w) B found in let u = given w v.0 v.1 in any_at w u.0 u.1
-            | inr also ↦ none ∙ sym also
-          ]
-        ]
-
   -- who took a lock is of the list
   taker : (V : List Event) (t l : ℕ) → 0 < acquire_count (renamed f V) t l → (u : ℕ) × (k : ℕ) × (f.thread u ≡ t) × (f.lock k ≡ l)
   taker V t l above =
@@ -309,29 +236,22 @@ module _ (f : Names) (threads : (a b : ℕ) → f.thread a ≡ f.thread b → a 
       let k = taken l v.0.op (acquire-from_test l (renamed_op f v.0.op) both.1) in
       (v.0.thread, k.0, eqb-true (f.thread v.0.thread) t both.0, k.1)
 
-  pub left-renamed : (A B : List Event) → IsLeft A B → IsLeft (renamed f A) (renamed f B)
-  left-renamed A B left = record {
-    holds = λ t l. holds t l;
-    forked = λ u. any_all (λ w v. is_fork w v.op) (λ w v. forks w v.op) (λ w v h. forked w v.op (fork-from_test w (renamed_op f v.op) h)) A B left.forked u;
-    joined = λ u. any_all (λ w v. is_join w v.op) (λ w v. joins w v.op) (λ w v h. joined w v.op (join-from_test w (renamed_op f v.op) h)) A B left.joined u;
-    seen = λ u. any_all (λ w v. v.thread == w) (λ w v. same_number f.thread threads v.thread w) (λ w v h. (v.thread, eqb-true (f.thread v.thread) w h)) A B left.seen u;
-  }
+  -- what is held stays the same
+  pub holds-renamed : (A B : List Event) → ((t l : ℕ) → hold_count A t l ≡ hold_count B t l) → (t l : ℕ) → hold_count (renamed f A) t l ≡ hold_count (renamed f B) t l
+  holds-renamed A B same t l =
+      elim (cases_lt 0 (acquire_count (renamed f A) t l)) [
+        | inl some ↦ let w = taker A t l some in at w.0 w.1 w.2 w.3
+        | inr none ↦ elim (cases_lt 0 (acquire_count (renamed f B) t l)) [
+          | inl some ↦ let w = taker B t l some in at w.0 w.1 w.2 w.3
+          | inr also ↦ omega (arith, none, also)
+        ]
+      ]
     where
-      at : (t l u k : ℕ) → f.thread u ≡ t → f.lock k ≡ l → hold_count (renamed f A) t l ≡ hold_count (renamed f B) t l
-      at t l u k is also =
+      at : (u k : ℕ) → f.thread u ≡ t → f.lock k ≡ l → hold_count (renamed f A) t l ≡ hold_count (renamed f B) t l
+      at u k is also =
           subst (λ n. hold_count (renamed f A) n l ≡ hold_count (renamed f B) n l) is
           (subst (λ n. hold_count (renamed f A) (f.thread u) n ≡ hold_count (renamed f B) (f.thread u) n) also
-          (holds_same A u k ∙ left.holds u k ∙ sym (holds_same B u k)))
-
-      holds : (t l : ℕ) → hold_count (renamed f A) t l ≡ hold_count (renamed f B) t l
-      holds t l =
-          elim (cases_lt 0 (acquire_count (renamed f A) t l)) [
-            | inl some ↦ let w = taker A t l some in at t l w.0 w.1 w.2 w.3
-            | inr none ↦ elim (cases_lt 0 (acquire_count (renamed f B) t l)) [
-              | inl some ↦ let w = taker B t l some in at t l w.0 w.1 w.2 w.3
-              | inr also ↦ omega (arith, none, also)
-            ]
-          ]
+          (holds_same A u k ∙ same u k ∙ sym (holds_same B u k)))
 
   op_renamed : (V : List Event) (t : ℕ) (op : Op) → breach_of_op (renamed f V) (f.thread t) (renamed_op f op) ≡ breach_of_op V t op
   op_renamed V t (Read x) = refl

@@ -8,15 +8,17 @@ pub mod DisciplineLemmas
 pub mod Examples
 pub mod FrontLemmas
 pub mod GrowthLemmas
+pub mod HeadLemmas
 pub mod HoldLemmas
 pub mod HoldsLemmas
+pub mod KnownLemmas
 pub mod LeavingLemmas
 pub mod LeftLemmas
 pub mod LineLemmas
 pub mod MadeLemmas
 pub mod MovingLemmas
-pub mod NumberLemmas
 pub mod NameLemmas
+pub mod NumberLemmas
 pub mod PlaceLemmas
 pub mod PrologueLemmas
 pub mod PullLemmas
@@ -31,4 +33,5 @@ pub mod StreamLemmas
 pub mod SummaryLemmas
 pub mod TextLemmas
 pub mod TouchLemmas
+pub mod UsesLemmas
 pub mod WindowLemmas

@@ -1,16 +1,20 @@
 -- What stands in the place of what was read, and what a window after it tells.
-use Rattle.std.proofs.Common.{◌≡◌, ◌≢◌, ℕ, ◌+◌, ◌-◌, ◌<◌, ◌≤◌, List, [], ◌∷◌, ◌++◌, length, take, All, Ok, bytes_eq, get_or, slice_get, Some, None, ◌↔◌, refl, sym, ap, ap₂, ◌∙◌, subst, arith, append_assoc, append-nil, inl, inr}
+use Rattle.std.proofs.Common.{◌≡◌, ◌≢◌, ℕ, zero, suc, ◌+◌, ◌-◌, ◌<◌, ◌≤◌, Bool, true, false, cond, List, [], ◌∷◌, ◌++◌, length, take, All, Ok, bytes_eq, get_or, slice_get, Some, None, ◌↔◌, refl, sym, ap, ap₂, ◌∙◌, subst, arith, append_assoc, append-nil, inl, inr}
 use Rattle.std.specs.List.{IsDistinct, slice_split, onto_first}
-use Rattle.std.proofs.lemmas.Bool.{cases_Bool, cases_lt}
+use Rattle.std.proofs.lemmas.Bool.{cases_Bool, cases_lt, or_left, or_right, false≢true}
+use Rattle.std.proofs.lemmas.List.Folds.{list_any-append}
 use Rattle.std.proofs.lemmas.List.{length-append, length-map, map-append, get_or-append-add, get_or_append_left, take-append-le}
 use Rattle.std.proofs.Math.Seq.{drop-append_seam, take-append_seam, take-append-add}
-use Rattle.std.proofs.lemmas.List.Elements.{All-drop, All-take, All-weaker, filter_map-append}
+use Rattle.std.proofs.lemmas.List.Elements.{All-drop, All-nil, All-take, All-weaker, filter_map-append}
 use Rattle.std.proofs.lemmas.List.Splits.{slice_split-cons_yes, slice_split-cons_no, length-slice_split}
-use Rattle.std.proofs.lemmas.Option.{slice_get-get_or}
-use Rattle.rapid_text.specs.Reading.{NamedEvent, is_line_feed, line_reading, event_said, named_events, numbered, reading_of, refusals_of, recording_of, thread_uses, variable_uses, lock_uses}
+use Rattle.std.proofs.lemmas.Option.{slice_get-get_or, slice_get_within, get_or_from_slice_get}
+use Rattle.rapid_text.specs.Reading.{NamedEvent, is_line_feed, line_reading, event_said, name_where, named_events, names_thread, number_of, numbered, numbered_op, reading_of, refusals_of, recording_of, thread_uses, variable_uses, lock_uses}
+use Rattle.rapid_text.specs.declared.event.Kind.{Kind}
+use Rattle.rapid_text.specs.declared.event.Kind.TheVariants.{Reads, Writes, Acquires, Releases, Forks, Joins}
+use Rattle.rapid_text.proofs.NameNumbers.{has, bytes_eq-refl}
 use Rattle.rapid_text.specs.Recording.{Recording}
 use Rattle.rapid_text.specs.declared.event.Event.{Event}
-use Rattle.rapid_text.specs.declared.event.Op.TheVariants.{Read}
+use Rattle.rapid_text.specs.declared.event.Op.TheVariants.{Read, Fork}
 use Rattle.rapid_text.proofs.Cuts.{Fails}
 use Rattle.rapid_text.proofs.CanonicalLines.{lines_text, slice_split-lines_text, named_events-lines}
 use Rattle.rapid_text.proofs.PrintedLines.{IsPrintable, ReadsBack, line_of, no_feed-line_of, line_reading-line_of}
@@ -24,12 +28,13 @@ use Rattle.window.specs.Cuts.{prologue_size}
 use Rattle.window.specs.Laws.{IsNeverShown, IsNeverShownFrom}
 use Rattle.window.specs.Renamed.{Names, AreApart, renamed, renamed_event}
 use Rattle.window.specs.StreamLaws.{StreamBegins, StreamBreaks, StreamIsSound, StreamKeepsRules}
-use Rattle.window.specs.Streams.{IsLeft, IsExactPart, IsNumbering, IsWhole, by_numbers, said_in}
+use Rattle.window.specs.Streams.{IsLeft, IsExactPart, IsNumbering, IsThreadOf, IsWhole, by_numbers, said_in}
+use Rattle.window.proofs.WindowLemmas.{tag, arg}
 use Rattle.window.specs.Window.{IsWindow, IsTaken, back, resumed}
 use Rattle.window.proofs.ApartLemmas.{apart_window_law}
-use Rattle.window.proofs.LeftLemmas.{breach_at-renamed, breach_early, breach_late, even-from_rules, even-of_rules, left-append, left-refl, rules-left, rules-renamed}
+use Rattle.window.proofs.LeftLemmas.{AreOfThreads, IsOfThreads, breach_at-renamed, breach_early, breach_late, even-from_rules, even-of_rules, holds-append, rules-left, rules-renamed}
 use Rattle.window.proofs.NameLemmas.{distinct_first_uses, translated_is}
-use Rattle.window.proofs.NumberLemmas.{first_numbers, into, into_is, into_locks, into_threads, moved, numbering-left, numbering-right, numbering-self}
+use Rattle.window.proofs.NumberLemmas.{of_thread, first_numbers, into, into_is, into_locks, into_threads, moved, numbering-left, numbering-right, numbering-self}
 use Rattle.window.proofs.ReadLemmas.{to_own, to_own_apart, in_threads, in_variables, in_locks}
 use Rattle.window.proofs.RenamedLemmas.{renamed_law}
 use Rattle.window.proofs.SoundLemmas.{sound_law}
@@ -92,10 +97,14 @@ read_is text r is = let lines = slice_split is_line_feed text in reading_by-Ok l
 pub begins_law : StreamBegins
 begins_law = record {
   whole = inl refl;
-  ends = inl refl;
   keeps = IsDisciplined-from_none [] (λ j lt. absurd (omega (arith, lt)));
+  forked = λ name. refl;
+  seen = λ name. refl;
+  joined = λ name. refl;
+  ends = inl refl;
+  takes = All-nil (λ (e : NamedEvent). e.kind ≡ Acquires);
   names = λ R n. n;
-  left = λ R n. left-refl (by_numbers R (said_in []));
+  holds = λ R n t l. refl;
 }
 
 pub numbers_append : (R : Recording) (X Z : List NamedEvent) → by_numbers R (X ++ Z) ≡ by_numbers R X ++ by_numbers R Z
@@ -123,8 +132,44 @@ module _ (R : Recording) (X : List NamedEvent) (known : All (IsKnown R) X) (each
       (λ x here. translated_is r.locks R.locks (distinct_first_uses (lock_uses X)) (in_locks R X known each_thread each_variable each_lock) x here)
       X (known_said X)
 
+-- The threads of events are those that they name.
+forked_is : (R : Recording) (kind : Kind) (name : List ℕ) (u : ℕ) → numbered_op R.threads R.variables R.locks kind name ≡ Fork u
+    → (names_thread kind ≡ true) × (u ≡ number_of R.threads name)
+forked_is R Forks name u is = (refl, sym (ap arg is))
+forked_is R Reads name u is = absurd (omega (arith, ap tag is))
+forked_is R Writes name u is = absurd (omega (arith, ap tag is))
+forked_is R Acquires name u is = absurd (omega (arith, ap tag is))
+forked_is R Releases name u is = absurd (omega (arith, ap tag is))
+forked_is R Joins name u is = absurd (omega (arith, ap tag is))
+
+own_name : (b : Bool) (n : List ℕ) → b ≡ true → has (cond b (n ∷ []) []) n ≡ true
+own_name true n is = or_left (bytes_eq n n) false (bytes_eq-refl n)
+own_name false n is = absurd (false≢true is)
+
+first_thread : (R : Recording) (p : NamedEvent) (P : List NamedEvent) → IsOfThreads (IsThreadOf R (p ∷ P)) (numbered R.threads R.variables R.locks p)
+first_thread R p P = (
+  (p.thread, or_left (bytes_eq p.thread p.thread) (has (name_where names_thread p ++ thread_uses P) p.thread) (bytes_eq-refl p.thread), refl),
+  λ u is.
+      let of = forked_is R p.kind p.name u is in
+      let here : has (of_thread p) p.name ≡ true =
+      or_right (bytes_eq p.name p.thread) (has (name_where names_thread p) p.name) (own_name (names_thread p.kind) p.name of.0) in
+      (p.name, list_any-append (bytes_eq p.name) (of_thread p) (thread_uses P) ∙ or_left (has (of_thread p) p.name) (has (thread_uses P) p.name) here, of.1),
+)
+
+more_thread : (R : Recording) (p : NamedEvent) (P : List NamedEvent) (u : ℕ) → IsThreadOf R P u → IsThreadOf R (p ∷ P) u
+more_thread R p P u (name, here, is) =
+    (name, list_any-append (bytes_eq name) (of_thread p) (thread_uses P) ∙ or_right (has (of_thread p) name) (has (thread_uses P) name) here, is)
+
+pub of_threads : (R : Recording) (P : List NamedEvent) → AreOfThreads (IsThreadOf R P) (by_numbers R P)
+of_threads R [] i e at = absurd (omega (arith, slice_get_within (by_numbers R []) i e at))
+of_threads R (p ∷ P) zero e at = subst (IsOfThreads (IsThreadOf R (p ∷ P))) (get_or_from_slice_get (by_numbers R (p ∷ P)) 0 e e at) (first_thread R p P)
+of_threads R (p ∷ P) (suc i) e at =
+    let later = of_threads R P i e at in
+    (more_thread R p P e.thread later.0, λ u is. more_thread R p P u (later.1 u is))
+
 -- The events N of what was read, C of what stands in its place, and those after it, M, of which P are in the piece.
-module _ (N C P L : List NamedEvent) (names : (R : Recording) → IsNumbering R N → IsNumbering R C) (left : (R : Recording) → IsNumbering R N → IsLeft (by_numbers R N) (by_numbers R C)) where
+module _ (N C P L : List NamedEvent) (names : (R : Recording) → IsNumbering R N → IsNumbering R C)
+    (left : (R : Recording) → IsNumbering R N → IsNumbering R P → IsLeft (IsThreadOf R P) (by_numbers R N) (by_numbers R C)) where
   abbrev Z : List NamedEvent
   Z = (C ++ P) ++ (N ++ (P ++ L))
 
@@ -137,6 +182,9 @@ module _ (N C P L : List NamedEvent) (names : (R : Recording) → IsNumbering R 
   N_numbers : IsNumbering R N
   N_numbers = numbering-left R N (P ++ L) (numbering-right R (C ++ P) (N ++ (P ++ L)) all_numbers)
 
+  P_numbers : IsNumbering R P
+  P_numbers = numbering-left R P L (numbering-right R N (P ++ L) (numbering-right R (C ++ P) (N ++ (P ++ L)) all_numbers))
+
   abbrev A : List Event
   A = by_numbers R N
 
@@ -145,6 +193,9 @@ module _ (N C P L : List NamedEvent) (names : (R : Recording) → IsNumbering R 
 
   abbrev Q : List Event
   Q = by_numbers R P
+
+  left_on : IsLeft (IsThreadOf R P) A B
+  left_on = left R N_numbers P_numbers
 
   long_A : length A ≡ length N
   long_A = length-map N (numbered R.threads R.variables R.locks)
@@ -180,11 +231,11 @@ module _ (N C P L : List NamedEvent) (names : (R : Recording) → IsNumbering R 
     A_rules = rules_in R N N_numbers N_rules
 
     pub rules_on : IsDisciplined (A ++ Q)
-    rules_on = rules-left A B Q (left R N_numbers) A_rules B_rules
+    rules_on = rules-left (IsThreadOf R P) A B Q left_on (of_threads R P) A_rules B_rules
 
     -- after some events of the piece the same is held
     held : (i t l : ℕ) → hold_count (A ++ take i Q) t l ≡ hold_count (B ++ take i Q) t l
-    held i t l = (left-append A B (take i Q) (left R N_numbers) (even-of_rules A A_rules) (even-from_rules B Q B_rules)).holds t l
+    held i t l = holds-append A B (take i Q) left_on.holds (even-of_rules A A_rules) (even-from_rules B Q B_rules) t l
 
     -- a window of the piece is one of the whole
     module _ (T_rules : IsDisciplined T) (W : List Event) (k m n x lock c : ℕ) (low : length C ≤ k)
@@ -306,7 +357,7 @@ module _ (N C P L : List NamedEvent) (names : (R : Recording) → IsNumbering R 
     A_alone = rules_in R N N_numbers N_rules
 
     sides : (i : ℕ) → i < length Q → breach_at (A ++ Q) (length A + i) ≡ breach_at (B ++ Q) (length B + i)
-    sides = breach_late A B Q (left R N_numbers) (even-of_rules A A_alone) (even-of_rules B B_alone)
+    sides = breach_late (IsThreadOf R P) A B Q left_on (of_threads R P) (even-of_rules A A_alone) (even-of_rules B B_alone)
 
     pub first_on : (why : RuleRefusal) → IsFirstBreach (B ++ Q) why
         → (length B ≤ why.event) × IsFirstBreach (A ++ Q) (record { event = length A + (why.event - length B); why = why.why })

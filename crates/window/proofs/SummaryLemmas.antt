@@ -1,16 +1,18 @@
--- A text that leaves the same behind as all that was read.
-use Rattle.std.proofs.Common.{◌≡◌, ℕ, ◌+◌, ◌-◌, ◌<◌, ◌≤◌, List, [], ◌++◌, All, Ok, codes, length, drop, take, cond, inl, inr, refl, sym, ap, ap₂, ◌∙◌, subst, arith}
+-- What is kept after a piece, and the windows after a head.
+use Rattle.std.proofs.Common.{◌≡◌, ℕ, ◌+◌, ◌-◌, ◌<◌, ◌≤◌, ◌||◌, List, [], ◌∷◌, ◌++◌, flat_map, All, Ok, codes, length, drop, take, cond, inl, inr, refl, sym, ap, ap₂, ◌∙◌, subst, arith}
 use Rattle.std.proofs.Math.Seq.{drop-append_seam}
 use Rattle.std.proofs.lemmas.Bool.{cases_lt, lt-ltb, le-ltb}
 use Rattle.std.proofs.lemmas.List.{length-append, length-map, take-append-le}
-use Rattle.std.proofs.lemmas.List.Elements.{All-weaker}
-use Rattle.rapid_text.specs.Reading.{NamedEvent, is_bar, is_line_feed, numbered, reading_of, recording_of}
+use Rattle.std.proofs.lemmas.List.Elements.{All-cons, All-head, All-nil, All-tail, All-weaker}
+use Rattle.rapid_text.specs.Reading.{NamedEvent, is_bar, is_line_feed, name_where, numbered, reading_of, recording_of}
+use Rattle.rapid_text.specs.declared.event.Kind.TheVariants.{Acquires}
+use Rattle.rapid_text.specs.declared.event.Op.TheVariants.{Acquire}
 use Rattle.rapid_text.specs.Recording.{Recording, IsNamed, IsWellFormed}
 use Rattle.rapid_text.specs.declared.event.Event.{Event}
 use Rattle.rapid_text.proofs.Cuts.{fails-each}
 use Rattle.rapid_text.proofs.CanonicalLines.{lines_text}
 use Rattle.rapid_text.proofs.PrintedLines.{IsName}
-use Rattle.trace_rules.specs.Rules.{IsDisciplined}
+use Rattle.trace_rules.specs.Rules.{IsDisciplined, hold_count}
 use Rattle.window.specs.declared.cutting.Window.{Window}
 use Rattle.window.specs.Cuts.{IsCutAs, IsCutAt, last_end, prologue_size, with_name}
 use Rattle.window.specs.CutLaws.{IsWindowText}
@@ -18,13 +20,15 @@ use Rattle.window.proofs.CutLemmas.{cut_at_law, cut_part}
 use Rattle.window.proofs.ReadLemmas.{long_said}
 use Rattle.window.specs.Renamed.{renamed}
 use Rattle.window.specs.StreamLaws.{StreamGoesOn}
-use Rattle.window.specs.Streams.{IsLeft, IsNumbering, IsExactPart, IsOf, IsSummary, IsWhole, IsWindowAt, Stands, by_numbers, long_trace, read_name, said_in}
-use Rattle.window.proofs.LeftLemmas.{even-from_rules, even-of_rules, left-append, left-renamed, left-trans}
+use Rattle.window.specs.Streams.{IsHeldText, IsNumbering, IsExactPart, IsOf, IsWhole, IsWindowAt, Stands, by_numbers, fork_uses, join_uses, long_trace, names_forked, names_joined, own_uses, read_name, said_in}
+use Rattle.window.proofs.UsesLemmas.{uses-append}
+use Rattle.rapid_text.proofs.NameNumbers.{has}
+use Rattle.window.proofs.LeftLemmas.{even-from_rules, even-of_rules, holds-append, holds-renamed}
 use Rattle.window.proofs.NumberLemmas.{into, into_is, into_locks, into_threads, numbering-append, numbering-left, numbering-right, of_named, summary-numbering, summary_is}
 use Rattle.window.proofs.StreamLemmas.{numbers_append, read_is, rules_in, rules_law, said-append, said_lines, sound_stream_law, whole-append, whole_lines}
-use Rattle.window.proofs.TextLemmas.{HasNames, all_printable, all_said, lines_said, said, said_names}
+use Rattle.window.proofs.TextLemmas.{HasNames, all_printable, all_said, kind_in, lines_said, said, said_event, said_names}
 
--- What a summary leaves behind.
+-- What is held after a piece.
 module _ (N C P : List NamedEvent) (r : Recording) (piece : r ≡ recording_of (C ++ P)) (es : List Event) (of : All (IsOf r) es) (R : Recording)
     (names : (R : Recording) → IsNumbering R N → IsNumbering R C) (n : IsNumbering R (N ++ P)) where
   of_piece : All (IsOf (recording_of (C ++ P))) es
@@ -33,15 +37,18 @@ module _ (N C P : List NamedEvent) (r : Recording) (piece : r ≡ recording_of (
   N_numbers : IsNumbering R N
   N_numbers = numbering-left R N P n
 
+  P_numbers : IsNumbering R P
+  P_numbers = numbering-right R N P n
+
   piece_numbers : IsNumbering R (C ++ P)
-  piece_numbers = numbering-append R C P (names R N_numbers) (numbering-right R N P n)
+  piece_numbers = numbering-append R C P (names R N_numbers) P_numbers
 
   names_on : IsNumbering R (all_said (with_name r read_name) es [])
   names_on =
       subst (λ (s : Recording). IsNumbering R (all_said (with_name s read_name) es [])) (sym piece) (summary-numbering R (C ++ P) piece_numbers es of_piece)
 
-  module _ (left : (R : Recording) → IsNumbering R N → IsLeft (by_numbers R N) (by_numbers R C)) (N_rules : IsDisciplined (recording_of N).events)
-      (rules : IsDisciplined r.events) (es_left : IsLeft r.events es) where
+  module _ (left : (t l : ℕ) → hold_count (by_numbers R N) t l ≡ hold_count (by_numbers R C) t l) (N_rules : IsDisciplined (recording_of N).events)
+      (rules : IsDisciplined r.events) (es_holds : (t l : ℕ) → hold_count r.events t l ≡ hold_count es t l) where
     abbrev A : List Event
     A = by_numbers R N
 
@@ -56,26 +63,28 @@ module _ (N C P : List NamedEvent) (r : Recording) (piece : r ≡ recording_of (
         subst IsDisciplined (numbers_append R C P)
         (rules_in R (C ++ P) piece_numbers (subst (λ (s : Recording). IsDisciplined s.events) piece rules))
 
-    first : IsLeft (A ++ Q) (B ++ Q)
-    first = left-append A B Q (left R N_numbers) (even-of_rules A (rules_in R N N_numbers N_rules)) (even-from_rules B Q piece_rules)
+    first : (t l : ℕ) → hold_count (A ++ Q) t l ≡ hold_count (B ++ Q) t l
+    first = holds-append A B Q left (even-of_rules A (rules_in R N N_numbers N_rules)) (even-from_rules B Q piece_rules)
 
-    second : IsLeft (by_numbers R (C ++ P)) (by_numbers R (all_said (with_name (recording_of (C ++ P)) read_name) es []))
-    second =
+    second : (t l : ℕ) → hold_count (by_numbers R (C ++ P)) t l ≡ hold_count (by_numbers R (all_said (with_name (recording_of (C ++ P)) read_name) es [])) t l
+    second t l =
         let g = into R (C ++ P) piece_numbers in
-        let both : IsLeft (renamed g (recording_of (C ++ P)).events) (renamed g es) =
-        left-renamed g (into_threads R (C ++ P) piece_numbers) (into_locks R (C ++ P) piece_numbers) (recording_of (C ++ P)).events es
-        (subst (λ (s : Recording). IsLeft s.events es) piece es_left) in
-        subst (IsLeft (by_numbers R (C ++ P))) (sym (summary_is R (C ++ P) piece_numbers es of_piece))
-        (subst (λ (x : List Event). IsLeft x (renamed g es)) (into_is R (C ++ P) piece_numbers) both)
+        let both : hold_count (renamed g (recording_of (C ++ P)).events) t l ≡ hold_count (renamed g es) t l =
+        holds-renamed g (into_threads R (C ++ P) piece_numbers) (into_locks R (C ++ P) piece_numbers) (recording_of (C ++ P)).events es
+        (subst (λ (s : Recording). (t l : ℕ) → hold_count s.events t l ≡ hold_count es t l) piece es_holds) t l in
+        ap (λ (x : List Event). hold_count x t l) (sym (into_is R (C ++ P) piece_numbers))
+        ∙ both
+        ∙ ap (λ (x : List Event). hold_count x t l) (sym (summary_is R (C ++ P) piece_numbers es of_piece))
 
-    left_on : IsLeft (by_numbers R (N ++ P)) (by_numbers R (all_said (with_name r read_name) es []))
-    left_on =
-        subst (λ (s : Recording). IsLeft (by_numbers R (N ++ P)) (by_numbers R (all_said (with_name s read_name) es []))) (sym piece)
-        (left-trans (by_numbers R (N ++ P)) (by_numbers R (C ++ P)) (by_numbers R (all_said (with_name (recording_of (C ++ P)) read_name) es []))
-        (subst (λ (x : List Event). IsLeft x (by_numbers R (C ++ P))) (sym (numbers_append R N P)) (subst (IsLeft (A ++ Q)) (sym (numbers_append R C P)) first))
-        second)
+    holds_on : (t l : ℕ) → hold_count (by_numbers R (N ++ P)) t l ≡ hold_count (by_numbers R (all_said (with_name r read_name) es [])) t l
+    holds_on t l =
+        ap (λ (x : List Event). hold_count x t l) (numbers_append R N P)
+        ∙ first t l
+        ∙ ap (λ (x : List Event). hold_count x t l) (sym (numbers_append R C P))
+        ∙ second t l
+        ∙ ap (λ (s : Recording). hold_count (by_numbers R (all_said (with_name s read_name) es [])) t l) (sym piece)
 
-seen_is_name : IsName read_name
+pub seen_is_name : IsName read_name
 seen_is_name = record {
   some = omega arith;
   short = omega arith;
@@ -84,8 +93,8 @@ seen_is_name = record {
   no_feed = fails-each is_line_feed (codes "seen") refl;
 }
 
--- the events that the text of a summary says
-module _ (bytes : List ℕ) (r : Recording) (reads : reading_of bytes ≡ Ok r) (text : List ℕ) (sum : IsSummary r text) where
+-- the events that the text of what is held says
+module _ (bytes : List ℕ) (r : Recording) (reads : reading_of bytes ≡ Ok r) (text : List ℕ) (sum : IsHeldText r text) where
   abbrev X : List NamedEvent
   X = all_said (with_name r read_name) sum.events []
 
@@ -103,23 +112,40 @@ module _ (bytes : List ℕ) (r : Recording) (reads : reading_of bytes ≡ Ok r) 
   pub summary-size : length (said_in text) ≡ length sum.events
   summary-size = ap (λ (es : List NamedEvent). length es) said_is ∙ long_said (with_name r read_name) sum.events []
 
+-- each of them is an acquire
+all_acquires : (R : Recording) (es : List Event) → All (λ (e : Event). (l : ℕ) × (e.op ≡ Acquire l)) es → All (λ (e : NamedEvent). e.kind ≡ Acquires) (all_said R es [])
+all_acquires R [] all = All-nil (λ (e : NamedEvent). e.kind ≡ Acquires)
+all_acquires R (e ∷ es) all =
+    let takes : Event → Type 0 = λ e. (l : ℕ) × (e.op ≡ Acquire l) in
+    All-cons (λ (x : NamedEvent). x.kind ≡ Acquires) (said_event R e []) (all_said R es []) (ap kind_in (All-head takes e es all).1) (all_acquires R es (All-tail takes e es all))
+
 pub goes_law : StreamGoesOn
-goes_law front summary more text r st whole reads rules sum =
+goes_law front head more r past next is st whole reads rules on =
     let N = said_in front in
-    let C = said_in summary in
+    let C = said_in head in
     let P = said_in more in
-    let bytes : List ℕ = summary ++ more in
-    let piece : r ≡ recording_of (C ++ P) = read_is bytes r reads ∙ ap recording_of (said-append summary more st.ends) in
+    let bytes : List ℕ = head ++ more in
+    let text : List ℕ = next.held in
+    let sum : IsHeldText r text = on.held in
+    let piece : r ≡ recording_of (C ++ P) = read_is bytes r reads ∙ ap recording_of (said-append head more st.ends) in
     let joined : said_in (front ++ more) ≡ N ++ P = said-append front more st.whole in
+    let said : said_in text ≡ all_said (with_name r read_name) sum.events [] = said_is bytes r reads text sum in
+    let uses = λ (of : NamedEvent → List (List ℕ)) (name : List ℕ).
+    ap (λ (es : List NamedEvent). has (flat_map of es) name) joined ∙ uses-append of N P name in
     record {
       whole = whole-append front more st.whole whole;
+      keeps = rules_law front head more r st reads rules;
+      forked = λ name. uses (name_where names_forked) name ∙ ap (λ b. b || has (fork_uses P) name) (is.forked name) ∙ sym (on.forked name);
+      seen = λ name. uses (λ e. e.thread ∷ []) name ∙ ap (λ b. b || has (own_uses P) name) (is.seen name) ∙ sym (on.seen name);
+      joined = λ name. uses (name_where names_joined) name ∙ ap (λ b. b || has (join_uses P) name) (is.joined name) ∙ sym (on.joined name);
       ends = subst IsWhole (sym (text_is bytes r reads text sum)) (whole_lines (X bytes r reads text sum));
-      keeps = rules_law front summary more r st reads rules;
-      names = λ R n. subst (IsNumbering R) (sym (said_is bytes r reads text sum))
-          (names_on N C P r piece sum.events sum.named R st.names (subst (IsNumbering R) joined n));
-      left = λ R n. subst (λ (es : List NamedEvent). IsLeft (by_numbers R es) (by_numbers R (said_in text))) (sym joined)
-          (subst (λ (es : List NamedEvent). IsLeft (by_numbers R (N ++ P)) (by_numbers R es)) (sym (said_is bytes r reads text sum))
-          (left_on N C P r piece sum.events sum.named R st.names (subst (IsNumbering R) joined n) st.left st.keeps rules sum.left));
+      takes = subst (All (λ (e : NamedEvent). e.kind ≡ Acquires)) (sym said) (all_acquires (with_name r read_name) sum.events sum.takes);
+      names = λ R n. subst (IsNumbering R) (sym said) (names_on N C P r piece sum.events sum.named R st.names (subst (IsNumbering R) joined n));
+      holds = λ R n t l.
+          let m : IsNumbering R (N ++ P) = subst (IsNumbering R) joined n in
+          ap (λ (es : List NamedEvent). hold_count (by_numbers R es) t l) joined
+          ∙ holds_on N C P r piece sum.events sum.named R st.names m (st.left R (numbering-left R N P m) (numbering-right R N P m)).holds st.keeps rules sum.holds t l
+          ∙ ap (λ (es : List NamedEvent). hold_count (by_numbers R es) t l) (sym said);
     }
 
 -- how many events there are after a summary
@@ -135,7 +161,7 @@ first_after : {X : Type 0} (A P L : List X) (i : ℕ) → i ≤ length P → tak
 first_after A P L i le = ap (take i) (drop-append_seam A (P ++ L)) ∙ take-append-le i P L le
 
 -- a window at the first event after a summary
-pub window_at : (front summary more later text : List ℕ) (r : Recording) (q k most : ℕ) → Stands front summary → IsWhole more → reading_of (summary ++ more) ≡ Ok r → IsWellFormed r
+pub window_at : (front summary more later text : List ℕ) (r : Recording) (q k most : ℕ) → Stands front summary more → IsWhole more → reading_of (summary ++ more) ≡ Ok r → IsWellFormed r
     → IsDisciplined r.events → IsDisciplined (long_trace (front ++ (more ++ later))) → k ≡ length (said_in summary) → q < 1000000000000000000 → (cut : IsCutAt r q k most text)
     → IsWindowAt (front ++ (more ++ later)) (length (said_in front)) (length (said_in front) + (cut.end - k)) (prologue_size r k cut.end) text
 window_at front summary more later text r q k most st whole reads formed rules all size small cut =
@@ -168,7 +194,7 @@ window_at front summary more later text r q k most st whole reads formed rules a
     }
 
 -- the same of a window that says where it lies
-pub window_as : (front summary more later : List ℕ) (r : Recording) (q k most : ℕ) (w : Window) → Stands front summary → IsWhole more → reading_of (summary ++ more) ≡ Ok r → IsWellFormed r
+pub window_as : (front summary more later : List ℕ) (r : Recording) (q k most : ℕ) (w : Window) → Stands front summary more → IsWhole more → reading_of (summary ++ more) ≡ Ok r → IsWellFormed r
     → IsDisciplined r.events → IsDisciplined (long_trace (front ++ (more ++ later))) → k ≡ length (said_in summary) → q < 1000000000000000000 → q ≡ length (said_in front)
     → IsCutAs r q k most w → IsWindowAt (front ++ (more ++ later)) q w.to w.prologue w.text.items
 window_as front summary more later r q k most w st whole reads formed rules all size small here lies =

@@ -2,22 +2,35 @@
 use Rattle.std.specs.Prelude.{◌≡◌, ◌⊎◌, ⊤, ℕ, ◌+◌, ◌^◌, ◌≤◌, List, [], ◌++◌, length, Err, Ok}
 use Rattle.rapid_text.specs.Reading.{reading_of}
 use Rattle.rapid_text.specs.Recording.{Recording}
-use Rattle.rapid_text.specs.declared.refusal.TextCause.TheVariants.{TooManyEvents}
+use Rattle.rapid_text.specs.declared.refusal.TextCause.TheVariants.{TooManyEvents, TooManyNames}
 use Rattle.rapid_text.specs.declared.refusal.TextRefusal.{TextRefusal}
 use Rattle.trace_rules.specs.Rules.{IsFirstBreach}
 use Rattle.window.specs.Cuts.{HasNoNewName}
 use Rattle.window.specs.Streams.{IsFirstRefused, IsKept, IsWhole, Stands, Stream, feeds, long_trace, said_in}
 use Rattle.window.specs.declared.fault.FrontFault.{FrontFault}
-use Rattle.window.specs.declared.fault.FrontFault.TheVariants.{Text, Rule, Unended, NoSuchEvent, NoName, TooLong, OutOfMemory}
+use Rattle.window.specs.declared.fault.FrontFault.TheVariants.{Text, Rule, Unended, NoSuchEvent, NoName, TooManyThreads, TooLong, OutOfMemory}
 
--- More was read than can be counted; or the piece, after the text that is kept, has more events than a trace may have; or no text can
--- be kept in the place of both, since it would be none that is read.
+-- the text is not read, since it has more events than a trace may have; or more threads
+abbrev pub HasTooManyEvents : List ℕ → Type 0
+HasTooManyEvents text = (why : TextRefusal) × (reading_of text ≡ Err why) × (why.why ≡ TooManyEvents)
+
+abbrev pub HasTooManyThreads : List ℕ → Type 0
+HasTooManyThreads text = (why : TextRefusal) × (reading_of text ≡ Err why) × (why.why ≡ TooManyNames)
+
+-- More was read than can be counted; or the piece, after a text that stands in the place of what was read, has more events than a trace
+-- may have; or that text would be none that is read.
 abbrev pub IsTooLong : Stream → List ℕ → Type 0
 IsTooLong s more =
     (1000000000000000000 ≤ length (said_in s.read) + length (said_in more))
     ⊎ ((2 ^ 64 ≤ feeds s.read + feeds more)
-    ⊎ (((why : TextRefusal) × (reading_of (s.kept ++ more) ≡ Err why) × ((why.why ≡ TooManyEvents) ⊎ (2 ^ 64 ≤ feeds s.read + why.line)))
-    ⊎ ((kept : List ℕ) × Stands (s.read ++ more) kept × ¬ IsKept kept)))
+    ⊎ (((why : TextRefusal) × (reading_of more ≡ Err why) × ((why.why ≡ TooManyEvents) ⊎ (2 ^ 64 ≤ feeds s.read + why.line)))
+    ⊎ ((head : List ℕ) × Stands s.read head more × ((¬ IsKept head) ⊎ HasTooManyEvents (head ++ more)))))
+
+-- the piece has more threads than a trace may have, alone or after a text that stands in the place of what was read
+abbrev pub IsTooWide : Stream → List ℕ → Type 0
+IsTooWide s more =
+    HasTooManyThreads more
+    ⊎ ((head : List ℕ) × Stands s.read head more × (HasTooManyThreads head ⊎ HasTooManyThreads (head ++ more)))
 
 -- Why the piece is refused. Events and lines have their numbers in all that was read.
 abbrev pub IsFrontFault : Stream → List ℕ → FrontFault → Type 0
@@ -25,6 +38,8 @@ IsFrontFault s more (Text line why) = IsFirstRefused (s.read ++ more) line why
 IsFrontFault s more (Rule event why) = IsFirstBreach (long_trace (s.read ++ more)) (record { event = event; why = why })
 IsFrontFault s more Unended = ¬ IsWhole more
 IsFrontFault s more NoSuchEvent = said_in more ≡ []
-IsFrontFault s more NoName = (r : Recording) × (reading_of (s.kept ++ more) ≡ Ok r) × HasNoNewName r
+IsFrontFault s more NoName =
+    (head : List ℕ) × (r : Recording) × Stands s.read head more × (reading_of (head ++ more) ≡ Ok r) × HasNoNewName r
+IsFrontFault s more TooManyThreads = IsTooWide s more
 IsFrontFault s more TooLong = IsTooLong s more
 IsFrontFault s more OutOfMemory = ⊤

@@ -1,12 +1,12 @@
 -- A trace of any length, read in pieces. What was read is replaced by a text that leaves the same behind.
-use Rattle.std.specs.Prelude.{◌≡◌, ◌⊎◌, ◌↔◌, ⊤, ℕ, ◌+◌, ◌-◌, ◌==◌, ◌<◌, ◌≤◌, nat_lt, true, if◌then◌else◌, List, [], ◌∷◌, ◌++◌, length, count_by, drop, take, map, slice_index_or, All, Option, Some, None, Err, Ok, bytes_eq, codes}
+use Rattle.std.specs.Prelude.{◌≡◌, ◌⊎◌, ◌↔◌, ⊤, ℕ, ◌+◌, ◌-◌, ◌==◌, ◌<◌, ◌≤◌, ◌||◌, Bool, true, false, List, [], ◌∷◌, ◌++◌, length, count_by, drop, take, map, flat_map, slice_index_or, All, Option, Some, None, Err, Ok, bytes_eq, codes}
 use Rattle.std.specs.List.{IsDistinct, list_any, slice_split}
 use Rattle.rapid_text.specs.Canonical.{events_text}
 use Rattle.rapid_text.specs.Operations.{is_fork, is_join}
-use Rattle.rapid_text.specs.Limits.{thread_limit}
-use Rattle.rapid_text.specs.Reading.{NamedEvent, LineReading, Skipped, Refused, Says, first_uses, is_line_feed, line_reading, named_events, numbered, reading_of, recording_of, thread_uses, lock_uses}
+use Rattle.rapid_text.specs.Reading.{NamedEvent, LineReading, Skipped, Refused, Says, is_line_feed, line_reading, name_where, named_events, number_of, numbered, reading_of, recording_of, thread_uses, lock_uses}
+use Rattle.rapid_text.specs.declared.event.Kind.{Kind}
+use Rattle.rapid_text.specs.declared.event.Kind.TheVariants.{Acquires, Forks, Joins}
 use Rattle.rapid_text.specs.declared.refusal.TextCause.{TextCause}
-use Rattle.rapid_text.specs.declared.refusal.TextCause.TheVariants.{TooManyNames}
 use Rattle.rapid_text.specs.Recording.{Recording}
 use Rattle.rapid_text.specs.declared.event.Event.{Event}
 use Rattle.rapid_text.specs.declared.event.Op.{Op}
@@ -33,13 +33,36 @@ long_trace text = (recording_of (said_in text)).events
 abbrev pub IsWhole : List ℕ → Type 0
 IsWhole text = (text ≡ []) ⊎ ((front : List ℕ) × (text ≡ front ++ 10 ∷ []))
 
--- The events B leave behind what the events A do: who holds which lock how often, and which threads were forked, were joined,
--- and have an event.
-pub record IsLeft (A B : List Event) : Type 0 where
+-- The events B leave behind what the events A do, as far as it is of these threads: who holds which lock how often, and which of the
+-- threads were forked, were joined, and have an event.
+pub record IsLeft (P : ℕ → Type 0) (A B : List Event) : Type 0 where
   pub holds : (t l : ℕ) → hold_count A t l ≡ hold_count B t l
-  pub forked : (u : ℕ) → list_any (λ e. is_fork u e.op) A ≡ list_any (λ e. is_fork u e.op) B
-  pub joined : (u : ℕ) → list_any (λ e. is_join u e.op) A ≡ list_any (λ e. is_join u e.op) B
-  pub seen : (u : ℕ) → list_any (λ e. e.thread == u) A ≡ list_any (λ e. e.thread == u) B
+  pub forked : (u : ℕ) → P u → list_any (λ e. is_fork u e.op) A ≡ list_any (λ e. is_fork u e.op) B
+  pub joined : (u : ℕ) → P u → list_any (λ e. is_join u e.op) A ≡ list_any (λ e. is_join u e.op) B
+  pub seen : (u : ℕ) → P u → list_any (λ e. e.thread == u) A ≡ list_any (λ e. e.thread == u) B
+
+-- whether the name is one of these
+abbrev pub is_named : List (List ℕ) → List ℕ → Bool
+is_named names name = list_any (bytes_eq name) names
+
+-- whether a line of this kind forks a thread, and whether it joins one
+abbrev pub names_forked : Kind → Bool
+names_forked Forks = true
+names_forked kind = false
+
+abbrev pub names_joined : Kind → Bool
+names_joined Joins = true
+names_joined kind = false
+
+-- the threads of the events, and those that they fork and join
+abbrev pub own_uses : List NamedEvent → List (List ℕ)
+own_uses es = flat_map (λ e. e.thread ∷ []) es
+
+abbrev pub fork_uses : List NamedEvent → List (List ℕ)
+fork_uses es = flat_map (name_where names_forked) es
+
+abbrev pub join_uses : List NamedEvent → List (List ℕ)
+join_uses es = flat_map (name_where names_joined) es
 
 -- The recording has each thread and each lock of the events, and none twice.
 pub record IsNumbering (R : Recording) (es : List NamedEvent) : Type 0 where
@@ -68,21 +91,58 @@ IsOfOp r (Join u) = u < length r.threads
 abbrev pub IsOf : Recording → Event → Type 0
 IsOf r e = (e.thread < length r.threads) × IsOfOp r e.op
 
--- The text is of events that leave behind what the recording does.
-pub record IsSummary (r : Recording) (text : List ℕ) : Type 0 where
+-- it is the number of a thread that the events name
+abbrev pub IsThreadOf : Recording → List NamedEvent → ℕ → Type 0
+IsThreadOf R es u = (name : List ℕ) × (is_named (thread_uses es) name ≡ true) × (u ≡ number_of R.threads name)
+
+-- The text `head` stands in the place of the text `front`, which keeps the rules, before the text `more`: whatever the numbers of their
+-- names are, it leaves the same behind for the threads that `more` names.
+pub record Stands (front head more : List ℕ) : Type 0 where
+  pub whole : IsWhole front
+  pub ends : IsWhole head
+  pub keeps : IsDisciplined (long_trace front)
+  pub names : (R : Recording) → IsNumbering R (said_in front) → IsNumbering R (said_in head)
+  pub left :
+      (R : Recording) → IsNumbering R (said_in front) → IsNumbering R (said_in more)
+      → IsLeft (IsThreadOf R (said_in more)) (by_numbers R (said_in front)) (by_numbers R (said_in head))
+
+-- What is kept of a trace: the names of the threads that were forked, that have an event, and that were joined; and a text of acquires
+-- that takes what is held.
+pub record Past : Type 0 where
+  pub forked : List (List ℕ)
+  pub seen : List (List ℕ)
+  pub joined : List (List ℕ)
+  pub held : List ℕ
+
+-- The text keeps the rules, and this is what is kept of it.
+pub record IsPast (front : List ℕ) (past : Past) : Type 0 where
+  pub whole : IsWhole front
+  pub keeps : IsDisciplined (long_trace front)
+  pub forked : (name : List ℕ) → is_named (fork_uses (said_in front)) name ≡ is_named past.forked name
+  pub seen : (name : List ℕ) → is_named (own_uses (said_in front)) name ≡ is_named past.seen name
+  pub joined : (name : List ℕ) → is_named (join_uses (said_in front)) name ≡ is_named past.joined name
+  pub ends : IsWhole past.held
+  pub takes : All (λ e. e.kind ≡ Acquires) (said_in past.held)
+  pub names : (R : Recording) → IsNumbering R (said_in front) → IsNumbering R (said_in past.held)
+  pub holds :
+      (R : Recording) → IsNumbering R (said_in front) → (t l : ℕ)
+      → hold_count (by_numbers R (said_in front)) t l ≡ hold_count (by_numbers R (said_in past.held)) t l
+
+-- The text is of acquires that take what is held after the recording.
+pub record IsHeldText (r : Recording) (text : List ℕ) : Type 0 where
   pub events : List Event
   pub named : All (IsOf r) events
-  pub left : IsLeft r.events events
+  pub takes : All (λ e. (l : ℕ) × (e.op ≡ Acquire l)) events
+  pub holds : (t l : ℕ) → hold_count r.events t l ≡ hold_count events t l
   pub is : text ≡ events_text (with_name r read_name) events []
 
--- The text `summary` stands in the place of the text `front`, which keeps the rules: whatever the numbers of their names are, it
--- leaves the same behind.
-pub record Stands (front summary : List ℕ) : Type 0 where
-  pub whole : IsWhole front
-  pub ends : IsWhole summary
-  pub keeps : IsDisciplined (long_trace front)
-  pub names : (R : Recording) → IsNumbering R (said_in front) → IsNumbering R (said_in summary)
-  pub left : (R : Recording) → IsNumbering R (said_in front) → IsLeft (by_numbers R (said_in front)) (by_numbers R (said_in summary))
+-- What is kept after a piece: the threads that the piece forks, that have an event in it, and that it joins are noted, and the text takes
+-- what is held after the recording of the piece.
+pub record IsNext (past next : Past) (r : Recording) (more : List ℕ) : Type 0 where
+  pub forked : (name : List ℕ) → is_named next.forked name ≡ (is_named past.forked name || is_named (fork_uses (said_in more)) name)
+  pub seen : (name : List ℕ) → is_named next.seen name ≡ (is_named past.seen name || is_named (own_uses (said_in more)) name)
+  pub joined : (name : List ℕ) → is_named next.joined name ≡ (is_named past.joined name || is_named (join_uses (said_in more)) name)
+  pub held : IsHeldText r next.held
 
 -- The text reads as a trace of its own: n events, and then the events K to M of the trace T. A pair that a correct reordering of it
 -- shows, both behind its first n events, the trace shows by its first K events and that reordering. And such a pair is never shown
@@ -110,18 +170,15 @@ pub record IsWindowAt (whole : List ℕ) (K M n : ℕ) (text : List ℕ) : Type 
 abbrev pub feeds : List ℕ → ℕ
 feeds text = count_by is_line_feed text
 
--- why a line is refused after these events, but for how many they are
-abbrev pub long_fault : List NamedEvent → LineReading → Option TextCause
-long_fault earlier Skipped = None
-long_fault earlier (Refused why) = Some why
-long_fault earlier (Says event) =
-    if nat_lt thread_limit (length (first_uses (thread_uses (earlier ++ event ∷ [])))) then Some TooManyNames else None
+-- why a line is refused that is no event
+abbrev pub line_fault : LineReading → Option TextCause
+line_fault Skipped = None
+line_fault (Refused why) = Some why
+line_fault (Says event) = None
 
--- why the line at place i of the text is refused
+-- why the line at place i of the text is refused, whatever stands before it
 abbrev pub refused_at : List ℕ → ℕ → Option TextCause
-refused_at text i =
-    let lines = slice_split is_line_feed text in
-    long_fault (named_events (take i lines)) (line_reading (slice_index_or lines i []))
+refused_at text i = line_fault (line_reading (slice_index_or (slice_split is_line_feed text) i []))
 
 -- no line of the text is refused
 abbrev pub IsUnrefused : List ℕ → Type 0
@@ -134,27 +191,28 @@ pub record IsFirstRefused (text : List ℕ) (line : ℕ) (why : TextCause) : Typ
   pub fault : refused_at text (line - 1) ≡ Some why
   pub earlier : (j : ℕ) → j + 1 < line → refused_at text j ≡ None
 
--- What was read of a trace, and the text that is kept in its place.
+-- What was read of a trace, and what is kept of it.
 pub record Stream : Type 0 where
   pub read : List ℕ
-  pub kept : List ℕ
+  pub past : Past
+
+-- nothing is kept
+abbrev pub no_past : Past
+no_past = record { forked = []; seen = []; joined = []; held = [] }
 
 -- nothing was read
 abbrev pub nothing_read : Stream
-nothing_read = record { read = []; kept = [] }
+nothing_read = record { read = []; past = no_past }
 
 -- the text reads as a trace that keeps the rules
 abbrev pub IsKept : List ℕ → Type 0
 IsKept text = (r : Recording) × (reading_of text ≡ Ok r) × IsDisciplined r.events
 
--- The text that is kept stands in the place of what was read. It has so many events and lines, and so many events and lines were
--- read.
-pub record IsFront (read kept : List ℕ) (size rows number lines : ℕ) : Type 0 where
-  pub stands : Stands read kept
-  pub kept_well : IsKept kept
+-- This is kept of what was read, with so many acquires of what is held. So many events and lines were read.
+pub record IsFront (read : List ℕ) (past : Past) (holds number lines : ℕ) : Type 0 where
+  pub is_past : IsPast read past
   pub unrefused : IsUnrefused read
-  pub size_is : size ≡ length (said_in kept)
-  pub rows_are : rows ≡ feeds kept
+  pub holds_are : holds ≡ length (said_in past.held)
   pub number_is : number ≡ length (said_in read)
   pub number_small : number < 1000000000000000000
   pub lines_are : lines ≡ feeds read

@@ -1,6 +1,7 @@
 -- The tables from which a prologue and a summary are made. No public clause cites this module.
-use Rattle.std.specs.Prelude.{◌≡◌, ℕ, ◌==◌, Bool, if◌then◌else◌, List, [], ◌∷◌, flat_map, length, replicate, slice_index_or, take, slice_get, Some}
+use Rattle.std.specs.Prelude.{◌≡◌, ℕ, ◌==◌, ◌&&◌, Bool, bytes_eq, if◌then◌else◌, List, flat_map, length, replicate, slice_index_or, take, slice_get, Some}
 use Rattle.std.specs.List.{list_any}
+use Rattle.rapid_text.specs.Canonical.{name_at}
 use Rattle.rapid_text.specs.Operations.{is_fork, is_join}
 use Rattle.rapid_text.specs.declared.event.Event.{Event}
 use Rattle.rapid_text.specs.declared.event.Op.TheVariants.{Acquire}
@@ -28,9 +29,9 @@ has_fork T k m t = list_any (λ v. is_fork t v.op) (part_of T k m)
 abbrev pub has_join : List Event → ℕ → ℕ → ℕ → Bool
 has_join T k m t = list_any (λ v. is_join t v.op) (part_of T k m)
 
--- an event for each number below n that passes
-abbrev pub each_event : (ℕ → Bool) → (ℕ → Event) → ℕ → List Event
-each_event test make n = flat_map (λ i. if test i then make i ∷ [] else []) (before n)
+-- whether a number below n that passes is that of the name
+abbrev pub found_name : List (List ℕ) → (ℕ → Bool) → ℕ → List ℕ → Bool
+found_name names test n name = list_any (λ t. test t && bytes_eq name (name_at names t)) (before n)
 
 -- an acquire of the lock for each hold
 abbrev pub takes_of : Held → ℕ → List Event

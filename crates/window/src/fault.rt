@@ -61,6 +61,8 @@ pub enum FrontFault {
     NoSuchEvent,
     /// The piece uses each name that the prologue's variable could have.
     NoName,
+    /// The piece has more threads than a trace may have, together with those that hold a lock before it and at most two others.
+    TooManyThreads,
     /// The piece has more events than fit, or more was read than can be counted, or kept.
     TooLong,
     /// A growth was refused.

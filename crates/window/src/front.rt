@@ -1,20 +1,22 @@
 //! A trace of any length, as far as it was read.
-ghost use Rattle.std.specs.Prelude.{◌≡◌, ◌⊎◌, ◌+◌, ◌-◌, ◌<◌, ◌≤◌, ◌++◌, ℕ, List, length, Ok, Err, IfOk, IfErr, OnOk, OnErr, IfSome, None};
+ghost use Rattle.std.specs.Prelude.{◌≡◌, ◌≢◌, ◌⊎◌, ◌+◌, ◌-◌, ◌<◌, ◌≤◌, ◌++◌, ℕ, List, length, Ok, Err, IfOk, IfErr, OnOk, OnErr, IfSome, None};
 ghost use Rattle.rapid_text.specs.Limits.{event_limit};
-ghost use Rattle.rapid_text.specs.Reading.{reading_of};
+ghost use Rattle.rapid_text.specs.Reading.{first_uses, reading_of, thread_uses};
 ghost use Rattle.rapid_text.specs.Recording.{Recording};
 ghost use Rattle.rapid_text.specs.Refusals.{no_memory};
 ghost use Rattle.trace_rules.specs.Rules.{IsDisciplined, IsFirstBreach, no_memory as no_table};
 ghost use Rattle.window.specs.Fronts.{IsFrontFault};
-ghost use Rattle.window.specs.Streams.{IsKept, IsPieceFault, IsWhole, IsWindowAt, Stands, feeds, long_trace, nothing_read, said_in};
+ghost use Rattle.window.specs.Heads.{past_of};
+ghost use Rattle.window.specs.Streams.{IsKept, IsPast, IsPieceFault, IsUnrefused, IsWhole, IsWindowAt, Stands, feeds, long_trace, nothing_read, said_in};
 
 use crate::cutting::Window;
 use crate::fault::FrontFault;
+use crate::known::Known;
 use crate::past::with_piece;
-use crate::piece::{PieceFault, is_kept, summary_after, window_after};
+use crate::piece::{Next, PieceFault, is_too_wide, kept_size, known_after, window_after};
 use crate::whole::{is_whole, lines_in};
 use boxcar::tag::Tag;
-use rapid_text::{MAX_EVENTS, OutOfMemory, TextCause, TextRefusal, parse};
+use rapid_text::{MAX_EVENTS, MAX_THREADS, OutOfMemory, RawTrace, TextCause, TextRefusal, parse};
 use std::alloc::Global;
 use std::marker::Model;
 use trace_rules::{RuleCause, RuleRefusal};
@@ -22,29 +24,35 @@ use trace_rules::{RuleCause, RuleRefusal};
 /// More events than are counted.
 const MAX_NUMBER: u64 = 1_000_000_000_000_000_000;
 
-/// A trace of any length, as far as it was read: how much that was, and a text that is kept in its place. A clause sees the text that was read,
-/// and the one that is kept.
+/// A trace of any length, as far as it was read: how much that was, and what is kept of it: the names of its threads, and what is held. A
+/// clause sees the text that was read, and what is kept.
 #[derive(Drop)]
 pub struct Front {
     // What was read. It has no bytes.
     read: Tag,
-    // The text in its place, and how many events and lines it has.
-    text: Vec<u8>,
-    events: usize,
-    rows: u64,
+    // What is kept of it.
+    known: Known,
     // How many events and lines were read.
     number: u64,
     lines: u64,
 }
 
+// A text in the place of what was read, and how many events it has.
+#[derive(Drop)]
+struct Head {
+    text: Vec<u8>,
+    size: u32,
+}
+
 impl Model for Front {
+    ghost use Rattle.window.specs.Heads.{past_of};
     ghost use Rattle.window.specs.Streams.{IsFront, Stream};
 
     ghost Value = { Stream };
 
-    ghost view = { λ f. record { read = f.read.numbers; kept = f.text.items } };
+    ghost view = { λ f. record { read = f.read.numbers; past = past_of f.known } };
 
-    ghost invariant = { λ f. IsFront f.read.numbers f.text.items f.events f.rows f.number f.lines };
+    ghost invariant = { λ f. IsFront f.read.numbers (past_of f.known) f.known.holds f.number f.lines };
 }
 
 impl Front {
@@ -54,9 +62,7 @@ impl Front {
     {
         Front {
             read: Tag::empty(),
-            text: Vec::new(alloc),
-            events: 0,
-            rows: 0,
+            known: Known::begin(alloc),
             number: 0,
             lines: 0,
         }
@@ -76,30 +82,29 @@ impl Front {
         self.lines
     }
 
-    /// How many events the next piece may have.
+    /// How many events the next piece may have at least: a text in the place of what was read says three things at most of a thread, and
+    /// takes what is held.
     pub fn room(&self) -> u32
-        ensures { result ≡ event_limit - length (said_in self.now.kept) }
+        ensures { result ≡ event_limit - (768 + length (said_in self.now.past.held)) }
     {
-        MAX_EVENTS.saturating_sub(self.events) as u32
+        MAX_EVENTS
+            .saturating_sub(3 * MAX_THREADS)
+            .saturating_sub(self.known.holds) as u32
     }
 
-    /// What was read keeps the rules, and the text that is kept leaves the same behind.
+    /// What was read keeps the rules, and this is kept of it.
     pub fn stands(&self)
-        ensures stands { Stands self.now.read self.now.kept }
-        ensures kept { IsKept self.now.kept }
+        ensures { IsPast self.now.read self.now.past }
     {
-        let _ = &self.text;
+        let _ = &self.known;
     }
 
-    /// How many threads the text has that is kept.
-    pub fn threads(&self, alloc: Global) -> Result<u32, OutOfMemory>
-        ensures { IfOk result
-            (λ count. (r : Recording) × (reading_of self.now.kept ≡ Ok r) × (count ≡ length r.threads)) }
+    /// How many threads have an event in what was read, or are forked or joined there.
+    pub fn threads(&self, alloc: Global) -> Result<usize, OutOfMemory>
+        ensures { IfOk result (λ count. count ≡ length (first_uses (thread_uses (said_in self.now.read)))) }
     {
-        match parse(alloc, self.text.as_slice()) {
-            Ok(raw) => Ok(raw.threads()),
-            Err(_) => Err(OutOfMemory),
-        }
+        let all = self.known.threads(alloc)?;
+        Ok(all.len())
     }
 
     /// The window of the events after what was read, with at most so many of them. `more` begins with these, and is of whole lines.
@@ -117,10 +122,13 @@ impl Front {
         if !is_whole(more) {
             return Err(FrontFault::Unended);
         }
-        let text = self.text.as_slice();
-        match window_after(alloc, text, self.events, more, self.number, most) {
+        if let Some(window) = self.quick_window(alloc, more, most)? {
+            return Ok(window);
+        }
+        let head = self.head(alloc, more)?;
+        match self.window_behind(alloc, &head, more, most) {
             Ok(window) => Ok(window),
-            Err(fault) => Err(self.told(more, fault)),
+            Err(fault) => Err(self.told(&head, more, fault)),
         }
     }
 
@@ -139,6 +147,150 @@ impl Front {
         }
     }
 
+    // A text that stands in the place of what was read, before this piece.
+    fn head(&self, alloc: Global, more: &[u8]) -> Result<Head, FrontFault>
+        ensures stands { IfOk result (λ head. Stands self.now.read head.text.items more.now) }
+        ensures kept { IfOk result (λ head. IsKept head.text.items) }
+        ensures size { IfOk result (λ head. head.size ≡ length (said_in head.text.items)) }
+        ensures reads { IfOk result (λ head. (r : Recording) × (reading_of more.now ≡ Ok r)) }
+        ensures fault { IfErr result (IsFrontFault self.now more.now) }
+    {
+        let raw = match parse(alloc, more) {
+            Ok(raw) => raw,
+            Err(refusal) => return Err(self.told_line(more, refusal)),
+        };
+        let text = self.head_of(alloc, more, &raw)?;
+        match kept_size(alloc, text.as_slice())? {
+            Some(size) => Ok(Head { text, size }),
+            None => Err(self.unkept(alloc, text.as_slice(), more)),
+        }
+    }
+
+    // The same of all threads, before any piece; None if they are too many.
+    fn whole_head(&self, alloc: Global) -> Result<Option<Head>, OutOfMemory>
+        ensures stands { IfOk result
+            (λ head. IfSome head (λ h. (more : List ℕ) → Stands self.now.read h.text.items more)) }
+        ensures size { IfOk result (λ head. IfSome head (λ h. h.size ≡ length (said_in h.text.items))) }
+    {
+        if self.known.seen.len() > MAX_THREADS {
+            return Ok(None);
+        }
+        let text = self.known.whole_head(alloc)?;
+        match kept_size(alloc, text.as_slice())? {
+            Some(size) => Ok(Some(Head { text, size })),
+            None => Ok(None),
+        }
+    }
+
+    // The window, if its piece is read after a head of all threads. This reads the piece once.
+    fn quick_window(
+        &self,
+        alloc: Global,
+        more: &[u8],
+        most: u32,
+    ) -> Result<Option<Window>, OutOfMemory>
+        requires whole { IsWhole more.now }
+        requires most { 0 < most }
+        ensures from { IfOk result (λ made. IfSome made (λ w. w.from ≡ length (said_in self.now.read))) }
+        ensures most { IfOk result (λ made. IfSome made (λ w. (w.from < w.to) × (w.to ≤ w.from + most))) }
+        ensures window { IfOk result (λ made. IfSome made
+            (λ w. (later : List ℕ)
+            → IsDisciplined (long_trace (self.now.read ++ (more.now ++ later)))
+            → IsWindowAt (self.now.read ++ (more.now ++ later)) w.from w.to w.prologue w.text.items)) }
+    {
+        let Some(head) = self.whole_head(alloc)? else {
+            return Ok(None);
+        };
+        match self.window_behind(alloc, &head, more, most) {
+            Ok(window) => Ok(Some(window)),
+            Err(_) => Ok(None),
+        }
+    }
+
+    // The window of the piece after this head.
+    fn window_behind(
+        &self,
+        alloc: Global,
+        head: &Head,
+        more: &[u8],
+        most: u32,
+    ) -> Result<Window, PieceFault>
+        requires whole { IsWhole more.now }
+        requires most { 0 < most }
+        requires stands { Stands self.now.read head.now.text.items more.now }
+        requires size { head.now.size ≡ length (said_in head.now.text.items) }
+        ensures from { IfOk result (λ w. w.from ≡ length (said_in self.now.read)) }
+        ensures most { IfOk result (λ w. (w.from < w.to) × (w.to ≤ w.from + most)) }
+        ensures window { IfOk result
+            (λ w. (later : List ℕ)
+            → IsDisciplined (long_trace (self.now.read ++ (more.now ++ later)))
+            → IsWindowAt (self.now.read ++ (more.now ++ later)) w.from w.to w.prologue w.text.items) }
+        ensures err { IfErr result (IsPieceFault (head.now.text.items ++ more.now) head.now.size) }
+    {
+        let text = head.text.as_slice();
+        match window_after(alloc, text, head.size, more, self.number, most) {
+            Ok(window) => Ok(window),
+            Err(fault) => Err(fault),
+        }
+    }
+
+    // What is kept after the piece, if it is read after a head of all threads.
+    fn quick_next(&self, alloc: Global, more: &[u8]) -> Result<Option<Next>, OutOfMemory>
+        requires { IsWhole more.now }
+        ensures past { IfOk result (λ made. IfSome made
+            (λ next. IsPast (self.now.read ++ more.now) (past_of next.known) × IsUnrefused more.now)) }
+        ensures counts { IfOk result (λ made. IfSome made
+            (λ next. (next.known.holds ≡ length (said_in next.known.held.items)) × (next.events ≡ length (said_in more.now)))) }
+    {
+        let Some(head) = self.whole_head(alloc)? else {
+            return Ok(None);
+        };
+        match self.next(alloc, &head, more) {
+            Ok(next) => Ok(Some(next)),
+            Err(_) => Ok(None),
+        }
+    }
+
+    // What is kept after the piece.
+    fn next(&self, alloc: Global, head: &Head, more: &[u8]) -> Result<Next, PieceFault>
+        requires whole { IsWhole more.now }
+        requires stands { Stands self.now.read head.now.text.items more.now }
+        requires size { head.now.size ≡ length (said_in head.now.text.items) }
+        ensures past { IfOk result
+            (λ next. IsPast (self.now.read ++ more.now) (past_of next.known) × IsUnrefused more.now) }
+        ensures counts { IfOk result
+            (λ next. (next.known.holds ≡ length (said_in next.known.held.items)) × (next.events ≡ length (said_in more.now))) }
+        ensures err { IfErr result (IsPieceFault (head.now.text.items ++ more.now) head.now.size) }
+    {
+        let text = head.text.as_slice();
+        match known_after(alloc, &self.known, text, head.size, more) {
+            Ok(next) => Ok(next),
+            Err(fault) => Err(fault),
+        }
+    }
+
+    // The same, which may be none that is read.
+    fn head_of(&self, alloc: Global, more: &[u8], raw: &RawTrace) -> Result<Vec<u8>, OutOfMemory>
+        requires { reading_of more.now ≡ Ok raw.now }
+        ensures { IfOk result (λ text. Stands self.now.read text.items more.now) }
+    {
+        let text = self.known.head(alloc, raw)?;
+        Ok(text)
+    }
+
+    // The fault of a head that is none that is read.
+    fn unkept(&self, alloc: Global, head: &[u8], more: &[u8]) -> FrontFault
+        requires stands { Stands self.now.read head.now more.now }
+        requires unkept { ¬ IsKept head.now }
+        ensures { IsFrontFault self.now more.now result }
+    {
+        match is_too_wide(alloc, head) {
+            Ok(true) => FrontFault::TooManyThreads,
+            Ok(false) => FrontFault::TooLong,
+            Err(_) => FrontFault::OutOfMemory,
+        }
+    }
+
     // What comes of reading on by these lines.
     fn after(&self, alloc: Global, more: &[u8]) -> Result<Front, FrontFault>
         ensures ok { IfOk result (λ next. next.read ≡ self.now.read ++ more.now) }
@@ -147,49 +299,60 @@ impl Front {
         if !is_whole(more) {
             return Err(FrontFault::Unended);
         }
-        let next = match summary_after(alloc, self.text.as_slice(), self.events, more) {
-            Ok(next) => next,
-            Err(fault) => return Err(self.told(more, fault)),
-        };
+        if let Some(next) = self.quick_next(alloc, more)? {
+            return self.with_next(more, next);
+        }
+        let head = self.head(alloc, more)?;
+        match self.next(alloc, &head, more) {
+            Ok(next) => self.with_next(more, next),
+            Err(fault) => Err(self.told(&head, more, fault)),
+        }
+    }
+
+    // What was read and the piece, of which this is kept.
+    fn with_next(&self, more: &[u8], next: Next) -> Result<Front, FrontFault>
+        requires past { IsPast (self.now.read ++ more.now) (past_of next.known) }
+        requires unrefused { IsUnrefused more.now }
+        requires holds { next.known.holds ≡ length (said_in next.known.held.items) }
+        requires events { next.events ≡ length (said_in more.now) }
+        ensures ok { IfOk result (λ front. front.read ≡ self.now.read ++ more.now) }
+        ensures fault { IfErr result (IsFrontFault self.now more.now) }
+    {
         let Some(number) = counted(self.number, next.events) else {
             return Err(FrontFault::TooLong);
         };
         let Some(lines) = self.lines.checked_add(lines_in(more)) else {
             return Err(FrontFault::TooLong);
         };
-        if !is_kept(alloc, next.text.as_slice())? {
-            return Err(FrontFault::TooLong);
-        }
-        let rows = lines_in(next.text.as_slice());
         Ok(Front {
             read: with_piece(&self.read, more),
-            text: next.text,
-            events: next.size,
-            rows,
+            known: next.known,
             number,
             lines,
         })
     }
 
     // The fault, with the number of the line or the event in all that was read.
-    fn told(&self, more: &[u8], fault: PieceFault) -> FrontFault
-        requires whole { IsWhole more.now }
-        requires fault { IsPieceFault (self.now.kept ++ more.now) (length (said_in self.now.kept)) fault }
+    fn told(&self, head: &Head, more: &[u8], fault: PieceFault) -> FrontFault
+        requires stands { Stands self.now.read head.now.text.items more.now }
+        requires kept { IsKept head.now.text.items }
+        requires size { head.now.size ≡ length (said_in head.now.text.items) }
+        requires reads { (r : Recording) × (reading_of more.now ≡ Ok r) }
+        requires fault { IsPieceFault (head.now.text.items ++ more.now) head.now.size fault }
         ensures { IsFrontFault self.now more.now result }
     {
-        self.stands();
         match fault {
-            PieceFault::Text(refusal) => self.told_line(more, refusal),
-            PieceFault::Rule(refusal) => self.told_event(more, refusal),
+            PieceFault::Text(refusal) => self.told_size(head, more, refusal),
+            PieceFault::Rule(refusal) => self.told_event(head, more, refusal),
             PieceFault::NoSuchEvent => FrontFault::NoSuchEvent,
             PieceFault::NoName => FrontFault::NoName,
             PieceFault::OutOfMemory => FrontFault::OutOfMemory,
         }
     }
 
-    // The fault of a line that is refused.
+    // The fault of a line of the piece that is refused.
     fn told_line(&self, more: &[u8], refusal: TextRefusal) -> FrontFault
-        requires { (refusal ≡ no_memory) ⊎ (reading_of (self.now.kept ++ more.now) ≡ Err refusal) }
+        requires { (refusal ≡ no_memory) ⊎ (reading_of more.now ≡ Err refusal) }
         ensures { IsFrontFault self.now more.now result }
     {
         if refusal.line == 0 {
@@ -198,10 +361,10 @@ impl Front {
         if refusal.why == TextCause::TooManyEvents {
             return FrontFault::TooLong;
         }
-        match self
-            .lines
-            .checked_add(refusal.line.saturating_sub(self.rows))
-        {
+        if refusal.why == TextCause::TooManyNames {
+            return FrontFault::TooManyThreads;
+        }
+        match self.lines.checked_add(refusal.line) {
             Some(line) => FrontFault::Text {
                 line,
                 why: refusal.why,
@@ -210,17 +373,37 @@ impl Front {
         }
     }
 
+    // The fault of a piece that is read, but not after the head: both have too many threads, or too many events.
+    fn told_size(&self, head: &Head, more: &[u8], refusal: TextRefusal) -> FrontFault
+        requires stands { Stands self.now.read head.now.text.items more.now }
+        requires kept { IsKept head.now.text.items }
+        requires reads { (r : Recording) × (reading_of more.now ≡ Ok r) }
+        requires fault { (refusal ≡ no_memory) ⊎ (reading_of (head.now.text.items ++ more.now) ≡ Err refusal) }
+        ensures { IsFrontFault self.now more.now result }
+    {
+        if refusal.line == 0 {
+            return FrontFault::OutOfMemory;
+        }
+        if refusal.why == TextCause::TooManyNames {
+            return FrontFault::TooManyThreads;
+        }
+        FrontFault::TooLong
+    }
+
     // The fault of an event that breaks a rule.
-    fn told_event(&self, more: &[u8], refusal: RuleRefusal) -> FrontFault
-        requires { (r : Recording)
-            × (reading_of (self.now.kept ++ more.now) ≡ Ok r)
+    fn told_event(&self, head: &Head, more: &[u8], refusal: RuleRefusal) -> FrontFault
+        requires stands { Stands self.now.read head.now.text.items more.now }
+        requires kept { IsKept head.now.text.items }
+        requires size { head.now.size ≡ length (said_in head.now.text.items) }
+        requires fault { (r : Recording)
+            × (reading_of (head.now.text.items ++ more.now) ≡ Ok r)
             × ((refusal ≡ no_table) ⊎ IsFirstBreach r.events refusal) }
         ensures { IsFrontFault self.now more.now result }
     {
         if refusal.why == RuleCause::OutOfMemory {
             return FrontFault::OutOfMemory;
         }
-        let later = u64::from(refusal.event).saturating_sub(self.events as u64);
+        let later = u64::from(refusal.event).saturating_sub(u64::from(head.size));
         FrontFault::Rule {
             event: self.number + later,
             why: refusal.why,
@@ -229,11 +412,11 @@ impl Front {
 }
 
 // So many events more, if they can be counted.
-fn counted(number: u64, events: usize) -> Option<u64>
+fn counted(number: u64, events: u32) -> Option<u64>
     ensures some { IfSome result (λ sum. (sum ≡ number + events) × (sum < 1000000000000000000)) }
     ensures none { result ≡ None → 1000000000000000000 ≤ number + events }
 {
-    let sum = number.checked_add(events as u64)?;
+    let sum = number.checked_add(u64::from(events))?;
     if sum >= MAX_NUMBER {
         return None;
     }

@@ -69,7 +69,7 @@ pub fn cut_is_sound()
     ensures { CutIsSound }
 {}
 
-/// Before the first event nothing is left behind.
+/// Before the first event nothing is kept.
 pub fn stream_begins()
     ensures { StreamBegins }
 {}
@@ -79,7 +79,7 @@ pub fn stream_keeps_rules()
     ensures { StreamKeepsRules }
 {}
 
-/// A text that leaves the same behind stands in the place of all that was read.
+/// What is kept after a piece is what is kept of all that was read.
 pub fn stream_goes_on()
     ensures { StreamGoesOn }
 {}
@@ -89,12 +89,12 @@ pub fn stream_breaks()
     ensures { StreamBreaks }
 {}
 
-/// If no line is refused after such a text, none is in all that was read.
+/// If no line of the piece is refused, none is in all that was read.
 pub fn stream_reads()
     ensures { StreamReads }
 {}
 
-/// The first line that is refused after such a text is the first in all that was read.
+/// The first line of the piece that is refused is the first in all that was read.
 pub fn stream_refuses()
     ensures { StreamRefuses }
 {}

@@ -4,7 +4,9 @@
 mod cutting;
 mod fault;
 mod front;
+mod heads;
 mod holding;
+mod known;
 mod laws;
 mod leaving;
 mod lines;
@@ -26,4 +28,3 @@ pub use laws::{
     window_is_disciplined, window_is_made, window_is_sound, window_of_a_beginning,
     window_of_is_window,
 };
-pub use leaving::summary;

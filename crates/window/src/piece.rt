@@ -1,24 +1,26 @@
-//! Windows and summaries of a trace of any length, which is read in pieces.
-ghost use Rattle.std.specs.Prelude.{◌≡◌, ◌⊎◌, ◌+◌, ◌<◌, ◌≤◌, ◌++◌, ℕ, List, length, true, false, Ok, IfOk, IfErr};
+//! Windows of a trace of any length, which is read in pieces, and what is kept of it.
+ghost use Rattle.std.specs.Prelude.{◌≡◌, ◌⊎◌, ◌+◌, ◌<◌, ◌≤◌, ◌++◌, ℕ, List, length, true, None, Ok, IfOk, IfErr, IfSome};
+ghost use Rattle.window.specs.Fronts.{HasTooManyThreads};
+ghost use Rattle.window.specs.Heads.{past_of};
 ghost use Rattle.rapid_text.specs.Reading.{reading_of};
 ghost use Rattle.rapid_text.specs.Recording.{Recording};
 ghost use Rattle.trace_rules.specs.Rules.{IsDisciplined, IsFirstBreach, no_memory as no_table};
-ghost use Rattle.window.specs.Streams.{IsKept, IsPieceFault, IsWhole, IsWindowAt, Stands, long_trace, said_in};
+ghost use Rattle.window.specs.Streams.{IsKept, IsNext, IsPieceFault, IsWhole, IsWindowAt, Stands, long_trace, said_in};
 ghost use Rattle.window.specs.declared.piece.PieceFault.TheVariants.{Rule};
 
 use crate::cutting::{Window, cut_at};
 use crate::fault::CutFault;
-use crate::leaving::summary;
-use rapid_text::{OutOfMemory, RawTrace, TextRefusal, parse};
+use crate::known::Known;
+use rapid_text::{OutOfMemory, RawTrace, TextCause, TextRefusal, parse};
 use std::alloc::Global;
 use trace_rules::{RuleCause, RuleRefusal, Trace, check};
 
 /// Why no window is made of a piece of a trace.
 #[derive(Clone, Copy)]
 pub(crate) enum PieceFault {
-    /// A line is refused. Lines are counted from the first of the summary.
+    /// A line is refused. Lines are counted from the first of the head.
     Text(TextRefusal),
-    /// An event breaks a rule. Events are counted from the first of the summary.
+    /// An event breaks a rule. Events are counted from the first of the head.
     Rule(RuleRefusal),
     /// The piece has no event.
     NoSuchEvent,
@@ -37,17 +39,6 @@ impl From<OutOfMemory> for PieceFault {
     fn from(_error: OutOfMemory) -> PieceFault {
         PieceFault::OutOfMemory
     }
-}
-
-/// What stands in the place of all that was read.
-#[derive(Drop)]
-pub(crate) struct Summary {
-    /// A text that leaves the same behind.
-    pub(crate) text: Vec<u8>,
-    /// How many events it has.
-    pub(crate) size: usize,
-    /// How many events the last piece had.
-    pub(crate) events: usize,
 }
 
 // Both texts, one after the other.
@@ -74,86 +65,101 @@ fn checked(alloc: Global, raw: RawTrace) -> Result<Trace, PieceFault>
     }
 }
 
-// Whether the trace keeps the rules.
-fn is_ruled(alloc: Global, raw: RawTrace) -> Result<bool, OutOfMemory>
-    ensures ruled { result ≡ Ok true → IsDisciplined raw.events }
-    ensures unruled { result ≡ Ok false → ¬ IsDisciplined raw.events }
+// How many events the trace has, if it keeps the rules.
+fn ruled_size(alloc: Global, raw: RawTrace) -> Result<Option<u32>, OutOfMemory>
+    ensures ruled { IfOk result (λ size. IfSome size (λ n. IsDisciplined raw.events × (n ≡ length raw.events))) }
+    ensures unruled { result ≡ Ok None → ¬ IsDisciplined raw.events }
 {
     match check(alloc, raw) {
-        Ok(trace) => {
-            drop(trace);
-            Ok(true)
-        }
+        Ok(trace) => Ok(Some(trace.raw().len())),
         Err((raw, refusal)) => {
             drop(raw);
             if refusal.why == RuleCause::OutOfMemory {
                 return Err(OutOfMemory);
             }
-            Ok(false)
+            Ok(None)
         }
     }
 }
 
-/// Whether the text is that of a trace that keeps the rules.
-pub(crate) fn is_kept(alloc: Global, text: &[u8]) -> Result<bool, OutOfMemory>
-    ensures kept { result ≡ Ok true → IsKept text.now }
-    ensures unkept { result ≡ Ok false → ¬ IsKept text.now }
+/// How many events the text has, if it is that of a trace that keeps the rules.
+pub(crate) fn kept_size(alloc: Global, text: &[u8]) -> Result<Option<u32>, OutOfMemory>
+    ensures kept { IfOk result (λ size. IfSome size (λ n. IsKept text.now × (n ≡ length (said_in text.now)))) }
+    ensures unkept { result ≡ Ok None → ¬ IsKept text.now }
 {
     match parse(alloc, text) {
-        Ok(raw) => is_ruled(alloc, raw),
+        Ok(raw) => match ruled_size(alloc, raw)? {
+            Some(size) => Ok(Some(size)),
+            None => Ok(None),
+        },
         Err(refusal) => {
             if refusal.line == 0 {
                 return Err(OutOfMemory);
             }
-            Ok(false)
+            Ok(None)
         }
     }
 }
 
-// The trace that the summary and the piece after it are.
-fn piece(alloc: Global, summary: &[u8], more: &[u8]) -> Result<Trace, PieceFault>
-    ensures ok { IfOk result (λ trace. reading_of (summary.now ++ more.now) ≡ Ok trace) }
-    ensures err { IfErr result (λ fault. (size : ℕ) → IsPieceFault (summary.now ++ more.now) size fault) }
+/// Whether the text has more threads than a trace may have.
+pub(crate) fn is_too_wide(alloc: Global, text: &[u8]) -> Result<bool, OutOfMemory>
+    ensures { result ≡ Ok true → HasTooManyThreads text.now }
 {
-    let text = joined(alloc, summary, more)?;
+    match parse(alloc, text) {
+        Ok(_) => Ok(false),
+        Err(refusal) => {
+            if refusal.line == 0 {
+                return Err(OutOfMemory);
+            }
+            Ok(refusal.why == TextCause::TooManyNames)
+        }
+    }
+}
+
+// The trace that the head and the piece after it are.
+fn piece(alloc: Global, head: &[u8], more: &[u8]) -> Result<Trace, PieceFault>
+    ensures ok { IfOk result (λ trace. reading_of (head.now ++ more.now) ≡ Ok trace) }
+    ensures err { IfErr result (λ fault. (size : ℕ) → IsPieceFault (head.now ++ more.now) size fault) }
+{
+    let text = joined(alloc, head, more)?;
     match parse(alloc, text.as_slice()) {
         Ok(raw) => checked(alloc, raw),
         Err(why) => Err(PieceFault::Text(why)),
     }
 }
 
-/// The window after what a summary of so many events stands for, with at most so many events of the piece. Its first line says that it
-/// begins at the event with this number.
+/// The window after what a head of so many events stands for, with at most so many events of the piece. Its first line says that it begins
+/// at the event with this number.
 pub(crate) fn window_after(
     alloc: Global,
-    summary: &[u8],
-    size: usize,
+    head: &[u8],
+    size: u32,
     more: &[u8],
     number: u64,
     most: u32,
 ) -> Result<Window, PieceFault>
-    requires size { size ≡ length (said_in summary.now) }
+    requires size { size ≡ length (said_in head.now) }
     requires number { number < 1000000000000000000 }
     requires most { 0 < most }
     ensures from { IfOk result (λ w. (w.from ≡ number) × (number < w.to) × (w.to ≤ number + most)) }
-    // Whatever the summary stands for, and whatever comes later: it is a window of the whole trace.
+    // Whatever the head stands for, and whatever comes later: it is a window of the whole trace.
     ensures window { IfOk result
         (λ w. (front later : List ℕ)
-        → Stands front summary.now
+        → Stands front head.now more.now
         → IsWhole more.now
         → number ≡ length (said_in front)
         → IsDisciplined (long_trace (front ++ (more.now ++ later)))
         → IsWindowAt (front ++ (more.now ++ later)) number w.to w.prologue w.text.items) }
-    ensures err { IfErr result (IsPieceFault (summary.now ++ more.now) size) }
+    ensures err { IfErr result (IsPieceFault (head.now ++ more.now) size) }
 {
-    let trace = match piece(alloc, summary, more) {
+    let trace = match piece(alloc, head, more) {
         Ok(trace) => trace,
         Err(fault) => return Err(fault),
     };
-    if size >= trace.raw().len() as usize {
+    if size >= trace.raw().len() {
         return Err(PieceFault::NoSuchEvent);
     }
-    match cut_at(alloc, &trace, number, size as u32, most) {
+    match cut_at(alloc, &trace, number, size, most) {
         Ok(window) => Ok(window),
         Err(CutFault::NoSuchEvent) => Err(PieceFault::NoSuchEvent),
         Err(CutFault::NoName) => Err(PieceFault::NoName),
@@ -161,26 +167,41 @@ pub(crate) fn window_after(
     }
 }
 
-/// A summary of what this summary of so many events stands for and the piece after it.
-pub(crate) fn summary_after(
+/// What is kept after a piece, and how many events the piece has.
+#[derive(Drop)]
+pub(crate) struct Next {
+    pub(crate) known: Known,
+    pub(crate) events: u32,
+}
+
+/// What is kept after what a head of so many events stands for and the piece after it.
+pub(crate) fn known_after(
     alloc: Global,
-    front: &[u8],
-    size: usize,
+    known: &Known,
+    head: &[u8],
+    size: u32,
     more: &[u8],
-) -> Result<Summary, PieceFault>
-    requires size { size ≡ length (said_in front.now) }
-    ensures size { IfOk result (λ next. next.size ≡ length (said_in next.text.items)) }
-    ensures stands { IfOk result
-        (λ next. (read : List ℕ) → Stands read front.now → IsWhole more.now → Stands (read ++ more.now) next.text.items) }
-    ensures events { IfOk result (λ next. IsWhole front.now → next.events ≡ length (said_in more.now)) }
-    ensures reads { IfOk result (λ next. (r : Recording) × (reading_of (front.now ++ more.now) ≡ Ok r)) }
-    ensures err { IfErr result (IsPieceFault (front.now ++ more.now) size) }
+) -> Result<Next, PieceFault>
+    requires whole { IsWhole head.now }
+    requires size { size ≡ length (said_in head.now) }
+    ensures next { IfOk result (λ next.
+        (r : Recording)
+        × (reading_of (head.now ++ more.now) ≡ Ok r)
+        × IsDisciplined r.events
+        × IsNext (past_of known.now) (past_of next.known) r more.now) }
+    ensures holds { IfOk result (λ next. next.known.holds ≡ length (said_in next.known.held.items)) }
+    ensures events { IfOk result (λ next. next.events ≡ length (said_in more.now)) }
+    ensures err { IfErr result (IsPieceFault (head.now ++ more.now) size) }
 {
-    let trace = match piece(alloc, front, more) {
+    let trace = match piece(alloc, head, more) {
         Ok(trace) => trace,
         Err(fault) => return Err(fault),
     };
-    let events = (trace.raw().len() as usize).saturating_sub(size);
-    let (text, size) = summary(alloc, &trace)?;
-    Ok(Summary { text, size, events })
+    let len = trace.raw().len();
+    let from = size.min(len);
+    let known = known.after(alloc, &trace, from)?;
+    Ok(Next {
+        known,
+        events: len - from,
+    })
 }

@@ -9,4 +9,4 @@ returns-in-Ok-cut_at-clause-from c = window_place c.in-Ok.trace c.args.number c.
 
 pub returns-in-Ok-cut_at-clause-window : goal.returns-in-Ok-cut_at-clause-window
 returns-in-Ok-cut_at-clause-window c front later st whole here all =
-    window_as front c.args.summary.now c.args.more.now later c.in-Ok.trace c.args.number c.args.size c.args.most _ st whole c.in-Ok.ensures.ok c.raw.ensures.well_formed c.raw.ensures.disciplined all c.requires.size c.requires.number here c.in-Ok-cut_at.ensures.ok.1
+    window_as front c.args.head.now c.args.more.now later c.in-Ok.trace c.args.number c.args.size c.args.most _ st whole c.in-Ok.ensures.ok c.raw.ensures.well_formed c.raw.ensures.disciplined all c.requires.size c.requires.number here c.in-Ok-cut_at.ensures.ok.1

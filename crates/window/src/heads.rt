@@ -1,0 +1,149 @@
+//! A text that stands in the place of what was read, before a piece of a trace.
+ghost use Rattle.std.specs.Prelude.{◌≡◌, ◌++◌, [], if◌then◌else◌, codes, IfOk, OnOk};
+ghost use Rattle.window.specs.Heads.{IsHeadText, all_kept, all_of, names_of, noted_lines, past_of, said_line};
+ghost use Rattle.window.specs.Streams.{is_named, read_name};
+
+use crate::known::{Known, Names, first_of, first_other, is_noted};
+use rapid_text::{OutOfMemory, RawTrace};
+use std::alloc::Global;
+
+// Appends the line `thread|word(name)|`.
+fn append_said(
+    text: &mut Vec<u8>,
+    thread: &[u8],
+    word: &[u8],
+    name: &[u8],
+) -> Result<(), OutOfMemory>
+    ensures { OnOk result (text.new.items ≡ text.old.items ++ said_line thread.now word.now name.now) }
+{
+    text.extend_from_slice(thread)?;
+    text.push(b'|')?;
+    text.extend_from_slice(word)?;
+    text.push(b'(')?;
+    text.extend_from_slice(name)?;
+    text.extend_from_slice(b")|\n")?;
+    Ok(())
+}
+
+// Appends the line that this thread forks or joins that of the name, if it is noted.
+fn append_call(
+    text: &mut Vec<u8>,
+    noted: &Names,
+    thread: &[u8],
+    word: &[u8],
+    name: &[u8],
+) -> Result<(), OutOfMemory>
+    ensures { OnOk result
+        (text.new.items
+        ≡ text.old.items ++ (if is_named (names_of noted.now) name.now then said_line thread.now word.now name.now else [])) }
+{
+    if is_noted(noted, name) {
+        append_said(text, thread, word, name)?;
+    }
+    Ok(())
+}
+
+// Appends such a line for each thread of the piece that is noted.
+fn append_calls(
+    text: &mut Vec<u8>,
+    raw: &RawTrace,
+    noted: &Names,
+    thread: &[u8],
+    word: &[u8],
+) -> Result<(), OutOfMemory>
+    ensures { OnOk result
+        (text.new.items
+        ≡ text.old.items ++ noted_lines (λ name. said_line thread.now word.now name) (names_of noted.now) raw.now.threads) }
+{
+    for other in 0..raw.threads() {
+        append_call(text, noted, thread, word, raw.thread_name(other))?;
+    }
+    Ok(())
+}
+
+// Appends the line of a read by the thread of this name, if it is noted.
+fn append_read(text: &mut Vec<u8>, noted: &Names, name: &[u8]) -> Result<(), OutOfMemory>
+    ensures { OnOk result
+        (text.new.items
+        ≡ text.old.items ++ (if is_named (names_of noted.now) name.now then said_line name.now (codes "r") read_name else [])) }
+{
+    if is_noted(noted, name) {
+        append_said(text, name, b"r", b"seen")?;
+    }
+    Ok(())
+}
+
+// Appends such a line for each thread of the piece that is noted.
+fn append_reads(text: &mut Vec<u8>, raw: &RawTrace, noted: &Names) -> Result<(), OutOfMemory>
+    ensures { OnOk result
+        (text.new.items
+        ≡ text.old.items ++ noted_lines (λ name. said_line name (codes "r") read_name) (names_of noted.now) raw.now.threads) }
+{
+    for other in 0..raw.threads() {
+        append_read(text, noted, raw.thread_name(other))?;
+    }
+    Ok(())
+}
+
+// Appends the line of each thread that is noted.
+fn append_all_calls(
+    text: &mut Vec<u8>,
+    noted: &Names,
+    thread: &[u8],
+    word: &[u8],
+) -> Result<(), OutOfMemory>
+    ensures { OnOk result
+        (text.new.items
+        ≡ text.old.items
+        ++ noted_lines (λ name. said_line thread.now word.now name) (names_of noted.now) (names_of noted.now)) }
+{
+    for at in 0..noted.len() {
+        append_call(text, noted, thread, word, noted[at].as_slice())?;
+    }
+    Ok(())
+}
+
+// Appends the line of a read by each thread that is noted.
+fn append_all_reads(text: &mut Vec<u8>, noted: &Names) -> Result<(), OutOfMemory>
+    ensures { OnOk result
+        (text.new.items
+        ≡ text.old.items
+        ++ noted_lines (λ name. said_line name (codes "r") read_name) (names_of noted.now) (names_of noted.now)) }
+{
+    for at in 0..noted.len() {
+        append_read(text, noted, noted[at].as_slice())?;
+    }
+    Ok(())
+}
+
+impl Known {
+    /// The text that stands in the place of what was read, before any piece: it is of all threads.
+    pub(crate) fn whole_head(&self, alloc: Global) -> Result<Vec<u8>, OutOfMemory>
+        ensures { IfOk result
+            (λ text. IsHeadText (past_of self.now) (all_kept (past_of self.now)) text.items) }
+    {
+        let mut text = Vec::new(alloc);
+        let first = first_of(&self.seen);
+        let other = first_other(&self.seen, &self.joined);
+        append_all_calls(&mut text, &self.forked, first, b"fork")?;
+        append_all_reads(&mut text, &self.seen)?;
+        text.extend_from_slice(self.held.as_slice())?;
+        append_all_calls(&mut text, &self.joined, other, b"join")?;
+        Ok(text)
+    }
+
+    /// The text that stands in the place of what was read, before this piece. It is of the threads that the piece names, and of those that
+    /// hold a lock. Its lines keep the rules in this order: the thread that forks is never forked, and the one that joins is not joined.
+    pub(crate) fn head(&self, alloc: Global, raw: &RawTrace) -> Result<Vec<u8>, OutOfMemory>
+        ensures { IfOk result (λ text. IsHeadText (past_of self.now) (all_of raw.now.threads) text.items) }
+    {
+        let mut text = Vec::new(alloc);
+        let first = first_of(&self.seen);
+        let other = first_other(&self.seen, &self.joined);
+        append_calls(&mut text, raw, &self.forked, first, b"fork")?;
+        append_reads(&mut text, raw, &self.seen)?;
+        text.extend_from_slice(self.held.as_slice())?;
+        append_calls(&mut text, raw, &self.joined, other, b"join")?;
+        Ok(text)
+    }
+}
