@@ -28,6 +28,8 @@ NO_MEMORY = {
 # The limits of a trace text (docs/FORMATS.md).
 MOST_EVENTS = 1_048_576
 MOST_THREADS = 256
+# With so many events at most, a trace has any number of events and threads.
+NO_LIMIT = (1 << 64) - 1
 # An access of more parts than this gives its first ones only; how often is said.
 MOST_PARTS = 64
 
@@ -312,7 +314,7 @@ def write(trace, most, out, first=0):
     for line, _, _, thread, other, number in wanted_events(trace, beginning):
         if not left_out and written < most:
             threads |= {thread, other}
-            if len(threads) <= MOST_THREADS:
+            if len(threads) <= MOST_THREADS or most == NO_LIMIT:
                 out.write(line)
                 trace.record_of.append(number)
                 written += 1

@@ -199,7 +199,7 @@ def cases_of(racebench, pairs):
         cases.append((f"count.std, {c}", judge_example, (c, cxx)))
         cases += recorded_places.cases(c, cxx) + recorded_reports.cases(racebench, c)
         if place == 0:
-            cases += recorded_options.cases(c) + recorded_runs.cases(c) + recorded_follow.cases(racebench)
+            cases += recorded_options.cases(racebench, c) + recorded_runs.cases(c) + recorded_follow.cases(racebench)
             cases += recorded_chance.cases(racebench) + recorded_ci.cases(racebench)
             cases += recorded_strangers.cases(racebench, c, cxx)
         if cxx:

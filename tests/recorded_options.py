@@ -17,6 +17,8 @@ from recorded_places import PATIENCE, RECORD, SOURCES, ran
 MOST_EVENTS = 1_048_576
 # The decoder is compiled once, which takes minutes on a machine that does much else.
 COMPILING = 1800
+# How many threads many_threads.c makes.
+THREADS = 600
 
 
 def run(*words):
@@ -116,6 +118,24 @@ def judge_length():
     judge_seconds()
 
 
+def judge_threads(racebench, c):
+    """With --stream a trace has threads without a limit, and `triage --windows` reads it; without, it ends before the
+    257th."""
+    compile_with(c, "many_threads.c")
+    whole, said = run("--stream", "./program")
+    threads = {line.split("|", 1)[0] for line in whole}
+    if len(threads) != THREADS + 1 or "left out" in said:
+        raise Wrong(f"--stream: {len(threads)} threads, and {said}")
+    with open("long.std", "w", encoding="utf-8") as text:
+        text.writelines(f"{line}\n" for line in whole)
+    counts = ran([racebench, "triage", "--windows", "long.std"]).splitlines()[:4]
+    if counts[2:] != [f"events {len(whole)}", f"threads {THREADS + 1}"]:
+        raise Wrong(f"triage --windows reads {counts}, of {len(whole)} events")
+    short, said = run("./program")
+    if len({line.split("|", 1)[0] for line in short}) > 256 or "since a trace has at most 256 threads" not in said:
+        raise Wrong(f"without --stream: {len(short)} events, and {said}")
+
+
 def judge_seconds():
     """--for ends the trace early, and the program goes on. A turn of its loop pauses for 10 ms at least, so with four
     times as many turns as fit into the time a part is left out. On a slow machine the time may be over before much is
@@ -186,6 +206,7 @@ def judge_no_decoder():
         raise Wrong(f"a compiler that fails: status {done.returncode}: {told[:600]}")
 
 
-def cases(c):
+def cases(racebench, c):
     refusals = (f"refusals of options, {c}", judge_refusals, (c,))
-    return [refusals, (f"beginning, files and length of a trace, {c}", judge_options, (c,))]
+    threads = (f"more threads than a trace has, {c}", judge_threads, (racebench, c))
+    return [refusals, (f"beginning, files and length of a trace, {c}", judge_options, (c,)), threads]

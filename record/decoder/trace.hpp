@@ -17,6 +17,8 @@
 namespace trace {
 
 constexpr size_t MOST_THREADS = 256;
+// With so many events at most, a trace has any number of events and threads.
+constexpr u64 NO_LIMIT = UINT64_MAX;
 
 struct Options {
     // The first event that is written, and how many at most.

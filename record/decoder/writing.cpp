@@ -11,7 +11,7 @@ bool Trace::fits(u16 thread, u64 other) {
     if (counts.left_out || counts.written >= options.most) return false;
     threads.insert(thread);
     threads.insert(other);
-    if (threads.size() > MOST_THREADS) counts.too_many_threads = true;
+    if (threads.size() > MOST_THREADS && options.most != NO_LIMIT) counts.too_many_threads = true;
     return !counts.too_many_threads;
 }
 
