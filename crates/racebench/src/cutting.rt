@@ -10,7 +10,7 @@ use crate::windows::Windows;
 use calls::{BenchFault, cut_window};
 use client_scripts::{FromRead, FromWrite, ReplayFault, write_all};
 use program_words::CutTask;
-use rapid_text::{MAX_EVENTS, OutOfMemory};
+use rapid_text::{MAX_EVENTS, OutOfMemory, TextCause};
 use std::alloc::Global;
 use std::fs::File;
 use std::process::ExitCode;
@@ -41,7 +41,7 @@ fn cut_by(rt: &HostRuntime, task: &CutTask<'_>) -> Result<ExitCode, BenchFault>
     }
 }
 
-/// Prints a window: of a trace that is read whole if it is not too long, or else of what was read up to it.
+/// Prints a window: of a trace that is read whole if it has not too many events or threads, or else of what was read up to it.
 fn print_window(
     rt: &HostRuntime,
     mut pieces: Pieces,
@@ -50,9 +50,25 @@ fn print_window(
     requires { 0 < task.now.most }
 {
     match is_whole(&mut pieces) {
-        Ok(true) => print_whole(rt, &pieces, task),
+        Ok(true) => {
+            let printed = print_whole(rt, &pieces, task);
+            if is_too_wide(&printed) {
+                return print_long(rt, pieces, task);
+            }
+            printed
+        }
         Ok(false) => print_long(rt, pieces, task),
         Err(fault) => Err(BenchFault::from(fault)),
+    }
+}
+
+/// Whether nothing was printed since the trace has too many threads.
+fn is_too_wide(printed: &Result<ExitCode, BenchFault>) -> bool {
+    match printed {
+        Err(BenchFault::Replay(ReplayFault::Text(refusal))) => {
+            refusal.why == TextCause::TooManyNames
+        }
+        _ => false,
     }
 }
 
