@@ -23,8 +23,9 @@ use Rattle.rapid_text.proofs.PrintedLines.{IsName, IsPrintable, length-word_of-l
 use Rattle.rapid_text.proofs.SaidLines.{length-line_of}
 use Rattle.trace_rules.specs.Rules.{acquire_count, hold_count, release_count}
 use Rattle.trace_rules.proofs.Counts.{list_any-from_count}
-use Rattle.window.specs.Heads.{IsHeadText, Told, all_kept, all_of, noted_lines, said_line}
+use Rattle.window.specs.HeadText.{Told, all_kept, all_of, first_name, first_outside, head_text, noted_lines, said_line}
 use Rattle.window.specs.Streams.{IsLeft, IsNumbering, IsPast, IsThreadOf, IsWhole, Past, Stands, by_numbers, fork_uses, join_uses, names_forked, names_joined, own_uses, read_name, said_in}
+use Rattle.window.proofs.KnownLemmas.{first_is, outside_is}
 use Rattle.window.proofs.NumberLemmas.{of_thread, numbering-self}
 use Rattle.window.proofs.StreamLemmas.{numbers_append, said-append, said_lines, whole-append, whole_lines}
 use Rattle.window.proofs.SummaryLemmas.{seen_is_name}
@@ -261,7 +262,24 @@ covers_kept past more = record {
   joined = λ x used. and_same (has past.joined x);
 }
 
-module _ (front more : List ℕ) (past : Past) (told : Told) (head : List ℕ) (is : IsPast front past) (made : IsHeadText past told head) (covers : Covers past told more) where
+-- the text that is made part by part
+pub head_made : (past : Past) (told : Told) (first other t0 t1 t2 t3 t4 : List ℕ) → t0 ≡ [] → first ≡ first_name past.seen → other ≡ first_outside past.seen past.joined
+    → t1 ≡ t0 ++ noted_lines (λ name. said_line first (codes "fork") name) past.forked told.forked
+    → t2 ≡ t1 ++ noted_lines (λ name. said_line name (codes "r") read_name) past.seen told.seen
+    → t3 ≡ t2 ++ past.held
+    → t4 ≡ t3 ++ noted_lines (λ name. said_line other (codes "join") name) past.joined told.joined
+    → t4 ≡ head_text past told
+head_made past told first other t0 t1 t2 t3 t4 none is_first is_other e1 e2 e3 e4 =
+    let F : List ℕ → List ℕ = λ a. noted_lines (λ name. said_line a (codes "fork") name) past.forked told.forked in
+    let S : List ℕ = noted_lines (λ name. said_line name (codes "r") read_name) past.seen told.seen in
+    let J : List ℕ → List ℕ = λ b. noted_lines (λ name. said_line b (codes "join") name) past.joined told.joined in
+    e4
+    ∙ ap (λ (t : List ℕ). t ++ J other) (e3 ∙ ap (λ (t : List ℕ). t ++ past.held) (e2 ∙ ap (λ (t : List ℕ). t ++ S) (e1 ∙ ap (λ (t : List ℕ). t ++ F first) none)))
+    ∙ append_assoc (F first ++ S) past.held (J other)
+    ∙ append_assoc (F first) S (past.held ++ J other)
+    ∙ ap₂ (λ (a b : List ℕ). F a ++ (S ++ (past.held ++ J b))) is_first is_other
+
+module _ (front more : List ℕ) (past : Past) (told : Told) (head : List ℕ) (is : IsPast front past) (made : head ≡ head_text past told) (covers : Covers past told more) where
   abbrev N : List NamedEvent
   N = said_in front
 
@@ -269,10 +287,10 @@ module _ (front more : List ℕ) (past : Past) (told : Told) (head : List ℕ) (
   P = said_in more
 
   abbrev a : List ℕ
-  a = made.forking
+  a = first_name past.seen
 
   abbrev b : List ℕ
-  b = made.joining
+  b = first_outside past.seen past.joined
 
   abbrev F : List NamedEvent
   F = noted_said (λ x. said a Forks x) past.forked told.forked
@@ -302,10 +320,10 @@ module _ (front more : List ℕ) (past : Past) (told : Told) (head : List ℕ) (
   some_seen x here = let y = some_own N x here in has_some past.seen y.0 (sym (is.seen y.0) ∙ y.1)
 
   a_seen : (x : List ℕ) → has past.forked x ≡ true → has past.seen a ≡ true
-  a_seen x here = made.forking_seen (some_seen x (forked_named x here))
+  a_seen x here = first_is past.seen (some_seen x (forked_named x here))
 
   b_seen : (x : List ℕ) → has past.joined x ≡ true → has past.seen b ≡ true
-  b_seen x here = made.joining_seen (some_seen x (joined_named x here))
+  b_seen x here = outside_is past.seen past.joined (some_seen x (joined_named x here))
 
   printable : (t : List ℕ) (kind : Kind) (name : List ℕ) → IsName t → IsName name → IsPrintable (said t kind name)
   printable t kind name of_t of_name = record {
@@ -331,7 +349,7 @@ module _ (front more : List ℕ) (past : Past) (told : Told) (head : List ℕ) (
 
   text_is : head ≡ lines_text F ++ (lines_text S ++ (past.held ++ lines_text J))
   text_is =
-      made.is
+      made
       ∙ ap₂ (λ (x y : List ℕ). x ++ y) (noted_text (λ x. said_line a (codes "fork") x) (λ x. said a Forks x) (λ x. line_said a Forks x) past.forked told.forked)
       (ap₂ (λ (x y : List ℕ). x ++ y) (noted_text (λ x. said_line x (codes "r") read_name) (λ x. said x Reads read_name) (λ x. line_said x Reads read_name) past.seen told.seen)
       (ap (λ (y : List ℕ). past.held ++ y) (noted_text (λ x. said_line b (codes "join") x) (λ x. said b Joins x) (λ x. line_said b Joins x) past.joined told.joined)))

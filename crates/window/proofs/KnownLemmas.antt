@@ -1,10 +1,11 @@
 -- Tables of names.
-use Rattle.std.proofs.Common.{◌≡◌, ℕ, zero, suc, ◌+◌, ◌-◌, ◌<◌, ◌≤◌, ◌==◌, ◌&&◌, ◌||◌, Bool, true, false, cond, List, [], ◌∷◌, ◌++◌, length, drop, take, map, flat_map, get_or, slice_index_or, add-one, bytes_eq, Vec, Some, slice_get, refl, sym, ap, ap₂, ◌∙◌, subst, arith, inl, inr}
-use Rattle.std.specs.List.{AllByRecursion, IsDistinct, list_any}
+use Rattle.std.proofs.Common.{◌≡◌, ℕ, zero, suc, ◌+◌, ◌-◌, ◌<◌, ◌≤◌, ◌==◌, ◌&&◌, ◌||◌, Bool, true, false, not, cond, List, [], ◌∷◌, ◌++◌, length, drop, take, map, flat_map, get_or, slice_index_or, add-one, bytes_eq, Vec, Some, slice_get, refl, sym, ap, ap₂, ◌∙◌, subst, arith, inl, inr}
+use Rattle.std.specs.List.{AllByRecursion, IsDistinct, list_any, position_or_len}
 use Rattle.std.specs.Cmp.Lexicographic.{bytes_decides}
-use Rattle.std.proofs.lemmas.Bool.{and_parts, cases_Bool, cases_eq, or_left, or_right, false≢true}
+use Rattle.std.proofs.lemmas.Bool.{and_parts, cases_Bool, cases_eq, cases_lt, or_left, or_right, false≢true}
 use Rattle.std.proofs.Math.Seq.{drop-append_seam}
-use Rattle.std.proofs.lemmas.List.{length-append, length-map, take_all, take_more}
+use Rattle.std.proofs.lemmas.List.{get_or_default, get_or_past, length-append, length-map, take_all, take_more}
+use Rattle.std.proofs.lemmas.List.Sums.{position_or_len_is}
 use Rattle.std.proofs.lemmas.List.Folds.{list_any-append, list_any_at}
 use Rattle.std.specs.Option.{option_map}
 use Rattle.std.proofs.lemmas.Option.{slice_get_within, slice_get-map, get_or_from_slice_get}
@@ -17,8 +18,9 @@ use Rattle.event_index.specs.Lookups.{before}
 use Rattle.event_index.specs.Tables.{IsTable}
 use Rattle.event_index.proofs.TableLemmas.{get_or-IsTable}
 use Rattle.event_index.proofs.CallerLemmas.{before_more}
+use Rattle.window.specs.HeadText.{first_name, first_outside}
 use Rattle.window.specs.Made.{part_of}
-use Rattle.window.specs.Streams.{IsHeldText, IsNext, Past, by_numbers, names_forked, names_joined, said_in}
+use Rattle.window.specs.Streams.{IsHeldText, IsNext, Past, by_numbers, is_named, names_forked, names_joined, said_in}
 use Rattle.window.specs.Tables.{found_name, has_fork, has_join, has_thread}
 use Rattle.window.proofs.UsesLemmas.{forks_at, forks_among, joins_among, joins_at, own_among, own_at}
 use Rattle.rapid_text.specs.Operations.{is_fork, is_join}
@@ -103,6 +105,60 @@ has_item keys i v at =
     sym (any-items (bytes_eq v.items) keys)
     ∙ list_any_at (λ (w : Vec ℕ _). bytes_eq v.items w.items) keys i v (slice_get_within keys i v at)
     (ap (λ (w : Vec ℕ _). bytes_eq v.items w.items) (get_or_from_slice_get keys i v v at) ∙ bytes_eq-refl v.items)
+
+-- the name at a place of a table
+pub table_name : {A : Type 0} (keys : List (Vec ℕ A)) (i : ℕ) (v : Vec ℕ A) → slice_get keys i ≡ Some v → (name : List ℕ) → name ≡ v.items
+    → get_or (map (λ (w : Vec ℕ A). w.items) keys) i [] ≡ name
+table_name keys i v at name is =
+    let items = map (λ (w : Vec ℕ _). w.items) keys in
+    let there : slice_get items i ≡ Some v.items = slice_get-map (λ (w : Vec ℕ _). w.items) keys i ∙ ap (option_map (λ (w : Vec ℕ _). w.items)) at in
+    get_or_from_slice_get items i v.items [] there ∙ sym is
+
+-- the first of some names is one of them
+pub first_is : (names : List (List ℕ)) → 0 < length names → has names (first_name names) ≡ true
+first_is names some = has_at names 0 some
+
+-- no name of no names is the first
+pub first_none : (names : List (List ℕ)) → length names ≡ 0 → [] ≡ first_name names
+first_none names none = sym (get_or_past names 0 [] (omega (arith, none)))
+
+-- the first that is none of the others is one of the names
+pub outside_is : (names others : List (List ℕ)) → 0 < length names → has names (first_outside names others) ≡ true
+outside_is names others some =
+    let i : ℕ = position_or_len (λ name. not (is_named others name)) names in
+    elim (cases_lt i (length names)) [
+      | inl lt ↦ subst (λ (name : List ℕ). has names name ≡ true) (get_or_default names i [] (first_name names) lt) (has_at names i lt)
+      | inr ge ↦ subst (λ (name : List ℕ). has names name ≡ true) (sym (get_or_past names i (first_name names) ge)) (first_is names some)
+    ]
+
+-- one name more that is one of the others
+pub outside_more : (names others : List (List ℕ)) (i : ℕ) (name : List ℕ) → get_or names i [] ≡ name → is_named others name ≡ true
+    → ((k : ℕ) → k < i → is_named others (get_or names k []) ≡ true) → (k : ℕ) → k < i + 1 → is_named others (get_or names k []) ≡ true
+outside_more names others i name at here before k lt =
+    elim (cases_lt k i) [
+      | inl below ↦ before k below
+      | inr over ↦
+          let same : i ≡ k = omega (arith, lt, over) in
+          subst (λ (j : ℕ). is_named others (get_or names j []) ≡ true) same (ap (is_named others) at ∙ here)
+    ]
+
+-- the first that is none of the others
+pub outside_at : (names others : List (List ℕ)) (i : ℕ) (name : List ℕ) → i < length names → get_or names i [] ≡ name → is_named others name ≡ false
+    → ((k : ℕ) → k < i → is_named others (get_or names k []) ≡ true) → name ≡ first_outside names others
+outside_at names others i name lt at free before =
+    let place : position_or_len (λ n. not (is_named others n)) names ≡ i =
+    position_or_len_is (λ n. not (is_named others n)) names i [] (omega (arith, lt)) (λ k below. ap not (before k below))
+    (λ _. ap (λ n. not (is_named others n)) at ∙ ap not free) in
+    sym at ∙ get_or_default names i [] (first_name names) lt ∙ ap (λ (j : ℕ). get_or names j (first_name names)) (sym place)
+
+-- the first of all, if each is one of the others
+pub outside_none : (names others : List (List ℕ)) (n : ℕ) → length names ≤ n → ((k : ℕ) → k < n → is_named others (get_or names k []) ≡ true)
+    → first_name names ≡ first_outside names others
+outside_none names others n all before =
+    let place : position_or_len (λ name. not (is_named others name)) names ≡ length names =
+    position_or_len_is (λ name. not (is_named others name)) names (length names) [] (omega arith) (λ k lt. ap not (before k (omega (arith, lt, all))))
+    (λ lt. absurd (omega (arith, lt))) in
+    sym (ap (λ (j : ℕ). get_or names j (first_name names)) place ∙ get_or_past names (length names) (first_name names) (omega arith))
 
 -- noting one more name of a table
 pub noted_item : {A : Type 0} (new cur old : List (List ℕ)) (keys : List (Vec ℕ A)) (i : ℕ) (v : Vec ℕ A) → slice_get keys i ≡ Some v → (name : List ℕ) → name ≡ v.items

@@ -1,6 +1,7 @@
 pub mod CutLaws
 pub mod Cuts
 pub mod Fronts
+pub mod HeadText
 pub mod Heads
 pub mod Laws
 pub mod Made

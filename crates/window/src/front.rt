@@ -5,7 +5,8 @@ ghost use Rattle.rapid_text.specs.Reading.{first_uses, reading_of, thread_uses};
 ghost use Rattle.rapid_text.specs.Recording.{Recording};
 ghost use Rattle.rapid_text.specs.Refusals.{no_memory};
 ghost use Rattle.trace_rules.specs.Rules.{IsDisciplined, IsFirstBreach, no_memory as no_table};
-ghost use Rattle.window.specs.Fronts.{IsFrontFault};
+ghost use Rattle.window.specs.Fronts.{IsFrontFault, IsHead};
+ghost use Rattle.window.specs.HeadText.{all_of, head_text};
 ghost use Rattle.window.specs.Heads.{past_of};
 ghost use Rattle.window.specs.Streams.{IsKept, IsPast, IsPieceFault, IsUnrefused, IsWhole, IsWindowAt, Stands, feeds, long_trace, nothing_read, said_in};
 
@@ -152,7 +153,7 @@ impl Front {
         ensures stands { IfOk result (λ head. Stands self.now.read head.text.items more.now) }
         ensures kept { IfOk result (λ head. IsKept head.text.items) }
         ensures size { IfOk result (λ head. head.size ≡ length (said_in head.text.items)) }
-        ensures reads { IfOk result (λ head. (r : Recording) × (reading_of more.now ≡ Ok r)) }
+        ensures is { IfOk result (λ head. IsHead self.now more.now head.text.items) }
         ensures fault { IfErr result (IsFrontFault self.now more.now) }
     {
         let raw = match parse(alloc, more) {
@@ -272,7 +273,8 @@ impl Front {
     // The same, which may be none that is read.
     fn head_of(&self, alloc: Global, more: &[u8], raw: &RawTrace) -> Result<Vec<u8>, OutOfMemory>
         requires { reading_of more.now ≡ Ok raw.now }
-        ensures { IfOk result (λ text. Stands self.now.read text.items more.now) }
+        ensures stands { IfOk result (λ text. Stands self.now.read text.items more.now) }
+        ensures is { IfOk result (λ text. text.items ≡ head_text self.now.past (all_of raw.now.threads)) }
     {
         let text = self.known.head(alloc, raw)?;
         Ok(text)
@@ -280,7 +282,7 @@ impl Front {
 
     // The fault of a head that is none that is read.
     fn unkept(&self, alloc: Global, head: &[u8], more: &[u8]) -> FrontFault
-        requires stands { Stands self.now.read head.now more.now }
+        requires is { IsHead self.now more.now head.now }
         requires unkept { ¬ IsKept head.now }
         ensures { IsFrontFault self.now more.now result }
     {
@@ -337,7 +339,7 @@ impl Front {
         requires stands { Stands self.now.read head.now.text.items more.now }
         requires kept { IsKept head.now.text.items }
         requires size { head.now.size ≡ length (said_in head.now.text.items) }
-        requires reads { (r : Recording) × (reading_of more.now ≡ Ok r) }
+        requires is { IsHead self.now more.now head.now.text.items }
         requires fault { IsPieceFault (head.now.text.items ++ more.now) head.now.size fault }
         ensures { IsFrontFault self.now more.now result }
     {
@@ -377,7 +379,7 @@ impl Front {
     fn told_size(&self, head: &Head, more: &[u8], refusal: TextRefusal) -> FrontFault
         requires stands { Stands self.now.read head.now.text.items more.now }
         requires kept { IsKept head.now.text.items }
-        requires reads { (r : Recording) × (reading_of more.now ≡ Ok r) }
+        requires is { IsHead self.now more.now head.now.text.items }
         requires fault { (refusal ≡ no_memory) ⊎ (reading_of (head.now.text.items ++ more.now) ≡ Err refusal) }
         ensures { IsFrontFault self.now more.now result }
     {

@@ -1,6 +1,7 @@
 //! A text that stands in the place of what was read, before a piece of a trace.
 ghost use Rattle.std.specs.Prelude.{◌≡◌, ◌++◌, [], if◌then◌else◌, codes, IfOk, OnOk};
-ghost use Rattle.window.specs.Heads.{IsHeadText, all_kept, all_of, names_of, noted_lines, past_of, said_line};
+ghost use Rattle.window.specs.HeadText.{all_kept, all_of, head_text, noted_lines, said_line};
+ghost use Rattle.window.specs.Heads.{names_of, past_of};
 ghost use Rattle.window.specs.Streams.{is_named, read_name};
 
 use crate::known::{Known, Names, first_of, first_other, is_noted};
@@ -120,7 +121,7 @@ impl Known {
     /// The text that stands in the place of what was read, before any piece: it is of all threads.
     pub(crate) fn whole_head(&self, alloc: Global) -> Result<Vec<u8>, OutOfMemory>
         ensures { IfOk result
-            (λ text. IsHeadText (past_of self.now) (all_kept (past_of self.now)) text.items) }
+            (λ text. text.items ≡ head_text (past_of self.now) (all_kept (past_of self.now))) }
     {
         let mut text = Vec::new(alloc);
         let first = first_of(&self.seen);
@@ -135,7 +136,7 @@ impl Known {
     /// The text that stands in the place of what was read, before this piece. It is of the threads that the piece names, and of those that
     /// hold a lock. Its lines keep the rules in this order: the thread that forks is never forked, and the one that joins is not joined.
     pub(crate) fn head(&self, alloc: Global, raw: &RawTrace) -> Result<Vec<u8>, OutOfMemory>
-        ensures { IfOk result (λ text. IsHeadText (past_of self.now) (all_of raw.now.threads) text.items) }
+        ensures { IfOk result (λ text. text.items ≡ head_text (past_of self.now) (all_of raw.now.threads)) }
     {
         let mut text = Vec::new(alloc);
         let first = first_of(&self.seen);

@@ -1,5 +1,6 @@
 //! What is kept of a trace: which threads were forked, have an event, and were joined, and what is held.
 ghost use Rattle.std.specs.Prelude.{◌≡◌, ◌&&◌, ◌||◌, ◌<◌, ◌≤◌, ℕ, [], List, length, true, false, bytes_eq, slice_index_or, if◌then◌else◌, ◌++◌, ◌∷◌, IfOk, OnOk};
+ghost use Rattle.window.specs.HeadText.{first_name, first_outside};
 ghost use Rattle.window.specs.Heads.{names_of, past_of};
 ghost use Rattle.window.specs.Streams.{IsHeldText, is_named};
 ghost use Rattle.window.specs.Tables.{found_name, has_fork, has_join, has_thread};
@@ -124,7 +125,7 @@ fn with_found(
 
 /// The first of the names; none if there are none.
 pub(crate) fn first_of(names: &Names) -> &[u8]
-    ensures { 0 < length (names_of names.now) → is_named (names_of names.now) result.now ≡ true }
+    ensures { result.now ≡ first_name (names_of names.now) }
 {
     if names.is_empty() {
         return &[];
@@ -134,7 +135,7 @@ pub(crate) fn first_of(names: &Names) -> &[u8]
 
 /// The first of the names that is none of the others; or the first of them, if each is.
 pub(crate) fn first_other<'a>(names: &'a Names, others: &Names) -> &'a [u8]
-    ensures { 0 < length (names_of names.now) → is_named (names_of names.now) result.now ≡ true }
+    ensures { result.now ≡ first_outside (names_of names.now) (names_of others.now) }
 {
     for at in 0..names.len() {
         let name = names[at].as_slice();

@@ -1,6 +1,5 @@
-use Rattle.std.proofs.Common.{◌≡◌, ◌++◌, ◌∙◌, Vec, Some, ap, codes, map, slice_get, subst, sym}
-use Rattle.window.specs.Heads.{names_of, noted_lines, said_line}
-use Rattle.window.specs.Streams.{read_name}
+use Rattle.window.specs.HeadText.{said_line}
+use Rattle.window.specs.Heads.{names_of}
 use Rattle.window.proofs.GrowthLemmas.{goes_on}
 use Rattle.window.proofs.HeadLemmas.{noted_more}
 use Rattle.window.proofs.KnownLemmas.{item_at}

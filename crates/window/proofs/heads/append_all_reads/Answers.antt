@@ -1,5 +1,6 @@
-use Rattle.std.proofs.Common.{◌≡◌, ◌++◌, ◌∙◌, Vec, Some, ap, codes, map, slice_get, subst, sym}
-use Rattle.window.specs.Heads.{names_of, noted_lines, said_line}
+use Rattle.std.proofs.Common.{codes}
+use Rattle.window.specs.HeadText.{said_line}
+use Rattle.window.specs.Heads.{names_of}
 use Rattle.window.specs.Streams.{read_name}
 use Rattle.window.proofs.GrowthLemmas.{goes_on}
 use Rattle.window.proofs.HeadLemmas.{noted_more}

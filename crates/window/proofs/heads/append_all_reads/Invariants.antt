@@ -1,5 +1,6 @@
 use Rattle.std.proofs.Common.{◌≡◌, ◌++◌, codes, take}
-use Rattle.window.specs.Heads.{names_of, noted_lines, said_line}
+use Rattle.window.specs.HeadText.{noted_lines, said_line}
+use Rattle.window.specs.Heads.{names_of}
 use Rattle.window.specs.Streams.{read_name}
 use Rattle.window.proofs.heads.append_all_reads.Given as goal
 

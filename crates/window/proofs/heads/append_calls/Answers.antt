@@ -1,4 +1,5 @@
-use Rattle.window.specs.Heads.{names_of, said_line}
+use Rattle.window.specs.HeadText.{said_line}
+use Rattle.window.specs.Heads.{names_of}
 use Rattle.window.proofs.GrowthLemmas.{goes_on}
 use Rattle.window.proofs.HeadLemmas.{noted_more}
 use Rattle.window.proofs.heads.append_calls.Goals as goal

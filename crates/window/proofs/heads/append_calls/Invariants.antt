@@ -1,5 +1,6 @@
 use Rattle.std.proofs.Common.{◌≡◌, ◌++◌, take}
-use Rattle.window.specs.Heads.{names_of, noted_lines, said_line}
+use Rattle.window.specs.HeadText.{noted_lines, said_line}
+use Rattle.window.specs.Heads.{names_of}
 use Rattle.window.proofs.heads.append_calls.Given as goal
 
 abbrev pub invariant-loop-other : goal.invariant-loop-other

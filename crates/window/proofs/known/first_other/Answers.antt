@@ -1,9 +1,24 @@
-use Rattle.std.proofs.Common.{◌≡◌, List, ℕ, true, subst, sym}
-use Rattle.rapid_text.proofs.NameNumbers.{has}
+use Rattle.std.proofs.Common.{◌<◌, ◌∙◌, ℕ, Vec, length, arith, rules}
+use Rattle.std.proofs.lemmas.List.{length-map}
+use Rattle.std.proofs.lemmas.Option.{slice_get_within}
 use Rattle.window.specs.Heads.{names_of}
-use Rattle.window.proofs.KnownLemmas.{has_item}
+use Rattle.window.proofs.KnownLemmas.{outside_at, outside_more, outside_none, table_name}
 use Rattle.window.proofs.known.first_other.Goals as goal
 
 pub returns-then-not-is_noted : goal.returns-then-not-is_noted
-returns-then-not-is_noted c some =
-    subst (λ (n : List ℕ). has (names_of c.args.names.now) n ≡ true) (sym c.as_slice-name.ensures.value) (has_item c.args.names.now.keys c.loop-at.at _ c.index.ensures)
+returns-then-not-is_noted c =
+    let keys = c.args.names.now.keys in
+    let within : c.loop-at.at < length (names_of c.args.names.now) = omega (arith, slice_get_within keys c.loop-at.at _ c.index.ensures, length-map keys (λ (v : Vec ℕ _). v.items)) in
+    outside_at (names_of c.args.names.now) (names_of c.args.others.now) c.loop-at.at c.as_slice-name.result.now within
+    (table_name keys c.loop-at.at _ c.index.ensures _ c.as_slice-name.ensures.value) (search rules) c.loop-at.invariant
+
+pub loop-at-preserved : goal.loop-at-preserved
+loop-at-preserved c =
+    outside_more (names_of c.args.names.now) (names_of c.args.others.now) c.loop-at.at c.as_slice-name.result.now
+    (table_name c.args.names.now.keys c.loop-at.at _ c.index.ensures _ c.as_slice-name.ensures.value) (search rules) c.loop-at.invariant
+
+pub returns : goal.returns
+returns c =
+    c.first_of.ensures
+    ∙ outside_none (names_of c.args.names.now) (names_of c.args.others.now) c.loop-at.at
+    (omega (arith, c.loop-at-test.false, c.len-at-end.ensures.len, length-map c.args.names.now.keys (λ (v : Vec ℕ _). v.items))) c.loop-at.invariant

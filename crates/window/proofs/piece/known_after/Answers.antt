@@ -1,4 +1,4 @@
-use Rattle.std.proofs.Common.{◌≡◌, ◌∙◌, ◌++◌, ℕ, sym, ap, length, arith}
+use Rattle.std.proofs.Common.{◌≡◌, ◌∙◌, ◌++◌, sym, ap, length, arith}
 use Rattle.rapid_text.specs.Reading.{recording_of}
 use Rattle.rapid_text.specs.Recording.{Recording}
 use Rattle.window.specs.Heads.{past_of}

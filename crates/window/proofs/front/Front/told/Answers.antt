@@ -14,4 +14,4 @@ pub returns-in-NoName : goal.returns-in-NoName
 returns-in-NoName c =
     let head = c.args.head.now.text.items in
     let fault = subst (IsPieceFault (head ++ c.args.more.now) c.args.head.now.size) c.in-NoName.is c.requires.fault in
-    (head, fault.0, c.requires.stands, fault.1, fault.2)
+    (head, fault.0, c.requires.is, fault.1, fault.2)

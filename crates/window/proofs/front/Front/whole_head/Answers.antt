@@ -1,5 +1,6 @@
-use Rattle.std.proofs.Common.{◌≡◌, ℕ, List, subst}
-use Rattle.window.specs.Heads.{all_kept, past_of}
+use Rattle.std.proofs.Common.{subst}
+use Rattle.window.specs.HeadText.{all_kept}
+use Rattle.window.specs.Heads.{past_of}
 use Rattle.window.specs.Streams.{Stands, Stream}
 use Rattle.window.proofs.HeadLemmas.{covers_kept, head_law}
 use Rattle.window.proofs.front.Front.whole_head.Goals as goal

@@ -1,4 +1,4 @@
-use Rattle.std.proofs.Common.{◌≡◌, ℕ, ◌++◌, List, sym, subst, arith}
+use Rattle.std.proofs.Common.{◌++◌, sym, subst, arith}
 use Rattle.window.specs.Heads.{past_of}
 use Rattle.window.specs.Streams.{IsPast, Stream}
 use Rattle.window.proofs.FrontLemmas.{front_after}
