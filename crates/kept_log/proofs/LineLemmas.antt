@@ -1,6 +1,9 @@
 -- Lines that count, and what stands behind them.
-use Rattle.std.proofs.Common.{◌≡◌, ℕ, zero, suc, ◌+◌, ◌-◌, ◌<◌, ◌≤◌, Bool, true, false, List, [], ◌∷◌, ◌++◌, Some, length, take, drop, get_or, refl, sym, ap, ◌∙◌, arith, inl, inr, All, subst, append_assoc, length-append, length-take, map, cond}
+use Rattle.std.proofs.Common.{◌≡◌, ℕ, zero, suc, ◌+◌, ◌-◌, ◌<◌, ◌≤◌, Bool, true, false, true≢false, List, [], ◌∷◌, ◌++◌, Option, None, Some, length, take, drop, get_or, refl, sym, ap, ◌∙◌, arith, inl, inr, All, subst, append_assoc, length-append, length-take, map, cond}
 use Rattle.std.proofs.lemmas.Bool.{cases_Bool}
+use Rattle.std.specs.Bool.{IsTrue}
+use Rattle.std.specs.Option.{is_none}
+use Rattle.std.specs.Prelude.{◌↔◌}
 use Rattle.std.proofs.lemmas.Grind.{common_steps, get_or_default_zero, flat_map-append}
 use Rattle.std.proofs.lemmas.List.{take_more, get_or-take, take_rest, take-append-drop, append-nil, take-take, take_at, length-take-le}
 use Rattle.std.proofs.lemmas.List.Elements.{All-append, All-cons, All-nil}
@@ -26,6 +29,14 @@ first_line text len first =
           ap is_line_feed same ∙ none_within text k (first.0.before k (omega arith) below),
       take_more text len 0 lt ∙ ap (λ (b : ℕ). take len text ++ b ∷ []) feed,
     )
+
+-- a text without a line feed
+pub no_feed : (text : List ℕ) → IsFirstByte (is_byte 10) text None → IsLine text
+no_feed text none = λ k d within. ap is_line_feed (get_or_default_zero text k d within) ∙ none_within text k (none k (omega arith) within)
+
+pub is_line_by : (text : List ℕ) (r : Option ℕ) → IsFirstByte (is_byte 10) text r → IsTrue (is_none r) ↔ IsLine text
+is_line_by text None first = (λ _. no_feed text first, λ _. refl)
+is_line_by text (Some k) first = (λ is. absurd (true≢false (sym is)), λ line. absurd (true≢false (sym first.1 ∙ line k 0 first.0.high)))
 
 -- an open gate, and a line with its end
 pub open_line : (text : List ℕ) (len : ℕ) → 1 ≤ length text → get_or text 0 0 ≡ 32 → IsFirstByte (is_byte 10) (take (length text - 1) (drop 1 text)) (Some len)

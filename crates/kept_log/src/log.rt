@@ -167,6 +167,24 @@ fn find<D: Device>(device: &mut D, head: &[u8], bytes: &[u8]) -> Result<usize, O
     Ok(settle(device, head.len(), &bytes[head.len()..])?)
 }
 
+/// The text of a block with a closed gate behind it, for a log that ends at this place.
+fn closed_text(end: usize, block: Block) -> Result<Vec<u8>, AppendError>
+    ensures text { IfOk result (λ text. text.items ≡ lines_text block ++ 33 ∷ []) }
+    ensures are_lines { All IsLine block }
+    ensures fits { OnOk result (end + length (lines_text block) ≤ 2 ^ 60) }
+    ensures full { IsErrOf result AppendError.Full → 2 ^ 60 < end + length (lines_text block) }
+    ensures not_disk { ¬ IsDiskFailure result }
+{
+    let mut text = block.into_text();
+    if text.len() > MAX_LENGTH || end > MAX_LENGTH - text.len() {
+        return Err(AppendError::Full);
+    }
+    let Ok(()) = text.push(b'!') else {
+        return Err(AppendError::OutOfMemory);
+    };
+    Ok(text)
+}
+
 impl<D: Device> KeptLog<D> {
     /// Opens a file that begins with a head. Its lock is held, and `bytes` is all of it. It tells how long the text
     /// of the lines is, which stands behind the head.
@@ -302,17 +320,13 @@ impl<D: Device> KeptLog<D> {
         ensures sound { OnOk result (D.faults self.new.device ≡ D.faults self.old.device) }
         ensures full { IsErrOf result AppendError.Full → IsTooMuch self.old block × (self.new ≡ self.old) }
     {
-        let mut text = block.into_text();
-        if text.len() > MAX_LENGTH || self.end > MAX_LENGTH - text.len() {
-            return Err(AppendError::Full);
-        }
-        let end = self.end + text.len();
-        let Ok(()) = text.push(b'!') else {
-            return Err(AppendError::OutOfMemory);
+        let text = match closed_text(self.end, block) {
+            Ok(text) => text,
+            Err(why) => return Err(why),
         };
         write_through(&mut self.device, self.end + 1, &text[1..])?;
         write_through(&mut self.device, self.end, b" ")?;
-        self.end = end;
+        self.end += text.len() - 1;
         Ok(())
     }
 }
