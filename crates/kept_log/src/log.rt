@@ -163,8 +163,14 @@ fn find<D: Device>(device: &mut D, head: &[u8], bytes: &[u8]) -> Result<usize, O
         return Err(OpenError::Stranger);
     }
     // What another process wrote, and was killed, may be on no disk yet.
-    device.sync()?;
-    Ok(settle(device, head.len(), &bytes[head.len()..])?)
+    match device.sync() {
+        Ok(()) => {}
+        Err(why) => return Err(OpenError::Device(why)),
+    }
+    match settle(device, head.len(), &bytes[head.len()..]) {
+        Ok(len) => Ok(len),
+        Err(why) => Err(OpenError::Device(why)),
+    }
 }
 
 /// The text of a block with a closed gate behind it, for a log that ends at this place.
@@ -324,8 +330,14 @@ impl<D: Device> KeptLog<D> {
             Ok(text) => text,
             Err(why) => return Err(why),
         };
-        write_through(&mut self.device, self.end + 1, &text[1..])?;
-        write_through(&mut self.device, self.end, b" ")?;
+        match write_through(&mut self.device, self.end + 1, &text[1..]) {
+            Ok(()) => {}
+            Err(why) => return Err(AppendError::Device(why)),
+        }
+        match write_through(&mut self.device, self.end, b" ") {
+            Ok(()) => {}
+            Err(why) => return Err(AppendError::Device(why)),
+        }
         self.end += text.len() - 1;
         Ok(())
     }
