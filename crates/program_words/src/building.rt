@@ -11,60 +11,68 @@ use std::alloc::{AllocError, Global};
 /// What stands for a number in help.
 const NUMBER: &str = "N";
 
-/// A word with what help says of it.
-fn shown<'a>(arg: Arg<'a>, help: Option<&'static str>) -> Arg<'a> {
-    match help {
-        Some(help) => arg.help(help),
-        None => arg.hide(true),
-    }
-}
-
 /// A flag with a number behind it.
-fn numbered<'a>(arg: Arg<'a>, least: u32, most: u32, default: Option<&'static str>) -> Arg<'a> {
-    let arg = arg
-        .value_name(NUMBER)
-        .value_parser(ValueParser::signed(i64::from(least), i64::from(most)));
-    match default {
-        Some(default) => arg.default_value(default),
-        None => arg,
-    }
+fn numbered<'a>(arg: Arg<'a>, least: u32, most: u32) -> Arg<'a> {
+    arg.value_name(NUMBER)
+        .value_parser(ValueParser::signed(i64::from(least), i64::from(most)))
 }
 
-/// A flag with a number behind it, or without one.
-fn optional<'a>(arg: Arg<'a>, least: u32, most: u32, missing: &'static str) -> Arg<'a> {
-    numbered(arg, least, most, None)
-        .num_args(0..=1)
-        .require_equals(true)
-        .default_missing_value(missing)
-}
-
-/// A word of a command.
-fn argument<'a>(alloc: Global, word: &Word, limits: Limits) -> Result<Arg<'a>, AllocError> {
-    let arg = shown(Arg::new(alloc, word.name), word.help);
-    match word.kind {
-        Kind::Needed => Ok(arg.required(true)),
-        Kind::SeveralNeeded => Ok(arg.required(true).action(ArgAction::Append).num_args(1..)),
-        Kind::Flag(others) => arg
-            .long(word.name)
-            .action(ArgAction::SetTrue)
-            .conflicts_with_all(others),
-        Kind::Text(name) => Ok(arg.long(word.name).value_name(name)),
-        Kind::Texts(name) => Ok(
-            arg.long(word.name)
-                .value_name(name)
-                .action(ArgAction::Append),
-        ),
+/// A flag with what stands behind it.
+fn flag<'a>(arg: Arg<'a>, kind: Kind, limits: Limits) -> Arg<'a> {
+    match kind {
+        Kind::Text(name) | Kind::Texts(name) => arg.value_name(name),
         Kind::Number {
             least,
             most,
             default,
-        } => Ok(numbered(arg.long(word.name), least, limits.most(most), default)),
+        } => {
+            let arg = numbered(arg, least, limits.most(most));
+            match default {
+                Some(default) => arg.default_value(default),
+                None => arg,
+            }
+        }
         Kind::Optional {
             least,
             most,
             missing,
-        } => Ok(optional(arg.long(word.name), least, limits.most(most), missing)),
+        } => numbered(arg, least, limits.most(most))
+            .num_args(0..=1)
+            .require_equals(true)
+            .default_missing_value(missing),
+        _ => arg,
     }
+}
+
+/// What a word of this kind does.
+fn action_of(kind: Kind) -> ArgAction {
+    match kind {
+        Kind::Flag(_) => ArgAction::SetTrue,
+        Kind::SeveralNeeded | Kind::Texts(_) => ArgAction::Append,
+        _ => ArgAction::Set,
+    }
+}
+
+/// The words beside which a word of this kind may not stand.
+fn others_of(kind: Kind) -> &'static [&'static str] {
+    match kind {
+        Kind::Flag(others) => others,
+        _ => &[],
+    }
+}
+
+/// A word of a command.
+fn argument<'a>(alloc: Global, word: &Word, limits: Limits) -> Result<Arg<'a>, AllocError> {
+    let arg = Arg::new(alloc, word.name)
+        .help(word.help.unwrap_or(""))
+        .hide(word.help.is_none())
+        .action(action_of(word.kind));
+    let arg = match word.kind {
+        Kind::Needed => arg.required(true),
+        Kind::SeveralNeeded => arg.required(true).num_args(1..),
+        _ => flag(arg.long(word.name), word.kind, limits),
+    };
+    arg.conflicts_with_all(others_of(word.kind))
 }
 
 /// A command with one word more.

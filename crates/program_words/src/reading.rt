@@ -1,6 +1,6 @@
 //! What the words ask for, read from what `clap` found in them.
-ghost use Rattle.std.specs.Prelude.{IfOk};
-ghost use Rattle.program_words.specs.Tasks.{IsWithin, IsCutWithin, IsTriageWithin};
+ghost use Rattle.std.specs.Prelude.{◌≤◌, IfOk};
+ghost use Rattle.program_words.specs.Tasks.{IsWithin};
 
 use crate::building::words_taken;
 use crate::commands::{CommandName, command_of};
@@ -45,20 +45,22 @@ fn races_form(given: &ArgMatches<'_>) -> RacesForm {
     }
 }
 
-/// A refusal if a file is named for what a page shows, and no page is asked for.
-fn check_confirmed(given: &ArgMatches<'_>, confirmed: Option<&str>) -> Result<(), Unread> {
-    if confirmed.is_some() && !given.get_flag("page") {
-        return Err(Unread::Refused("`--confirmed` goes with `--page`"));
+/// A refusal for this reason if a text is given under this name, and not the flag that it goes with.
+fn check_beside(
+    given: &ArgMatches<'_>,
+    name: &str,
+    flag: &str,
+    reason: &'static str,
+) -> Result<(), Unread> {
+    if given.get_str(name).is_some() && !given.get_flag(flag) {
+        return Err(Unread::Refused(reason));
     }
     Ok(())
 }
 
 /// A refusal if a folder is named for what a log has, and no log is asked for.
-fn check_source(given: &ArgMatches<'_>, source: Option<&str>) -> Result<(), Unread> {
-    if source.is_some() && !given.get_flag("sarif") {
-        return Err(Unread::Refused("`--source` goes with `--sarif`"));
-    }
-    Ok(())
+fn check_source(given: &ArgMatches<'_>) -> Result<(), Unread> {
+    check_beside(given, "source", "sarif", "`--source` goes with `--sarif`")
 }
 
 /// How many events a window has at most, if the trace is read in windows. Nothing may be asked for that a report of them has not.
@@ -66,12 +68,10 @@ fn windows_of(given: &ArgMatches<'_>, limits: Limits) -> Result<Option<u32>, Unr
     let Some(word) = given.get_str("windows") else {
         return Ok(None);
     };
-    for flag in ["lines", "init-triage"] {
-        if given.get_flag(flag) {
-            return Err(Unread::Refused(ALONE));
-        }
-    }
-    if given.get_str("confirmed").is_some() {
+    if given.get_flag("lines")
+        || given.get_flag("init-triage")
+        || given.get_str("confirmed").is_some()
+    {
         return Err(Unread::Refused(ALONE));
     }
     Ok(Some(number(word, 1, limits.events, WINDOWS)?))
@@ -80,51 +80,97 @@ fn windows_of(given: &ArgMatches<'_>, limits: Limits) -> Result<Option<u32>, Unr
 /// Why other flags are refused beside `--windows`.
 const ALONE: &str = "`--windows` does not go with `--lines`, `--init-triage`, `--confirmed`";
 
-/// What `triage` is asked for.
-fn triage<'a>(
-    alloc: Global,
-    given: &ArgMatches<'a>,
-    limits: Limits,
-) -> Result<TriageTask<'a>, Unread>
-    ensures { IfOk result (IsTriageWithin limits) }
+/// The day that is given, which goes with a triage file.
+fn today_of(given: &ArgMatches<'_>) -> Result<Option<u32>, Unread> {
+    day(given.get_str("today"), given.get_str("triage").is_some())
+}
+
+/// A refusal if the paths and texts that `triage` is given do not go together.
+fn check_triage(given: &ArgMatches<'_>) -> Result<(), Unread> {
+    let decided = word(given, "triage");
+    check_inputs(
+        &[
+            word(given, "TRACE"),
+            word(given, "known"),
+            word(given, "confirmed"),
+            decided,
+        ],
+        &[],
+    )?;
+    check_beside(
+        given,
+        "confirmed",
+        "page",
+        "`--confirmed` goes with `--page`",
+    )?;
+    check_source(given)
+}
+
+/// The numbers that `triage` is given.
+#[derive(Clone, Copy)]
+struct TriageNumbers {
+    tries: u32,
+    workers: u32,
+    windows: Option<u32>,
+    today: Option<u32>,
+}
+
+/// Why the number of tries, or that of workers, is refused.
+const NUMBERS: &str = "`--tries` and `--workers` take numbers in decimal digits";
+
+/// The numbers that `triage` is given, or a refusal of what it is asked for.
+fn triage_numbers(given: &ArgMatches<'_>, limits: Limits) -> Result<TriageNumbers, Unread>
+    ensures { IfOk result (λ n. (n.tries ≤ limits.tries) × (n.workers ≤ limits.workers)) }
 {
-    let reason = "`--tries` and `--workers` take numbers in decimal digits";
-    let tries = number(word(given, "tries"), 0, limits.tries, reason)?;
-    let workers = number(word(given, "workers"), 0, limits.workers, reason)?;
-    let trace = word(given, "TRACE");
-    let known = given.get_str("known");
-    let confirmed = given.get_str("confirmed");
-    let decided = given.get_str("triage");
-    let inputs = [
-        trace,
-        known.unwrap_or(""),
-        confirmed.unwrap_or(""),
-        decided.unwrap_or(""),
-    ];
-    check_inputs(&inputs)?;
-    check_confirmed(given, confirmed)?;
-    let source = given.get_str("source");
-    check_source(given, source)?;
-    let today = day(given.get_str("today"), decided.is_some())?;
+    let tries = number(word(given, "tries"), 0, limits.tries, NUMBERS)?;
+    let workers = number(word(given, "workers"), 0, limits.workers, NUMBERS)?;
+    check_triage(given)?;
+    let today = today_of(given)?;
+    let windows = windows_of(given, limits)?;
+    Ok(TriageNumbers {
+        tries,
+        workers,
+        windows,
+        today,
+    })
+}
+
+/// The texts of which a block has to hold one, and those of which it may hold none.
+struct Filters<'a> {
+    only: Vec<&'a str>,
+    hide: Vec<&'a str>,
+}
+
+/// The texts by which blocks are left out.
+fn block_filters<'a>(alloc: Global, given: &ArgMatches<'a>) -> Result<Filters<'a>, AllocError> {
     let only = texts(alloc, given, "only")?;
     let hide = texts(alloc, given, "hide")?;
-    Ok(TriageTask {
-        trace,
-        known,
+    Ok(Filters { only, hide })
+}
+
+/// What `triage` is asked for.
+fn triage<'a>(alloc: Global, given: &ArgMatches<'a>, limits: Limits) -> Result<Task<'a>, Unread>
+    ensures { IfOk result (IsWithin limits) }
+{
+    let numbers = triage_numbers(given, limits)?;
+    let Filters { only, hide } = block_filters(alloc, given)?;
+    Ok(Task::Triage(TriageTask {
+        trace: word(given, "TRACE"),
+        known: given.get_str("known"),
         only,
         hide,
         apart: given.get_flag("apart"),
-        tries,
-        workers,
+        tries: numbers.tries,
+        workers: numbers.workers,
         form: races_form(given),
-        windows: windows_of(given, limits)?,
-        confirmed,
-        source,
-        triage: decided,
-        today,
+        windows: numbers.windows,
+        confirmed: given.get_str("confirmed"),
+        source: given.get_str("source"),
+        triage: given.get_str("triage"),
+        today: numbers.today,
         fail: given.get_flag("fail"),
         progress: given.get_flag("progress"),
-    })
+    }))
 }
 
 /// The pair that the words name.
@@ -164,16 +210,16 @@ fn start(given: &ArgMatches<'_>, into: Option<&str>) -> Result<u32, Unread> {
 }
 
 /// The windows that `cut` is asked for.
-fn window<'a>(given: &ArgMatches<'a>, limits: Limits) -> Result<CutTask<'a>, Unread>
-    ensures { IfOk result IsCutWithin }
+fn window<'a>(given: &ArgMatches<'a>, limits: Limits) -> Result<Task<'a>, Unread>
+    ensures { IfOk result (IsWithin limits) }
 {
     let into = given.get_str("into");
-    Ok(CutTask {
+    Ok(Task::Cut(CutTask {
         trace: word(given, "TRACE"),
         from: start(given, into)?,
         most: number(word(given, "windows"), 1, limits.events, WINDOWS)?,
         into,
-    })
+    }))
 }
 
 /// In which form `merge` is asked for.
@@ -189,39 +235,28 @@ fn merged_form(given: &ArgMatches<'_>) -> RacesForm {
     }
 }
 
-/// The parts, and these files.
-fn inputs<'a>(
-    alloc: Global,
-    parts: &[&'a str],
-    known: Option<&'a str>,
-    decided: Option<&'a str>,
-) -> Result<Vec<&'a str>, AllocError> {
-    let mut inputs = Vec::from_slice(alloc, parts)?;
-    inputs.push(known.unwrap_or(""))?;
-    inputs.push(decided.unwrap_or(""))?;
-    Ok(inputs)
+/// The day that `merge` is given, or a refusal of what it is asked for.
+fn merged_day(given: &ArgMatches<'_>) -> Result<Option<u32>, Unread> {
+    let parts = given.get_strs("PART").unwrap_or(&[]);
+    check_inputs(parts, &[word(given, "known"), word(given, "triage")])?;
+    check_source(given)?;
+    today_of(given)
 }
 
 /// What `merge` is asked for.
 fn merge<'a>(alloc: Global, given: &ArgMatches<'a>) -> Result<MergeTask<'a>, Unread> {
+    let today = merged_day(given)?;
     let parts = texts(alloc, given, "PART")?;
-    let known = given.get_str("known");
-    let decided = given.get_str("triage");
-    check_inputs(&inputs(alloc, &parts, known, decided)?)?;
-    let source = given.get_str("source");
-    check_source(given, source)?;
-    let today = day(given.get_str("today"), decided.is_some())?;
-    let only = texts(alloc, given, "only")?;
-    let hide = texts(alloc, given, "hide")?;
+    let Filters { only, hide } = block_filters(alloc, given)?;
     Ok(MergeTask {
         parts,
-        known,
+        known: given.get_str("known"),
         only,
         hide,
         apart: given.get_flag("apart"),
         form: merged_form(given),
-        source,
-        triage: decided,
+        source: given.get_str("source"),
+        triage: given.get_str("triage"),
         today,
         fail: given.get_flag("fail"),
     })
@@ -239,13 +274,13 @@ fn command_task<'a>(
     match command {
         CommandName::Info => Ok(Task::Info(word(given, "TRACE"))),
         CommandName::Replay => replay(given, limits),
-        CommandName::Session => Ok(Task::Session(session(given, limits)?)),
+        CommandName::Session => session(given, limits),
         CommandName::Log => Ok(Task::Log(word(given, "LOG"))),
-        CommandName::Threads => Ok(Task::Threads(threads(alloc, given, limits)?)),
-        CommandName::Triage => Ok(Task::Triage(triage(alloc, given, limits)?)),
+        CommandName::Threads => threads(alloc, given, limits),
+        CommandName::Triage => triage(alloc, given, limits),
         CommandName::Explain => Ok(Task::Explain(pair(given), given.get_flag("all"))),
         CommandName::Witness => Ok(Task::Witness(pair(given), schedule_form(given))),
-        CommandName::Cut => Ok(Task::Cut(window(given, limits)?)),
+        CommandName::Cut => window(given, limits),
         CommandName::Merge => Ok(Task::Merge(merge(alloc, given)?)),
     }
 }
@@ -300,18 +335,24 @@ fn untaken(alloc: Global, words: &[String], limits: Limits, error: &Error) -> To
     told_of(alloc, error)
 }
 
+/// What is asked for in the words that `clap` took, or what is said in its place.
+fn task_or_told<'a>(alloc: Global, given: &ArgMatches<'a>, limits: Limits) -> Result<Task<'a>, Told>
+    ensures { IfOk result (IsWithin limits) }
+{
+    match task_in(alloc, given, limits) {
+        Ok(task) => Ok(task),
+        Err(Unread::Refused(reason)) => Err(refused(alloc, limits, reason)),
+        Err(Unread::OutOfMemory) => Err(Told::OutOfMemory),
+    }
+}
+
 /// What the words ask for, of which the first is the program's name, or what is said in its place. The numbers of a task are within
 /// the limits.
 pub fn task_of<'a>(alloc: Global, words: &'a [String], limits: Limits) -> Result<Task<'a>, Told>
     ensures { IfOk result (IsWithin limits) }
 {
-    let given = match matches(alloc, words, limits) {
-        Ok(given) => given,
-        Err(error) => return Err(untaken(alloc, words, limits, &error)),
-    };
-    match task_in(alloc, &given, limits) {
-        Ok(task) => Ok(task),
-        Err(Unread::Refused(reason)) => Err(refused(alloc, limits, reason)),
-        Err(Unread::OutOfMemory) => Err(Told::OutOfMemory),
+    match matches(alloc, words, limits) {
+        Ok(given) => task_or_told(alloc, &given, limits),
+        Err(error) => Err(untaken(alloc, words, limits, &error)),
     }
 }

@@ -50,23 +50,25 @@ pub(crate) fn named(word: &str) -> Named<'_> {
 /// The path that stands for standard input.
 pub(crate) const STANDARD: &str = "-";
 
-/// Whether more than one of the paths is that of standard input.
-pub(crate) fn share_input(paths: &[&str]) -> bool {
-    let mut has_one = false;
+/// How many of the paths are that of standard input.
+fn standards(paths: &[&str]) -> u32 {
+    let mut count = 0u32;
     for path in paths {
         if *path == STANDARD {
-            if has_one {
-                return true;
-            }
-            has_one = true;
+            count = count.saturating_add(1);
         }
     }
-    false
+    count
 }
 
-/// A refusal if more than one of the paths is that of standard input.
-pub(crate) fn check_inputs(paths: &[&str]) -> Result<(), Unread> {
-    if share_input(paths) {
+/// Whether more than one of the paths in the two lists is that of standard input.
+pub(crate) fn share_input(paths: &[&str], others: &[&str]) -> bool {
+    standards(paths).saturating_add(standards(others)) > 1
+}
+
+/// A refusal if more than one of the paths in the two lists is that of standard input.
+pub(crate) fn check_inputs(paths: &[&str], others: &[&str]) -> Result<(), Unread> {
+    if share_input(paths, others) {
         return Err(Unread::Refused("`-` is standard input, and may be given once"));
     }
     Ok(())

@@ -1,6 +1,6 @@
 //! What the words of the commands that run scripts ask for.
-ghost use Rattle.std.specs.Prelude.{IfOk};
-ghost use Rattle.program_words.specs.Tasks.{IsWithin, IsSessionWithin, IsThreadsWithin};
+ghost use Rattle.std.specs.Prelude.{◌≤◌, IfOk};
+ghost use Rattle.program_words.specs.Tasks.{IsWithin};
 
 use crate::reading::word;
 use crate::task::{Limits, SessionTask, Task, ThreadsTask};
@@ -14,13 +14,13 @@ pub(crate) fn replay<'a>(given: &ArgMatches<'a>, limits: Limits) -> Result<Task<
 {
     let trace = word(given, "TRACE");
     let script = word(given, "SCRIPT");
-    check_inputs(&[trace, script])?;
+    check_inputs(&[trace], &[script])?;
     Ok(Task::Replay(trace, script))
 }
 
 /// What `session` is asked for.
-pub(crate) fn session<'a>(given: &ArgMatches<'a>, limits: Limits) -> Result<SessionTask<'a>, Unread>
-    ensures { IfOk result (IsSessionWithin limits) }
+pub(crate) fn session<'a>(given: &ArgMatches<'a>, limits: Limits) -> Result<Task<'a>, Unread>
+    ensures { IfOk result (IsWithin limits) }
 {
     let client = match given.get_str("client") {
         Some(word) => Some(number(
@@ -33,27 +33,22 @@ pub(crate) fn session<'a>(given: &ArgMatches<'a>, limits: Limits) -> Result<Sess
     };
     let trace = word(given, "TRACE");
     let log = word(given, "LOG");
-    if share_input(&[STANDARD, trace, log]) {
+    if share_input(&[STANDARD], &[trace, log]) {
         return Err(Unread::Refused("`-` is standard input, which holds the lines of the session"));
     }
-    Ok(SessionTask { trace, log, client })
+    Ok(Task::Session(SessionTask { trace, log, client }))
 }
 
 /// The paths that `threads` is given, that of the trace first.
 fn paths<'a>(alloc: Global, given: &ArgMatches<'a>) -> Result<Vec<&'a str>, AllocError> {
-    let mut paths = Vec::new(alloc);
-    paths.push(word(given, "TRACE"))?;
+    let mut paths = Vec::from_slice(alloc, &[word(given, "TRACE")])?;
     paths.extend_from_slice(given.get_strs("SCRIPT").unwrap_or(&[]))?;
     Ok(paths)
 }
 
-/// What `threads` is asked for.
-pub(crate) fn threads<'a>(
-    alloc: Global,
-    given: &ArgMatches<'a>,
-    limits: Limits,
-) -> Result<ThreadsTask<'a>, Unread>
-    ensures { IfOk result (IsThreadsWithin limits) }
+/// How many workers `threads` is asked for, or a refusal of the paths that it is given.
+fn workers(given: &ArgMatches<'_>, limits: Limits) -> Result<u32, Unread>
+    ensures { IfOk result (λ n. n ≤ limits.workers) }
 {
     let workers = number(
         word(given, "workers"),
@@ -61,6 +56,22 @@ pub(crate) fn threads<'a>(
         limits.workers,
         "`--workers` takes a number in decimal digits",
     )?;
+    check_inputs(
+        given.get_strs("SCRIPT").unwrap_or(&[]),
+        &[word(given, "TRACE")],
+    )?;
+    Ok(workers)
+}
+
+/// What `threads` is asked for.
+pub(crate) fn threads<'a>(
+    alloc: Global,
+    given: &ArgMatches<'a>,
+    limits: Limits,
+) -> Result<Task<'a>, Unread>
+    ensures { IfOk result (IsWithin limits) }
+{
+    let workers = workers(given, limits)?;
     let room = match given.get_str("room") {
         Some(word) => word.parse::<u32>().ok(),
         None => None,
@@ -69,10 +80,9 @@ pub(crate) fn threads<'a>(
     if paths.len() < 2 {
         return Err(Unread::Refused("there is no script"));
     }
-    check_inputs(&paths)?;
-    Ok(ThreadsTask {
+    Ok(Task::Threads(ThreadsTask {
         paths,
         workers,
         room,
-    })
+    }))
 }
