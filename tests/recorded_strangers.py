@@ -30,9 +30,11 @@ COMPILED = {
     "wide_atomic.cpp": ["-std=c++17", "-latomic"],
     "shared_tasks.cpp": ["-fopenmp"],
     "task_kinds.cpp": ["-fopenmp"],
+    "doacross.c": ["-fopenmp"],
+    "task_events.c": ["-fopenmp"],
 }
 # Those with OpenMP, of which the recorder knows the one of GCC.
-OPENMP = ("shared_tasks.cpp", "task_kinds.cpp")
+OPENMP = ("shared_tasks.cpp", "task_kinds.cpp", "doacross.c", "task_events.c")
 CALLED = {"exits.c": ("exit", "quick", "under", "abort", "crash", "kill")}
 INPUT = {"input.c": b"a line\n" * 30}
 # How many seconds a recorded run may take, on a machine that does much else; most take a part of one.

@@ -25,6 +25,7 @@
 #include "futex.c"
 #define syscall raw_syscall
 #include "openmp.c"
+#include "ordered.c"
 #include "tasks.c"
 #include "messages.c"
 #include "threads.c"

@@ -17,6 +17,8 @@ struct region {
     u32 master, size, in;
     /* The last meeting for which a thread makes what it will give to all. */
     u64 made;
+    /* Its loops whose iterations wait for others: ordered.c. */
+    struct doacross *loops;
     volatile u32 back;
     struct comer *comers;
     /* In a team with tasks the library runs these while it waits: how many no thread has begun, and how many threads wait
@@ -31,6 +33,8 @@ static u32 teams;
  * shared out. */
 static __thread struct region *my_region;
 static __thread u64 my_team, my_round, my_share;
+static __thread struct doacross *my_loop;
+static void end_loops(struct region *r);
 static __thread u8 has_stack;
 #define FIRST_ROUND 1
 #define LAST_ROUND 0xffffffff
@@ -111,8 +115,9 @@ static void end_region(struct region *r) {
 static void in_region(void *p) {
     struct region *r = p, *region_before = my_region;
     u64 team_before = my_team, round_before = my_round, share_before = my_share;
+    struct doacross *loop_before = my_loop;
     int idle = IDLE;
-    making_team = 0, idle_in = NULL;
+    making_team = 0, idle_in = NULL, my_loop = NULL;
     my_region = r, my_team = r->team, my_share = FIRST_ROUND + 1, my_round = FIRST_ROUND + 2;
     if (!idle) begin_region(r);
     /* The library lets the team go on when all of its threads are made: after that the master is here. */
@@ -120,6 +125,7 @@ static void in_region(void *p) {
     r->body(r->data);
     meet_team(ARRIVED, my_team, LAST_ROUND, r->pc);
     my_region = region_before, my_team = team_before, my_round = round_before, my_share = share_before;
+    my_loop = loop_before;
     if (!idle) end_region(r);
 }
 
@@ -146,6 +152,7 @@ static struct region new_region(void (*body)(void *), void *data, u64 pc) {
 static void leave_region(struct region *r) {
     making_team = 0, idle_in = NULL;
     if (!IDLE) take(), short_wait = 0, meet_team(WENT_ON, r->team, LAST_ROUND, r->pc);
+    end_loops(r);
 }
 
 #define REGION(name, given, passed_on) \
@@ -240,6 +247,14 @@ BARRIER(GOMP_barrier)
 BARRIER(GOMP_loop_end)
 BARRIER(GOMP_sections_end)
 
+/* The end of shared work whose tasks sum up: as its barrier, if it was not cancelled. */
+void GOMP_workshare_task_reduction_unregister(_Bool is_cancelled) {
+    REAL(GOMP_workshare_task_reduction_unregister, void, _Bool);
+    int idle = IDLE || is_cancelled, was_last = idle ? 0 : comes_to_barrier(PC);
+    real(is_cancelled);
+    if (!idle) leaves_barrier(was_last, PC);
+}
+
 /* ---- work that is shared out: who comes first has the next part, as by an atomic counter ---- */
 
 static void take_share(u64 pc) {
@@ -286,11 +301,6 @@ SHARES(_Bool, GOMP_loop_start, 1,
 SHARES(_Bool, GOMP_loop_ull_start, 1,
        (_Bool up, ull a, ull b, ull by, long how, ull n, ull *from, ull *to, u64 *sums, void **kept),
        (up, a, b, by, how, n, from, to, sums, kept))
-SHARES(_Bool, GOMP_loop_ordered_dynamic_start, 1, (long a, long b, long by, long n, long *from, long *to),
-       (a, b, by, n, from, to))
-SHARES(_Bool, GOMP_loop_ordered_guided_start, 1, (long a, long b, long by, long n, long *from, long *to),
-       (a, b, by, n, from, to))
-SHARES(_Bool, GOMP_loop_ordered_runtime_start, 1, (long a, long b, long by, long *from, long *to), (a, b, by, from, to))
 SHARES(unsigned, GOMP_sections_start, 1, (unsigned n), (n))
 SHARES(unsigned, GOMP_sections2_start, 1, (unsigned n, u64 *sums, void **kept), (n, sums, kept))
 SHARES(unsigned, GOMP_sections_next, 0, (void), ())

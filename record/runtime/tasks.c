@@ -6,8 +6,15 @@
 #define BY_GRAIN 512
 #define DEFERRED 1024
 #define WITHOUT_GROUP 2048
+#define DETACHED 8192
+#define READS_ALONE 1
 #define STRICTLY 16384
-#define DEPENDS_AT_MOST 16
+
+/* A variable that a task depends on, and whether it depends on the tasks alone that write it. */
+struct dependence {
+    void *at;
+    u8 reads;
+};
 
 /* What a task carries before its own data; libgomp copies it by copy_task(). In a task of a loop libgomp writes the
  * part of the loop over the first two words; the third says what the loop sums up. */
@@ -21,8 +28,8 @@ struct task {
     /* The team of its maker, which counts it as ready. */
     struct region *region;
     u32 depends;
-    u8 has_part, is_counted;
-    void *depend[DEPENDS_AT_MOST];
+    u8 has_part, is_counted, is_detached;
+    struct dependence *depend;
 };
 struct group {
     u64 number;
@@ -42,10 +49,33 @@ static __thread struct group *my_groups;
 
 static u64 new_number(void) { return __atomic_add_fetch(&teams, 1, SC); }
 
+/* A task that ends when its event is fulfilled too. */
+static struct pending {
+    u64 event;
+    struct task task;
+    struct pending *next;
+} * pendings;
+
+/* The library wrote the event where the task's own data begins. */
+static void note_event(struct task *t) {
+    struct pending *p = __libc_malloc(sizeof *p);
+    u64 size = t->depends * sizeof *t->depend;
+    if (!p) abort();
+    *p = (struct pending){.event = t->part[0], .task = *t};
+    p->task.depend = __libc_malloc(size ? size : 1);
+    if (!p->task.depend) abort();
+    if (size) __real_memcpy(p->task.depend, t->depend, size);
+    __real_memcpy(t->data, &p->event, sizeof p->event);
+    lock_turns();
+    p->next = pendings, pendings = p;
+    unlock_turns();
+}
+
 /* A constructor of the program's may be called by the copy, and has hooks. */
 static void copy_task(void *to, void *from) {
     struct task *t = from;
     u8 was = inside;
+    if (t->is_detached) note_event(t);
     inside = 1;
     __real_memcpy(to, t, sizeof *t);
     inside = was;
@@ -56,16 +86,40 @@ static void copy_task(void *to, void *from) {
     if (!had) give();
 }
 
-static void meet_depends(struct task *t, int kind) {
-    for (u32 k = 0; k < t->depends; k++) meet(kind, OF_MEMORY, (u64)t->depend[k], 0, t->pc);
+/* Tasks that write a variable end at one meeting, and those that read it at another: who writes begins after both, and
+ * who reads after the first. */
+enum { WRITTEN, ALL_READ };
+static void meet_depends(struct task *t, int kind, u64 pc) {
+    for (u32 k = 0; k < t->depends; k++) {
+        struct dependence *d = &t->depend[k];
+        if (kind == WENT_ON || !d->reads) meet(kind, OF_MEMORY, (u64)d->at, WRITTEN, pc);
+        if (kind == WENT_ON ? !d->reads : d->reads) meet(kind, OF_MEMORY, (u64)d->at, ALL_READ, pc);
+    }
 }
 
-static void end_task(struct task *t) {
-    meet_depends(t, ARRIVED);
-    meet(ARRIVED, OF_TEAM, t->waits, t->wait_round, t->pc);
-    if (t->group) meet(ARRIVED, OF_TEAM, t->group, 1, t->pc);
-    meet_team(ARRIVED, t->team, t->round, t->pc);
-    meet_team(ARRIVED, t->team, LAST_ROUND, t->pc);
+static void end_task(struct task *t, u64 pc) {
+    meet_depends(t, ARRIVED, pc);
+    meet(ARRIVED, OF_TEAM, t->waits, t->wait_round, pc);
+    if (t->group) meet(ARRIVED, OF_TEAM, t->group, 1, pc);
+    meet_team(ARRIVED, t->team, t->round, pc);
+    meet_team(ARRIVED, t->team, LAST_ROUND, pc);
+}
+
+static struct pending *pending_of(u64 event) {
+    lock_turns();
+    struct pending **at = &pendings, *p;
+    while (*at && (*at)->event != event) at = &(*at)->next;
+    if ((p = *at)) *at = p->next;
+    unlock_turns();
+    return p;
+}
+
+void omp_fulfill_event(u64 event) {
+    REAL(omp_fulfill_event, void, u64);
+    struct pending *p = pendings ? pending_of(event) : NULL;
+    if (p && !IDLE) maybe_give(), end_task(&p->task, PC);
+    if (p) __libc_free(p->task.depend), __libc_free(p);
+    real(event);
 }
 
 static void leave_ready_tasks(struct region *r) {
@@ -93,20 +147,30 @@ static void in_task(void *p) {
     my_region = t->region;
     my_waits = 0, my_wait_round = 1, my_group = t->group, my_groups = NULL, my_team = t->team, my_round = t->round;
     meet(WENT_ON, OF_TEAM, t->number, 1, t->pc);
-    meet_depends(t, WENT_ON);
+    meet_depends(t, WENT_ON, t->pc);
     if (t->has_part) __real_memcpy((char *)p + t->offset, t->part, sizeof t->part);
     t->body((char *)p + t->offset);
-    end_task(t);
+    end_task(t, t->pc);
+    __libc_free(t->depend);
     my_waits = waits, my_wait_round = wait_round, my_group = group, my_groups = groups;
     my_team = team, my_round = round, my_share = share, my_region = region;
     become_idle(was_idle_in);
     if (!had) give();
 }
 
-/* The addresses of a task's depend clauses, in the two forms that libgomp has. */
+/* A task's depend clauses, in the two forms that the library has: those that write, the others, and in the second form
+ * places where an address is with its kind. */
 static void read_depends(struct task *t, void **depend) {
     u64 first = (u64)depend[0], count = first ? first : (u64)depend[1], from = first ? 2 : 5;
-    for (u64 k = 0; k < count && k < DEPENDS_AT_MOST; k++) t->depend[t->depends++] = depend[from + k];
+    u64 writes = (u64)depend[first ? 1 : 2] + (first ? 0 : (u64)depend[3]);
+    u64 plain = first ? count : writes + (u64)depend[4];
+    t->depend = __libc_malloc(count * sizeof *t->depend + 1);
+    if (!t->depend) abort();
+    for (u64 k = 0; k < count; k++) {
+        void **at = &depend[from + k], **object = *at;
+        t->depend[t->depends++] = k < plain ? (struct dependence){*at, k >= writes}
+                                            : (struct dependence){object[0], object[1] == (void *)READS_ALONE};
+    }
 }
 
 #define WIDE_OF(align) ((align) < 16 ? 16 : (u64)(align))
@@ -160,8 +224,9 @@ void GOMP_task(void (*body)(void *), void *data, void (*copy)(void *, void *), l
     u64 wide = WIDE_OF(align);
     if (flags & DEPENDS) read_depends(&t, depend);
     else if (deferred) make_ready(&t, 1);
+    t.is_detached = (flags & DETACHED) != 0;
     meet(ARRIVED, OF_TEAM, t.number, 1, PC);
-    int waits = (flags & DEPENDS) && !deferred;
+    int waits = t.is_detached || ((flags & DEPENDS) && !deferred);
     if (waits) give();
     real(in_task, &t, copy_task, (long)t.offset + size, (long)wide, deferred, flags, depend, priority, detach);
     take();
@@ -214,7 +279,8 @@ void GOMP_taskwait_depend(void **depend) {
     if (IDLE) return;
     take();
     read_depends(&waited, depend);
-    meet_depends(&waited, WENT_ON);
+    meet_depends(&waited, WENT_ON, PC);
+    __libc_free(waited.depend);
 }
 
 void GOMP_taskgroup_start(void) {
@@ -237,43 +303,6 @@ void GOMP_taskgroup_end(void) {
     my_group = g->number, my_groups = g->outer;
     __libc_free(g);
 }
-
-/* ---- parts of loops that come in the order of their turns ---- */
-
-void GOMP_ordered_start(void) {
-    REAL(GOMP_ordered_start, void, void);
-    if (!IDLE) maybe_give(), give();
-    real();
-    if (!IDLE) take(), put_of(OF_TEAM, PASS, my_team, PC);
-}
-
-void GOMP_ordered_end(void) {
-    REAL(GOMP_ordered_end, void, void);
-    if (!IDLE) put_of(OF_TEAM, PASS, my_team, PC);
-    real();
-}
-
-/* The next turns of such a loop: the call waits for those before, takes its share, and lets those after it go on. */
-static void go_on_in_order(u64 pc) {
-    REAL(GOMP_ordered_start, void, void);
-    maybe_give();
-    give();
-    real();
-    take();
-    meet_team(ARRIVED, my_team, my_share, pc);
-    put_of(OF_TEAM, PASS, my_team, pc);
-}
-
-#define NEXT_ORDERED(kind) \
-    _Bool GOMP_loop_ordered_##kind##_next(long *from, long *to) { \
-        REAL(GOMP_loop_ordered_##kind##_next, _Bool, long *, long *); \
-        if (!IDLE) go_on_in_order(PC); \
-        return real(from, to); \
-    }
-NEXT_ORDERED(static)
-NEXT_ORDERED(dynamic)
-NEXT_ORDERED(guided)
-NEXT_ORDERED(runtime)
 
 /* What one thread makes and gives to all: the others come after it has begun, wait for it as at a barrier, and it comes
  * there when it is made. */
