@@ -18,6 +18,7 @@ sys.dont_write_bytecode = True
 import judging
 import recorded_chance
 import recorded_ci
+import recorded_counts
 import recorded_follow
 import recorded_options
 import recorded_places
@@ -200,7 +201,7 @@ def cases_of(racebench, pairs):
         cases += recorded_places.cases(c, cxx) + recorded_reports.cases(racebench, c)
         if place == 0:
             cases += recorded_options.cases(racebench, c) + recorded_runs.cases(c) + recorded_follow.cases(racebench)
-            cases += recorded_chance.cases(racebench) + recorded_ci.cases(racebench)
+            cases += recorded_chance.cases(racebench) + recorded_ci.cases(racebench) + recorded_counts.cases(c)
             cases += recorded_strangers.cases(racebench, c, cxx)
         if cxx:
             cases.append((f"regions of OpenMP, {c}", recorded_strangers.judge_regions, (c, cxx)))

@@ -1,5 +1,11 @@
 /* Atomics: done in the thread's turn, and atomic all the same, since a turn may be taken by force. */
 
+/* Where the library of C++ counts who waits at an atomic variable, a semaphore, a latch or a barrier, so that it wakes
+ * nobody in vain. Who waits looks at the variable itself again, so these counts order nothing. */
+extern char waiter_pool[] __asm__("_ZZNSt8__detail18__waiter_pool_base6_S_forEPKvE3__w") __attribute__((weak));
+#define WAITER_POOL (16 * 128)
+static int is_waiter_count(const volatile void *at) { return waiter_pool && (u64)at - (u64)waiter_pool < WAITER_POOL; }
+
 /* The record of an atomic access comes before it; its place. */
 static u64 atomic_(int kind, const volatile void *at, u64 size, int order, u64 pc) {
     if (IDLE) return NO_PLACE;
@@ -7,6 +13,7 @@ static u64 atomic_(int kind, const volatile void *at, u64 size, int order, u64 p
     look_for_waiting((u64)at, pc);
     maybe_give();
     see_place(pc);
+    if (is_waiter_count(at)) order = __ATOMIC_RELAXED;
     return put_record(
         (struct record){.kind = (u8)kind, .at = (u64)at, .size = (u32)size, .pc = pc, .order = (u8)order});
 }
@@ -66,15 +73,19 @@ static void lock_wide(void) {
     while (__atomic_exchange_n(&wide_lock, 1, SC)) syscall(SYS_sched_yield);
 }
 static void unlock_wide(void) { __atomic_store_n(&wide_lock, 0, SC); }
+/* Clang calls those that count by the names of the library of atomics. */
 #define WIDE(name, value) \
-    u128 __tsan_atomic128_##name(volatile u128 *a, u128 v, int order) { \
-        atomic_(ATOMIC_UPDATE, a, 16, order, PC); \
+    static u128 wide_##name(volatile u128 *a, u128 v, int order, u64 pc) { \
+        atomic_(ATOMIC_UPDATE, a, 16, order, pc); \
         lock_wide(); \
         u128 old = *a; \
         *a = (value); \
         unlock_wide(); \
         return old; \
-    }
+    } \
+    u128 __tsan_atomic128_##name(volatile u128 *a, u128 v, int order) { return wide_##name(a, v, order, PC); } \
+    u128 racebench_wide_##name(volatile u128 *a, u128 v, int order) __asm__("__atomic_" #name "_16"); \
+    u128 racebench_wide_##name(volatile u128 *a, u128 v, int order) { return wide_##name(a, v, order, PC); }
 u128 __tsan_atomic128_load(const volatile u128 *a, int order) {
     atomic_(ATOMIC_READ, a, 16, order, PC);
     lock_wide();

@@ -22,7 +22,8 @@ static pthread_barrier_t barrier;
 static pthread_once_t once = PTHREAD_ONCE_INIT;
 static sem_t sent;
 static atomic_int flag, count, place;
-static int by_mutex, by_try, by_time, by_again, by_spin, by_readers, by_news, is_news, by_sent, by_once, by_flag, by_place, by_thread;
+static _Atomic __int128 wide;
+static int by_mutex, by_try, by_time, by_again, by_spin, by_readers, by_news, is_news, by_sent, by_once, by_flag, by_place, by_wide, by_thread;
 static int table[THREADS], racy;
 static char *block;
 static struct pair { long first, second; } by_copy;
@@ -81,6 +82,7 @@ static int waits(long self) {
         by_flag = 1, atomic_store_explicit(&flag, 1, memory_order_release);
         while (atomic_load(&count) != 2) sched_yield();
         by_place = 3, atomic_exchange(&place, 2);
+        by_wide = 4, atomic_fetch_add(&wide, 1);
         return 0;
     case 1: {
         struct timespec t = soon();
@@ -99,7 +101,8 @@ static int waits(long self) {
         struct pair copy;
         memcpy(&copy, &by_copy, sizeof copy);
         while (!atomic_compare_exchange_weak(&place, &expected, 9)) expected = 2;
-        return by_flag + by_place + (int)copy.first;
+        while (!atomic_load(&wide)) sched_yield();
+        return by_flag + by_place + by_wide + (int)copy.first;
     }
 }
 

@@ -1,0 +1,60 @@
+"""Judges what record/run says of a run that is not in its trace as it was: each count by a program that makes it.
+
+What no other judge sees: a trace that lacks records, orders or turns, of which nothing is said.
+"""
+
+import os
+import re
+import subprocess
+
+from judging import Wrong
+from recorded_places import PATIENCE, RECORD, SOURCES, ran
+
+# The word for counts.c, the options, and the line that says what was counted.
+COUNTED = [
+    ("sections", [], r"1 locks were let go by another thread than took them; they are written as semaphores"),
+    ("order", [], r"6 atomic accesses are written with more order than they have"),
+    ("parts", [], r"some accesses have more than 64 parts, and the rest of these was left out"),
+    ("strangers", [], r"[1-9]\d* threads were not made by pthread_create, so they have no fork"),
+    ("turns", ["--room", "100"], r"[1-9]\d* records left out after the first 100 \(--room\)"),
+    ("force", [], r"recorded \d+ events, \d+ turns, [1-9]\d* taken by force"),
+]
+# What a run says in which nothing of that happened.
+PLAIN = r"record/run: the program ended with status 0\nrecord/run: recorded \d+ events, (\d+) turns, \d+ taken by force\n"
+
+
+def said_of(*words):
+    """What record/run says of a run of `program`."""
+    done = subprocess.run([os.path.join(RECORD, "run"), *words], capture_output=True, timeout=PATIENCE, check=False)
+    told = done.stderr.decode(errors="replace")
+    if done.returncode or not done.stdout:
+        raise Wrong(f"record/run {' '.join(words)}: status {done.returncode}: {told[:600]}")
+    return told
+
+
+def judge_counts(c):
+    """Each count is said by a run that has it, and by no other."""
+    words = [os.path.join(RECORD, "cc"), "-O1", os.path.join(SOURCES, "counts.c"), "-o", "program"]
+    ran(words, env=dict(os.environ, RECORD_CC=c))
+    for word, options, line in COUNTED:
+        told = said_of(*options, "./program", word)
+        if not re.search(rf"^record/run: {line}$", told, re.MULTILINE):
+            raise Wrong(f"{word} is not counted: {told}")
+    judge_turns()
+
+
+def judge_turns():
+    """With --yield 1 turns are short, and with a large one long; nothing else is said of either run."""
+    turns = []
+    for most in ("1", "100000"):
+        told = said_of("--yield", most, "./program", "turns")
+        plain = re.fullmatch(PLAIN, told)
+        if not plain:
+            raise Wrong(f"of a run in which nothing is left out it is said: {told}")
+        turns.append(int(plain[1]))
+    if turns[0] < 50 or turns[1] > 10:
+        raise Wrong(f"there are {turns} turns with --yield 1 and 100000")
+
+
+def cases(c):
+    return [(f"what is counted of a run, {c}", judge_counts, (c,))]
