@@ -25,6 +25,7 @@ STATIC = ["-std=c++17", "-static-libstdc++", "-static-libgcc"]
 COMPILED = {
     "statics.cpp": STATIC,
     "cxx20.cpp": ["-std=c++20", "-latomic"],
+    "meetings.cpp": ["-std=c++20"],
     "stop_tokens.cpp": ["-std=c++20"],
     "waits_atomic.cpp": ["-std=c++20"],
     "wide_atomic.cpp": ["-std=c++17", "-latomic"],
@@ -93,6 +94,9 @@ def judge_run(name, words, seed):
         raise Wrong(f"seed {seed}: prints {own!r}, and not {''.join(written)!r}; status {status}: {told[-300:]}")
     if "left out" in told:
         raise Wrong(f"seed {seed}: something is left out: {told[-600:]}")
+    # How many wait orders nothing, and would hide races of those that wait.
+    if "__waiter_pool_base" in trace:
+        raise Wrong(f"seed {seed}: the library's counts of who waits are in the trace")
     with open("trace.std", "w", encoding="utf-8") as text:
         text.write(trace)
 

@@ -12,7 +12,7 @@
 #include <threads.h>
 #include <time.h>
 #include <unistd.h>
-static pthread_rwlock_t shared = PTHREAD_RWLOCK_INITIALIZER;
+static pthread_rwlock_t shared = PTHREAD_RWLOCK_INITIALIZER, calm = PTHREAD_RWLOCK_INITIALIZER;
 static pthread_mutex_t m = PTHREAD_MUTEX_INITIALIZER;
 static pthread_cond_t c = PTHREAD_COND_INITIALIZER;
 static pthread_spinlock_t spin;
@@ -33,9 +33,12 @@ static struct timespec later(clockid_t clock) {
 static int locks(int k) {
     struct timespec t = later(CLOCK_REALTIME), u = later(CLOCK_MONOTONIC);
     int seen = 0;
+    if (pthread_rwlock_timedrdlock(&calm, &t)) abort();
+    of_readers = k; /* RACE */
+    pthread_rwlock_unlock(&calm);
     for (int round = 0; round < 2; round++) {
         if (pthread_rwlock_timedrdlock(&shared, &t)) abort();
-        seen += by_writer, of_readers = k; /* RACE */
+        seen += by_writer;
         pthread_rwlock_unlock(&shared);
         if (pthread_rwlock_clockrdlock(&shared, CLOCK_MONOTONIC, &u)) abort();
         seen += by_writer;
