@@ -55,4 +55,6 @@ int main(void) {
     comes_in_turn();
     printf("%d %d %d\n", table[N - 1][N - 1], sums[N - 1], table[0][N - 1]);
     for (int k = 0; k < turns; k++) printf("%d ", in_turn[k]);
+    puts("");
+    return 0;
 }

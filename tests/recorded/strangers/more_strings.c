@@ -24,7 +24,7 @@ static void *writes(void *p) {
     mempcpy(b, p, 4);         /* RACE b */
     stpcpy(c, p);             /* RACE c */
     strncat(d, p, 2);         /* RACE d */
-    e[5] = 'e';               /* RACE e */
+    e[2] = 'x';               /* RACE e */
     f[3] = 'f';               /* RACE f */
     g[1] = 'g';               /* RACE g */
     h[4] = 'h';               /* RACE h */
@@ -33,9 +33,9 @@ static void *writes(void *p) {
     k[5] = 'k';               /* RACE k */
     prints(l, "%s", p);
     m[0] = 'm';               /* RACE m */
-    if (fread(o, 1, 4, file)) /* RACE o */
+    if (fread(o, 2, 2, file)) /* RACE o */
         q[2] = '\n';          /* RACE q */
-    e[6] = f[4] = g[9] = h[5] = i[8] = j[8] = k[12] = m[5] = q[5] = 'z';
+    e[5] = f[4] = g[9] = h[5] = i[8] = j[8] = k[12] = m[5] = q[5] = 'z';
     return NULL;
 }
 
@@ -46,8 +46,8 @@ static void *reads(void *p) {
     n += b[4];
     n += c[4];                      /* RACE c */
     n += c[5];
-    n += d[1];                      /* RACE d */
-    n += d[4];
+    n += d[2];                      /* RACE d */
+    n += d[3];
     n += memchr(e, 'x', 6) != NULL; /* RACE e */
     n += memcmp(f, p, 4) == 0;      /* RACE f */
     n += strcasecmp(g, "XYZZY") < 0; /* RACE g */
@@ -55,11 +55,11 @@ static void *reads(void *p) {
     n += strnlen(i, 8);             /* RACE i */
     n += strchr(j, 'y') != NULL;    /* RACE j */
     copy = strndup(k, 6);           /* RACE k */
-    n += l[0];                      /* RACE l */
+    n += l[4];                      /* RACE l */
     fprintf(stderr, "%.3s\n", m);   /* RACE m */
     n += o[3];                      /* RACE o */
     fwrite(q, 1, 3, stderr);        /* RACE q */
-    n += l[6] + o[4];
+    n += l[5] + o[4];
     return NULL;
 }
 
@@ -67,7 +67,7 @@ int main(void) {
     pthread_t t[2];
     file = fopen("/dev/zero", "r");
     memset(e, 'w', 30), memset(f, 'f', 30), memset(h, 'h', 30), memset(i, 'i', 30), memset(k, 'k', 30);
-    strcpy(g, "xyzzy"), strcpy(j, "wwwwy"), strcpy(m, "mm"), strcpy(q, "qq\n");
+    strcpy(g, "xyzzy"), strcpy(j, "wwwwy"), strcpy(m, "mmmmmmmm"), e[2] = 'x', strcpy(q, "qq\n");
     pthread_create(&t[0], NULL, writes, "hhhh");
     pthread_create(&t[1], NULL, reads, "hhhhhhx");
     for (int r = 0; r < 2; r++) pthread_join(t[r], NULL);

@@ -82,10 +82,12 @@ static void *hears(void *p) {
     if (sem_clockwait(&sent, CLOCK_MONOTONIC, &u)) abort();
     int sum = by_sent;
     pthread_mutex_lock(&m);
-    while (!is_told) pthread_cond_clockwait(&c, &m, CLOCK_MONOTONIC, &u);
+    while (!is_told)
+        if (pthread_cond_clockwait(&c, &m, CLOCK_MONOTONIC, &u)) abort();
     sum += by_clock, pthread_mutex_unlock(&m);
     mtx_lock(&c11);
-    while (!is_new) cnd_timedwait(&news, &c11, &t);
+    while (!is_new)
+        if (cnd_timedwait(&news, &c11, &t) != thrd_success) abort();
     sum += by_news, mtx_unlock(&c11);
     if (readv(parts[0], two, 2) != 4) abort();
     sum += by_parts;
