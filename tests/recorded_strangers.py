@@ -37,6 +37,8 @@ COMPILED = {
 # Those with OpenMP, of which the recorder knows the one of GCC.
 OPENMP = ("shared_tasks.cpp", "task_kinds.cpp", "doacross.c", "task_events.c")
 CALLED = {"exits.c": ("exit", "quick", "under", "abort", "crash", "kill")}
+# Those whose locks are let go by the threads that took them.
+EVEN = ("more_waits.c",)
 INPUT = {"input.c": b"a line\n" * 30}
 # How many seconds a recorded run may take, on a machine that does much else; most take a part of one.
 LONGEST = 300
@@ -94,6 +96,8 @@ def judge_run(name, words, seed):
         raise Wrong(f"seed {seed}: prints {own!r}, and not {''.join(written)!r}; status {status}: {told[-300:]}")
     if "left out" in told:
         raise Wrong(f"seed {seed}: something is left out: {told[-600:]}")
+    if name in EVEN and "let go by another thread" in told:
+        raise Wrong(f"seed {seed}: a lock seems to be let go by another thread than took it: {told[-600:]}")
     # How many wait orders nothing, and would hide races of those that wait.
     if "__waiter_pool_base" in trace:
         raise Wrong(f"seed {seed}: the library's counts of who waits are in the trace")

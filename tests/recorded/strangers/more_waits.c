@@ -16,7 +16,7 @@ static pthread_rwlock_t shared = PTHREAD_RWLOCK_INITIALIZER, calm = PTHREAD_RWLO
 static pthread_mutex_t m = PTHREAD_MUTEX_INITIALIZER;
 static pthread_cond_t c = PTHREAD_COND_INITIALIZER;
 static pthread_spinlock_t spin;
-static sem_t sent;
+static sem_t sent, ready;
 static mtx_t c11;
 static cnd_t news;
 static int by_writer, by_spin, by_c11, by_sent, is_told, by_clock, is_new, by_news, by_parts, by_message, by_name;
@@ -62,7 +62,10 @@ static void *tells(void *p) {
     struct msghdr message = {.msg_iov = two, .msg_iovlen = 2};
     locks(1);
     by_sent = 1, sem_post(&sent);
+    /* Who hears has the mutex until it waits. */
+    while (sem_wait(&ready)) {}
     pthread_mutex_lock(&m), is_told = by_clock = 1, pthread_cond_signal(&c), pthread_mutex_unlock(&m);
+    while (sem_wait(&ready)) {}
     mtx_lock(&c11), is_new = by_news = 1, cnd_signal(&news), mtx_unlock(&c11);
     by_parts = 1;
     if (writev(parts[1], two, 2) != 4) abort();
@@ -81,11 +84,11 @@ static void *hears(void *p) {
     locks(2);
     if (sem_clockwait(&sent, CLOCK_MONOTONIC, &u)) abort();
     int sum = by_sent;
-    pthread_mutex_lock(&m);
+    pthread_mutex_lock(&m), sem_post(&ready);
     while (!is_told)
         if (pthread_cond_clockwait(&c, &m, CLOCK_MONOTONIC, &u)) abort();
     sum += by_clock, pthread_mutex_unlock(&m);
-    mtx_lock(&c11);
+    mtx_lock(&c11), sem_post(&ready);
     while (!is_new)
         if (cnd_timedwait(&news, &c11, &t) != thrd_success) abort();
     sum += by_news, mtx_unlock(&c11);
@@ -100,7 +103,7 @@ static void *hears(void *p) {
 
 int main(void) {
     pthread_t a, b;
-    pthread_spin_init(&spin, 0), sem_init(&sent, 0, 0), mtx_init(&c11, mtx_timed), cnd_init(&news);
+    pthread_spin_init(&spin, 0), sem_init(&sent, 0, 0), sem_init(&ready, 0, 0), mtx_init(&c11, mtx_timed), cnd_init(&news);
     if (pipe(parts) || socketpair(AF_UNIX, SOCK_STREAM, 0, messages) || socketpair(AF_UNIX, SOCK_STREAM, 0, names)) abort();
     pthread_create(&a, NULL, hears, NULL), pthread_create(&b, NULL, tells, NULL);
     pthread_join(a, NULL), pthread_join(b, NULL);
