@@ -68,6 +68,7 @@ def guarded(guard: Guard) -> web.Application:
 
     @web.middleware
     async def check(request: web.Request, handler: Handler) -> web.StreamResponse:
+        request.protocol.has_asked()  # type: ignore[attr-defined]
         guard.check(request)
         return await handler(request)
 

@@ -12,6 +12,7 @@ from aiohttp import WSMsgType, web
 
 from .bench import Bench
 from .checked import Mistake
+from .door import Door
 from .guard import Guard, guarded, put_headers
 from .kept import Names, Original, Seen
 from .outlet import Outlet
@@ -94,7 +95,11 @@ class Server:
 
     async def enter(self, request: web.Request) -> web.StreamResponse:
         """Gives the key for a ticket, once."""
-        given = (await request.content.read(256)).decode("ascii", "replace")
+        try:
+            async with asyncio.timeout(PATIENCE):
+                given = (await request.content.read(256)).decode("ascii", "replace")
+        except TimeoutError:
+            raise web.HTTPRequestTimeout from None
         if not self.guard.spend(given):
             await asyncio.sleep(0.3)
             raise web.HTTPForbidden(text="spent")
@@ -255,8 +260,8 @@ class Server:
         app.router.add_get("/{name}", self.file)
         self.runner = web.AppRunner(app, access_log=None)
         await self.runner.setup()
-        await web.TCPSite(self.runner, "127.0.0.1", port, shutdown_timeout=GRACE).start()
-        self.guard.port = self.runner.addresses[0][1]
+        self.door = Door(self.runner)
+        self.guard.port = await self.door.open(port)
         self.beside(self.look_for_races())
 
     async def read_trace(self, readers: Readers) -> None:
@@ -284,6 +289,6 @@ class Server:
         for task in self.tasks:
             task.cancel()
         await asyncio.wait([asyncio.ensure_future(self._close()), *self.tasks], timeout=GRACE)
-        await self.runner.cleanup()
+        await self.door.close(GRACE)
         await self.pairs.stop()
         await self.bench.session.stop()
