@@ -63,12 +63,19 @@ class Seen:
 class Original:
     """The file of the trace, as it was at the start: the program reads it again when it looks for a witness.
 
-    Another time of the file says nothing if its size is the same, and the bytes at both ends.
+    Another time of the file says nothing if its size is the same, the bytes at both ends, and the digest of all.
     """
 
     def __init__(self, path: str) -> None:
         self.path = path
         self.stamp, self.ends = self._stamp(), self._ends()
+        self.digest: bytes | None = None  # None until it is known
+
+    def learn(self) -> None:
+        """Keeps the digest of all of it. That takes a moment for a long trace, so the start does not wait for it."""
+        digest = self._digest()
+        if self._stamp() == self.stamp:
+            self.digest = digest
 
     def _stamp(self) -> tuple[int, int, int] | None:
         try:
@@ -86,15 +93,24 @@ class Original:
         except OSError:
             return b"", b""
 
+    def _digest(self) -> bytes | None:
+        try:
+            with open(self.path, "rb") as file:
+                return hashlib.file_digest(file, "sha256").digest()
+        except OSError:
+            return None
+
     def is_changed(self) -> bool:
         """Whether another trace is there now. One that was taken away is not: what was read is drawn."""
         stamp = self._stamp()
         if stamp is None or self.stamp is None or stamp == self.stamp:
             return False
-        if stamp[0] == self.stamp[0] and self._ends() == self.ends:
-            self.stamp = stamp
-            return False
-        return True
+        if stamp[0] != self.stamp[0] or self._ends() != self.ends:
+            return True
+        if self.digest is not None and self._digest() != self.digest:
+            return True
+        self.stamp = stamp
+        return False
 
 
 class Names:

@@ -44,15 +44,16 @@ class Mirror:
         self.version = 0
         self.digest = ""  # of the trace, as the log's first line has it
         self.tail = b""  # what stands before the known end
+        self.number = 0  # of the file that was read, as the system counts files
         self.fault: str | None = None  # why the file is followed no longer
 
     def grew(self) -> bool:
-        """Whether the file has another length than was read; the gate is one byte."""
+        """Whether the file has another length than was read, or is another file; the gate is one byte."""
         try:
-            size = os.stat(self.path).st_size
+            found = os.stat(self.path)
         except OSError:
             return True
-        return size != self.offset + 1
+        return (found.st_size, found.st_ino) != (self.offset + 1, self.number)
 
     def sync(self) -> int:
         """Reads what stands behind the known end; the number of new entries.
@@ -65,7 +66,7 @@ class Mirror:
         try:
             with open(self.path, "rb") as file:
                 self.digest = self.digest or file.read(HEAD).decode("ascii", "replace").strip()[-64:]
-                size = file.seek(0, os.SEEK_END)
+                size, self.number = file.seek(0, os.SEEK_END), os.fstat(file.fileno()).st_ino
                 file.seek(self.offset - len(self.tail))
                 text = file.read()
         except OSError as why:

@@ -199,7 +199,7 @@ class Server:
         while not mirror.fault:
             await asyncio.sleep(POLL)
             looks += 1
-            if looks % SELDOM == 0 and self.original.is_changed():
+            if looks % SELDOM == 0 and await asyncio.to_thread(self.original.is_changed):
                 mirror.fault = "the trace was changed since screen began"
             if self.names.changed():
                 self.push("names", {"names": self.names.names})
@@ -223,6 +223,7 @@ class Server:
             for _ in self.bench.trace.connect():
                 await self._give_way()
             self.push("connected", {})
+        await asyncio.to_thread(self.original.learn)
         digest = ""
         for digest in self.bench.trace.digests():
             await self._give_way()

@@ -289,6 +289,24 @@ def test_a_trace_that_is_another_one(program):
         same(original.is_changed(), is_changed)
 
 
+def test_a_long_trace_that_is_another_one_in_its_midst(program):
+    """It has the same size, and the same bytes at both ends."""
+    text = traces.COUNT * 900
+    traces.write("trace", text)
+    original = Original("trace")
+    original.learn()
+    half = len(text) // 2
+    for changed, is_changed in ((text, False), (text[:half].replace("value", "valve") + text[half:], True)):
+        traces.write("other", changed)
+        os.replace("other", "trace")
+        same(original.is_changed(), is_changed)
+    traces.write("trace", text)
+    original = Original("trace")
+    traces.write("trace", text + "\n")
+    original.learn()  # that is another one already
+    same((original.digest, original.is_changed()), (None, True))
+
+
 def test_names_that_are_read_while_they_are_written(program):
     """A file may be written on within the same tick of its clock: it is looked into once more."""
     traces.write("log.names", "1 Ada\n")

@@ -166,6 +166,26 @@ def test_a_log_that_cannot_be_followed(program):
     assert "cannot be read" in (mirror.fault or ""), mirror.fault
 
 
+def test_another_log_of_the_same_length(program):
+    """It is looked into, though it is no longer than what was read. One with the same end is taken for the same."""
+    traces.write("trace", traces.COUNT)
+    session(program, "1 new A\n1 add A 0\n")
+    with open("log", "rb") as file:
+        text = file.read()
+    mirror = Mirror("log", Trace("trace").read_at_once())
+    mirror.sync()
+    same((mirror.grew(), mirror.fault), (False, None))
+    foreign = (text.replace(b"add A 0", b"add A 2"), "the log is not the one that was read before")
+    for changed, fault in ((text, None), foreign):
+        with open("other", "wb") as file:
+            file.write(changed)
+        os.replace("other", "log")
+        same(mirror.grew(), True)
+        mirror.sync()
+        same(mirror.fault, fault)
+        same(mirror.grew(), False)
+
+
 def last_writes(trace, events):
     """Of each read the position of the write that it sees, by going over the list."""
     last = {}
