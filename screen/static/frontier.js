@@ -44,7 +44,7 @@ async function fetchNext() {
     return;
   }
   const got = await ask("frontier", { name: schedule, aim: state.aim });
-  if (mine !== asked || schedule !== name()) return;
+  if (mine !== asked || schedule !== name() || got.lost) return;
   if (got.gone) {
     events.say(`the program ended: ${got.gone}`); // the list stays, so a key starts it again
     return;

@@ -69,7 +69,7 @@ function take(told) {
 }
 
 function closed(event) {
-  for (const done of waiting.values()) done({ mistake: "the connection ended" });
+  for (const done of waiting.values()) done({ mistake: "the connection ended", lost: true });
   waiting.clear();
   if (event.code === REFUSED) {
     keep("sessionStorage", "key", "");
@@ -79,10 +79,13 @@ function closed(event) {
   tryAgain();
 }
 
+export const isOpen = () => socket?.readyState === WebSocket.OPEN;
+
+// An answer that is `lost` says nothing of what was asked.
 export function ask(what, given = {}) {
   return new Promise((done) => {
-    if (socket?.readyState !== WebSocket.OPEN) {
-      done({ mistake: "not connected" });
+    if (!isOpen()) {
+      done({ mistake: "not connected", lost: true });
       return;
     }
     const id = ++number;

@@ -1,6 +1,6 @@
 // The schedule: rows of one height, of which only a window is fetched and drawn; the cursor, and swaps.
 import { $, el, fill, nameChosen } from "./make.js";
-import { ask } from "./net.js";
+import { ask, isOpen } from "./net.js";
 import { state } from "./words.js";
 import { HEIGHT, lay, rails, bars } from "./lanes.js";
 import * as drawn from "./rows.js";
@@ -93,7 +93,7 @@ async function fetchRows({ to, toggle }) {
   if (typeof wanted === "number") given.at = wanted;
   if (toggle !== undefined) given.toggle = toggle;
   const told = await ask("view", given);
-  if (view !== state.view) return null;
+  if (view !== state.view || told.lost) return null; // what is drawn stays until the connection comes back
   const isLatest = mine === asked;
   if (mine < taken || (!isLatest && told.mistake)) return latest;
   if (told.mistake) {
@@ -305,11 +305,11 @@ function wants() {
 }
 
 function fetchMore() {
-  if (!win || pending || !wants()) return;
+  if (!win || pending || !isOpen() || !wants()) return;
   pending = true;
   requestAnimationFrame(async () => {
     try {
-      do await load(); while (win && wants());
+      do await load(); while (win && isOpen() && wants());
     } finally {
       pending = false;
     }

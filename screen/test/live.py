@@ -267,3 +267,37 @@ async def test_a_log_that_another_file_replaces(program):
             await page.until(f"document.getElementById('live').textContent.includes('{why}')")
             is_clean(page, screen)
         os.remove("log")
+
+
+# What the browser itself says of a server that is gone.
+GONE = "ERR_CONNECTION_REFUSED"
+
+
+async def test_a_screen_that_is_killed(program):
+    """The page says that nobody answers, keeps what it shows while it is scrolled, and takes a new link."""
+    traces.write("trace", "".join(f"T{at % 2}|w(a{at % 2})|a:{at}\n" for at in range(800)))
+    await session(program, 1, "new A\n" + "".join(f"add A {event}\n" for event in range(300)))
+    async with Browser() as browser:
+        async with Screen(program, "trace", "log") as screen:
+            page = await browser.page(screen.link)
+            await page.until(f"{LENGTH} === '300 events' && !!document.querySelector('.row[data-p=\"299\"]')")
+            await page.until(f"{NEXT} === 2")
+            screen.process.kill()
+            await page.until("document.getElementById('live').textContent.includes('screen does not answer')")
+            rows = await page.run(ROWS)
+            await page.run("document.getElementById('stage').scrollTop = 0")
+            for key in ("1", "r", "Backspace"):
+                await press(page, key)
+                same(await page.run(SAID), "not connected")
+            same(await page.run(f"[{ROWS}, {NEXT}, {LENGTH}]"), [rows, 2, "300 events"])
+        async with Screen(program, "trace", "log", "--port", str(screen.port)) as screen:
+            await page.until("document.getElementById('live').textContent.includes('no longer good')")
+            await page.run("window.isOld = true")
+            await page.open(screen.link)
+            await page.until(f"!window.isOld && {LENGTH} === '300 events' && {NEXT} === 2")
+            await focus(page, "next-list")
+            await press(page, "1")
+            await page.until(f"{LENGTH} === '301 events'")
+            same(logged()[-1], "1 add A 300")
+            page.faults = [fault for fault in page.faults if GONE not in fault]
+            is_clean(page, screen)
