@@ -154,6 +154,14 @@ export function settle() {
   events.open(block);
 }
 
+// The race that is looked at is the chosen one, however it was opened.
+export function mark(pair) {
+  const key = pair?.join("-");
+  if (!key || soon || key === chosen) return; // a cursor that moves on is not put back
+  chosen = key;
+  if (got) render();
+}
+
 // Goes to the first race, or to the last one.
 export async function jump(at) {
   if (!got?.blocks) return;

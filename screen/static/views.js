@@ -8,6 +8,7 @@ import { reveal } from "./frame.js";
 import { later, now } from "./queue.js";
 import * as sheet from "./sheet.js";
 import * as frontier from "./frontier.js";
+import * as races from "./races.js";
 import * as schedules from "./schedules.js";
 
 const note = $("note");
@@ -111,6 +112,7 @@ async function check(name) {
 // Until its events are known, the line of the aim shows those that it had.
 export async function aimAt(pair) {
   state.aim = pair;
+  races.mark(pair);
   const told = pair ? await ask("pair", { pair }) : { told: [] };
   if (state.aim !== pair) return;
   if (told.mistake) state.aim = null;

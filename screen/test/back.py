@@ -69,6 +69,31 @@ async def test_a_reload_shows_what_was_shown(program):
         is_clean(page, screen)
 
 
+CHOSEN = "[...document.querySelectorAll('.race.on')].map((r) => r.id).join()"
+
+
+async def test_the_race_that_is_looked_at_is_chosen(program):
+    """However it was opened: by the browser's buttons, a reload, or a schedule of its name."""
+    traces.write("trace", SEVERAL)
+    await session(program, 2, "new r4-6\n")
+    async with Screen(program, "trace", "log") as screen, Browser() as browser:
+        page = await browser.page(screen.link)
+        await page.until(f"{OPEN} === 'r4-6' && {RACES} === 2 && {AIM} === '4,6'")
+        await page.until(f"{CHOSEN} === 'race-4-6'")
+        await page.click("#race-0-5")
+        await page.until(f"{OPEN} === 'Witness' && {AIM} === '0,5' && {CHOSEN} === 'race-0-5'")
+        await page.run("history.back()")
+        await page.until(f"{OPEN} === 'r4-6' && {AIM} === '4,6' && {CHOSEN} === 'race-4-6'")
+        await page.run("history.forward()")
+        await page.until(f"{OPEN} === 'Witness' && {AIM} === '0,5' && {CHOSEN} === 'race-0-5'")
+        await page.call("Page.reload")
+        await page.until(f"{OPEN} === 'Witness' && {AIM} === '0,5' && {CHOSEN} === 'race-0-5'")
+        await focus(page, "race-list")
+        await page.key("ArrowDown")  # from there on
+        await page.until(f"{OPEN} === 'Witness' && {AIM} === '4,6' && {CHOSEN} === 'race-4-6'")
+        is_clean(page, screen)
+
+
 async def test_an_aim_that_was_dropped(program):
     """A reload and a connection that comes back leave it so. A schedule that is opened anew has that of its name."""
     traces.write("trace", SEVERAL)
