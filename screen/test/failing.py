@@ -17,7 +17,7 @@ import traces  # noqa: E402
 from judged import same, within  # noqa: E402
 from screen_app import command, outlet, pairs, readers, server, session  # noqa: E402
 from screen_app.bench import Bench  # noqa: E402
-from screen_app.kept import Confirmed, Names, Original  # noqa: E402
+from screen_app.kept import Confirmed, Names, Original, Seen  # noqa: E402
 from screen_app.session import Gone, Session  # noqa: E402
 from screen_app.source import Source  # noqa: E402
 from screen_app.trace import Trace  # noqa: E402
@@ -265,12 +265,26 @@ async def test_lines_that_are_no_races(program):
 
 def test_files_beside_the_log_that_are_odd(program):
     """Numbers too long to be read, numbers that are none, and brackets without end are passed over."""
-    traces.write("log.names", "9" * 5000 + " Nobody\n1 Ada\n" + "0" * 9000 + "2 Nobody\n")
+    lines = ["9" * 5000 + " Nobody", "1 Ada", "0" * 9000 + "2 Nobody", "33 Nobody", "0 Nobody", "-1 Nobody", "4 \x1bB"]
+    traces.write("log.names", "\n".join([*lines, "32 " + "z" * 50]) + "\n")
     names = Names("log")
-    same((names.changed(), names.names), (True, {1: "Ada"}))
+    same((names.changed(), names.names), (True, {1: "Ada", 4: "\\u{1b}B", 32: "z" * 40}))
     lines = ['{"events": [Infinity, 1], "ended": "x"}', "[" * 100_000, '{"events": [2, 1], "ended": "stands"}']
     traces.write("trace.confirmed", "\n".join(lines) + "\n")
     same(list(Confirmed("trace").read()), [(1, 2)])
+
+
+def test_how_far_each_analyst_has_looked(program):
+    """It is kept for each client of a log, and counts for the trace with this digest alone."""
+    ada, bob, other = Seen("log", 1), Seen("log", 2), Seen("other", 1)
+    ada.write("d" * 64, 7)
+    same([one.read("d" * 64) for one in (ada, Seen("./log", 1), bob, other)], [7, 7, None, None])
+    same(ada.read("e" * 64), None)
+    bob.write("d" * 64, 9)
+    same((ada.read("d" * 64), bob.read("d" * 64)), (7, 9))
+    same(oct(os.stat(os.path.dirname(ada.path)).st_mode & 0o777), "0o700")
+    traces.write(ada.path, "no number\n")
+    same(ada.read("d" * 64), None)
 
 
 def test_a_trace_that_is_another_one(program):

@@ -262,6 +262,8 @@ def test_names_are_made_harmless(program):
     same(clean("a\u202eb\x1b[31m\x00"), "a\\u{202e}b\\u{1b}[31m\\u{0}")
     same(clean(b"\xff\xfe"), "\ufffd\ufffd")
     same(clean("é🙂"), "é🙂")
+    for sign in (0xAD, 0x7F, 0x85, 0x2028, 0x2029, 0x2066, 0xD800, 0xE000, 0xFEFF, 0x378, 0xE0001, 0x10FFFF):
+        same(clean(f"a{chr(sign)}b"), f"a\\u{{{sign:x}}}b")
 
 
 def test_source_lines_of_one_folder_alone(program):
@@ -286,6 +288,20 @@ def test_source_lines_of_one_folder_alone(program):
         "\0:1",
     ):
         same(source.around(place), None)
+    os.makedirs("project/.git")
+    traces.write("project/.git/kept.c", "one\n")
+    traces.write("project/wide.c", "x" * 500 + "\n" + "y\u202ez\n" * 200)
+    source = Source("project")
+    same(source.around("kept.c:1"), None)  # folders whose names begin with a dot are passed over
+    same(source.around("wide.c:1")["lines"], [[1, "x" * 400]])
+    same(source.of_places({"wide.c:2", "a.c:3", "none.c:1"}), {"wide.c:2": "y\\u{202e}z", "a.c:3": "three"})
+    same([at for at, _ in source.around("wide.c:100", 99)["lines"]], list(range(60, 141)))
+    os.makedirs("project/deep/er")
+    traces.write("project/deep/er/a.c", "another\n")
+    source = Source("project")
+    lines = [source.around(f"{path}a.c:1")["lines"][0][1] for path in ("", "src/", "er/", "x/deep/er/", "deep/")]
+    same(lines, ["one", "one", "another", "another", "one"])  # the longest end in common, and then the shortest path
+    os.remove("project/deep/er/a.c")
     os.remove("project/src/a.c")
     os.symlink(os.path.abspath("outside/secret.c"), "project/src/a.c")
     same(Source("project").around("a.c:1"), None)

@@ -27,11 +27,12 @@ def modules():
     if importlib.util.find_spec("aiohttp") is None:
         print("aiohttp is not here: nothing but the reading is tested (apt-get install python3-aiohttp)")
         return
-    yield from ("security", "failing", "limits")
+    yield from ("security", "failing", "limits", "long")
     if not any(map(os.path.exists, CHROMIUM)):
         print("chromium is not here: what needs a browser is not tested (apt-get install chromium)")
         return
     yield from ("framed", "table", "look", "live", "hands", "corners", "narrow", "sight", "busy", "questions", "back")
+    yield from ("guards", "said")
     yield from ("tired", "big")
 
 

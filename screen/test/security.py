@@ -221,13 +221,13 @@ async def test_every_answer_has_its_headers(screen):
         _, answer = await status(screen, path)
         head = answer.split(b"\r\n\r\n")[0].decode()
         for part in (
-            "default-src 'self'",
-            "frame-ancestors 'none'",
-            "require-trusted-types-for 'script'",
+            "default-src 'self'; object-src 'none'; base-uri 'none'; form-action 'none'; frame-ancestors 'none'; "
+            "require-trusted-types-for 'script'; trusted-types 'none'\r\n",
             "nosniff",
             "no-referrer",
             "X-Frame-Options: DENY",
             "Cross-Origin-Resource-Policy: same-origin",
+            "Cross-Origin-Opener-Policy: same-origin",
             "no-store",
         ):
             assert part in head, (path, part, head)

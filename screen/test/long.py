@@ -1,0 +1,86 @@
+"""What is long: a witness that fits no line, a run without end, an explanation of many lines; and locks in locks."""
+
+import os
+import sys
+
+sys.path.insert(0, os.path.dirname(os.path.dirname(os.path.abspath(__file__))))
+import traces  # noqa: E402
+from failing import script  # noqa: E402
+from judged import same  # noqa: E402
+from screen_app import frontier, pairs, steps  # noqa: E402
+from screen_app.bench import Bench  # noqa: E402
+from screen_app.trace import Trace  # noqa: E402
+from stage import logged  # noqa: E402
+
+
+async def bench_of(program, text):
+    """What a screen of this trace asks the program with."""
+    traces.write("trace", text)
+    bench = Bench(program, Trace("trace").read_at_once(), "log", 1)
+    await bench.open()
+    bench.mirror.sync()
+    return bench
+
+
+async def test_a_witness_that_fits_no_line(program):
+    """It is entered by batches, and the next undo takes all of them back. As a proposal it is not sent."""
+    bench = await bench_of(program, "".join(f"T1|w(a{at % 9})|a:{at}\n" for at in range(300)) + "T2|w(a2)|b:1\n")
+    line, steps.LINE = steps.LINE, 500
+    events = Trace("trace").read_at_once().events_of[0]
+    try:
+        told = await steps.enter(bench, "B", events, (299, 300))
+        same(told, {"answer": "5: done", "entries": [0, 1, 2, 3, 4, 5]})
+        same(list(bench.row("B").events), list(range(300)))
+        same(len(logged()[1].split(" ; ")), 64)
+        told = await steps.propose(bench, (299, 300), events)
+        same(told, {"answer": "not sent: the list is longer than a line of a script may be (65,536 bytes)"})
+        same(await steps.enter(bench, "B", events, (299, 300)), {"answer": "refused 43 name taken", "entries": []})
+        told = await steps.undo(bench, [5, 4, 3, 2, 1, 0])
+        same((told["undone"], bench.mirror.rows), (6, {}))
+    finally:
+        steps.LINE = line
+        await bench.session.stop()
+
+
+async def test_a_run_that_goes_on(program):
+    """So many events are added at once, and the page is told how many are left."""
+    bench = await bench_of(program, "".join(f"T1|w(a{at % 9})|a:{at}\n" for at in range(300)))
+    most, steps.MOST = steps.MOST, 130
+    try:
+        await bench.say("new A")
+        told = await steps.Run(bench, "A").to(0, None)
+        same((told["added"], told["more"], told["entries"]), (130, 170, [1, 2, 3]))
+        told = await steps.Run(bench, "A").to(0, 199)
+        same((told["added"], "more" in told, len(bench.row("A").events)), (70, False, 200))
+        told = await steps.Run(bench, "A").to(0, 150)  # it is there already
+        same(told, {"added": 0, "entries": [], "answer": "nothing to add"})
+    finally:
+        steps.MOST = most
+        await bench.session.stop()
+
+
+async def test_an_explanation_of_many_lines(program):
+    """The first ones are shown, and how the others are seen is said."""
+    bench = await bench_of(program, traces.COUNT)
+    bench.program = script("talks", "#!/bin/sh\nseq 1 500\n")
+    told = await pairs.Pairs(bench).explain((7, 12))
+    same(told["lines"][:400], [str(number) for number in range(1, 401)])
+    same(told["lines"][400:], ["and 101 lines more: racebench explain TRACE 7 12"])
+    await bench.session.stop()
+
+
+async def test_a_lock_that_is_taken_again(program):
+    """What helps is the release that lets it go, and not the one of the section inside."""
+    lines = ["T1|acq(l)|a:1", "T1|acq(l)|a:2", "T1|rel(l)|a:3", "T1|w(x)|a:4", "T1|rel(l)|a:5", "T2|acq(l)|b:1"]
+    bench = await bench_of(program, "\n".join(lines) + "\nT2|rel(l)|b:2\n")
+    try:
+        for count, counted in ((1, 5), (2, 4), (3, 3), (4, 2)):
+            await bench.say(*(["new A"] if count == 1 else []), f"add A {count - 1}")
+            (waiting,) = [one for one in (await frontier.frontier(bench, "A", ()))["next"] if one["e"] == 5]
+            why = waiting["why"]
+            same((why["about"]["e"], why["help"], why["helper"], why["steps"]), (0, 4, 0, counted - 1))
+        await bench.say("add A 4")
+        (free,) = (await frontier.frontier(bench, "A", ()))["next"]
+        same((free["e"], "why" in free), (5, False))
+    finally:
+        await bench.session.stop()

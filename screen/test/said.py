@@ -1,0 +1,212 @@
+"""What the page says in words: refusals, news of each kind, what rests on what, titles, distances, reads and locks."""
+
+import traces
+from browser import Browser
+from judged import same
+from live import session
+from stage import LENGTH, NEXT, ROWS, SAID, Screen, focus, is_clean, logged, new, press
+
+OPEN = "document.querySelector('#bar h2').textContent"
+LINES = "[...document.querySelectorAll('.away-line')].map((l) => l.textContent.trim().replace(/ +/g, ' '))"
+PROPOSAL = "propose 7 12 0 2 3 4 5 6 1 8 9 10 11\n"
+
+
+async def test_news_of_each_kind(program):
+    """What others did since the last look is said by analyst and schedule, the latest first, six lines at most."""
+    traces.write("trace", traces.COUNT)
+    await session(program, 1, "new A\nnew B\nnew C\n")
+    await session(program, 2, PROPOSAL)
+    async with Screen(program, "trace", "log") as screen, Browser() as browser:
+        page = await browser.page(screen.link)
+        await page.until(f"{OPEN} === 'C' && {NEXT} === 3")
+        await press(page, "s")
+        await session(program, 2, "adopt A 0\nswap A 5\nswap A 5\n")
+        await page.until(f"{LINES}.join('; ') === '2 A took a proposal, 2 swaps'")
+        await session(program, 3, "drop C\nadd B 0\nadd B 1\nback B\nundo\n")
+        await page.until(f"{LINES}.length === 4")
+        same(
+            await page.run(LINES),
+            ["3 took back 1 entry", "3 B +2, −1", "3 C dropped", "2 A took a proposal, 2 swaps"],
+        )
+        await session(program, 4, "branch A 2 D\nnew E\nnew F\nnew G\n" + PROPOSAL)
+        await page.until(f"{LINES}.length === 6")
+        same((await page.run(LINES))[:3], ["4 1 proposal", "4 G made", "4 F made"])
+        same(await page.run("document.querySelector('#away > .dim').textContent"), "and 3 more")
+        same(await page.run("[...document.querySelectorAll('#feed .divide')].map((d) => d.textContent)"), ["seen"])
+        below = "document.querySelector('.divide').nextElementSibling.querySelector('.at').textContent"
+        same(await page.run(below), "3")
+        await page.click("#away button")
+        await page.until("document.getElementById('away').hidden && !document.querySelector('.divide')")
+        is_clean(page, screen)
+
+
+async def test_names_that_are_taken_or_gone(program):
+    """The program's refusals are said as a person says them, with its own words beside them."""
+    traces.write("trace", traces.COUNT)
+    async with Screen(program, "trace", "log") as screen, Browser() as browser:
+        page = await browser.page(screen.link)
+        await new(page, 3, "A")
+        await page.key("n")
+        await page.until("document.getElementById('ask').open")
+        await page.run("document.getElementById('ask-input').select()")
+        await page.type("A")
+        await page.key("Enter")
+        await page.until(f"{SAID}.startsWith('refused: that name is taken')")
+        same(await page.run("document.querySelector('#said .raw').textContent"), "refused 43 name taken")
+        await press(page, "Backspace")
+        assert (await page.run(SAID)).startswith("refused: there is no event to take back"), await page.run(SAID)
+        await session(program, 2, "new B\n")
+        link = "[...document.querySelectorAll('.entry a')].find((a) => a.textContent === 'B')"
+        await page.until(f"!!{link}")
+        await session(program, 2, "drop B\n")
+        await page.until("document.querySelectorAll('.sched').length === 1")
+        await page.run(f"{link}.click()")
+        await page.until(f"{SAID} === 'there is no schedule B any more'")
+        same(logged(), ["1 new A", "2 new B", "2 drop B"])
+        is_clean(page, screen)
+
+
+async def test_a_group_that_another_rests_on(program):
+    """Nothing of it is taken back. The page names the entry that rests on it, and leads to it."""
+    traces.write("trace", "".join(f"T1|w(a{at})|a:{at}\n" for at in range(9)))
+    async with Screen(program, "trace", "log") as screen, Browser() as browser:
+        page = await browser.page(screen.link)
+        await new(page, 1, "A")
+        await press(page, "1", "1", "1", "1")
+        await page.until(f"{ROWS} === 4")
+        await session(program, 2, "branch A 2 B\n")
+        await page.until("document.querySelectorAll('.entry').length === 3")
+        await page.hover(".entry", 1)
+        await page.click(".entry .quiet", 0)
+        await page.until(f"{SAID}.startsWith('not taken back: entry 5 of 2 rests on it (branch A 2 B)')")
+        flashed = "document.querySelector('.entry.flash .at')?.textContent"
+        await page.until(f"{flashed} === '5'")
+        await page.click("#said a")
+        await page.until(f"{flashed} === '5'")
+        same(await page.run(LENGTH), "4 events")
+        same(logged()[-1], "2 branch A 2 B")
+        is_clean(page, screen)
+
+
+DISTANCES = (
+    "[...document.querySelectorAll('#next-list .next')].map((n) => n.querySelector('.aim-left')?.textContent ?? '')"
+)
+
+
+GO_ON = "2 of 2 threads may go on, 1 at an end"
+
+
+async def test_how_far_each_thread_is_from_the_aim(program):
+    traces.write("trace", traces.COUNT)
+    async with Screen(program, "trace", "log") as screen, Browser() as browser:
+        page = await browser.page(screen.link)
+        await page.until("document.querySelectorAll('.race').length === 1")
+        await page.click(".race")
+        await page.until("!document.getElementById('pair').hidden")
+        await press(page, "e")
+        await page.until(f"{NEXT} === 3")
+        same(await page.run(DISTANCES), ["2 needed", "5 to aim", "4 to aim"])
+        await focus(page, "next-list")
+        await press(page, "t", "2", "t")
+        await page.until(f"{DISTANCES}.join() === ',aim,4 to aim'")
+        await press(page, "t")
+        assert (await page.run(SAID)).startswith("T1 has come as far as the aim needs"), await page.run(SAID)
+        await press(page, "2")  # its last one
+        await page.until(f"{DISTANCES}.join() === ',4 to aim'")
+        same(await page.run("document.querySelector('#next-count').textContent"), GO_ON)
+        await press(page, "3", "t", "3")
+        await page.until(f"{DISTANCES}.join() === ',past the aim'")
+        is_clean(page, screen)
+
+
+READS = "document.querySelector('.reads')?.textContent"
+
+
+async def test_who_reads_whom(program):
+    """Over a write its reads are named, over a read its write; lines lead from one to the other."""
+    traces.write("trace", "T1|r(x)|a:1\nT1|w(x)|a:2\nT2|r(x)|b:1\nT3|r(x)|c:1\nT3|w(y)|c:2\n")
+    await session(program, 1, "new A\n" + "".join(f"add A {event}\n" for event in range(5)))
+    async with Screen(program, "trace", "log") as screen, Browser() as browser:
+        page = await browser.page(screen.link)
+        await page.until(f"{ROWS} === 5 && {NEXT} === 0")
+        await focus(page, "stage")
+        for key, reads, lines, linked in (
+            ("Home", "reads the initial value", 0, ""),
+            ("ArrowDown", "is read at 2, 3", 2, "1,2,3"),
+            ("ArrowDown", "reads the write at 1", 1, "1,2"),
+        ):
+            await page.key(key)
+            await page.until(f"{READS} === {reads!r}")
+            same(await page.run("document.querySelectorAll('#edges path').length"), lines)
+            shown = "[...document.querySelectorAll('.row.linked')].map((r) => r.dataset.p).sort().join()"
+            same(await page.run(shown), linked)
+        label = "document.querySelector('.row.on').getAttribute('aria-label')"
+        same(await page.run(label), "position 2, event 2, T2 reads x, b:1, reads the write at 1")
+        await page.key("End")
+        await page.until(f"{READS} === undefined && document.querySelectorAll('#edges path').length === 0")
+        is_clean(page, screen)
+
+
+BARS = "[...document.querySelectorAll('.lock')].map((l) => [l.title, l.classList.contains('open'), l.offsetLeft])"
+
+
+async def test_locks_that_are_held_at_once(program):
+    """They stand side by side, and one that is held still ends with the last row."""
+    lines = ["acq(l)", "acq(m)", "w(x)", "rel(m)", "acq(n)", "w(x)", "rel(n)", "w(x)"]
+    traces.write("trace", "".join(f"T1|{line}|a:{at}\n" for at, line in enumerate(lines)))
+    await session(program, 1, "new A\n" + "".join(f"add A {event}\n" for event in range(8)))
+    async with Screen(program, "trace", "log") as screen, Browser() as browser:
+        page = await browser.page(screen.link)
+        await page.until(f"{LENGTH} === '8 events'")
+        await focus(page, "stage")
+        await page.key("Home")
+        await page.key("Enter")  # the block
+        await page.until(f"{ROWS} === 8 && {BARS}.length === 3")
+        held = sorted(await page.run(BARS), key=lambda one: one[0])
+        names = [f"{name}, held by T1 since {at}" for name, at in (("l", 0), ("m", 1), ("n", 4))]
+        same([one[0] for one in held], names)
+        same([one[1] for one in held], [True, False, False])
+        first, second, third = (one[2] for one in held)
+        assert first < second == third, held
+        tall = "[...document.querySelectorAll('.lock')].map((l) => l.offsetHeight).sort((a, b) => a - b)"
+        low, middle, high = await page.run(tall)
+        assert low == middle == 44 and high > 140, (low, middle, high)
+        is_clean(page, screen)
+
+
+async def test_the_schedule_that_was_worked_on_last_opens(program):
+    """Of this analyst's, and not the newest of all."""
+    traces.write("trace", traces.COUNT)
+    await session(program, 1, "new A\nnew B\n")
+    await session(program, 2, "new C\nadd B 0\n")
+    await session(program, 1, "add A 0\n")
+    await session(program, 2, "new D\nadd D 0\nadd D 1\n")
+    for words, name, length in (((), "A", 1), (("--client", "2"), "D", 2), (("--client", "3"), "D", 2)):
+        async with Screen(program, "trace", "log", *words) as screen, Browser() as browser:
+            page = await browser.page(screen.link)
+            await page.until(f"{OPEN} === '{name}' && {ROWS} === {length} && {NEXT} === 3")
+            same(await page.run("document.title"), f"trace · client {words[1] if words else 1}")
+            is_clean(page, screen)
+
+
+async def test_titles_tell_the_rest(program):
+    """Of schedules who made and changed them, of races what is held, of lanes how far they are."""
+    traces.write("trace", "T1|acq(l)|a:1\nT1|w(x)|a:2\nT1|rel(l)|a:3\nT2|w(x)|b:1\n")
+    traces.write("log.names", "2 Grace\n")
+    await session(program, 2, "new A\nadd A 0\n")
+    async with Screen(program, "trace", "log") as screen, Browser() as browser:
+        page = await browser.page(screen.link)
+        await page.until(f"{ROWS} === 1 && document.querySelectorAll('.race').length === 1")
+        await press(page, "1")
+        await page.until(f"{ROWS} === 2")
+        changed = "A: 2 events, made by Grace in entry 0, last changed by you in entry 2"
+        await page.until(f"document.querySelector('.sched').title === '{changed}'")
+        race = await page.run("document.querySelector('.race').title")
+        same(race.split("\n"), [race.split("\n")[0], "1 holds l"])
+        assert race.startswith("1 pair of events; the least: 1 and 3, shown by "), race
+        lane = "document.querySelector('#lanes-head [id=lane-0]')"
+        same(await page.run(f"[{lane}.title, {lane}.textContent]"), ["T1: 2 of 3 events", "T1 2/3"])
+        same(await page.run("document.querySelector('#space .pos').title"), "put here by Grace in entry 1")
+        dim = "document.querySelector('.race .verdict').textContent"
+        same(await page.run(dim), "candidate")
+        is_clean(page, screen)
