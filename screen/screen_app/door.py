@@ -20,7 +20,11 @@ class Connection(web.RequestHandler):
     def __init__(self, door: Door, manager: web.Server, loop: asyncio.AbstractEventLoop) -> None:
         super().__init__(manager, loop=loop, access_log=None)  # type: ignore[arg-type]
         self.door = door
-        self.late = loop.call_later(PATIENCE, self.force_close)
+        self.late = loop.call_later(PATIENCE / 2, self._wait_on)
+
+    def _wait_on(self) -> None:
+        """A machine that stood still may come to a request that is there after this."""
+        self.late = asyncio.get_running_loop().call_later(PATIENCE / 2, self.force_close)
 
     def connection_made(self, transport: asyncio.BaseTransport) -> None:
         super().connection_made(transport)

@@ -173,6 +173,8 @@ class Requests:
         else:
             until = counted(until, len(trace) - 1)
             thread = trace.thread[until]
+            if request.get("thread", thread) != thread:
+                raise Mistake(f"{until} is an event of {trace.threads.text(thread)}")
         return await steps.Run(self.bench, named(request["name"])).to(thread, until)
 
     async def do_undo(self, request: Told) -> Told:

@@ -171,7 +171,7 @@ function untilField(one, left) {
     if (key.key !== "Enter") return;
     key.stopPropagation();
     const until = Number(field.value.replaceAll(",", ""));
-    if (field.value.trim() && Number.isInteger(until)) later(() => step("run", { until }));
+    if (field.value.trim() && Number.isInteger(until)) later(() => step("run", { until, thread: one.t }));
     else events.say("write the number of an event, as the list has it");
   });
   return field;
