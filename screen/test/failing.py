@@ -20,6 +20,7 @@ from screen_app.bench import Bench  # noqa: E402
 from screen_app.kept import Confirmed, Names, Original, Seen  # noqa: E402
 from screen_app.session import Gone, Session  # noqa: E402
 from screen_app.source import Source  # noqa: E402
+from screen_app.text import clean  # noqa: E402
 from screen_app.trace import Trace  # noqa: E402
 
 SCREEN = os.path.join(os.path.dirname(os.path.dirname(os.path.abspath(__file__))), "screen")
@@ -148,7 +149,7 @@ async def test_a_request_that_fails_is_answered(program):
 
     screen.requests.do_fail = fails
     read = json.loads
-    for why, key in ((OSError("no process"), "mistake"), (RuntimeError("x"), "mistake"), (Gone("y"), "gone")):
+    for why, key in ((OSError("no process"), "mistake"), (RuntimeError("x"), "mistake"), (Gone("\u202ey"), "gone")):
         json.loads = lambda text, why=why: {"id": 7, "do": "fail", "why": why}
         try:
             with contextlib.redirect_stderr(io.StringIO()):
@@ -157,7 +158,7 @@ async def test_a_request_that_fails_is_answered(program):
             json.loads = read
         told = outlet.told.pop()
         same(told["id"], 7)
-        assert str(why) in told[key], told
+        assert clean(str(why)) in told[key], told
 
 
 async def test_a_task_that_fails_is_said(program):
