@@ -49,7 +49,9 @@ async function fetchNext() {
     events.say(`the program ended: ${got.gone}`); // the list stays, so a key starts it again
     return;
   }
+  const before = here()?.ahead; // it stays until the new one is there, with what is typed below it
   told = got.mistake ? null : got;
+  if (told) told.ahead = before;
   if (told && !chosenOne()) chosen = (told.next.find((one) => !one.why) ?? told.next[0])?.t ?? null;
   if (open !== null) await more();
   render();
@@ -86,7 +88,9 @@ function render() {
   list.dataset.length = told.length;
   const empty = told.next.length ? "Nothing matches." : "All events of the trace stand in this schedule.";
   const lines = sorted().map((one) => line(one, lit));
+  const hasFocus = list.contains(document.activeElement);
   fill(list, lines.length ? lines : el("p", "empty", empty));
+  if (hasFocus && !list.contains(document.activeElement)) list.focus(); // what had it is gone
   nameChosen(list);
   const sign = `${chosen} ${Boolean(chosenOne()?.why)}`; // a thread that has to wait stands elsewhere in a long list
   if (shown !== sign) list.querySelector(".on")?.scrollIntoView({ block: "nearest" });
@@ -120,7 +124,7 @@ function addLater(one) {
 function line(one, lit) {
   const about = [one, one.t === chosen, open === one.t, lit.has(one.e), told.source?.[one.l]];
   const made = part(`next-${one.t}`, JSON.stringify(about), () => drawn(one, lit));
-  if (open !== one.t || !told.ahead) return made;
+  if (open !== one.t || told.ahead?.thread !== one.t) return made;
   return [made, part(`ahead-${one.t}`, JSON.stringify([told.ahead, state.aim]), () => ahead(one))];
 }
 
@@ -178,8 +182,9 @@ function untilField(one, left) {
 }
 
 async function more() {
-  const got = await ask("ahead", { name: name(), thread: open, from: 0, count: AHEAD });
-  if (told) told.ahead = got.mistake ? null : got;
+  const thread = open;
+  const got = await ask("ahead", { name: name(), thread, from: 0, count: AHEAD });
+  if (told) told.ahead = got.mistake ? null : { ...got, thread };
 }
 
 export async function unfold() {
