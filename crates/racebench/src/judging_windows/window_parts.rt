@@ -1,7 +1,7 @@
 //! What is printed of windows, by as many threads as there are windows.
 
-use crate::kept::Kept;
 use crate::input::Input;
+use crate::kept::Kept;
 use crate::numbering::moved;
 use crate::seen::Seen;
 use calls::triage::{Asked, Crew, Filters, Form, Silent, TriageFault, triage};
