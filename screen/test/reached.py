@@ -123,9 +123,9 @@ async def test_the_link_is_there_to_be_copied(program):
 
 async def test_the_filter_of_threads(program):
     """Those of the aim come first, then those that may go on. Enter chooses the first one that matches."""
-    lines = [f"T0|fork(W{number})|main.c:1\n" for number in range(14)]
-    lines += [f"W{number}|w(v{number})|w.c:{number}\n" for number in range(14)]
-    lines += ["W9|w(hit)|w.c:99\n", "W12|w(hit)|w.c:98\n"]
+    lines = [f"T0|fork(Z{number})|main.c:1\n" for number in range(14)]
+    lines += [f"Z{number}|w(v{number})|w.c:{number}\n" for number in range(14)]
+    lines += ["Z9|w(hit)|w.c:99\n", "Z12|w(hit)|w.c:98\n"]
     traces.write("trace", "".join(lines))
     order = "[...document.querySelectorAll('#next-list .next')].map((n) => n.dataset.t).join()"
     async with Screen(program, "trace", "log") as screen, Browser() as browser:
@@ -147,7 +147,7 @@ async def test_the_filter_of_threads(program):
         await page.key("Escape")
         await page.until(f"{NEXT} === 14 && document.activeElement.id === 'next-list'")
         await page.run("document.getElementById('next-filter').focus()")
-        await page.type("W11")
+        await page.type("Z11")
         await page.key("Enter")
         await page.until(f"{CHOSEN} === '12' && document.activeElement.id === 'next-list'")
         await press(page, "Enter")
