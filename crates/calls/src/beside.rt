@@ -1,4 +1,4 @@
-//! Runs scripts at once, and beside them the client that proposes what workers find.
+//! Runs scripts at the same time, with a client in the background that proposes the witnesses of the workers.
 ghost use Rattle.std.specs.Prelude.{[], ◌≡◌, ◌≤◌, ◌<◌, ◌⊎◌, ◌++◌, List, Option, All, IfOk, IfErr, OnOk, suc, None, length, replicate};
 ghost use Rattle.std.specs.Arc.{arc_value};
 ghost use Rattle.std.specs.Thread.{IsSync};
@@ -21,7 +21,8 @@ use std::thread;
 use std::thread::Threads;
 use workspace_lock::{Seat, Seats};
 
-/// How many clients there are beside those of the scripts: one that proposes what workers find, where there are workers.
+/// How many clients there are besides those of the scripts: 1 if there are workers, else 0. This client proposes the
+/// witnesses that the workers find.
 pub(crate) fn clients_beside(workers: u32) -> u32
     ensures count { result ≡ further_clients workers }
     ensures few { result ≤ 1 }
@@ -29,7 +30,7 @@ pub(crate) fn clients_beside(workers: u32) -> u32
     if workers == 0 { 0 } else { 1 }
 }
 
-/// Searches through a seat that is given back.
+/// Looks for witnesses and proposes them through the seat. Gives the seat back.
 fn search_through<R: Wait>(
     rt: &R,
     pool: &mut Pool<Open>,
@@ -44,7 +45,7 @@ fn search_through<R: Wait>(
     (seat, outcome)
 }
 
-/// Makes the calls of the scripts, each in a thread of its own, while this thread searches through the seat.
+/// Makes the calls of the scripts, each in a separate thread, while this thread proposes witnesses through the seat.
 fn run_both<R: Threads + Wait + Sync>(
     rt: &R,
     alloc: Global,
@@ -81,7 +82,7 @@ fn run_both<R: Threads + Wait + Sync>(
     )
 }
 
-/// The same, with workers that are started first and have ended then.
+/// Starts workers, runs the scripts beside them, and stops the workers.
 fn run_searched<R: Threads + Wait + Sync + Clone + Send + Drop + 'static>(
     rt: &R,
     alloc: Global,
@@ -106,8 +107,8 @@ fn run_searched<R: Threads + Wait + Sync + Clone + Send + Drop + 'static>(
     Ok((told?, seat))
 }
 
-/// Makes the calls of the scripts, each in a thread of its own. Where there are workers, the client of the seat that is still in proposes
-/// what they find meanwhile.
+/// Makes the calls of the scripts, each in a separate thread. If there are workers, the client of the seat that is
+/// still in proposes what they find at the same time.
 pub(crate) fn run_beside<R: Threads + Wait + Sync + Clone + Send + Drop + 'static>(
     rt: &R,
     alloc: Global,

@@ -24,7 +24,7 @@ impl From<CutFault> for BenchFault {
     }
 }
 
-/// The window at an event, with at most so many events.
+/// The window that begins at event `from` and has at most `most` events of the trace.
 #[derive(Clone, Copy)]
 struct WindowAt {
     from: u32,
@@ -50,11 +50,10 @@ impl Printout for WindowAt {
     }
 }
 
-/// Reads a trace text, whole, and writes its window at this event, with at most so many events: a text that is a trace of its
-/// own.
+/// Reads a whole trace text and writes a window of the trace, which is itself a trace text. The window begins at event
+/// `from`, counted from 0. After its prologue it has at most `most` events (docs/FORMATS.md, "A window of a trace").
 ///
-/// Before the faults 91, 92, 94, 106 and 107 nothing is written, nor if memory is refused. At 95 what was written is a
-/// beginning of the text.
+/// At the faults 91, 92, 94, 96, 106 and 107 nothing is written. At 95 the writer has taken a beginning of the text.
 pub fn cut_window<S: Source, K: Sink>(
     alloc: Global,
     reader: &mut S,

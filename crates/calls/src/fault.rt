@@ -1,4 +1,4 @@
-//! Why a command of the program stopped, what is printed of that, and how the faults below become this one.
+//! Why a command of the program stopped, the text of that fault, and how faults of other crates become this one.
 ghost use Rattle.std.specs.Prelude.{◌≡◌, ◌++◌, OnOk, OnErr};
 ghost use Rattle.client_scripts.specs.Messages.{words_in};
 ghost use Rattle.calls.specs.BenchFaultTexts.{bench_fault_words, script_refusal_words, words_in_script};
@@ -11,18 +11,19 @@ use std::alloc::{AllocError, AllocFailed};
 use std::fmt;
 use thiserror::Error;
 
-/// Why a command of the program stopped. Its message is what `bench_fault_text` appends.
+/// Why a command of the program stopped. Its message is what `bench_fault_text` appends. The numbers are those of
+/// docs/FORMATS.md.
 #[derive(Clone, Copy, PartialEq, Eq, Debug, Error)]
 pub enum BenchFault {
-    /// 91 to 96: a fault of reading, of a text, or of writing, or want of memory.
+    /// 91 to 96: a fault of a text, of reading or of writing, or out of memory.
     #[error("{0}")]
     Replay(ReplayFault),
-    /// 93: a script is refused, of several that run in threads.
+    /// 93: one of several scripts that run in threads is refused.
     #[error("{}", in_script(.place, .refusal))]
     Script {
-        /// The script among them, counted from 1.
+        /// The number of the script, counted from 1.
         place: u32,
-        /// What is wrong with it.
+        /// Why the script is refused, and at which line.
         refusal: ScriptRefusal,
     },
     /// 66: a thread could not be started.
@@ -31,10 +32,10 @@ pub enum BenchFault {
     /// 97: there are more than 31 scripts.
     #[error("too many scripts")]
     TooManyScripts,
-    /// 106: the trace has no event with the number at which the window begins.
+    /// 106: the window would begin at a number that is no event of the trace.
     #[error("no such event")]
     NoSuchEvent,
-    /// 107: the trace uses each name that the variable of a prologue could have.
+    /// 107: the trace uses every name that the prologue's variable could have.
     #[error("no name is free")]
     NoName,
 }
@@ -87,7 +88,7 @@ impl<T: Drop> From<AllocFailed<T>> for BenchFault {
 }
 
 impl BenchFault {
-    /// The fault of the script at this place that is refused; want of memory is a fault of its own.
+    /// The fault if script number `place` is refused; if memory ran out, it is 96 instead.
     pub(crate) fn of_script(place: u32, refusal: ScriptRefusal) -> BenchFault
         ensures { result ≡ refused_as place refusal refusal.why }
     {
@@ -98,7 +99,7 @@ impl BenchFault {
     }
 }
 
-/// What is wrong with a line of a script, which is one of several; no words are want of memory.
+/// Why a script among several is refused, and at which line. Without words, memory ran out.
 #[derive(Clone, Copy)]
 struct InScript {
     place: u32,
@@ -115,7 +116,7 @@ impl fmt::Display for InScript {
     }
 }
 
-/// What is wrong with the script at this place.
+/// The refusal of script number `place`, with its words.
 fn in_script(place: &u32, refusal: &ScriptRefusal) -> InScript {
     InScript {
         place: *place,
@@ -124,7 +125,7 @@ fn in_script(place: &u32, refusal: &ScriptRefusal) -> InScript {
     }
 }
 
-/// Appends these words at a line of a script, or those of want of memory.
+/// Appends the text of a refused line of a script. Without words, appends `out of memory`.
 fn append_in_script(
     out: &mut Vec<u8>,
     place: u32,
@@ -158,7 +159,7 @@ fn append_refusal(out: &mut Vec<u8>, place: u32, refusal: &ScriptRefusal) -> Res
     append_in_script(out, place, refusal.line, script_words(refusal.why))
 }
 
-/// Appends the text of a fault, without a line end. Where memory is refused `out` stays as it was.
+/// Appends the text of a fault, without a line end. If memory runs out, `out` stays as it was.
 pub fn bench_fault_text(fault: &BenchFault, out: &mut Vec<u8>) -> Result<(), OutOfMemory>
     ensures ok { OnOk result (out.new.items ≡ out.old.items ++ bench_fault_words fault.now) }
     ensures err { OnErr result (out.new.items ≡ out.old.items) }

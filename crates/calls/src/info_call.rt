@@ -10,10 +10,10 @@ use rapid_text::OutOfMemory;
 use shb_clocks::Clocks;
 use std::alloc::Global;
 
-/// The most candidates that are printed.
+/// The most candidates that `info` prints.
 const MAX_CANDIDATES: u32 = 1_000;
 
-/// Appends the lines of the first candidates for races.
+/// Appends the lines of the first candidates.
 fn append_candidates(
     alloc: Global,
     indexed: &Indexed,
@@ -48,11 +48,11 @@ impl Printout for Contents {
     }
 }
 
-/// Reads a trace text, whole, and writes how many events, threads, variables and locks the trace has, for
-/// each thread its number, its name and the number of its events, and the first 1,000 candidates for races.
+/// Reads a whole trace text and writes what the trace holds (docs/FORMATS.md, "What a trace holds"). These are the
+/// numbers of events, threads, variables and locks; for each thread its number, its name and how many events it has;
+/// and the first 1,000 candidates.
 ///
-/// Before the faults 91 to 94 nothing is written, nor if memory is refused. At 95 what was written is a
-/// beginning of the text.
+/// At the faults 91, 92, 94 and 96 nothing is written. At 95 the writer has taken a beginning of the text.
 pub fn info<S: Source, K: Sink>(
     alloc: Global,
     reader: &mut S,

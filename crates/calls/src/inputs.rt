@@ -1,4 +1,4 @@
-//! Reads the scripts that are to run at once, each for a client of its own.
+//! Reads the scripts that run at the same time, one for each client.
 ghost use Rattle.std.specs.Prelude.{◌≡◌, ◌≤◌, ◌+◌, ◌++◌, ◌∷◌, [], ℕ, List, All, map, false, vec_len, IfOk, IfErr, OnOk};
 ghost use Rattle.script_language.specs.Scripts.{Asked};
 ghost use Rattle.calls.specs.ScriptInputs.{AreScripts, IsFirstFault, IsScriptFault, IsScriptOf, IsReadAs, IsTextFault};
@@ -9,18 +9,18 @@ use rapid_text::TextKeyed;
 use std::alloc::Global;
 use std::hash::{DefaultHasher, Hasher};
 
-/// The most scripts, so that one of 32 clients is left for what a search finds.
+/// The most scripts of one run, so that one of 32 clients is left to propose what workers find.
 pub const MAX_SCRIPTS: usize = 31;
 
-/// Scripts, in the order of their clients, and hashers for the names that they choose.
+/// The scripts in the order of their clients, with hashers for the names that they choose.
 #[derive(Drop)]
 pub(crate) struct Scripts {
     pub(crate) scripts: Vec<Script>,
-    // it was given the text of each script
+    // It has hashed the text of each script.
     texts: DefaultHasher,
 }
 
-/// A script whose every line is of the client of this number.
+/// Reads a script whose lines must all be calls of this client.
 fn script_of(alloc: Global, text: &[u8], client: u32) -> Result<Script, BenchFault>
     ensures ok { IfOk result (λ asked. IsScriptOf client text.now asked) }
     ensures err { IfErr result (λ fault. IsTextFault client text.now fault) }
@@ -42,7 +42,7 @@ fn script_of(alloc: Global, text: &[u8], client: u32) -> Result<Script, BenchFau
 }
 
 impl Scripts {
-    /// No script.
+    /// No scripts.
     fn empty(alloc: Global) -> Scripts
         ensures count { vec_len result.scripts ≡ 0 }
         ensures none { result.scripts.items ≡ [] }
@@ -53,7 +53,7 @@ impl Scripts {
         }
     }
 
-    /// Reads the script of the next client.
+    /// Reads the next script, which is that of the next client.
     fn read_next<S: Source>(&mut self, alloc: Global, reader: &mut S) -> Result<(), BenchFault>
         requires reader { S.has_failed reader.old ≡ false }
         requires few { vec_len self.old.scripts ≤ 30 }
@@ -70,13 +70,13 @@ impl Scripts {
         Ok(())
     }
 
-    /// Makes hashers for the names that the scripts choose.
+    /// Makes hashers for the names in the scripts. Their key comes from the scripts' texts.
     pub(crate) fn keyed(&self) -> TextKeyed {
         TextKeyed::of(&self.texts.finish().to_le_bytes())
     }
 }
 
-/// Reads scripts, of which each is the next client's. Their input numbers begin with 2.
+/// Reads the scripts, that of client 1 first. Script i is input i + 1 in faults.
 pub(crate) fn read_scripts<S: Source + Drop>(
     alloc: Global,
     readers: Vec<S>,

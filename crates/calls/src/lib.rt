@@ -1,5 +1,5 @@
-//! The calls that the program makes, each over readers and a writer: a module for each of its commands. They stand apart from the
-//! words, files and statuses of the program.
+//! The calls that the program makes, a module for each command. Each call works on readers and a writer; the program's
+//! arguments, files and exit statuses are in `racebench`.
 #![tactic(auto)]
 
 // What they share.
@@ -10,7 +10,7 @@ mod printout;
 mod cut_call;
 mod info_call;
 
-// Scripts that run at once.
+// Scripts that run at the same time.
 mod beside;
 mod inputs;
 mod searching;

@@ -1,4 +1,4 @@
-//! Merges reports: each file is read and taken in, and then what is told of all parts is written.
+//! Merges reports: reads each file and takes in its parts, and then writes one report of all parts.
 ghost use Rattle.std.specs.Prelude.{◌≡◌, List, ℕ, Vec, Err, IfErr, IfOk, OnOk, false, true};
 ghost use Rattle.std.specs.declared.alloc.Global.{Global};
 ghost use Rattle.client_scripts.specs.declared.fault.ReadCause.TheVariants.{Device};
@@ -12,8 +12,8 @@ use client_scripts::{Sink, Source, read_input};
 use race_parts::{Parts, cells_of, merged_json, merged_text, races_in, rows_of, take_file};
 use std::alloc::Global;
 
-/// Reads a file, whole, and takes in its parts: those of a merged report, or one, which has this name. Files are numbered from 1. If it is
-/// refused, some of its parts may have been taken in.
+/// Reads a whole file and takes in its parts: those of a merged report, or one part, which gets this name. `file` is
+/// the number of the file, counted from 1. If the file is refused, some of its parts may have been taken in.
 pub fn read_part<S: Source>(
     alloc: Global,
     parts: &mut Parts,
@@ -22,7 +22,7 @@ pub fn read_part<S: Source>(
     file: u32,
 ) -> Result<(), MergeFault>
     requires { S.has_failed reader.old ≡ false }
-    // There are bytes, those that the reader tells if it tells them, which give the parts that are taken in.
+    // The parts come from bytes that were read. If the type of the reader shows its bytes, they are those.
     ensures ok { OnOk result (IsTaken (S.rest reader.old) name.now parts.old parts.new) }
     ensures err { IfErr result (IsUntaken file (S.rest reader.old)) }
     ensures device { result ≡ Err (Replay (Read file Device)) → S.has_failed reader.new ≡ true }
@@ -37,7 +37,7 @@ pub fn read_part<S: Source>(
     }
 }
 
-/// What is told of the parts, and how many races are told of.
+/// The merged report as text, and how many races it has.
 fn text_of(alloc: Global, parts: &Parts, apart: bool) -> Result<(Vec<u8>, u64), MergeFault>
     ensures ok { IfOk result (λ made. IsMergedText parts.now apart made.1 made.0.items) }
     ensures err { IfErr result (λ fault. fault ≡ Replay NoMemory) }
@@ -48,7 +48,7 @@ fn text_of(alloc: Global, parts: &Parts, apart: bool) -> Result<(Vec<u8>, u64), 
     Ok((text, races as u64))
 }
 
-/// The same as JSON.
+/// The merged report as JSON, and how many races it has.
 fn json_of(alloc: Global, parts: &Parts) -> Result<(Vec<u8>, u64), MergeFault>
     ensures ok { IfOk result (λ made. IsMergedJson parts.now made.1 made.0.items) }
     ensures err { IfErr result (λ fault. fault ≡ Replay NoMemory) }
@@ -59,7 +59,8 @@ fn json_of(alloc: Global, parts: &Parts) -> Result<(Vec<u8>, u64), MergeFault>
     Ok((text, races_in(&cells) as u64))
 }
 
-/// Writes what is told of the parts, with blocks of what is apart if that is asked for. Answers how many races are told of.
+/// Writes the merged report of the parts as text; with `apart`, it also has blocks of what is apart. Returns how many
+/// races the report has.
 pub fn write_merged<K: Sink>(
     alloc: Global,
     parts: &Parts,
@@ -80,7 +81,7 @@ pub fn write_merged<K: Sink>(
     }
 }
 
-/// Writes what is told of the parts as JSON, a report that may be merged again. Answers how many races are told of.
+/// Writes the merged report of the parts as JSON, which may be merged again. Returns how many races the report has.
 pub fn write_merged_json<K: Sink>(
     alloc: Global,
     parts: &Parts,

@@ -1,19 +1,19 @@
-//! Why reports are not merged.
+//! Why reports can't be merged.
 
 use client_scripts::ReplayFault;
 use race_parts::PartRefusal;
 use rapid_text::OutOfMemory;
 
-/// Why reports are not merged.
+/// Why reports can't be merged. The numbers are those of docs/FORMATS.md.
 #[derive(Clone, Copy, PartialEq, Eq, Debug)]
 pub enum MergeFault {
-    /// 94 to 96: a fault of reading or of writing, or want of memory.
+    /// 94 to 96: a fault of reading or writing, or out of memory.
     Replay(ReplayFault),
-    /// 103: the line at this place of the file, the first being 0, does not fit there.
+    /// 103: this line of the file, counted from 0, is not what a report has there, or it is missing.
     Line(usize),
-    /// 104: the file is of another version of the format.
+    /// 104: the file has another version of the format.
     Version,
-    /// 114: a part of the file has the name of another part, which the file of this number holds.
+    /// 114: a part of the file has the name of a different part, which came from the file with this number.
     Clash(u32),
 }
 

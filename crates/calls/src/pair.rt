@@ -1,5 +1,5 @@
-//! The calls that the program makes on a pair of events: what is found of it, and the schedule that shows it, each over a reader
-//! and a writer.
+//! The calls on one pair of events, over a reader and a writer: `explain` says what is found of the pair, and `witness`
+//! prints the schedule that shows it.
 
 mod explaining;
 mod fault;

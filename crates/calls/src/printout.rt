@@ -12,29 +12,29 @@ use client_scripts::{ReplayFault, Sink, Source, read_trace, write_all};
 use event_index::Indexed;
 use std::alloc::Global;
 
-/// What a call prints of a trace.
+/// A text that a call prints about a trace.
 pub(crate) trait Printout {
     ghost use Rattle.std.specs.Prelude.{ℕ, List};
     ghost use Rattle.rapid_text.specs.Recording.{Recording};
     ghost use Rattle.calls.specs.declared.fault.BenchFault.{BenchFault};
 
-    /// What has to hold before it is made.
+    /// What must hold before the text is made.
     ghost can_print: { Self → Type 0 };
 
-    /// Which texts are right of a trace.
+    /// Which texts are right for a trace.
     ghost prints: { Self → Recording → List ℕ → Type 0 };
 
-    /// Which faults of its own are right of a trace.
+    /// Which of the printout's own faults are right for a trace.
     ghost refuses: { Self → Recording → BenchFault → Type 0 };
 
-    /// The text of a trace.
+    /// Makes the text for this trace.
     fn text(&self, alloc: Global, indexed: &Indexed) -> Result<Vec<u8>, BenchFault>
         requires can { can_print self.now }
         ensures text { IfOk result (λ text. prints self.now indexed.now text.items) }
         ensures fault { IfErr result (λ fault. IsUnmade (refuses self.now indexed.now) fault) };
 }
 
-/// Writes the text, whole; or a beginning of it, if a write fails.
+/// Writes the whole text. If a write fails, the writer has taken a beginning of it.
 pub(crate) fn write_text<K: Sink>(writer: &mut K, text: &[u8]) -> Result<(), ReplayFault>
     requires { K.has_failed writer.old ≡ false }
     ensures ok { OnOk result (Appends (K.taken writer.old) (K.taken writer.new) text.now) }
@@ -48,7 +48,7 @@ pub(crate) fn write_text<K: Sink>(writer: &mut K, text: &[u8]) -> Result<(), Rep
     }
 }
 
-/// Writes the printout of a trace that was read.
+/// Makes the text for a trace that was read, and writes it.
 fn print_on<P: Printout, K: Sink>(
     alloc: Global,
     indexed: &Indexed,
@@ -68,8 +68,8 @@ fn print_on<P: Printout, K: Sink>(
     }
 }
 
-/// Reads a trace text, whole, and writes its printout. Before any fault but a failed write nothing is written; at that one what was
-/// written is a beginning of the text.
+/// Reads a whole trace text and writes the printout of the trace. If a write fails, the writer has taken a beginning of
+/// the text. At any other fault nothing is written.
 pub(crate) fn print<P: Printout, S: Source, K: Sink>(
     alloc: Global,
     reader: &mut S,

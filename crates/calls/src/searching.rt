@@ -1,4 +1,4 @@
-//! Workers that slice the first candidates of a trace, and a client that proposes what they find.
+//! Workers that slice the first candidates of a trace, and a client that proposes the witnesses that they find.
 ghost use Rattle.std.specs.Prelude.{◌≡◌, ◌⊎◌, ◌<◌, ◌≤◌, [], All, IfOk, IfErr, vec_len};
 ghost use Rattle.std.specs.Arc.{arc_value};
 ghost use Rattle.shb_clocks.specs.Candidates.{AreFirstCandidates};
@@ -19,13 +19,13 @@ use std::sync::{Arc, Wait};
 use std::thread::Threads;
 use workspace_lock::{Seat, SeatRefusal};
 
-/// The most workers.
+/// The most workers of one run.
 pub const MAX_WORKERS: u32 = 16;
 
-/// How many candidates are sliced: the first ones, as many as a pool takes at a time.
+/// How many candidates are sliced: the first 64, which is as many as a pool takes at a time.
 const MAX_SLICED: u32 = 64;
 
-/// A worker's gate, which stands open.
+/// A worker's gate that is always open.
 #[derive(Clone, Copy)]
 pub(crate) struct Open;
 
@@ -33,7 +33,7 @@ impl Gate for Open {
     fn pass<R: Wait>(&mut self, _rt: &R, _request: u32) {}
 }
 
-/// A gate for each of so many workers.
+/// An open gate for each worker.
 fn open_gates(alloc: Global, count: u32) -> Result<Vec<Open>, AllocError>
     ensures { IfOk result (λ gates. vec_len gates ≡ count) }
 {
@@ -44,13 +44,13 @@ fn open_gates(alloc: Global, count: u32) -> Result<Vec<Open>, AllocError>
     Ok(gates)
 }
 
-/// Workers on a trace, and the pairs that they are to slice.
+/// Workers on a trace, and the pairs for which they compute slices.
 pub(crate) struct Slicing {
     pub(crate) pool: Pool<Open>,
     pub(crate) pairs: Pairs,
 }
 
-/// Workers on the trace, of whom nothing was asked yet, and the pairs that they are to slice.
+/// Starts workers on the trace, which have no requests yet, and finds the pairs for which they will compute slices.
 pub(crate) fn start_workers<R: Threads + Wait + Clone + Send + Drop + 'static>(
     rt: &R,
     alloc: Global,
@@ -76,7 +76,7 @@ pub(crate) fn start_workers<R: Threads + Wait + Clone + Send + Drop + 'static>(
     }
 }
 
-/// Asks for the slice of each pair. Answers whether it could: it can't once the workers have stopped.
+/// Requests a slice of each pair. Returns false if the workers have stopped, or have too many requests.
 fn ask_all<R: Wait>(
     rt: &R,
     pool: &mut Pool<Open>,
@@ -101,7 +101,7 @@ fn ask_all<R: Wait>(
     Ok(true)
 }
 
-/// Proposes what was found through the seat, if a witness was. Any answer will do but want of memory.
+/// Proposes a witness through the seat, if the worker found one. A refusal is ignored, unless memory ran out.
 fn propose<R: Wait>(rt: &R, seat: &mut Seat, found: Found) -> Result<(), OutOfMemory>
     ensures proposes { ProposesOutcome found.first found.second found.outcome seat.old seat.new }
     ensures seat { (seat.new.site ≡ seat.old.site) × (seat.new.number ≡ seat.old.number) }
@@ -128,7 +128,7 @@ fn propose<R: Wait>(rt: &R, seat: &mut Seat, found: Found) -> Result<(), OutOfMe
     outcome
 }
 
-/// Proposes the witnesses for these pairs as they come.
+/// Proposes the witnesses for these pairs, as the workers find them.
 fn propose_all<R: Wait>(
     rt: &R,
     pool: &mut Pool<Open>,
@@ -148,8 +148,8 @@ fn propose_all<R: Wait>(
     Ok(())
 }
 
-/// Has the workers slice the pairs, and proposes each witness through the seat as it comes. Once the workers have stopped nothing more is
-/// asked of them.
+/// Requests a slice of each pair from the workers, and proposes each witness through the seat as it comes. Once the
+/// workers have stopped, nothing more is requested.
 pub(crate) fn search<R: Wait>(
     rt: &R,
     pool: &mut Pool<Open>,

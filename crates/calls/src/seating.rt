@@ -1,4 +1,4 @@
-//! Runs scripts at once, each in a thread of its own, through the seats of one bench.
+//! Runs scripts at the same time, each in a separate thread, through the seats of one bench.
 ghost use Rattle.std.specs.Prelude.{◌≡◌, ◌≤◌, ◌<◌, ◌+◌, ◌-◌, ◌++◌, ℕ, suc, List, [], length, map, replicate, slice_get, slice_set, All, vec_len, IfOk, IfErr, IsOk, OnOk, Option, Some, None};
 ghost use Rattle.std.specs.Arc.{arc_value};
 ghost use Rattle.inverse_log.specs.Log.{Benched};
@@ -23,13 +23,13 @@ use std::thread;
 use std::thread::Threads;
 use workspace_lock::{Seat, Seats, open_with_room};
 
-/// What a thread is given: a seat, and the script whose calls it makes there.
+/// What a thread gets: a seat, and the script whose calls it makes through the seat.
 pub(crate) type Job = (Seat, Script);
 
-/// What a thread gives back: its seat, and the lines of its answers where there was memory for each.
+/// What a thread gives back: its seat, and the lines of its answers, or `OutOfMemory` if they did not fit.
 pub(crate) type Told = (Seat, Result<Vec<u8>, OutOfMemory>);
 
-/// Makes the calls of a script through the seat.
+/// Makes all calls of a script through the seat, and collects the answers.
 fn run_script<R: Wait>(
     rt: &R,
     alloc: Global,
@@ -47,8 +47,8 @@ fn run_script<R: Wait>(
     }
 }
 
-/// Makes the calls of each script through its seat, each in a thread of its own where one can be made. Their order is
-/// that of the jobs.
+/// Makes the calls of each script through its seat, each in a separate thread if one can be started. The results are in
+/// the order of the jobs.
 pub(crate) fn run_all<R: Threads + Wait + Sync>(
     rt: &R,
     alloc: Global,
@@ -69,11 +69,12 @@ pub(crate) fn run_all<R: Threads + Wait + Sync>(
     thread::map_vec(rt, jobs, &run)
 }
 
-/// Gives each script the seat of its client.
+/// Takes a seat for each script, in the order of the clients.
 fn seat_all(alloc: Global, seats: &mut Seats, scripts: Vec<Script>) -> Result<Vec<Job>, BenchFault>
     ensures seats { seats.new.site ≡ seats.old.site }
     ensures site { IfOk result (λ jobs. All (λ job. job.0.site ≡ seats.old.site) jobs.items) }
-    // Where all seats are in, and there are more than scripts, each script has its own, in order, and then the others alone are in.
+    // If all seats are in, and there are seats for all scripts, each script gets its own seat, in order. Then only the
+    // other seats are in.
     ensures jobs { (more : ℕ) → seats.old.rows ≡ fresh_rows seats.old.site 1 (vec_len scripts + more) → IfOk result
         (λ jobs. AreSeated seats.old.site scripts.items jobs.items
         × (seats.new.rows ≡ replicate (length jobs.items) None ++ fresh_rows seats.old.site (suc (length jobs.items)) more)) }
@@ -89,7 +90,7 @@ fn seat_all(alloc: Global, seats: &mut Seats, scripts: Vec<Script>) -> Result<Ve
     Ok(jobs)
 }
 
-/// Appends a client's line and the lines of its answers.
+/// Appends the line `client N` and the lines of this client's answers.
 fn append_client(
     out: &mut Vec<u8>,
     client: u32,
@@ -109,7 +110,7 @@ fn append_client(
     )
 }
 
-/// The same where all before went well.
+/// Appends the same for the next client, if everything before was appended.
 fn append_next(
     out: &mut Vec<u8>,
     so_far: Result<(), OutOfMemory>,
@@ -132,12 +133,13 @@ pub(crate) fn give_back(seats: &mut Seats, seat: Seat)
     let _ = seats.give(seat);
 }
 
-/// Puts all seats back, and appends what each client was told while memory lasts.
+/// Puts all seats back, and appends the answers of each client. After the first that did not fit in memory, nothing
+/// more is appended.
 fn give_all(seats: &mut Seats, told: Vec<Told>, out: &mut Vec<u8>) -> Result<(), OutOfMemory>
     requires { All (λ t. t.0.site ≡ seats.old.site) told.items }
     ensures text { OnOk result (AllLines told.items × (out.new.items ≡ out.old.items ++ told_text told.items)) }
     ensures site { seats.new.site ≡ seats.old.site }
-    // Where none of them was in, and each is of its number, all are in then.
+    // If none of these seats was in, and each has its number, all are in afterwards.
     ensures back { (rest : List (Option SeatView)) → Numbered 1 told.items → seats.old.rows ≡ replicate (length told.items) None ++ rest
         → seats.new.rows ≡ map (λ t. Some t.0) told.items ++ rest }
 {
@@ -149,7 +151,7 @@ fn give_all(seats: &mut Seats, told: Vec<Told>, out: &mut Vec<u8>) -> Result<(),
     outcome
 }
 
-/// The log of the bench, once all seats are back.
+/// Appends the log of the bench. All seats must be back.
 fn append_log(seats: Seats, out: &mut Vec<u8>) -> Result<(), OutOfMemory>
     ensures { OnOk result ((bench : Benched) × Closes seats bench × (out.new.items ≡ out.old.items ++ log_text bench.log)) }
 {
@@ -162,7 +164,7 @@ fn append_log(seats: Seats, out: &mut Vec<u8>) -> Result<(), OutOfMemory>
     }
 }
 
-/// The log of a bench that is done with.
+/// Appends the log of a bench, and drops the bench.
 fn append_log_of(bench: Bench, out: &mut Vec<u8>) -> Result<(), OutOfMemory>
     ensures { OnOk result (out.new.items ≡ out.old.items ++ log_text bench.log) }
 {
@@ -171,7 +173,8 @@ fn append_log_of(bench: Bench, out: &mut Vec<u8>) -> Result<(), OutOfMemory>
     outcome
 }
 
-/// A bench of the trace with an empty log, and a seat for each of so many clients behind a door with so much room.
+/// Opens a bench of the trace with an empty log, and a seat for each client, from 1 to `clients`. At most `room` seats
+/// may queue for a turn at a time.
 fn open_seats(
     alloc: Global,
     indexed: &Arc<Indexed, Global>,
@@ -187,7 +190,7 @@ fn open_seats(
     }
 }
 
-/// The same on a share of the trace.
+/// Opens the same with this share of the trace.
 fn open_on(
     alloc: Global,
     indexed: Arc<Indexed, Global>,
@@ -203,7 +206,7 @@ fn open_on(
     }
 }
 
-/// The same at a bench.
+/// Opens the seats at a bench that was made.
 fn open_at(alloc: Global, bench: Bench, clients: u32, room: u32) -> Result<Seats, OutOfMemory>
     ensures { IfOk result (λ s. Opened bench clients s) }
 {
@@ -213,17 +216,19 @@ fn open_at(alloc: Global, bench: Bench, clients: u32, room: u32) -> Result<Seats
     }
 }
 
-/// How scripts run at once.
+/// How `threads` runs scripts at the same time.
 #[derive(Clone, Copy)]
 pub struct Running {
-    /// How many workers search beside them, whose finds a client after the scripts' proposes.
+    /// How many workers look for witnesses in the background, 0 to 16. If there are any, one more client, after those
+    /// of the scripts, proposes the witnesses.
     pub workers: u32,
-    /// How many seats may queue for a turn at a time (`workspace_lock::open_with_room`). More room, up to 32, mixes the clients' calls more,
-    /// and takes longer. Nothing that is promised rests on it.
+    /// How many seats may queue for a turn at a time (`workspace_lock::open_with_room`), 1 to 32. A higher limit
+    /// interleaves the calls of the clients more finely, and is slower. No promise depends on it.
     pub room: u32,
 }
 
-/// Runs each script in a thread of its own, and workers beside them. Gives, once all have ended, what each script was told and the log.
+/// Runs each script in a separate thread, with workers in the background. After all have ended, returns the answers of
+/// each client and then the log.
 pub(crate) fn run_scripts<R: Threads + Wait + Sync + Clone + Send + Drop + 'static>(
     rt: &R,
     alloc: Global,

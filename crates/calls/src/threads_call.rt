@@ -1,4 +1,4 @@
-//! Runs several scripts on one trace at once: reads all texts, runs the scripts, and writes what they were told.
+//! Runs several scripts on one trace at the same time: reads all texts, runs the scripts, and writes the answers.
 ghost use Rattle.std.specs.Prelude.{◌≡◌, ◌≢◌, ◌⊎◌, ◌<◌, ◌≤◌, ℕ, List, All, false, true, map, vec_len, IfErr, OnErr, OnOk, Err};
 ghost use Rattle.std.specs.Io.KnownBytes.{Appends};
 ghost use Rattle.script_language.specs.Scripts.{Asked};
@@ -21,12 +21,12 @@ use std::sync::Wait;
 use std::thread::Threads;
 use workspace_lock::BEST_ROOM;
 
-/// Reads a trace and scripts, each whole, of which script i is client i's; then makes the calls of each script on
-/// the trace in a thread of its own, joins all threads, and writes for each script a line `client i` and the lines
-/// of its answers, and then the log. The trace is input 1, script i input i + 1.
+/// Reads a whole trace and whole scripts; script i is that of client i. Makes the calls of each script on the trace,
+/// each script in a separate thread if one can be started. Then writes a line `client i` and the lines of the answers
+/// for each script, and then the log. In faults the trace is input 1, and script i is input i + 1.
 ///
-/// Nothing is written before all threads have ended, so nothing where there is another fault than that of the
-/// writer. A call that finds no memory is answered by its line, and the script goes on.
+/// Nothing is written before all threads have ended. So nothing is written at any fault except 95. If a call runs out
+/// of memory, its answer says so, and the script goes on.
 pub fn threads_with_room<
     R: Threads + Wait + Sync + Clone + Send + Drop + 'static,
     S: Source,
@@ -45,16 +45,17 @@ pub fn threads_with_room<
     requires some { 0 < vec_len scripts }
     requires workers { running.workers ≤ 16 }
     requires writer { K.has_failed writer.old ≡ false }
-    // Where no write fails, nothing is written at a fault; and where one fails, that is the fault.
+    // If no write fails, nothing is written at a fault. If a write fails, that is the fault.
     ensures unwritten { OnErr result (K.has_failed writer.new ≡ false → K.taken writer.new ≡ K.taken writer.old) }
     ensures write_failed { K.has_failed writer.new ≡ true → result ≡ Err (Replay Write) }
-    // The trace's device is at fault exactly where a read of it failed.
+    // The fault is a failed read of the trace exactly if a read of the trace failed.
     ensures device { result ≡ Err (Replay (Read 1 Device)) → S.has_failed trace.new ≡ true }
     ensures read_failed { S.has_failed trace.new ≡ true → result ≡ Err (Replay (Read 1 Device)) }
-    // There is a text, the one that the reader tells where it tells it, of which what is written comes.
+    // What is written comes from a text. If the type of the trace's reader shows its bytes, it is that text.
     ensures told { OnOk result ((bytes : List ℕ) × IsTold (S.rest trace.old) bytes × (text : List ℕ)
         × RunsTogether bytes (map (λ q. Q.rest q) scripts.items) running.workers text × Appends (K.taken writer.old) (K.taken writer.new) text) }
-    // Too many scripts come before all other faults, then those of the trace, then that of the first script that has one.
+    // Too many scripts come before all other faults. Next come the faults of the trace, and then that of the first
+    // faulty script.
     ensures most { 31 < vec_len scripts → result ≡ Err TooManyScripts }
     ensures too_many { result ≡ Err TooManyScripts → 31 < vec_len scripts }
     ensures fault { IfErr result (λ fault. StopsRun (S.rest trace.old) (map (λ q. Q.rest q) scripts.items) running.workers (K.has_failed writer.new) fault) }
@@ -68,7 +69,7 @@ pub fn threads_with_room<
     }
 }
 
-/// Runs scripts, which are read first, on a trace, and writes what they were told.
+/// Reads the scripts, runs them on a trace, and writes the answers and the log.
 fn run_on<R: Threads + Wait + Sync + Clone + Send + Drop + 'static, Q: Source + Drop, K: Sink>(
     rt: &R,
     alloc: Global,
@@ -99,7 +100,7 @@ fn run_on<R: Threads + Wait + Sync + Clone + Send + Drop + 'static, Q: Source + 
     }
 }
 
-/// The same of scripts that were read.
+/// Runs scripts that were read, and writes the answers and the log.
 fn run_read<R: Threads + Wait + Sync + Clone + Send + Drop + 'static, K: Sink>(
     rt: &R,
     alloc: Global,
@@ -123,7 +124,7 @@ fn run_read<R: Threads + Wait + Sync + Clone + Send + Drop + 'static, K: Sink>(
     }
 }
 
-/// Writes what the scripts were told.
+/// Writes the answers and the log.
 fn write_told<K: Sink>(told: &[u8], writer: &mut K) -> Result<(), BenchFault>
     requires { K.has_failed writer.old ≡ false }
     ensures told { OnOk result (Appends (K.taken writer.old) (K.taken writer.new) told.now) }
@@ -133,7 +134,7 @@ fn write_told<K: Sink>(told: &[u8], writer: &mut K) -> Result<(), BenchFault>
     Ok(write_text(writer, told)?)
 }
 
-/// The same with the room that is fastest.
+/// Runs scripts as `threads_with_room` does, with the fastest limit on seats that queue for a turn.
 pub fn threads<
     R: Threads + Wait + Sync + Clone + Send + Drop + 'static,
     S: Source,

@@ -1,4 +1,4 @@
-//! The calls that the program makes for `triage`, and for the log and the page of a merged report, over readers and a writer.
+//! The calls for `triage` and for merged reports as a log or a page, over readers and a writer.
 
 mod asked;
 mod confirming;

@@ -1,4 +1,4 @@
-//! Explains a pair: reads the trace, finds what is to be said of the pair, makes the text, and writes it.
+//! Explains a pair: reads the trace, judges the pair, makes the text, and writes it.
 ghost use Rattle.std.specs.Prelude.{◌≡◌, ◌≢◌, ◌<◌, ◌++◌, ℕ, List, length, false, true, IfSome, IfOk, IfErr, OnOk, Err};
 ghost use Rattle.client_scripts.specs.declared.fault.ReadCause.{ReadCause};
 ghost use Rattle.client_scripts.specs.declared.fault.ReadCause.TheVariants.{Device};
@@ -19,7 +19,7 @@ use must_order::Analysis;
 use rapid_text::OutOfMemory;
 use std::alloc::Global;
 
-/// What is found of a conflicting pair, whose earlier event is the first.
+/// What is found of a conflicting pair; `first` is the earlier event.
 pub(crate) fn finding_of(
     alloc: Global,
     indexed: &Indexed,
@@ -41,7 +41,7 @@ pub(crate) fn finding_of(
     }
 }
 
-/// Appends what was found of the pair, whose earlier event stands first.
+/// Appends the text of a finding on the pair, whose earlier event comes first.
 fn append_finding(
     text: &mut Vec<u8>,
     analysis: &Analysis<'_>,
@@ -76,7 +76,7 @@ fn append_finding(
     Ok(())
 }
 
-/// Appends a right finding on the pair.
+/// Appends the text of a finding that is right for the pair.
 fn append_found(
     text: &mut Vec<u8>,
     analysis: &Analysis<'_>,
@@ -92,7 +92,7 @@ fn append_found(
     Ok(())
 }
 
-/// Appends what is found of the pair, by the trace's orders.
+/// Judges the pair by the orders of the trace, and appends the text.
 fn append_explained(
     text: &mut Vec<u8>,
     analysis: &Analysis<'_>,
@@ -109,7 +109,7 @@ fn append_explained(
     }
 }
 
-/// Appends the same.
+/// Computes the orders of the trace, judges the pair, and appends the text.
 fn append_explanation(
     text: &mut Vec<u8>,
     indexed: &Indexed,
@@ -126,7 +126,7 @@ fn append_explanation(
     }
 }
 
-/// The text that explains the pair.
+/// The text that explains the pair that the two names mean.
 fn explanation_of(
     alloc: Global,
     indexed: &Indexed,
@@ -146,7 +146,7 @@ fn explanation_of(
     Ok(text)
 }
 
-/// Writes the text that explains the pair.
+/// Writes the text that explains the pair that the two names mean.
 fn write_explanation<K: Sink>(
     alloc: Global,
     indexed: &Indexed,
@@ -169,12 +169,12 @@ fn write_explanation<K: Sink>(
     write_text(writer, text.as_slice())
 }
 
-/// Reads a trace text, whole, and writes what is found of the pair that these names mean, given in either order: a schedule
-/// that shows it, told by its runs; what keeps the two apart in every correct reordering of this trace; or that neither was
-/// found. Of a schedule of more than eleven runs the first are one block, unless `all` is true.
+/// Reads a whole trace text and explains the pair that two names mean, in either order. The text has a schedule that
+/// shows the pair, run by run; or what keeps the two apart in every correct reordering; or that neither was found
+/// (docs/FORMATS.md, "A pair of events"). If the schedule has more than eleven runs, all but the last ten become one
+/// block, unless `all` is true.
 ///
-/// Before the faults 91, 92, 94 and 98 nothing is written, nor where memory is refused. At 95 what was written is a beginning of
-/// the text.
+/// At the faults 91, 92, 94, 96 and 98 nothing is written. At 95 the writer has taken a beginning of the text.
 pub fn explain<S: Source, K: Sink>(
     alloc: Global,
     reader: &mut S,
@@ -185,13 +185,13 @@ pub fn explain<S: Source, K: Sink>(
 ) -> Result<(), PairFault>
     requires reader { S.has_failed reader.old ≡ false }
     requires writer { K.has_failed writer.old ≡ false }
-    // There is a text, the one that the reader tells where it tells it, of which this comes.
+    // The answer comes from a text. If the type of the reader shows its bytes, it is that text.
     ensures explained { (bytes : List ℕ)
         × IfSome (S.rest reader.old) (λ told. bytes ≡ told)
         × IsExplained bytes one.entry other.entry (K.taken writer.old) (K.taken writer.new) result }
-    // There is one input, and no second one is named.
+    // There is one input, so no fault names a second.
     ensures input { (why : ReadCause) → result ≢ Err (Replay (Read 2 why)) }
-    // The device is at fault exactly where a read failed, and the writer exactly where a write failed.
+    // The fault is a failed read exactly if a read failed, and a failed write exactly if a write failed.
     ensures device { result ≡ Err (Replay (Read 1 Device)) → S.has_failed reader.new ≡ true }
     ensures read_failed { S.has_failed reader.new ≡ true → result ≡ Err (Replay (Read 1 Device)) }
     ensures write { result ≡ Err (Replay Write) → K.has_failed writer.new ≡ true }

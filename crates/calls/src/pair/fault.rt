@@ -1,4 +1,4 @@
-//! Why a call on a pair stopped, and what is printed of that.
+//! Why a call on a pair stopped, and the text of that fault.
 ghost use Rattle.std.specs.Prelude.{◌≡◌, ◌++◌, OnOk, OnErr};
 ghost use Rattle.calls.specs.pair.PairFaults.{kind_text, pair_fault_words};
 
@@ -7,14 +7,15 @@ use must_order::Kind;
 use rapid_text::OutOfMemory;
 use report::{Piece, append_pieces};
 
-/// Why a call on a pair stopped.
+/// Why a call on a pair stopped. The numbers are those of docs/FORMATS.md.
 #[derive(Clone, Copy, PartialEq, Eq, Debug)]
 pub enum PairFault {
-    /// 91, 92, 94 to 96: a fault of reading, of the trace, or of writing, or want of memory.
+    /// 91, 92, 94 to 96: a fault of the trace, of reading or of writing, or out of memory.
     Replay(ReplayFault),
-    /// 98: one of the two is no event, or the two do not conflict.
+    /// 98: the names mean no pair of conflicting events.
     NoSuchPair,
-    /// 99: no schedule shows the pair, which is of this kind; of an open pair none was found.
+    /// 99: no schedule shows the pair. The kind says why: it is forced or guarded, or it is open and the search found
+    /// none.
     NotShown(Kind),
 }
 
@@ -41,7 +42,7 @@ impl From<OutOfMemory> for PairFault {
     }
 }
 
-/// The word for a kind.
+/// The word for a kind in the text of a fault.
 fn kind_words(kind: Kind) -> &'static [u8]
     ensures { result.now ≡ kind_text kind }
 {
@@ -53,7 +54,7 @@ fn kind_words(kind: Kind) -> &'static [u8]
     }
 }
 
-/// Appends the text of a fault, without a line end. Where memory is refused `out` stays as it was.
+/// Appends the text of a fault, without a line end. If memory runs out, `out` stays as it was.
 pub fn pair_fault_text(fault: &PairFault, out: &mut Vec<u8>) -> Result<(), OutOfMemory>
     ensures ok { OnOk result (out.new.items ≡ out.old.items ++ pair_fault_words fault.now) }
     ensures err { OnErr result (out.new.items ≡ out.old.items) }

@@ -1,4 +1,4 @@
-//! In which form a schedule is printed.
+//! The forms in which a schedule is printed.
 ghost use Rattle.std.specs.Prelude.{◌≡◌, ◌<◌, ◌++◌, ℕ, List, length, All, OnOk};
 ghost use Rattle.calls.specs.pair.Forms.{IsPrinted, lines_form};
 
@@ -7,20 +7,20 @@ use explain_report::picture::picture_text;
 use explain_report::{Form as LinesForm, witness_text};
 use rapid_text::OutOfMemory;
 
-/// In which form a schedule is printed.
+/// The form in which a schedule is printed.
 #[derive(Clone, Copy, PartialEq, Eq, Debug)]
 pub enum Form {
-    /// Its events, each behind its number.
+    /// A line for each event: its number and its canonical line.
     Events,
-    /// A script of one client that builds it and asks which pairs it shows.
+    /// A script of client 1 that builds the schedule, and then asks which pairs it shows.
     Script,
-    /// A trace text: its events, and then the pair.
+    /// A trace text: the events of the schedule, and then the two of the pair.
     Trace,
-    /// A picture.
+    /// A picture: one SVG file.
     Svg,
 }
 
-/// The form of a text in lines; None of a picture.
+/// The form as lines of text; None for a picture.
 fn lines_form_of(form: Form) -> Option<LinesForm>
     ensures { result ≡ lines_form form }
 {
@@ -32,7 +32,7 @@ fn lines_form_of(form: Form) -> Option<LinesForm>
     }
 }
 
-/// Appends the schedule of these events, which shows the pair, in this form.
+/// Appends the schedule with these events, which shows the pair, in this form.
 pub(crate) fn append_schedule(
     text: &mut Vec<u8>,
     indexed: &Indexed,

@@ -13,9 +13,11 @@ use race_triage::verdict_between;
 use rapid_text::OutOfMemory;
 use std::alloc::Global;
 
-/// The pair of events that two names mean, the earlier first. Of two events these two. Else the pair that `triage` tells
-/// of the accesses that the names mean. None if no two of them conflict, or a name means accesses at several places, or
-/// both names mean some of the same accesses.
+/// The pair of events that two names mean, the earlier first. Two events mean themselves. Else it is the pair that
+/// `triage` reports of the accesses that the names mean.
+///
+/// None if no two of the accesses conflict, if a name means accesses at several places, or if the names share some
+/// accesses. If one name is an event, or both mean the same accesses, they may share.
 pub(crate) fn named_pair(
     alloc: Global,
     indexed: &Indexed,
@@ -42,7 +44,7 @@ pub(crate) fn named_pair(
     }
 }
 
-/// The pair of two names, of which the first may be an event.
+/// The pair of two names. `is_event` says whether the first is an event.
 fn pair_of_names(
     alloc: Global,
     indexed: &Indexed,
@@ -62,7 +64,7 @@ fn pair_of_names(
     pair_of_flags(alloc, indexed, ones.as_slice(), others.as_slice(), is_event)
 }
 
-/// The pair of the accesses with these flags.
+/// The pair of the accesses with these flags, which say for each event whether a name means it.
 fn pair_of_flags(
     alloc: Global,
     indexed: &Indexed,
@@ -93,7 +95,8 @@ fn pair_of_flags(
     }
 }
 
-/// The marks of a pair; None if both names mean some of the same accesses, but not all.
+/// The marks of the pair's two events: 1 and 1 if both names mean the same accesses, else 1 and 2. None if the names
+/// share some accesses and not all, and none is an event.
 fn meant(ones: &[bool], others: &[bool], is_event: bool) -> Option<(u32, u32)>
     requires { length ones.now ≡ length others.now }
     ensures some { IfSome result (IsMeant is_event ones.now others.now) }
@@ -121,7 +124,7 @@ fn are_same(ones: &[bool], others: &[bool]) -> bool
     true
 }
 
-/// For each event 1 if the one name means it, 2 if only the other does, else 0.
+/// The mark of each event: 1 if the first name means it, 2 if only the other does, else 0.
 fn marks_of(alloc: Global, ones: &[bool], others: &[bool]) -> Result<Vec<u32>, OutOfMemory>
     ensures { IfOk result (λ marks. marks.items ≡ marks_of ones.now others.now) }
 {
@@ -131,7 +134,7 @@ fn marks_of(alloc: Global, ones: &[bool], others: &[bool]) -> Result<Vec<u32>, O
     Ok(marks)
 }
 
-/// Whether the event has a flag.
+/// Whether the name means this event.
 fn flag_at(flags: &[bool], event: usize) -> bool
     ensures { result ≡ slice_index_or flags.now event false }
 {
@@ -141,7 +144,7 @@ fn flag_at(flags: &[bool], event: usize) -> bool
     }
 }
 
-/// The mark of an event with these flags.
+/// The mark of an event, by whether each name means it.
 fn mark(one: bool, other: bool) -> u32
     ensures { result ≡ mark one other }
 {
@@ -154,7 +157,7 @@ fn mark(one: bool, other: bool) -> u32
     }
 }
 
-/// The pair that is reported of the events with two marks.
+/// The pair that `triage` reports of the events with these two marks.
 fn reported(
     alloc: Global,
     indexed: &Indexed,
@@ -175,7 +178,7 @@ fn reported(
     }
 }
 
-/// The same by the orders of the trace.
+/// The same, by the orders of the trace.
 fn reported_in(
     alloc: Global,
     analysis: &Analysis<'_>,

@@ -20,7 +20,7 @@ use explain_report::places::Name;
 use must_order::Kind;
 use std::alloc::Global;
 
-/// The schedule that shows a conflicting pair, whose earlier event is the first.
+/// The schedule that shows a conflicting pair; `first` is the earlier event.
 fn schedule_of(
     alloc: Global,
     indexed: &Indexed,
@@ -41,7 +41,7 @@ fn schedule_of(
     }
 }
 
-/// The text of the schedule that shows the pair that these names mean.
+/// The text of the schedule that shows this pair, which the two names mean.
 fn witness_of_pair(
     alloc: Global,
     indexed: &Indexed,
@@ -67,7 +67,7 @@ fn witness_of_pair(
     Ok(text)
 }
 
-/// The text of the schedule that shows the pair.
+/// Finds the pair that the two names mean, and makes the text of the schedule that shows it.
 fn witness_of(
     alloc: Global,
     indexed: &Indexed,
@@ -85,7 +85,7 @@ fn witness_of(
     }
 }
 
-/// Writes the text of the schedule that shows the pair.
+/// Writes the text of the schedule that shows the pair that the two names mean.
 fn write_witness<K: Sink>(
     alloc: Global,
     indexed: &Indexed,
@@ -108,11 +108,11 @@ fn write_witness<K: Sink>(
     write_text(writer, text.as_slice())
 }
 
-/// Reads a trace text, whole, and writes a schedule that shows the pair that these names mean, given in either order, in this form:
-/// a correct reordering of the trace after which both are next in their threads.
+/// Reads a whole trace text and writes a schedule that shows a pair, in this form. The two names mean the pair, in
+/// either order (docs/FORMATS.md, "A pair by its locations"). The schedule is a correct reordering of the trace, and
+/// after it both events are next in their threads.
 ///
-/// Before the faults 91, 92, 94, 98 and 99 nothing is written, nor where memory is refused. At 95 what was written is a beginning
-/// of the text.
+/// At the faults 91, 92, 94, 96, 98 and 99 nothing is written. At 95 the writer has taken a beginning of the text.
 pub fn witness<S: Source, K: Sink>(
     alloc: Global,
     reader: &mut S,
@@ -123,13 +123,13 @@ pub fn witness<S: Source, K: Sink>(
 ) -> Result<(), PairFault>
     requires reader { S.has_failed reader.old ≡ false }
     requires writer { K.has_failed writer.old ≡ false }
-    // There is a text, the one that the reader tells where it tells it, of which this comes.
+    // The answer comes from a text. If the type of the reader shows its bytes, it is that text.
     ensures witnessed { (bytes : List ℕ)
         × IfSome (S.rest reader.old) (λ told. bytes ≡ told)
         × IsWitnessed bytes one.entry other.entry form (K.taken writer.old) (K.taken writer.new) result }
-    // There is one input, and no second one is named.
+    // There is one input, so no fault names a second.
     ensures input { (why : ReadCause) → result ≢ Err (Replay (Read 2 why)) }
-    // The device is at fault exactly where a read failed, and the writer exactly where a write failed.
+    // The fault is a failed read exactly if a read failed, and a failed write exactly if a write failed.
     ensures device { result ≡ Err (Replay (Read 1 Device)) → S.has_failed reader.new ≡ true }
     ensures read_failed { S.has_failed reader.new ≡ true → result ≡ Err (Replay (Read 1 Device)) }
     ensures write { result ≡ Err (Replay Write) → K.has_failed writer.new ≡ true }

@@ -1,4 +1,4 @@
-//! Writes the text of an answer.
+//! Writes the text of an answer on a pair.
 ghost use Rattle.std.specs.Prelude.{◌≡◌, false, IfErr, OnErr, OnOk, is_err};
 ghost use Rattle.std.specs.Io.KnownBytes.{Appends};
 ghost use Rattle.client_scripts.specs.Replay.{AppendsPart};
@@ -8,7 +8,7 @@ ghost use Rattle.calls.specs.declared.pair.fault.PairFault.TheVariants.{Replay};
 use crate::pair::fault::PairFault;
 use client_scripts::{ReplayFault, Sink, write_all};
 
-/// Writes the text, whole; or a beginning of it, where a write fails.
+/// Writes the whole text. If a write fails, the writer has taken a beginning of it.
 pub(crate) fn write_text<K: Sink>(writer: &mut K, text: &[u8]) -> Result<(), PairFault>
     requires { K.has_failed writer.old ≡ false }
     ensures ok { OnOk result (Appends (K.taken writer.old) (K.taken writer.new) text.now) }

@@ -1,61 +1,63 @@
-//! What is asked of `triage`.
+//! The options of `triage`, and who watches its work.
 use race_page::About;
 use race_triage::{Filters, Watch};
 use std::thread::Threads;
 use triage_file::Value;
 use triage_report::sarif::Sources;
 
-/// What is asked for.
+/// The options of a report on the races of a trace.
 #[derive(Clone, Copy)]
 pub struct Asked<'a> {
-    /// Which blocks are printed.
+    /// Which blocks are printed, by the texts in their two canonical lines.
     pub filters: Filters<'a>,
-    /// Whether blocks are printed of what is apart.
+    /// Whether blocks of what is apart are printed.
     pub apart: bool,
-    /// How many open pairs of a pair of places are tried.
+    /// How many open pairs of a pair of locations are tried; the program takes 0 to 4,096.
     pub tries: u32,
-    /// How many threads look for schedules at once; 0 for the one that calls.
+    /// How many threads share the counting and look for schedules. With 0 the calling thread does it alone.
     pub workers: u32,
-    /// In which form it is written.
+    /// The form of the report.
     pub form: Form<'a>,
-    /// The entries of a triage file, where one is given.
+    /// The entries of a triage file, if there is one.
     pub triage: Option<&'a [Value]>,
 }
 
-/// In which form the verdicts are written.
+/// The form in which the verdicts are written.
 #[derive(Clone, Copy)]
 pub enum Form<'a> {
     /// Lines of text.
     Text,
-    /// An object a line.
+    /// An object of JSON a line.
     Json,
-    /// Lines as compilers write them.
+    /// Lines as compilers write them (docs/FORMATS.md, "Lines for editors").
     Lines,
     /// A triage file with an entry for each race.
     Entries,
-    /// A log as code-scanning pages take it.
+    /// A log of SARIF 2.1.0, which code-scanning pages read.
     Sarif {
-        /// The code that ran.
+        /// The code that ran: its folder, and lines for fingerprints.
         sources: Sources<'a>,
     },
     /// A page (HTML).
     Page {
-        /// The trace's name, and how its races came out when they were followed.
+        /// The trace's name, and what was found when its races were followed on the real program.
         about: About<'a>,
     },
 }
 
-/// Who is told which entries of a triage file are about a race. No clause says what it makes of that, and no answer rests on it.
+/// Learns which entries of a triage file are about a race. No contract says what it does with that, and no answer
+/// depends on it.
 pub trait Hears {
-    /// Whether the entry with this number, from 0, leaves out its race, and whether it is about a race.
+    /// `entry` is the number of an entry, counted from 0. `hides` says whether it leaves races out, and `is_met`
+    /// whether it is about a race.
     fn met(&self, entry: usize, hides: bool, is_met: bool);
 }
 
-/// With what the work is done, and who watches.
+/// What starts the threads of `triage`, and who watches its work.
 #[derive(Drop)]
 pub struct Crew<'a, R: Threads + Sync, W: Watch + Hears + Sync> {
     /// What starts threads.
     pub threads: &'a R,
-    /// Who is told how far the work is.
+    /// Learns how far the work is, and which entries of a triage file are about a race.
     pub watch: &'a W,
 }

@@ -1,4 +1,4 @@
-//! Reads how races came out when they were followed on the real program: what `record/confirm` writes.
+//! Reads what `record/confirm --json` writes: what was found when races were followed on the real program.
 ghost use Rattle.std.specs.Prelude.{◌≡◌, ◌++◌, IfErr, IfOk, IfSome, OnErr, OnOk, false};
 ghost use Rattle.followed_races.specs.Lines.{AreLines};
 ghost use Rattle.calls.specs.triage.Confirmed.{confirmed_fault_words, IsConfirmedFault, IsTextFault};
@@ -9,19 +9,19 @@ use rapid_text::OutOfMemory;
 use report::{Piece, append_pieces};
 use std::alloc::Global;
 
-/// The number of this input in faults: the trace is 1, the known races are 2.
+/// The number of this input in faults. The trace is 1, and the known races are 2.
 const INPUT: u32 = 3;
 
-/// Why the file was not taken.
+/// Why a file of followed races was not read. The numbers are those of docs/FORMATS.md.
 #[derive(Clone, Copy, PartialEq, Eq, Debug)]
 pub enum ConfirmedFault {
-    /// 94 or 96: a fault of reading, or want of memory.
+    /// 94 or 96: a fault of reading, or out of memory.
     Replay(ReplayFault),
-    /// 108: this line, the first being 1, is none that `record/confirm` writes.
+    /// 108: this line of the file, counted from 1, is not what `record/confirm --json` writes.
     Line(u64),
 }
 
-/// Reads the file, whole: an entry for each of its lines.
+/// Reads a whole file of followed races, an entry for each line (docs/FORMATS.md, "Followed races").
 pub fn read_confirmed<S: Source>(
     alloc: Global,
     reader: &mut S,
@@ -36,7 +36,7 @@ pub fn read_confirmed<S: Source>(
     }
 }
 
-/// The entries of the file's text.
+/// The entries in the file's text.
 fn entries_of(alloc: Global, text: &[u8]) -> Result<Vec<Followed>, ConfirmedFault>
     ensures ok { IfOk result (λ found. AreLines text.now found.items) }
     ensures err { IfErr result (IsTextFault text.now) }
@@ -48,7 +48,7 @@ fn entries_of(alloc: Global, text: &[u8]) -> Result<Vec<Followed>, ConfirmedFaul
     }
 }
 
-/// Appends the text of a fault, without a line end. Where memory is refused `out` stays as it was.
+/// Appends the text of a fault, without a line end. If memory runs out, `out` stays as it was.
 pub fn confirmed_fault_text(fault: &ConfirmedFault, out: &mut Vec<u8>) -> Result<(), OutOfMemory>
     ensures ok { OnOk result (out.new.items ≡ out.old.items ++ confirmed_fault_words fault.now) }
     ensures err { OnErr result (out.new.items ≡ out.old.items) }

@@ -1,4 +1,4 @@
-//! Why the call stopped, and what is printed of that.
+//! Why `triage` stopped, and the text of that fault.
 ghost use Rattle.std.specs.Prelude.{◌≡◌, ◌++◌, OnOk, OnErr};
 ghost use Rattle.calls.specs.triage.TriageFaults.{triage_fault_words};
 
@@ -6,12 +6,12 @@ use client_scripts::{ReplayFault, fault_text};
 use rapid_text::OutOfMemory;
 use report::{Piece, append_pieces};
 
-/// Why the call stopped.
+/// Why `triage` stopped. The numbers are those of docs/FORMATS.md.
 #[derive(Clone, Copy, PartialEq, Eq, Debug)]
 pub enum TriageFault {
-    /// 91, 92, 94 to 96: a fault of reading, of the trace, or of writing, or want of memory.
+    /// 91, 92, 94 to 96: a fault of the trace, of reading or of writing, or out of memory.
     Replay(ReplayFault),
-    /// 100: there are more than 1,048,576 pairs of places.
+    /// 100: there are more than 1,048,576 pairs of locations.
     TooMany,
 }
 
@@ -38,7 +38,7 @@ impl From<OutOfMemory> for TriageFault {
     }
 }
 
-/// Appends the text of a fault, without a line end. Where memory is refused `out` stays as it was.
+/// Appends the text of a fault, without a line end. If memory runs out, `out` stays as it was.
 pub fn triage_fault_text(fault: &TriageFault, out: &mut Vec<u8>) -> Result<(), OutOfMemory>
     ensures ok { OnOk result (out.new.items ≡ out.old.items ++ triage_fault_words fault.now) }
     ensures err { OnErr result (out.new.items ≡ out.old.items) }

@@ -1,4 +1,5 @@
-//! Whether the parts of a merged report have events, so that nothing found can be told from nothing judged.
+//! Whether the parts of a merged report have events. If none has, nothing was judged, and a report without races means
+//! nothing.
 ghost use Rattle.std.specs.Prelude.{◌≡◌, IfOk};
 ghost use Rattle.std.specs.List.{before_first};
 ghost use Rattle.rapid_text.specs.Reading.{is_line_feed};
@@ -9,7 +10,7 @@ use race_parts::{Part, Parts, data_of, number_of};
 use rapid_text::OutOfMemory;
 use std::alloc::Global;
 
-/// The first line of a text.
+/// The first line of a text, without its end.
 fn first_line(text: &[u8]) -> &[u8]
     ensures { result.now ≡ before_first is_line_feed text.now }
 {
@@ -19,7 +20,7 @@ fn first_line(text: &[u8]) -> &[u8]
     }
 }
 
-/// Whether the first line of a part counts events.
+/// Whether the first line of a part counts at least one event.
 fn counts_events(alloc: Global, part: &Part) -> Result<bool, OutOfMemory>
     ensures { IfOk result (λ counts. counts ≡ counts_events part.now) }
 {
@@ -27,7 +28,7 @@ fn counts_events(alloc: Global, part: &Part) -> Result<bool, OutOfMemory>
     Ok(number_of(&counts, "events") != 0)
 }
 
-/// Whether a part has events.
+/// Whether at least one of the parts has events.
 pub fn have_events(alloc: Global, parts: &Parts) -> Result<bool, OutOfMemory>
     ensures { IfOk result (λ have. have ≡ have_events parts.now.entries) }
 {

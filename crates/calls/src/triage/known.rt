@@ -1,4 +1,4 @@
-//! Which races are known: those that a text lists, and those of races that a triage file leaves out.
+//! Which races are known: those that a text of known races lists, and those that a triage file leaves out.
 ghost use Rattle.std.specs.Prelude.{◌≡◌, ◌||◌, Some, IfOk, option_map};
 ghost use Rattle.race_triage.specs.Chosen.{is_known, known_places};
 ghost use Rattle.race_triage.specs.declared.verdicts.Verdict.{Verdict as Told};
@@ -11,7 +11,7 @@ use rapid_text::OutOfMemory;
 use std::alloc::Global;
 use triage_file::{Value, add_triaged};
 
-/// The pairs of places that a text lists as races.
+/// The pairs of locations that a text lists as races; None if there is no text.
 fn known_in(
     alloc: Global,
     places: &Places,
@@ -25,7 +25,8 @@ fn known_in(
     }
 }
 
-/// The pairs of places whose races are known: those that a text lists, and those of races that a triage file leaves out.
+/// The pairs of locations whose races are known: those that a text lists, and those with a race that a triage file
+/// leaves out. None if there is neither.
 pub(crate) fn known_by(
     alloc: Global,
     indexed: &Indexed,
@@ -42,7 +43,7 @@ pub(crate) fn known_by(
     }
 }
 
-/// The same with those of a triage file.
+/// Adds those with a race that a triage file leaves out, if there is such a file.
 fn known_with(
     alloc: Global,
     indexed: &Indexed,
@@ -59,7 +60,7 @@ fn known_with(
     }
 }
 
-/// The same with those of races that these entries leave out.
+/// Adds those with a race that these entries leave out.
 fn known_plus(
     alloc: Global,
     indexed: &Indexed,
@@ -76,7 +77,7 @@ fn known_plus(
     }
 }
 
-/// These pairs, or none.
+/// These pairs; an empty set if there are none.
 fn or_nothing(alloc: Global, known: Option<Known>) -> Known
     ensures { (v : Told) → is_known (Some result.keys) v ≡ is_known (known_places known) v }
 {
@@ -86,7 +87,7 @@ fn or_nothing(alloc: Global, known: Option<Known>) -> Known
     }
 }
 
-/// These pairs, and those of races that the entries leave out.
+/// These pairs, and those with a race that the entries leave out.
 fn known_more(
     indexed: &Indexed,
     found: &Verdicts,

@@ -1,4 +1,4 @@
-//! Which pairs of locations of a merged report are printed: known races are left out, and what filters drop.
+//! Which pairs of locations of a merged report are printed: known races are left out, and so is what filters drop.
 
 mod choosing;
 mod entries;

@@ -1,4 +1,4 @@
-//! Writes a merged report in which pairs of locations are left out.
+//! Writes a merged report from which pairs of locations are left out.
 ghost use Rattle.std.specs.Prelude.{◌≡◌, ◌++◌, Err, IfOk, OnOk, false, map, true};
 ghost use Rattle.std.specs.List.{after_first};
 ghost use Rattle.client_scripts.specs.declared.fault.ReplayFault.TheVariants.{Write};
@@ -21,34 +21,34 @@ use report::{Piece, append_pieces};
 use std::alloc::Global;
 use triage_report::sarif::{Sources, merged_sarif};
 
-/// In which form a merged report is written.
+/// The form in which a merged report is written.
 #[derive(Clone, Copy)]
 pub enum MergedForm<'a> {
     /// Lines of text.
     Text,
-    /// An object a line, with the parts, so that it may be merged again.
+    /// An object of JSON a line. It has the whole parts, so it may be merged again.
     Json,
-    /// A log as code-scanning pages take it.
+    /// A log of SARIF 2.1.0, which code-scanning pages read.
     Sarif {
-        /// The code that ran.
+        /// The code that ran: its folder, and lines for fingerprints.
         sources: Sources<'a>,
     },
     /// A page (HTML).
     Page,
 }
 
-/// What is asked of a merged report.
+/// The options of a merged report.
 #[derive(Clone, Copy)]
 pub struct MergedAsked<'a> {
     /// What leaves pairs of locations out.
     pub choice: Choice<'a>,
-    /// Whether there are blocks of what is apart.
+    /// Whether the report has blocks of what is apart.
     pub apart: bool,
-    /// In which form it is written.
+    /// The form of the report.
     pub form: MergedForm<'a>,
 }
 
-/// Appends a word and a number, if there is one.
+/// Appends a line with a word and a number, if there is a number.
 fn append_count(out: &mut Vec<u8>, word: &[u8], count: Option<u64>) -> Result<(), OutOfMemory>
     ensures { OnOk result (out.new.items ≡ out.old.items ++ count_text word.now count) }
 {
@@ -82,7 +82,7 @@ fn words_of(
     Ok(text)
 }
 
-/// Appends a member of an object, if there is a number.
+/// Appends a member of an object, if there is a number. `name` has the quotes and the colon.
 fn append_member(out: &mut Vec<u8>, name: &[u8], count: Option<u64>) -> Result<(), OutOfMemory>
     ensures { OnOk result (out.new.items ≡ out.old.items ++ member_text name.now count) }
 {
@@ -95,7 +95,7 @@ fn append_member(out: &mut Vec<u8>, name: &[u8], count: Option<u64>) -> Result<(
     }
 }
 
-/// Appends the first line of JSON.
+/// Appends the first line of the JSON.
 fn append_head(
     out: &mut Vec<u8>,
     parts: usize,
@@ -121,7 +121,7 @@ fn append_head(
     Ok(())
 }
 
-/// What comes after the first line.
+/// What comes after the first line; empty if the text has no line end.
 fn behind_first(text: &[u8]) -> &[u8]
     ensures { result.now ≡ after_first is_line_feed text.now }
 {
@@ -155,7 +155,7 @@ fn json_of(alloc: Global, parts: &Parts, left: &Left<'_>) -> Result<Vec<u8>, Out
     Ok(text)
 }
 
-/// The report as a log.
+/// The report as a SARIF log.
 fn log_of(
     alloc: Global,
     parts: usize,
@@ -205,7 +205,7 @@ fn page_of(
     Ok(text)
 }
 
-/// The report in the form that is asked for.
+/// The report in the requested form.
 fn text_by(
     alloc: Global,
     parts: &Parts,
@@ -238,7 +238,7 @@ fn left_told(
     told_in(alloc, parts, &rows, &cells, asked)
 }
 
-/// The same of these rows, and of these rows in the order of the report.
+/// The same, from these rows and from the cells, which are these rows in the order of the report.
 fn told_in(
     alloc: Global,
     parts: &Parts,
@@ -255,8 +255,8 @@ fn told_in(
     Ok((text, races_in(left.cells.as_slice()) as u64))
 }
 
-/// Writes the merged report of the parts as requested: known races, and blocks that the filters drop, are left out and
-/// counted. Answers how many races are printed.
+/// Writes the merged report of the parts as requested. Known races, and blocks that the filters drop, are left out and
+/// counted. Returns how many races are printed.
 pub fn write_left<K: Sink>(
     alloc: Global,
     parts: &Parts,

@@ -1,4 +1,5 @@
-//! Lists the races of a trace by pairs of places: reads the trace, finds the verdicts, makes the text, and writes it.
+//! Lists the races of a trace by pairs of locations: reads the trace, finds the verdicts, makes the text, and writes
+//! it.
 ghost use Rattle.std.specs.Prelude.{◌≡◌, ◌≢◌, ℕ, List, None, Err, IfErr, IfOk, IfSome, option_map, true, false};
 ghost use Rattle.client_scripts.specs.declared.fault.ReadCause.TheVariants.{Device};
 ghost use Rattle.client_scripts.specs.declared.fault.ReplayFault.TheVariants.{Read, Write};
@@ -16,9 +17,12 @@ use race_triage::{Watch, has_block};
 use std::alloc::Global;
 use std::thread::Threads;
 
-/// Reads a trace text, whole, and writes what is found of its conflicting pairs by pair of places: the counts, and a block for each
-/// race, or the same in another form. Races that the text of `known` lists, where it is given, are left out. Before a fault nothing is written, but at 95, where
-/// what was written is a beginning of the text. Answers how many races were written. Who watches is told how far the work is.
+/// Reads a whole trace text and writes its report: the counts, and a block for each race, or the same in another form
+/// (docs/FORMATS.md, "The races of a trace"). Races that the text `known` lists are left out. Returns how many races
+/// were written.
+///
+/// At the faults 91, 92, 94, 96 and 100 nothing is written. At 95 the writer has taken a beginning of the text. The
+/// trace is input 1 in faults, and `known` is input 2. `crew.watch` learns how far the work is.
 pub fn triage<R: Threads + Sync, S: Source, L: Source + Drop, K: Sink, W: Watch + Hears + Sync>(
     crew: &Crew<'_, R, W>,
     alloc: Global,
@@ -30,13 +34,13 @@ pub fn triage<R: Threads + Sync, S: Source, L: Source + Drop, K: Sink, W: Watch 
     requires reader { S.has_failed reader.old ≡ false }
     requires known { IfSome known (λ k. L.has_failed k ≡ false) }
     requires writer { K.has_failed writer.old ≡ false }
-    // There are texts of the trace and of known races, those that the readers tell where they tell them, of which this comes. Known are exactly
-    // the races of two places whose locations the text of known races names.
+    // The report comes from a text of the trace and a text of known races. If the types of the readers show their
+    // bytes, they are those texts. Exactly the pairs of locations that the second text names are known.
     ensures triaged { (bytes listed : List ℕ)
         × IfSome (S.rest reader.old) (λ told. bytes ≡ told)
         × IfSome known (λ k. IfSome (L.rest k) (λ told. listed ≡ told))
         × IsTriaged bytes listed known asked.entry (K.taken writer.old) (K.taken writer.new) result }
-    // The writer is at fault exactly where a write failed.
+    // The fault is a failed write exactly if a write failed.
     ensures write { result ≡ Err (Replay Write) → K.has_failed writer.new ≡ true }
     ensures write_failed { K.has_failed writer.new ≡ true → result ≡ Err (Replay Write) }
     ensures read_failed { S.has_failed reader.new ≡ true → result ≡ Err (Replay (Read 1 Device)) }
@@ -51,7 +55,7 @@ pub fn triage<R: Threads + Sync, S: Source, L: Source + Drop, K: Sink, W: Watch 
     }
 }
 
-/// The same of a trace that was read.
+/// Writes the report of a trace that was read already.
 pub fn triage_on<R: Threads + Sync, L: Source + Drop, K: Sink, W: Watch + Hears + Sync>(
     crew: &Crew<'_, R, W>,
     alloc: Global,
@@ -78,14 +82,14 @@ pub fn triage_on<R: Threads + Sync, L: Source + Drop, K: Sink, W: Watch + Hears 
     }
 }
 
-/// Tells who watches whether the text of known races has a block, if there is such a text.
+/// Reports to the watcher whether the text of known races has a block, if there is such a text.
 fn tell_known<W: Watch>(watch: &W, listed: &Option<Vec<u8>>) {
     if let Some(text) = listed {
         watch.known(has_block(text.as_slice()));
     }
 }
 
-/// Writes what is found of the trace. Answers how many races were written.
+/// Finds the verdicts of the trace and writes the report. Returns how many races were written.
 fn write_listing<R: Threads + Sync, K: Sink, W: Watch + Hears + Sync>(
     crew: &Crew<'_, R, W>,
     alloc: Global,
@@ -110,7 +114,7 @@ fn write_listing<R: Threads + Sync, K: Sink, W: Watch + Hears + Sync>(
     }
 }
 
-/// The text of races that are known, where there is one.
+/// Reads the text of known races, if there is one.
 fn read_known<L: Source + Drop>(
     alloc: Global,
     known: Option<L>,

@@ -1,4 +1,4 @@
-//! Writes a merged report as a log or as a page.
+//! Writes a merged report as a SARIF log or as a page.
 ghost use Rattle.std.specs.Prelude.{◌≡◌, Err, IfErr, IfOk, false, map, true};
 ghost use Rattle.client_scripts.specs.declared.fault.ReplayFault.TheVariants.{OutOfMemory as NoMemory, Write};
 ghost use Rattle.race_parts.specs.Cells.{AreSorted, row_said, rows_in};
@@ -13,22 +13,22 @@ use race_parts::{Cell, Parts, Row, cells_of, pairs_of, races_in, rows_of};
 use std::alloc::Global;
 use triage_report::sarif::{Sources, merged_sarif};
 
-/// Nothing was left out.
+/// The counts if nothing can be left out.
 const NONE_LEFT: LeftOut = LeftOut {
     known: None,
     hidden: None,
 };
 
-/// What a log of a merged report has.
+/// What a SARIF log of a merged report has.
 #[derive(Clone, Copy)]
 pub struct MergedLog<'a> {
-    /// Whether there are results of what is apart.
+    /// Whether the log has results for what is apart.
     pub apart: bool,
-    /// The code that ran.
+    /// The code that ran: its folder, and lines for fingerprints.
     pub sources: Sources<'a>,
 }
 
-/// The rows of parts as a log, and how many races it has.
+/// The merged report as a SARIF log, and how many races it has.
 fn log_of<'a>(
     alloc: Global,
     parts: &Parts,
@@ -54,8 +54,8 @@ fn log_of<'a>(
     Ok((text, races_in(cells) as u64))
 }
 
-/// Writes the merged report of the parts as SARIF 2.1.0. `rows` are their rows, and `cells` these in the order of the report. Answers how many
-/// races are printed.
+/// Writes the merged report of the parts as a log of SARIF 2.1.0 (docs/FORMATS.md, "SARIF"). `rows` are the rows of all
+/// parts, and `cells` are these rows in the order of the report. Returns how many races the log has.
 pub fn write_merged_sarif<'a, K: Sink>(
     alloc: Global,
     parts: &Parts,
@@ -80,7 +80,7 @@ pub fn write_merged_sarif<'a, K: Sink>(
     }
 }
 
-/// The report of the parts as a page, and how many races it has.
+/// The merged report as a page, and how many races it has.
 fn page_of(alloc: Global, parts: &Parts, apart: bool) -> Result<(Vec<u8>, u64), TriageFault>
     ensures ok { IfOk result (λ made. IsMergedPage parts.now apart made.1 made.0.items) }
     ensures err { IfErr result (λ fault. fault ≡ Replay NoMemory) }
@@ -93,7 +93,8 @@ fn page_of(alloc: Global, parts: &Parts, apart: bool) -> Result<(Vec<u8>, u64), 
     Ok((text, races_in(&cells) as u64))
 }
 
-/// Writes the merged report of the parts as a page (HTML). Answers how many races are printed.
+/// Writes the merged report of the parts as a page (HTML). With `apart`, the page also has what is apart. Returns how
+/// many races the page has.
 pub fn write_merged_page<K: Sink>(
     alloc: Global,
     parts: &Parts,

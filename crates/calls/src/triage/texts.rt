@@ -1,4 +1,4 @@
-//! The text that tells the verdicts on the pairs of places of a trace.
+//! The text that reports the verdicts on the pairs of locations of a trace.
 ghost use Rattle.std.specs.Prelude.{◌≡◌, ◌++◌, ℕ, List, IfErr, IfOk, OnOk, length, option_map};
 ghost use Rattle.race_triage.specs.Chosen.{known_places, AreChosen};
 ghost use Rattle.race_triage.specs.Places.{AreFirstUses, AreNumbered};
@@ -24,7 +24,7 @@ use triage_report::json::triage_json;
 use triage_report::lines::triage_lines;
 use triage_report::sarif::triage_sarif;
 
-/// The text that tells the verdicts on the trace's pairs of places as it is asked for, and how many races it tells of.
+/// The text of the verdicts on the trace's pairs of locations, as requested, and how many races it reports.
 pub(crate) fn text_of<R: Threads + Sync, W: Watch + Hears + Sync>(
     crew: &Crew<'_, R, W>,
     alloc: Global,
@@ -41,7 +41,7 @@ pub(crate) fn text_of<R: Threads + Sync, W: Watch + Hears + Sync>(
     }
 }
 
-/// The same by the orders of the trace.
+/// The same, by the orders of the trace.
 fn text_by<R: Threads + Sync, W: Watch + Hears + Sync>(
     crew: &Crew<'_, R, W>,
     alloc: Global,
@@ -61,7 +61,7 @@ fn text_by<R: Threads + Sync, W: Watch + Hears + Sync>(
     }
 }
 
-/// Tells who listens of each entry of a triage file whether it is about a race.
+/// Reports to the watcher, for each entry of a triage file, whether it is about a race.
 fn tell_met<W: Hears>(watch: &W, indexed: &Indexed, found: &Verdicts, triage: Option<&[Value]>) {
     let Some(entries) = triage else {
         return;
@@ -74,7 +74,7 @@ fn tell_met<W: Hears>(watch: &W, indexed: &Indexed, found: &Verdicts, triage: Op
     }
 }
 
-/// The same of verdicts that were found.
+/// The same, from the verdicts.
 fn text_of_found(
     alloc: Global,
     analysis: &Analysis<'_>,
@@ -94,7 +94,7 @@ fn text_of_found(
     }
 }
 
-/// The text, and how many races it tells of.
+/// The text, and how many races it reports.
 fn told(
     alloc: Global,
     analysis: &Analysis<'_>,
@@ -113,7 +113,7 @@ fn told(
     Ok((text, races))
 }
 
-/// Chooses among the verdicts, and appends those in the form that is asked for. Answers how many races are told of.
+/// Chooses among the verdicts, and appends the chosen ones in the requested form. Returns how many races it reports.
 fn append_told(
     analysis: &Analysis<'_>,
     found: &Verdicts,
@@ -129,7 +129,7 @@ fn append_told(
     Ok(chosen.races)
 }
 
-/// Appends the chosen verdicts in the form that is asked for.
+/// Appends the chosen verdicts in the requested form.
 fn append_chosen(
     analysis: &Analysis<'_>,
     found: &Verdicts,
@@ -164,7 +164,7 @@ fn append_entries(
     triage_entries(indexed, found.places.numbers.as_slice(), chosen, out)
 }
 
-/// The verdicts that are told.
+/// The verdicts that are reported.
 fn chosen(
     indexed: &Indexed,
     found: &Verdicts,
@@ -185,7 +185,7 @@ fn chosen(
     )
 }
 
-/// What is found of the trace's pairs of places.
+/// Finds the verdicts on the trace's pairs of locations.
 fn found_of<R: Threads + Sync, W: Watch + Hears + Sync>(
     crew: &Crew<'_, R, W>,
     alloc: Global,

@@ -1,4 +1,4 @@
-//! Reads a triage file.
+//! Reads a triage file, and makes the text of the fault if it is refused.
 ghost use Rattle.std.specs.Prelude.{◌≡◌, ◌++◌, ◌∷◌, [], codes, decimal, IfErr, IfOk, IfSome, OnErr, OnOk, false};
 ghost use Rattle.std.specs.List.{concat};
 ghost use Rattle.toml.specs.View.{table_view};
@@ -11,19 +11,20 @@ use report::{Piece, append_pieces};
 use std::alloc::Global;
 use triage_file::{Mistake, Refusal, Spot, Table, read_triage};
 
-/// The number of this input in faults: the trace is 1, the known races are 2, the followed ones 3.
+/// The number of this input in faults. The trace is 1, the known races are 2, and the followed races are 3.
 const INPUT: u32 = 4;
 
-/// Why the file was not taken.
+/// Why a triage file was not read. The numbers are those of docs/FORMATS.md.
 #[derive(Clone, Copy, PartialEq, Eq, Debug)]
 pub enum TriagedFault {
-    /// 94 or 96: a fault of reading, or want of memory.
+    /// 94 or 96: a fault of reading, or out of memory.
     Replay(ReplayFault),
-    /// The text is refused.
+    /// 110 to 113: the text is refused.
     File(Refusal),
 }
 
-/// Reads the file, whole. An entry whose last day is before today, a number such as 20271231, is refused.
+/// Reads a whole triage file. `today` is a date as one number, such as 20271231. An entry whose last day is before it
+/// is refused.
 pub fn read_triaged<S: Source>(
     alloc: Global,
     reader: &mut S,
@@ -39,7 +40,7 @@ pub fn read_triaged<S: Source>(
     }
 }
 
-/// The document of the file's text.
+/// The document in the file's text.
 fn table_of(alloc: Global, text: &[u8], today: u32) -> Result<Table, TriagedFault>
     ensures ok { IfOk result (λ table. IsTaken text.now today (table_view table)) }
     ensures err { IfErr result (IsTriagedTextFault text.now today) }
@@ -50,7 +51,7 @@ fn table_of(alloc: Global, text: &[u8], today: u32) -> Result<Table, TriagedFaul
     }
 }
 
-/// The fault of a refusal.
+/// The fault for a refused text.
 fn fault_of(refusal: Refusal) -> TriagedFault
     ensures { result ≡ fault_by refusal }
 {
@@ -60,7 +61,7 @@ fn fault_of(refusal: Refusal) -> TriagedFault
     }
 }
 
-/// What is wrong with an entry.
+/// The words for a mistake in an entry.
 fn mistake_words(mistake: Mistake) -> &'static [u8]
     ensures { result.now ≡ mistake_words mistake }
 {
@@ -78,7 +79,7 @@ fn mistake_words(mistake: Mistake) -> &'static [u8]
     }
 }
 
-/// Appends where a text is refused.
+/// Appends the line and column at which a text is refused.
 fn append_spot(spot: Spot, out: &mut Vec<u8>) -> Result<(), OutOfMemory>
     ensures { OnOk result (out.new.items ≡ out.old.items ++ spot_words spot) }
 {
@@ -94,7 +95,7 @@ fn append_spot(spot: Spot, out: &mut Vec<u8>) -> Result<(), OutOfMemory>
     )
 }
 
-/// Appends which entry it is, and what is wrong with it.
+/// Appends the spot and the number of a refused entry, and what is wrong with it.
 fn append_entry(spot: Spot, number: u64, words: &[u8], out: &mut Vec<u8>) -> Result<(), OutOfMemory>
     ensures { OnOk result (out.new.items ≡ out.old.items ++ spot_words spot ++ concat (codes "entry " ∷ decimal number ∷ codes " " ∷ words.now ∷ [])) }
 {
@@ -131,7 +132,7 @@ fn append_refusal(refusal: Refusal, out: &mut Vec<u8>) -> Result<(), OutOfMemory
     }
 }
 
-/// Appends the text of a fault, without a line end. Where memory is refused `out` stays as it was.
+/// Appends the text of a fault, without a line end. If memory runs out, `out` stays as it was.
 pub fn triaged_fault_text(fault: &TriagedFault, out: &mut Vec<u8>) -> Result<(), OutOfMemory>
     ensures ok { OnOk result (out.new.items ≡ out.old.items ++ triaged_fault_words fault.now) }
     ensures err { OnErr result (out.new.items ≡ out.old.items) }
@@ -142,7 +143,7 @@ pub fn triaged_fault_text(fault: &TriagedFault, out: &mut Vec<u8>) -> Result<(),
     Ok(())
 }
 
-/// Appends the text of a fault.
+/// Appends the text of a fault. If memory runs out, `out` may have a part of it.
 fn append_fault(fault: &TriagedFault, out: &mut Vec<u8>) -> Result<(), OutOfMemory>
     ensures { OnOk result (out.new.items ≡ out.old.items ++ triaged_fault_words fault.now) }
 {

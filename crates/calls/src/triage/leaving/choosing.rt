@@ -1,4 +1,4 @@
-//! What is printed of a merged report, and how much is left out.
+//! Chooses which pairs of locations of a merged report are printed, and counts the others.
 ghost use Rattle.std.specs.Prelude.{◌≡◌, ◌||◌, Some, None, Option, IfOk, option_map};
 ghost use Rattle.calls.specs.triage.Leaving.{count_if, entries_by, IsLeft, IsLeftBy};
 ghost use Rattle.calls.specs.triage.LeavingListed.{is_listed_by};
@@ -11,26 +11,26 @@ use rapid_text::OutOfMemory;
 use std::alloc::Global;
 use triage_file::Value;
 
-/// What leaves pairs of locations out.
+/// What leaves pairs of locations out of a merged report.
 #[derive(Clone, Copy)]
 pub struct Choice<'a> {
-    /// A text of known races, if there is one.
+    /// A text of known races, if there is one. Its form is that of `--known` (docs/FORMATS.md, "The races of a trace").
     pub known: Option<&'a [u8]>,
-    /// The entries of a triage file, if there is one.
+    /// The entries of a triage file, if there is one (docs/FORMATS.md, "Triage files").
     pub entries: Option<&'a [Value]>,
-    /// Which blocks are printed.
+    /// Which blocks are printed, by the texts in their two canonical lines.
     pub filters: Filters<'a>,
 }
 
-/// What is printed, and how much is left out.
+/// The pairs of locations that are printed, and how many are left out.
 #[derive(Drop)]
 pub struct Left<'a> {
     /// The cells that stay, in their order.
     pub cells: Vec<Cell<'a>>,
-    /// How many pairs of locations were left out as known races; nothing if there is no text of known races and no triage
-    /// file.
+    /// How many pairs of locations are left out as known races. None if there is neither a text of known races nor a
+    /// triage file.
     pub known: Option<u64>,
-    /// How many the filters left out; nothing if there is no filter.
+    /// How many pairs of locations the filters leave out. None if there is no filter.
     pub hidden: Option<u64>,
 }
 
@@ -45,7 +45,7 @@ fn count_if(is_printed: bool, number: usize) -> Option<u64>
     }
 }
 
-/// The entries; none if there is no triage file.
+/// The entries; an empty slice if there is no triage file.
 fn entries_by(entries: Option<&[Value]>) -> &[Value]
     ensures { result.now ≡ entries_by (option_map (λ t. t.now) entries.entry) }
 {
@@ -55,7 +55,7 @@ fn entries_by(entries: Option<&[Value]>) -> &[Value]
     }
 }
 
-/// What is printed, if these races are listed.
+/// What is printed if `listed` has the races that the text of known races names.
 fn left_by<'a>(
     alloc: Global,
     rows: &[Row<'_>],
@@ -77,15 +77,15 @@ fn left_by<'a>(
     })
 }
 
-/// Chooses among the pairs of locations of a merged report: known races are left out, and what the filters drop. `rows`
-/// are the rows of all parts, and `cells` are these rows in the order of the report.
+/// Chooses among the pairs of locations of a merged report. First it leaves out known races, and then what the filters
+/// drop. `rows` are the rows of all parts, and `cells` are these rows in the order of the report.
 pub fn left_of<'a>(
     alloc: Global,
     rows: &[Row<'_>],
     cells: &[Cell<'a>],
     choice: Choice<'_>,
 ) -> Result<Left<'a>, OutOfMemory>
-    // Exactly those stay, in their order, and what is left out is counted.
+    // Exactly the cells that stay are there, in their order, and what is left out is counted.
     ensures { IfOk result (IsLeft rows.now cells.now choice.entry) }
 {
     match choice.known {

@@ -11,14 +11,14 @@ use serde_json::Value as Data;
 use std::alloc::Global;
 use triage_file::{Value, are_sides, has_variables, hides, is_named};
 
-/// Whether a race with this row is on one variable alone, which the entry names.
+/// Whether a race with this row is on exactly one variable, and the entry names that variable.
 fn names_all(entry: &Value, row: &Data) -> bool
     ensures { result ≡ names_all (view entry.now) (row_view row.now) }
 {
     number_of(row, "variables") == 1 && is_named(entry, variable_in(row))
 }
 
-/// The same of the row of this number.
+/// The same for the row with this number; false if there is no such row.
 fn is_row_named(
     alloc: Global,
     rows: &[Row<'_>],
@@ -33,7 +33,7 @@ fn is_row_named(
     }
 }
 
-/// Whether the cell is no race, or is one on one variable alone, which the entry names.
+/// Whether the cell is no race, or is a race on exactly one variable, which the entry names.
 fn is_one_named(
     alloc: Global,
     rows: &[Row<'_>],
@@ -49,7 +49,7 @@ fn is_one_named(
     }
 }
 
-/// Whether that holds of each of these cells, up to the first of other locations.
+/// Whether that holds for each cell from the first up to the first with other locations.
 #[tactic(auto, using(crate::proofs::triage::LeavingMetLemmas::named_stop, crate::proofs::triage::LeavingMetLemmas::named_no, crate::proofs::triage::LeavingMetLemmas::named_more))]
 fn are_named(
     alloc: Global,
@@ -74,7 +74,8 @@ fn are_named(
     Ok(true)
 }
 
-/// Whether the entry is about the races of the cell's locations. The cell is the first of these.
+/// Whether the entry is about the races of the cell's locations. `cells` begin with this cell, the first of its
+/// locations.
 fn is_about(
     alloc: Global,
     rows: &[Row<'_>],
@@ -93,7 +94,7 @@ fn is_about(
     are_named(alloc, rows, entry, cell, cells)
 }
 
-/// Whether the entry leaves these races out.
+/// Whether the entry leaves out the races of the cell's locations.
 fn leaves_out(
     alloc: Global,
     rows: &[Row<'_>],
@@ -118,7 +119,7 @@ fn first_entry(entries: &[Value]) -> (&Value, &[Value])
     (&entries[0], &entries[1..])
 }
 
-/// Whether one of the entries leaves these races out.
+/// Whether one of the entries leaves out the races of the cell's locations.
 #[tactic(auto, using(crate::proofs::triage::LeavingMetLemmas::decided_yes, crate::proofs::triage::LeavingMetLemmas::decided_no))]
 pub(crate) fn is_decided(
     alloc: Global,
@@ -140,7 +141,7 @@ pub(crate) fn is_decided(
     Ok(false)
 }
 
-/// Whether the first of these cells is a race, the first of its locations, and the entry is about it.
+/// Whether the cell is a race, is the first of its locations, and the entry is about it.
 fn is_first_about(
     alloc: Global,
     rows: &[Row<'_>],
@@ -158,7 +159,7 @@ fn is_first_about(
     }
 }
 
-/// Whether the entry is about a race among these cells. `rows` are the rows of all parts, and `cells` are these rows in
+/// Whether the entry is about a race among the cells. `rows` are the rows of all parts, and `cells` are these rows in
 /// the order of the report.
 #[tactic(auto, using(crate::proofs::triage::LeavingMetLemmas::met_yes, crate::proofs::triage::LeavingMetLemmas::met_no))]
 pub fn is_met(

@@ -1,4 +1,4 @@
-//! Whether filters keep the block of a row.
+//! Whether filters drop the block of a row.
 ghost use Rattle.std.specs.Prelude.{◌≡◌, IfOk, slice_get};
 ghost use Rattle.serde_json.specs.View.{view};
 ghost use Rattle.calls.specs.triage.LeavingFilters.{drops, is_hidden, is_hidden_by};
@@ -26,7 +26,7 @@ pub(crate) fn is_hidden(
     }
 }
 
-/// Whether they drop the block of the row of this number, if there is one.
+/// Whether the filters drop the block of the row with this number; false if there is no such row.
 fn is_dropped(
     alloc: Global,
     rows: &[Row<'_>],
@@ -41,7 +41,7 @@ fn is_dropped(
     }
 }
 
-/// Whether they drop the block of a row with this value.
+/// Whether the filters drop the block of a row with this value.
 fn drops(alloc: Global, filters: Filters<'_>, row: &Value) -> Result<bool, OutOfMemory>
     ensures { IfOk result (λ dropped. dropped ≡ drops filters.entry (view row.now)) }
 {

@@ -1,4 +1,4 @@
-//! The rows of cells: the lines that filters look at, and the variable of a race.
+//! What the rows of cells say: the lines that filters look at, and the variable of a race.
 ghost use Rattle.std.specs.Prelude.{◌≡◌, ◌<◌, ◌≤◌, ◌+◌, ◌++◌, ◌∷◌, IfOk, None, OnOk, drop, length};
 ghost use Rattle.serde_json.specs.View.{view};
 ghost use Rattle.race_parts.specs.Cells.{is_same};
@@ -11,14 +11,14 @@ use rapid_text::OutOfMemory;
 use serde_json::Value;
 use std::alloc::Global;
 
-/// Whether the two are of one pair of locations.
+/// Whether the two cells have the same pair of locations.
 pub(crate) fn is_same(one: &Cell<'_>, other: &Cell<'_>) -> bool
     ensures { result ≡ is_same one.now other.now }
 {
     one.first == other.first && one.second == other.second
 }
 
-/// Whether no cell of the same locations comes directly before the cell.
+/// Whether there is no cell before this one, or the one before has other locations.
 pub(crate) fn is_new(before: Option<Cell<'_>>, cell: Cell<'_>) -> bool
     ensures { result ≡ is_new before.entry cell.entry }
 {
@@ -28,7 +28,7 @@ pub(crate) fn is_new(before: Option<Cell<'_>>, cell: Cell<'_>) -> bool
     }
 }
 
-/// The variable that the first access of a row is to; empty if it has none.
+/// The variable of the first access of a row; empty if the row has none.
 pub(crate) fn variable_in(row: &Value) -> &[u8]
     ensures { result.now ≡ variable_in (view row.now) }
 {
@@ -38,7 +38,7 @@ pub(crate) fn variable_in(row: &Value) -> &[u8]
     }
 }
 
-/// Appends the words.
+/// Appends these bytes.
 fn append_words(out: &mut Vec<u8>, words: &[u8]) -> Result<(), OutOfMemory>
     ensures { OnOk result (out.new.items ≡ out.old.items ++ words.now) }
 {
@@ -46,7 +46,7 @@ fn append_words(out: &mut Vec<u8>, words: &[u8]) -> Result<(), OutOfMemory>
     Ok(())
 }
 
-/// Appends the line of an access, as a trace has it.
+/// Appends the line of an access as a trace has it.
 fn append_line(out: &mut Vec<u8>, access: &Value) -> Result<(), OutOfMemory>
     ensures { OnOk result (out.new.items ≡ out.old.items ++ line_by (view access.now)) }
 {
@@ -60,7 +60,7 @@ fn append_line(out: &mut Vec<u8>, access: &Value) -> Result<(), OutOfMemory>
     Ok(())
 }
 
-/// The line of one of the accesses of a row, as a trace has it; empty if it has none.
+/// The line of one access of a row, 0 or 1, as a trace has it; empty if the row lacks the access.
 pub(crate) fn line_in(alloc: Global, row: &Value, place: usize) -> Result<Vec<u8>, OutOfMemory>
     ensures { IfOk result (λ line. line.items ≡ line_in place (view row.now)) }
 {
@@ -71,7 +71,7 @@ pub(crate) fn line_in(alloc: Global, row: &Value, place: usize) -> Result<Vec<u8
     Ok(line)
 }
 
-/// The first of the cells, and the others.
+/// The first cell, and the others.
 pub(crate) fn first_of<'b, 'a>(cells: &'b [Cell<'a>]) -> (Cell<'a>, &'b [Cell<'a>])
     requires { 0 < length cells.now }
     ensures { cells.now ≡ result.0 ∷ result.1.now }
@@ -87,7 +87,7 @@ pub(crate) fn rest_at<'b, 'a>(cells: &'b [Cell<'a>], at: usize) -> &'b [Cell<'a>
     &cells[at..]
 }
 
-/// The cell at a place.
+/// The cell at this place.
 pub(crate) fn cell_at<'a>(cells: &[Cell<'a>], at: usize) -> Cell<'a>
     requires { at < length cells.now }
     ensures { drop at cells.now ≡ result ∷ drop (at + 1) cells.now }
@@ -95,7 +95,7 @@ pub(crate) fn cell_at<'a>(cells: &[Cell<'a>], at: usize) -> Cell<'a>
     cells[at]
 }
 
-/// How many pairs of locations there are.
+/// How many pairs of locations the cells have. Cells of one pair must be next to each other.
 pub(crate) fn pairs_in(cells: &[Cell<'_>]) -> usize
     ensures { result ≡ news_count None cells.now }
 {

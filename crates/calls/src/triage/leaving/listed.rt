@@ -9,14 +9,14 @@ use race_triage::{Known, Places, known_of};
 use rapid_text::{OutOfMemory, TextKeyed};
 use std::alloc::Global;
 
-/// The locations of the cells by their numbers, and the pairs of them whose races a text names.
+/// The numbered locations of the cells, and the pairs of locations that a text of known races names.
 #[derive(Drop)]
 pub(crate) struct Listed {
     places: Places,
     known: Known,
 }
 
-/// Numbers the location, if it has no number yet.
+/// Gives the location a number, if it has none.
 fn add(places: &mut Places, alloc: Global, location: &[u8]) -> Result<(), OutOfMemory> {
     if places.locations.get_index_of(location).is_none() {
         let owned = Vec::from_slice(alloc, location)?;
@@ -25,7 +25,7 @@ fn add(places: &mut Places, alloc: Global, location: &[u8]) -> Result<(), OutOfM
     Ok(())
 }
 
-/// The locations of the cells, each once. The text makes the key of their hashes.
+/// Numbers the locations of the cells. The key of their hashes comes from the text.
 fn places_of(alloc: Global, cells: &[Cell<'_>], text: &[u8]) -> Result<Places, OutOfMemory> {
     let mut places = Places {
         locations: IndexSet::with_hasher(alloc, TextKeyed::of(text)),
@@ -38,7 +38,7 @@ fn places_of(alloc: Global, cells: &[Cell<'_>], text: &[u8]) -> Result<Places, O
     Ok(places)
 }
 
-/// Sees that both locations of the cell have numbers. Where there was memory for them they have.
+/// Checks that both locations of the cell have numbers. If one has no number, the fault is out of memory.
 fn check(places: &Places, cell: &Cell<'_>) -> Result<(), OutOfMemory>
     ensures { OnOk result (HasPlaces places.now.locations.keys cell.now) }
 {
@@ -48,7 +48,7 @@ fn check(places: &Places, cell: &Cell<'_>) -> Result<(), OutOfMemory>
     }
 }
 
-/// Sees that the locations of all cells have numbers.
+/// Checks that the locations of all cells have numbers.
 fn check_all(places: &Places, cells: &[Cell<'_>]) -> Result<(), OutOfMemory>
     ensures { OnOk result (HaveAllPlaces places.now.locations.keys cells.now) }
 {
@@ -60,7 +60,7 @@ fn check_all(places: &Places, cells: &[Cell<'_>]) -> Result<(), OutOfMemory>
     Ok(())
 }
 
-/// The races that a text of known races names, as far as these cells have their locations.
+/// The races that a text of known races names, among those of these cells.
 pub(crate) fn listed_of(
     alloc: Global,
     cells: &[Cell<'_>],
@@ -74,7 +74,7 @@ pub(crate) fn listed_of(
     Ok(Listed { places, known })
 }
 
-/// Whether the text names the two locations of the cell, which have numbers.
+/// Whether the text names the cell's two locations. Both must have numbers.
 pub(crate) fn is_listed(listed: &Listed, cell: &Cell<'_>) -> Result<bool, OutOfMemory>
     ensures { IfOk result (λ is. is ≡ is_listed listed.now cell.now) }
 {

@@ -1,4 +1,4 @@
-//! The cells that stay, and the pairs of locations that are left out.
+//! Splits cells into those that stay and the pairs of locations that are left out.
 ghost use Rattle.std.specs.Prelude.{◌≡◌, ◌<◌, ◌++◌, ◌&&◌, cond, false, true, length, None, [], ◌∷◌, IfOk, OnOk};
 ghost use Rattle.calls.specs.triage.LeavingListed.{is_listed_by};
 ghost use Rattle.calls.specs.triage.LeavingSplitting.{drops_race, drops_first, is_out, leaving, staying};
@@ -13,12 +13,12 @@ use rapid_text::OutOfMemory;
 use std::alloc::Global;
 use triage_file::Value;
 
-/// What leaves a pair of locations out.
+/// A reason for leaving a pair of locations out.
 #[derive(Clone, Copy)]
 pub(crate) enum Test<'a> {
-    /// It is a race that a text of known races names, if there is one, or that one of the entries leaves out.
+    /// The pair is a known race: a text of known races names it, if there is one, or one of the entries leaves it out.
     Race(Option<&'a Listed>, &'a [Value]),
-    /// The filters drop its block.
+    /// The filters drop the block of the pair's first cell.
     Block(Filters<'a>),
 }
 
@@ -29,7 +29,7 @@ pub(crate) struct Parted<'a> {
     pub(crate) gone: Vec<Cell<'a>>,
 }
 
-/// Whether a text of known races names the cell's locations, if there is one.
+/// Whether a text of known races names the cell's locations; false if there is no text.
 fn is_listed_by(listed: Option<&Listed>, cell: &Cell<'_>) -> Result<bool, OutOfMemory>
     ensures { IfOk result (λ is. is ≡ is_listed_by listed.entry cell.now) }
 {
@@ -39,7 +39,7 @@ fn is_listed_by(listed: Option<&Listed>, cell: &Cell<'_>) -> Result<bool, OutOfM
     }
 }
 
-/// Whether the locations of the cell, the first of these, are a known race.
+/// Whether the cell's locations are a known race. `cells` begin with this cell.
 fn drops_race(
     alloc: Global,
     rows: &[Row<'_>],
@@ -59,7 +59,7 @@ fn drops_race(
     is_decided(alloc, rows, entries, cell, cells)
 }
 
-/// Whether the test leaves out the locations of the cell, the first of these.
+/// Whether the test leaves out the cell's locations. `cells` begin with this cell.
 fn drops_first(
     alloc: Global,
     rows: &[Row<'_>],
@@ -85,14 +85,14 @@ fn keep<'a>(cells: &mut Vec<Cell<'a>>, cell: Cell<'a>, stays: bool) -> Result<()
     Ok(())
 }
 
-/// Whether both are so.
+/// Whether both are true.
 fn are_both(one: bool, other: bool) -> bool
     ensures { result ≡ (one && other) }
 {
     one && other
 }
 
-/// Splits the cells by the test. Those of a pair of locations stay or are left out together.
+/// Splits the cells by the test. Neighbouring cells of one pair of locations stay or are left out together.
 pub(crate) fn split<'a>(
     alloc: Global,
     rows: &[Row<'_>],
@@ -119,8 +119,8 @@ pub(crate) fn split<'a>(
     Ok(Parted { stay, gone })
 }
 
-/// Whether the first of these cells is left out. If it is the first of its locations the test decides, else the cell
-/// before it.
+/// Whether the first of the cells is left out. If it is the first of its locations, the test decides. Else it goes the
+/// way of the cell before it.
 #[tactic(auto, using(crate::proofs::triage::LeavingSplitLemmas::out_later))]
 fn out_of(
     alloc: Global,
@@ -140,7 +140,7 @@ fn out_of(
     }
 }
 
-/// The same, if the first of these cells is the first of its locations.
+/// Whether the first of the cells is left out, if it is the first of its locations.
 #[tactic(auto, using(crate::proofs::triage::LeavingSplitLemmas::out_first))]
 fn first_out(
     alloc: Global,
