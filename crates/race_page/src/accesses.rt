@@ -1,4 +1,4 @@
-//! The two accesses of a row: each as its line of the trace, with the locks that its thread holds before it.
+//! The table of a row's two accesses: for each its line of the trace, and the locks that its thread holds before it.
 ghost use Rattle.std.specs.Prelude.{◌<◌, length};
 
 use crate::own::Tag;
@@ -8,7 +8,7 @@ use must_order::Analysis;
 use race_triage::append_event;
 use rapid_text::OutOfMemory;
 
-/// Writes a table of the two, under its heading.
+/// Writes a heading and a table of the two accesses.
 pub(crate) fn write_accesses(
     piece: &mut Piece,
     analysis: &Analysis<'_>,
@@ -32,7 +32,7 @@ pub(crate) fn write_accesses(
     piece.write(&[Item::End(Tag::TableBody), Item::End(Tag::Table)])
 }
 
-/// Writes the line of an access, where the trace has it.
+/// Writes the table line of an access. Writes nothing if the trace has no such event.
 fn write_access(piece: &mut Piece, analysis: &Analysis<'_>, event: u32) -> Result<(), OutOfMemory> {
     if event >= analysis.indexed().len() {
         return Ok(());
@@ -41,7 +41,7 @@ fn write_access(piece: &mut Piece, analysis: &Analysis<'_>, event: u32) -> Resul
     write_line(piece, &mut text, analysis, event)
 }
 
-/// Writes the line of an access, whose words are made in a text of their own.
+/// Writes the table line of an access. `text` is empty, and gets the event's line of the trace.
 fn write_line(
     piece: &mut Piece,
     text: &mut Vec<u8>,
@@ -64,7 +64,7 @@ fn write_line(
     write_locks(piece, analysis, event)
 }
 
-/// Writes the locks that the event's thread holds before it, and ends their cell and its line.
+/// Writes the locks that the thread holds before the event, and ends the table line.
 fn write_locks(piece: &mut Piece, analysis: &Analysis<'_>, event: u32) -> Result<(), OutOfMemory>
     requires event { event < length analysis.now.events }
 {
@@ -74,7 +74,7 @@ fn write_locks(piece: &mut Piece, analysis: &Analysis<'_>, event: u32) -> Result
     }
 }
 
-/// Writes the names of these locks, and ends their cell and its line.
+/// Writes the names of these locks, or `none`, and ends the table line.
 fn write_held(piece: &mut Piece, indexed: &Indexed, locks: &[u32]) -> Result<(), OutOfMemory> {
     let mut between: &[u8] = b"";
     for lock in locks {
@@ -89,7 +89,7 @@ fn write_held(piece: &mut Piece, indexed: &Indexed, locks: &[u32]) -> Result<(),
     ])
 }
 
-/// Writes the name of the lock, where the trace has it, behind these words.
+/// Writes the separator, and the name of the lock if the trace has such a lock.
 fn write_lock<'a>(
     piece: &mut Piece,
     indexed: &'a Indexed,

@@ -1,10 +1,10 @@
-//! The commands with which a reader of the page goes on.
+//! The commands with which a reader of the page can go on.
 use crate::own::{Part, Tag};
 use crate::piece::{Item, Piece};
 use crate::shown::{Shown, Sort};
 use rapid_text::OutOfMemory;
 
-/// Writes the commands for a row.
+/// Writes the commands for a row. `word` is the trace's name as one word of a shell.
 pub(crate) fn write_commands(
     piece: &mut Piece,
     word: &[u8],
@@ -35,7 +35,7 @@ pub(crate) fn write_commands(
     piece.write(&[Item::End(Tag::Lines)])
 }
 
-/// Writes the commands with which a race is seen in a session.
+/// Writes the commands that make a script of the schedule, replay it, and open it in a session.
 fn write_race_commands(piece: &mut Piece, word: &[u8], shown: Shown) -> Result<(), OutOfMemory> {
     piece.write(&[
         Item::Text(b"racebench witness "),

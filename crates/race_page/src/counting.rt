@@ -1,4 +1,4 @@
-//! The table of the eleven counts, which are those of the whole trace.
+//! The table of the eleven counts of the whole trace.
 ghost use Rattle.std.specs.Prelude.{◌≡◌, ◌++◌, OnOk, decimal};
 ghost use Rattle.race_page.specs.Counts.{count_line, counts_text, kind_lines, meaning_text, pair_lines, place_lines, trace_lines, word_text};
 
@@ -6,7 +6,7 @@ use itoa::Buffer;
 use race_triage::Totals;
 use rapid_text::OutOfMemory;
 
-/// What stands before the first line of the table.
+/// What comes before the first line of the table.
 pub(crate) const COUNTS_BEGIN: &[u8] = b"<section>
 <h2>Counts</h2>
 <table>
@@ -16,7 +16,7 @@ pub(crate) const COUNTS_BEGIN: &[u8] = b"<section>
 <tbody>
 ";
 
-/// What stands behind its last line.
+/// What comes after the last line of the table.
 pub(crate) const COUNTS_END: &[u8] = b"</tbody>
 </table>
 </section>
@@ -55,7 +55,7 @@ pub(crate) fn append_counts(out: &mut Vec<u8>, totals: &Totals) -> Result<(), Ou
     Ok(())
 }
 
-/// Appends the lines on the trace.
+/// Appends the table lines on the trace.
 fn append_trace(out: &mut Vec<u8>, totals: &Totals) -> Result<(), OutOfMemory>
     ensures { OnOk result (out.new.items ≡ out.old.items ++ trace_lines totals.now) }
 {
@@ -63,7 +63,7 @@ fn append_trace(out: &mut Vec<u8>, totals: &Totals) -> Result<(), OutOfMemory>
     append_line(out, b"threads", totals.threads, b"threads of the trace")
 }
 
-/// Appends the lines on pairs of events.
+/// Appends the table lines on pairs of events.
 fn append_pairs(out: &mut Vec<u8>, totals: &Totals) -> Result<(), OutOfMemory>
     ensures { OnOk result (out.new.items ≡ out.old.items ++ pair_lines totals.now) }
 {
@@ -71,7 +71,7 @@ fn append_pairs(out: &mut Vec<u8>, totals: &Totals) -> Result<(), OutOfMemory>
     append_kinds(out, totals)
 }
 
-/// Appends the lines on their kinds.
+/// Appends the table lines on the kinds of pairs of events.
 fn append_kinds(out: &mut Vec<u8>, totals: &Totals) -> Result<(), OutOfMemory>
     ensures { OnOk result (out.new.items ≡ out.old.items ++ kind_lines totals.now) }
 {
@@ -81,7 +81,7 @@ fn append_kinds(out: &mut Vec<u8>, totals: &Totals) -> Result<(), OutOfMemory>
     append_line(out, b"forced", totals.forced, FORCED)
 }
 
-/// Appends the lines on pairs of places.
+/// Appends the table lines on pairs of locations.
 fn append_places(out: &mut Vec<u8>, totals: &Totals) -> Result<(), OutOfMemory>
     ensures { OnOk result (out.new.items ≡ out.old.items ++ place_lines totals.now) }
 {
@@ -91,7 +91,7 @@ fn append_places(out: &mut Vec<u8>, totals: &Totals) -> Result<(), OutOfMemory>
     append_line(out, b"apart", totals.apart, APART)
 }
 
-/// Appends a line of the table: a word, its number, and what it means.
+/// Appends a table line: a word, its number, and what it means.
 fn append_line(
     out: &mut Vec<u8>,
     word: &[u8],
@@ -105,7 +105,7 @@ fn append_line(
     append_meaning(out, meaning)
 }
 
-/// Appends how a line begins, up to its number.
+/// Appends the beginning of a table line, up to its number.
 fn append_word(out: &mut Vec<u8>, word: &[u8]) -> Result<(), OutOfMemory>
     ensures { OnOk result (out.new.items ≡ out.old.items ++ word_text word.now) }
 {
@@ -115,7 +115,7 @@ fn append_word(out: &mut Vec<u8>, word: &[u8]) -> Result<(), OutOfMemory>
     Ok(())
 }
 
-/// Appends how a line ends, behind its number.
+/// Appends the end of a table line, after its number.
 fn append_meaning(out: &mut Vec<u8>, meaning: &[u8]) -> Result<(), OutOfMemory>
     ensures { OnOk result (out.new.items ≡ out.old.items ++ meaning_text meaning.now) }
 {

@@ -1,4 +1,5 @@
-//! What came of a race when it was followed on the real program. Its texts are those of a file, and nothing of them is proved.
+//! What was found when a race was followed on the real program. The texts come from a file, and nothing of them is
+//! proved.
 use crate::about::About;
 use crate::own::{Part, Tag};
 use crate::piece::{Item, Piece};
@@ -20,7 +21,8 @@ const ELSEWHERE: &[u8] =
     b"The two locations are those of this race, and the events are not. The file is of another recording, or of another triage \
 of this one.";
 
-/// Writes what stands beside races, where there is a file of followed races, and how many lines that has.
+/// Writes how to read the words beside races, and how many lines the file of followed races has. Writes nothing if
+/// there is no such file.
 pub(crate) fn write_beside(piece: &mut Piece, about: About<'_>) -> Result<(), OutOfMemory> {
     match about.followed {
         Some(all) => piece.write(&[
@@ -34,7 +36,7 @@ pub(crate) fn write_beside(piece: &mut Piece, about: About<'_>) -> Result<(), Ou
     }
 }
 
-/// Writes what came of the race of a row.
+/// Writes what was found when the race of a row was followed. Writes nothing if the row has no word beside it.
 pub(crate) fn write_followed(
     piece: &mut Piece,
     indexed: &Indexed,
@@ -83,7 +85,8 @@ fn is_of(entry: &Followed, shown: Shown) -> bool {
     entry.first_event == u64::from(shown.first) && entry.second_event == u64::from(shown.second)
 }
 
-/// Writes a table of the two accesses; if the race stood, with how the program ended with each first.
+/// Writes a table of the two accesses. If the run followed the schedule to the race, the table also says how the
+/// program ended with each access first.
 fn write_accesses(piece: &mut Piece, entry: &Followed, stood: bool) -> Result<(), OutOfMemory> {
     piece.write(&[
         Item::Begin(Tag::Table),
@@ -118,7 +121,7 @@ fn write_accesses(piece: &mut Piece, entry: &Followed, stood: bool) -> Result<()
     piece.write(&[Item::End(Tag::TableBody), Item::End(Tag::Table)])
 }
 
-/// Writes which access a line of the table is about.
+/// Writes the first cells of a table line: the access's letter, event and place.
 fn write_access<'a>(
     piece: &mut Piece,
     letter: &'a [u8],
@@ -138,7 +141,7 @@ fn write_access<'a>(
     ])
 }
 
-/// Writes how the program ended, if the race stood, and ends the line.
+/// Ends a table line. If the run followed the schedule to the race, writes first how the program ended.
 fn end_access(piece: &mut Piece, ending: &[u8], stood: bool) -> Result<(), OutOfMemory> {
     if stood {
         piece.write(&[
@@ -150,7 +153,7 @@ fn end_access(piece: &mut Piece, ending: &[u8], stood: bool) -> Result<(), OutOf
     piece.write(&[Item::End(Tag::Line)])
 }
 
-/// What came of it, in words.
+/// The outcome in words; empty if the race was not followed.
 fn outcome_words(seen: Seen) -> &'static [u8] {
     match seen {
         Seen::Unasked => b"",

@@ -1,4 +1,4 @@
-//! With what a page begins. Its first line says how many races are told, of which file, and what was left out.
+//! The beginning of a page. Its first line says how many races there are, in which file, and what was left out.
 ghost use Rattle.std.specs.Prelude.{◌≡◌, ◌++◌, ◌∷◌, None, IfSome, OnOk, decimal};
 ghost use Rattle.race_page.specs.Heads.{HasNoSlash, IsFileOf, heading_text, page_begin, race_word, races_words, title_text};
 ghost use Rattle.race_page.specs.declared.merged_head.LeftOut.{LeftOut};
@@ -10,7 +10,7 @@ use markup::escape;
 use memchr::memrchr;
 use rapid_text::OutOfMemory;
 
-/// The file of a path: what stands behind its last slash.
+/// The file name of a path: what comes after its last slash.
 pub(crate) fn file_of(path: &[u8]) -> &[u8]
     ensures { IsFileOf path.now result.now }
 {
@@ -20,7 +20,7 @@ pub(crate) fn file_of(path: &[u8]) -> &[u8]
     }
 }
 
-/// What stands before the last slash, and what stands behind it.
+/// What comes before the last slash and what comes after it; None if there is no slash.
 fn cut_last_slash(path: &[u8]) -> Option<(&[u8], &[u8])>
     ensures some { IfSome result (λ parts. (path.now ≡ parts.0.now ++ 47 ∷ parts.1.now) × HasNoSlash parts.1.now) }
     ensures none { result ≡ None → HasNoSlash path.now }
@@ -29,7 +29,7 @@ fn cut_last_slash(path: &[u8]) -> Option<(&[u8], &[u8])>
     Some((&path[..at], &path[at + 1..]))
 }
 
-/// Appends with what a page begins.
+/// Appends the beginning of a page, up to its first line.
 pub(crate) fn append_begin(
     out: &mut Vec<u8>,
     races: u64,
@@ -81,7 +81,7 @@ fn append_heading(
     Ok(())
 }
 
-/// Appends how many races there are, in words.
+/// Appends the number of races, in words: `No races`, `1 race`, `2 races`.
 pub(crate) fn append_races(out: &mut Vec<u8>, races: u64) -> Result<(), OutOfMemory>
     ensures { OnOk result (out.new.items ≡ out.old.items ++ races_words races) }
 {
@@ -92,7 +92,7 @@ pub(crate) fn append_races(out: &mut Vec<u8>, races: u64) -> Result<(), OutOfMem
     }
 }
 
-/// Appends how many races there are, where there are some.
+/// Appends the number of races, if it is not 0.
 fn append_some(out: &mut Vec<u8>, races: u64) -> Result<(), OutOfMemory>
     ensures { OnOk result (out.new.items ≡ out.old.items ++ decimal races ++ race_word races) }
 {
@@ -101,7 +101,7 @@ fn append_some(out: &mut Vec<u8>, races: u64) -> Result<(), OutOfMemory>
     append_bytes(out, word_of(races))
 }
 
-/// The word behind a number of races.
+/// The word after a number of races.
 fn word_of(races: u64) -> &'static [u8]
     ensures { result.now ≡ race_word races }
 {

@@ -6,7 +6,8 @@ use crate::shown::Sort;
 use race_triage::Chosen;
 use rapid_text::OutOfMemory;
 
-/// Writes how many rows and pictures of a sort are left out where there are so many, and how to see them.
+/// Writes how many rows and pictures of a sort are left out, and how to see them. A page has at most 2,000 rows of a
+/// sort, and 200 pictures.
 pub(crate) fn write_left_out(
     piece: &mut Piece,
     word: &[u8],
@@ -39,7 +40,7 @@ fn write_undrawn(piece: &mut Piece, word: &[u8], undrawn: u64) -> Result<(), Out
     ])
 }
 
-/// Writes that there are more rows, and the command that lists them.
+/// Writes how many more rows there are, and the command that lists them.
 fn write_more(piece: &mut Piece, word: &[u8], sort: Sort, more: u64) -> Result<(), OutOfMemory> {
     piece.write(&[
         Item::Begin(Tag::Paragraph),
@@ -56,7 +57,7 @@ fn write_more(piece: &mut Piece, word: &[u8], sort: Sort, more: u64) -> Result<(
     ])
 }
 
-/// The option with which a sort is listed, where it needs one.
+/// The option of `triage` that lists this sort; empty if none is needed.
 fn option_of(sort: Sort) -> &'static [u8] {
     match sort {
         Sort::Race => b"",
@@ -81,7 +82,7 @@ pub(crate) fn write_unlisted(
     write_count(piece, chosen.hidden, b" left out by --only and --hide.")
 }
 
-/// Writes how many rows were left out, where there are some, and why.
+/// Writes how many rows were left out, and why. Writes nothing if the number is 0 or missing.
 fn write_count(piece: &mut Piece, left_out: Option<u64>, words: &[u8]) -> Result<(), OutOfMemory> {
     let number = left_out.unwrap_or(0);
     if number == 0 {

@@ -1,4 +1,4 @@
-//! A writer of markup: own bytes, numbers, and texts that are escaped, one after another.
+//! A writer of markup: the page's own bytes, numbers, and escaped texts, one after another.
 ghost use Rattle.std.specs.Prelude.{◌≡◌, ◌++◌, OnOk, decimal};
 ghost use Rattle.markup.specs.Escaped.{escaped};
 ghost use Rattle.race_page.specs.Marks.{mark_text, marks_text};
@@ -10,15 +10,15 @@ use rapid_text::OutOfMemory;
 /// What is written next.
 #[derive(Clone, Copy)]
 pub(crate) enum Mark<'a> {
-    /// Own markup, as it is.
+    /// The page's own markup, as it is.
     Own(&'a [u8]),
     /// A number in decimal digits.
     Number(u64),
-    /// A text, whatever it is: it is escaped.
+    /// Any text. It is escaped.
     Text(&'a [u8]),
 }
 
-/// Appends these, in order.
+/// Appends these marks, in order.
 pub(crate) fn append_marks(out: &mut Vec<u8>, marks: &[Mark<'_>]) -> Result<(), OutOfMemory>
     ensures { OnOk result (out.new.items ≡ out.old.items ++ marks_text marks.now) }
 {
@@ -28,7 +28,7 @@ pub(crate) fn append_marks(out: &mut Vec<u8>, marks: &[Mark<'_>]) -> Result<(), 
     Ok(())
 }
 
-/// Appends one of them.
+/// Appends one mark.
 fn append_mark(out: &mut Vec<u8>, mark: Mark<'_>) -> Result<(), OutOfMemory>
     ensures { OnOk result (out.new.items ≡ out.old.items ++ mark_text mark.entry) }
 {
@@ -39,7 +39,7 @@ fn append_mark(out: &mut Vec<u8>, mark: Mark<'_>) -> Result<(), OutOfMemory>
     }
 }
 
-/// Appends own markup.
+/// Appends the page's own markup.
 fn append_own(out: &mut Vec<u8>, bytes: &[u8]) -> Result<(), OutOfMemory>
     ensures { OnOk result (out.new.items ≡ out.old.items ++ bytes.now) }
 {
@@ -56,7 +56,7 @@ fn append_digits(out: &mut Vec<u8>, number: u64) -> Result<(), OutOfMemory>
     Ok(())
 }
 
-/// Appends a text as markup that means just this text.
+/// Appends a text, escaped so that it is no markup.
 fn append_escaped(out: &mut Vec<u8>, text: &[u8]) -> Result<(), OutOfMemory>
     ensures { OnOk result (out.new.items ≡ out.old.items ++ escaped text.now) }
 {

@@ -11,7 +11,7 @@ use race_parts::Pair;
 use rapid_text::OutOfMemory;
 use std::alloc::Global;
 
-/// What stands at the end of the page.
+/// What comes at the end of the page.
 const END: &[u8] = b"<section>
 <h2>What the words mean</h2>
 <p>A part is the report of one trace, or of one window that <code>triage --windows</code> cuts from a trace. Events have
@@ -27,9 +27,12 @@ is that of the part with the shortest schedule.</p>
 </html>
 ";
 
-/// Appends a page (HTML) of a merged report of so many parts. Its first line says how many races there are in how many parts, and what was left
-/// out. Then there is a row for each race, each pair of locations that is undecided, and if `apart` is true each that is apart: of each sort the
-/// first 2,000 of `pairs`. If memory is refused `out` stays as it was.
+/// Appends a page (HTML) of a merged report of `parts` parts. Its first line says how many races there are in how many
+/// parts, and what was left out.
+///
+/// Then there is a row for each race and for each pair of locations that is undecided. If `apart` is true, there is one
+/// also for each that is apart. Each sort has at most 2,000 rows, in the order of `pairs`. If memory runs out, `out`
+/// stays as it was.
 pub fn merged_page(
     parts: usize,
     pairs: &[Pair<'_>],
@@ -62,7 +65,7 @@ fn append_page(
     append_marks(out, &[Mark::Own(END)])
 }
 
-/// Appends the beginning of the page, and the races.
+/// Appends the beginning of the page, and the section of the races.
 fn append_races_of(
     out: &mut Vec<u8>,
     parts: usize,
@@ -75,7 +78,7 @@ fn append_races_of(
     append_lead(out, parts, races.as_slice(), left)
 }
 
-/// Appends the beginning of the page, and these races.
+/// Appends the beginning of the page, and a section of these races.
 #[tactic(auto, unfolding(crate::specs::Merged::lead_text))]
 fn append_lead(
     out: &mut Vec<u8>,
@@ -89,7 +92,7 @@ fn append_lead(
     append_section(out, parts, races, 0)
 }
 
-/// Appends what is apart, if that is asked for.
+/// Appends the section of what is apart, if it was requested.
 fn append_apart(
     out: &mut Vec<u8>,
     parts: usize,
@@ -105,7 +108,7 @@ fn append_apart(
     }
 }
 
-/// Appends the section of this rank.
+/// Appends the section of the pairs with this rank.
 fn append_rank(
     out: &mut Vec<u8>,
     parts: usize,
@@ -118,7 +121,7 @@ fn append_rank(
     append_section(out, parts, kept.as_slice(), rank)
 }
 
-/// The pairs of this rank, in their order.
+/// The pairs with this rank, in their order.
 fn of_rank<'a>(alloc: Global, pairs: &[Pair<'a>], rank: u8) -> Result<Vec<Pair<'a>>, OutOfMemory>
     ensures { IfOk result (λ kept. kept.items ≡ filter (has_rank rank) pairs.now) }
 {
@@ -131,7 +134,7 @@ fn of_rank<'a>(alloc: Global, pairs: &[Pair<'a>], rank: u8) -> Result<Vec<Pair<'
     Ok(kept)
 }
 
-/// Appends the section of these pairs, which are of this rank.
+/// Appends the section of these pairs, which have this rank.
 #[tactic(auto, unfolding(crate::specs::Merged::section_text))]
 fn append_section(
     out: &mut Vec<u8>,
@@ -146,7 +149,7 @@ fn append_section(
     append_marks(out, &[Mark::Own(b"</section>\n")])
 }
 
-/// Appends with what the section of a rank begins.
+/// Appends the beginning of the section for this rank.
 fn append_opening(out: &mut Vec<u8>, rank: u8) -> Result<(), OutOfMemory>
     ensures { OnOk result (out.new.items ≡ out.old.items ++ opening_text rank) }
 {
@@ -160,7 +163,7 @@ fn append_opening(out: &mut Vec<u8>, rank: u8) -> Result<(), OutOfMemory>
     )
 }
 
-/// The heading of a rank.
+/// The heading for a rank: 0 is a race, 1 is undecided, and any other is apart.
 fn heading_of(rank: u8) -> &'static [u8]
     ensures { result.now ≡ heading_of rank }
 {
@@ -171,7 +174,7 @@ fn heading_of(rank: u8) -> &'static [u8]
     }
 }
 
-/// Appends the rows of the first of these pairs, and how many more there are.
+/// Appends the rows of the first 2,000 of these pairs, and how many more there are.
 #[tactic(auto, unfolding(crate::specs::Merged::kept_text))]
 fn append_kept(out: &mut Vec<u8>, parts: usize, kept: &[Pair<'_>]) -> Result<(), OutOfMemory>
     ensures { OnOk result (out.new.items ≡ out.old.items ++ kept_text parts kept.now) }
@@ -181,7 +184,7 @@ fn append_kept(out: &mut Vec<u8>, parts: usize, kept: &[Pair<'_>]) -> Result<(),
     append_left(out, kept.len())
 }
 
-/// Appends that there are none.
+/// Appends `None.` if there are no pairs.
 fn append_none(out: &mut Vec<u8>, kept: &[Pair<'_>]) -> Result<(), OutOfMemory>
     ensures { OnOk result (out.new.items ≡ out.old.items ++ none_text kept.now) }
 {
@@ -192,14 +195,14 @@ fn append_none(out: &mut Vec<u8>, kept: &[Pair<'_>]) -> Result<(), OutOfMemory>
     }
 }
 
-/// The first of the pairs, as many as have a row.
+/// The pairs that have a row: the first 2,000.
 fn first_of<'a, 'b>(kept: &'a [Pair<'b>]) -> &'a [Pair<'b>]
     ensures { result.now ≡ take 2000 kept.now }
 {
     &kept[..MOST_ROWS.min(kept.len())]
 }
 
-/// Appends how many of so many pairs have no row, if some have none.
+/// Appends how many of `count` pairs have no row, if there are more than 2,000.
 fn append_left(out: &mut Vec<u8>, count: usize) -> Result<(), OutOfMemory>
     ensures { OnOk result (out.new.items ≡ out.old.items ++ left_text count) }
 {

@@ -11,9 +11,9 @@ use rapid_text::OutOfMemory;
 /// How many pairs of locations were left out of a report.
 #[derive(Clone, Copy)]
 pub struct LeftOut {
-    /// As known races; nothing if no races are known.
+    /// How many were left out as known races. None if neither known races nor a triage file were given.
     pub known: Option<u64>,
-    /// By filters; nothing if there is no filter.
+    /// How many the filters left out. None if there is no filter.
     pub hidden: Option<u64>,
 }
 
@@ -31,7 +31,7 @@ pub(crate) fn append_begin(
     append_first(out, races, parts, left)
 }
 
-/// Appends the head of the page, and how the page looks.
+/// Appends the head of the page, with its title and style.
 fn append_head(out: &mut Vec<u8>, races: u64, parts: u64, left: LeftOut) -> Result<(), OutOfMemory>
     ensures { OnOk result (out.new.items ≡ out.old.items ++ head_text races parts left) }
 {
@@ -59,7 +59,7 @@ fn append_title(out: &mut Vec<u8>, races: u64, parts: u64, left: LeftOut) -> Res
     append_hidden(out, left.hidden)
 }
 
-/// Appends in how many parts.
+/// Appends ` in N parts`.
 fn append_parts(out: &mut Vec<u8>, parts: u64) -> Result<(), OutOfMemory>
     ensures { OnOk result (out.new.items ≡ out.old.items ++ parts_text parts) }
 {
@@ -73,7 +73,7 @@ fn append_parts(out: &mut Vec<u8>, parts: u64) -> Result<(), OutOfMemory>
     )
 }
 
-/// Appends what was left out.
+/// Appends how many pairs of locations were left out.
 pub(crate) fn append_left(out: &mut Vec<u8>, left: LeftOut) -> Result<(), OutOfMemory>
     ensures { OnOk result (out.new.items ≡ out.old.items ++ left_text left) }
 {
@@ -81,7 +81,7 @@ pub(crate) fn append_left(out: &mut Vec<u8>, left: LeftOut) -> Result<(), OutOfM
     append_hidden(out, left.hidden)
 }
 
-/// Appends how many known races were left out, if there is such a number.
+/// Appends how many known races were left out, if there is a number.
 fn append_known(out: &mut Vec<u8>, known: Option<u64>) -> Result<(), OutOfMemory>
     ensures { OnOk result (out.new.items ≡ out.old.items ++ known_text known) }
 {
@@ -103,7 +103,7 @@ fn append_known(out: &mut Vec<u8>, known: Option<u64>) -> Result<(), OutOfMemory
     }
 }
 
-/// Appends how many pairs of locations filters left out, if there is such a number.
+/// Appends how many pairs of locations the filters left out, if there is a number.
 fn append_hidden(out: &mut Vec<u8>, hidden: Option<u64>) -> Result<(), OutOfMemory>
     ensures { OnOk result (out.new.items ≡ out.old.items ++ hidden_text hidden) }
 {

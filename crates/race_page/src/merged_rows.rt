@@ -36,7 +36,7 @@ fn append_row(out: &mut Vec<u8>, parts: usize, pair: Pair<'_>) -> Result<(), Out
     append_said(out, parts, pair, pair.line)
 }
 
-/// Appends the row of a pair, of which this line tells.
+/// Appends the row of a pair. `line` is its line of a part, an object of JSON.
 fn append_said(
     out: &mut Vec<u8>,
     parts: usize,
@@ -48,7 +48,7 @@ fn append_said(
     append_shown(out, parts, pair, &data_of(*out.allocator(), line)?)
 }
 
-/// Appends the row of a pair, of which this is said.
+/// Appends the row of a pair. `row` is the object of its line.
 fn append_shown(
     out: &mut Vec<u8>,
     parts: usize,
@@ -62,7 +62,7 @@ fn append_shown(
     append_tally(out, parts, pair)
 }
 
-/// Appends what is seen of a row that is closed.
+/// Appends what a reader sees of a closed row.
 fn append_summary(out: &mut Vec<u8>, rank: u8, row: &Value) -> Result<(), OutOfMemory>
     ensures { OnOk result (out.new.items ≡ out.old.items ++ summary_text rank (view row.now)) }
 {
@@ -71,7 +71,7 @@ fn append_summary(out: &mut Vec<u8>, rank: u8, row: &Value) -> Result<(), OutOfM
     append_marks(out, &[Mark::Own(b"</span></summary>\n")])
 }
 
-/// Appends what stands before the outcome.
+/// Appends what comes before the outcome.
 fn append_opening(out: &mut Vec<u8>, row: &Value) -> Result<(), OutOfMemory>
     ensures { OnOk result (out.new.items ≡ out.old.items ++ opening_text (view row.now)) }
 {
@@ -80,7 +80,7 @@ fn append_opening(out: &mut Vec<u8>, row: &Value) -> Result<(), OutOfMemory>
     append_both(out, row)
 }
 
-/// Appends the events of a row.
+/// Appends the two events of a row.
 fn append_both(out: &mut Vec<u8>, row: &Value) -> Result<(), OutOfMemory>
     ensures { OnOk result (out.new.items ≡ out.old.items ++ both_text (view row.now)) }
 {
@@ -103,7 +103,7 @@ fn append_events(out: &mut Vec<u8>, first: u64, second: u64) -> Result<(), OutOf
     )
 }
 
-/// Appends the variable, and what the two accesses do.
+/// Appends the variable, and what each access does.
 fn append_uses(out: &mut Vec<u8>, row: &Value) -> Result<(), OutOfMemory>
     ensures { OnOk result (out.new.items ≡ out.old.items ++ uses_text (view row.now)) }
 {
@@ -113,7 +113,7 @@ fn append_uses(out: &mut Vec<u8>, row: &Value) -> Result<(), OutOfMemory>
     append_use(out, row, 1)
 }
 
-/// Appends the name of the variable.
+/// Appends the variable of the first access, if the row has this access.
 fn append_variable(out: &mut Vec<u8>, row: &Value) -> Result<(), OutOfMemory>
     ensures { OnOk result (out.new.items ≡ out.old.items ++ first_text (view row.now)) }
 {
@@ -137,7 +137,7 @@ fn append_name(out: &mut Vec<u8>, access: &Value) -> Result<(), OutOfMemory>
     )
 }
 
-/// Appends what an access does, and where.
+/// Appends what an access does and at which place, if the row has this access.
 fn append_use(out: &mut Vec<u8>, row: &Value, place: usize) -> Result<(), OutOfMemory>
     ensures { OnOk result (out.new.items ≡ out.old.items ++ use_text place (view row.now)) }
 {
@@ -147,7 +147,7 @@ fn append_use(out: &mut Vec<u8>, row: &Value, place: usize) -> Result<(), OutOfM
     }
 }
 
-/// The same of an access that is there.
+/// Appends what this access does and at which place.
 fn append_use_of(out: &mut Vec<u8>, access: &Value) -> Result<(), OutOfMemory>
     ensures { OnOk result (out.new.items ≡ out.old.items ++ use_of (view access.now)) }
 {
@@ -162,7 +162,7 @@ fn append_use_of(out: &mut Vec<u8>, access: &Value) -> Result<(), OutOfMemory>
     )
 }
 
-/// What an operation does.
+/// The verb for an operation: `read` for `r`, else `write`.
 fn verb_of(word: &[u8]) -> &'static [u8]
     ensures { result.now ≡ verb_text word.now }
 {
@@ -181,7 +181,7 @@ fn place_in(location: &[u8]) -> &[u8]
     place
 }
 
-/// Appends what was found of a row of this rank.
+/// Appends the outcome of a row with this rank.
 fn append_outcome(out: &mut Vec<u8>, rank: u8, row: &Value) -> Result<(), OutOfMemory>
     ensures { OnOk result (out.new.items ≡ out.old.items ++ outcome_text rank (view row.now)) }
 {
@@ -192,7 +192,7 @@ fn append_outcome(out: &mut Vec<u8>, rank: u8, row: &Value) -> Result<(), OutOfM
     }
 }
 
-/// Appends how a race is shown.
+/// Appends how a race is shown, and the size of its schedule.
 fn append_race(out: &mut Vec<u8>, row: &Value) -> Result<(), OutOfMemory>
     ensures { OnOk result (out.new.items ≡ out.old.items ++ race_text (view row.now)) }
 {
@@ -200,21 +200,21 @@ fn append_race(out: &mut Vec<u8>, row: &Value) -> Result<(), OutOfMemory>
     append_sizes(out, row)
 }
 
-/// Appends how, in a word.
+/// Appends how a race is shown, as the row says it.
 fn append_how(out: &mut Vec<u8>, how: &[u8]) -> Result<(), OutOfMemory>
     ensures { OnOk result (out.new.items ≡ out.old.items ++ escaped how.now) }
 {
     append_marks(out, &[Mark::Text(how)])
 }
 
-/// Appends how large the schedule of a row is.
+/// Appends the size of the row's schedule.
 fn append_sizes(out: &mut Vec<u8>, row: &Value) -> Result<(), OutOfMemory>
     ensures { OnOk result (out.new.items ≡ out.old.items ++ sizes_text (view row.now)) }
 {
     append_size(out, number_of(row, "events"), number_of(row, "threads"))
 }
 
-/// Appends how large a schedule is.
+/// Appends the size of a schedule: its events and threads.
 fn append_size(out: &mut Vec<u8>, events: u64, threads: u64) -> Result<(), OutOfMemory>
     ensures { OnOk result (out.new.items ≡ out.old.items ++ size_text events threads) }
 {
@@ -229,7 +229,7 @@ fn append_size(out: &mut Vec<u8>, events: u64, threads: u64) -> Result<(), OutOf
     )
 }
 
-/// Appends how many pairs were tried.
+/// Appends how many pairs of events were tried.
 fn append_undecided(out: &mut Vec<u8>, row: &Value) -> Result<(), OutOfMemory>
     ensures { OnOk result (out.new.items ≡ out.old.items ++ undecided_text (view row.now)) }
 {

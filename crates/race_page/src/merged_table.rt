@@ -10,7 +10,7 @@ use race_parts::{access_in, number_of, text_of};
 use rapid_text::OutOfMemory;
 use serde_json::Value;
 
-/// What stands before the first access of a table.
+/// What comes before the first access in a table.
 const TABLE_BEGIN: &[u8] = b"<h4>The two accesses</h4>
 <table>
 <thead>
@@ -19,7 +19,7 @@ const TABLE_BEGIN: &[u8] = b"<h4>The two accesses</h4>
 <tbody>
 ";
 
-/// What stands after the second one.
+/// What comes after the second access.
 const TABLE_END: &[u8] = b"</tbody>
 </table>
 ";
@@ -34,7 +34,7 @@ pub(crate) fn append_table(out: &mut Vec<u8>, row: &Value) -> Result<(), OutOfMe
     append_marks(out, &[Mark::Own(TABLE_END)])
 }
 
-/// Appends the line of an access, if it is there.
+/// Appends the table line of an access, 0 or 1, if the row has it.
 fn append_access(out: &mut Vec<u8>, row: &Value, place: usize) -> Result<(), OutOfMemory>
     ensures { OnOk result (out.new.items ≡ out.old.items ++ access_row place (view row.now)) }
 {
@@ -44,7 +44,7 @@ fn append_access(out: &mut Vec<u8>, row: &Value, place: usize) -> Result<(), Out
     }
 }
 
-/// Appends the line of an access that is there.
+/// Appends the table line of an access.
 fn append_line(out: &mut Vec<u8>, access: &Value) -> Result<(), OutOfMemory>
     ensures { OnOk result (out.new.items ≡ out.old.items ++ line_text (view access.now)) }
 {
@@ -53,7 +53,7 @@ fn append_line(out: &mut Vec<u8>, access: &Value) -> Result<(), OutOfMemory>
     append_marks(out, &[Mark::Own(b"</td></tr>\n")])
 }
 
-/// Appends the locks that are held at an access.
+/// Appends the locks that the thread holds before the access.
 fn append_held(out: &mut Vec<u8>, access: &Value) -> Result<(), OutOfMemory>
     ensures { OnOk result (out.new.items ≡ out.old.items ++ locks_text (view access.now)) }
 {
@@ -61,7 +61,7 @@ fn append_held(out: &mut Vec<u8>, access: &Value) -> Result<(), OutOfMemory>
     Ok(())
 }
 
-/// Appends the event of an access, and what is done, up to the locks.
+/// Appends the table line of an access, up to the locks.
 fn append_event(out: &mut Vec<u8>, access: &Value) -> Result<(), OutOfMemory>
     ensures { OnOk result (out.new.items ≡ out.old.items ++ event_text (view access.now)) }
 {
@@ -84,7 +84,7 @@ fn append_number(out: &mut Vec<u8>, access: &Value) -> Result<(), OutOfMemory>
     )
 }
 
-/// Appends the thread, and what it does.
+/// Appends the thread and the operation.
 fn append_begin(out: &mut Vec<u8>, access: &Value) -> Result<(), OutOfMemory>
     ensures { OnOk result (out.new.items ≡ out.old.items ++ begin_text (view access.now)) }
 {
@@ -98,7 +98,7 @@ fn append_begin(out: &mut Vec<u8>, access: &Value) -> Result<(), OutOfMemory>
     )
 }
 
-/// Appends the variable, and the location.
+/// Appends the variable and the location.
 fn append_end(out: &mut Vec<u8>, access: &Value) -> Result<(), OutOfMemory>
     ensures { OnOk result (out.new.items ≡ out.old.items ++ end_text (view access.now)) }
 {
@@ -114,7 +114,7 @@ fn append_end(out: &mut Vec<u8>, access: &Value) -> Result<(), OutOfMemory>
     )
 }
 
-/// The locks that are held at an access.
+/// The locks that the thread holds before the access; empty if the access names none.
 fn locks_of(access: &Value) -> &[Value]
     ensures { locks_text (view access.now) ≡ locks_cell result.now }
 {
@@ -127,7 +127,7 @@ fn locks_of(access: &Value) -> &[Value]
     }
 }
 
-/// Appends the names of the locks.
+/// Appends the names of the locks, or `none`.
 fn append_locks(out: &mut Vec<u8>, locks: &[Value]) -> Result<(), OutOfMemory>
     ensures { OnOk result (out.new.items ≡ out.old.items ++ locks_cell locks.now) }
 {

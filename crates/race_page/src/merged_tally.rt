@@ -1,4 +1,4 @@
-//! What the parts say of a pair of a merged page.
+//! In how many parts a pair of a merged page is a race, undecided, apart, or not met.
 ghost use Rattle.std.specs.Prelude.{◌≡◌, ◌-◌, ◌++◌, OnOk};
 ghost use Rattle.race_page.specs.MergedTally.{counts_text, part_text, tally_text, unmet_of, unmet_text};
 
@@ -6,7 +6,7 @@ use crate::marks::{Mark, append_marks};
 use race_parts::Pair;
 use rapid_text::OutOfMemory;
 
-/// Appends how often the parts say what, and which of them has the row.
+/// Appends in how many parts the pair is a race, undecided, apart, or not met, and which part has the row.
 pub(crate) fn append_tally(
     out: &mut Vec<u8>,
     parts: usize,
@@ -19,14 +19,14 @@ pub(crate) fn append_tally(
     append_part(out, pair.part)
 }
 
-/// Appends in how many of so many parts the pair is not met.
+/// Appends in how many of `parts` parts the pair is not met.
 fn append_unmet_of(out: &mut Vec<u8>, parts: usize, pair: Pair<'_>) -> Result<(), OutOfMemory>
     ensures { OnOk result (out.new.items ≡ out.old.items ++ unmet_of parts pair.entry) }
 {
     append_unmet(out, unmet_in(parts, pair))
 }
 
-/// Appends in how many parts the pair is what.
+/// Appends in how many parts the pair is a race, undecided, or apart.
 fn append_counts(out: &mut Vec<u8>, pair: Pair<'_>) -> Result<(), OutOfMemory>
     ensures { OnOk result (out.new.items ≡ out.old.items ++ counts_text pair.entry) }
 {
@@ -43,7 +43,7 @@ fn append_counts(out: &mut Vec<u8>, pair: Pair<'_>) -> Result<(), OutOfMemory>
     )
 }
 
-/// In how many of so many parts the pair is not met.
+/// In how many of `parts` parts the pair is not met.
 fn unmet_in(parts: usize, pair: Pair<'_>) -> usize
     ensures { result ≡ parts - pair.entry.races - pair.entry.undecided - pair.entry.apart }
 {

@@ -1,4 +1,4 @@
-//! The page's own markup. What is written of a page is a piece of this closed list, a number, or a text that is escaped.
+//! The page's own markup, a closed list. All that is written on a page is from this list, a number, or an escaped text.
 ghost use Rattle.std.specs.Prelude.{◌≡◌};
 ghost use Rattle.race_page.specs.Own.{begin_text, end_text, part_text};
 
@@ -7,7 +7,7 @@ use crate::style::FOOT;
 /// An element of the page.
 #[derive(Clone, Copy, PartialEq, Eq, Debug)]
 pub enum Tag {
-    /// A part of the page under a heading.
+    /// A section of the page, with a heading.
     Section,
     /// The heading of a section.
     SectionHeading,
@@ -17,50 +17,50 @@ pub enum Tag {
     PartHeading,
     /// A paragraph.
     Paragraph,
-    /// Text from outside: what is written in another direction turns nothing around it.
+    /// Text that comes from outside. Its writing direction does not affect what is around it.
     Isolated,
     /// A table.
     Table,
     /// The head of a table.
     TableHead,
-    /// What stands below it.
+    /// The body of a table, below its head.
     TableBody,
     /// A line of a table.
     Line,
     /// The head of a column.
     ColumnHead,
-    /// The head of a line.
+    /// The head of a table line.
     LineHead,
     /// A cell.
     Cell,
     /// A cell with a number.
     NumberCell,
-    /// What is seen of a row that is closed.
+    /// What a reader sees of a closed row.
     Summary,
-    /// What is told in short of a row.
+    /// A short summary of a row.
     Facts,
-    /// A text whose lines stay.
+    /// A text that keeps its line ends.
     Lines,
-    /// Words of a program.
+    /// Code.
     Code,
-    /// A picture with its text.
+    /// A picture with its caption.
     Figure,
-    /// The text beside a picture.
+    /// The caption of a picture.
     Caption,
-    /// What is wider than the page.
+    /// A box that scrolls, for what may be wider than the page.
     Wide,
 }
 
 /// A part of the page that is always the same.
 #[derive(Clone, Copy, PartialEq, Eq, Debug)]
 pub enum Part {
-    /// What stands at the end of the page.
+    /// The end of the page.
     Foot,
     /// The end of a line of text.
     LineEnd,
 }
 
-/// How an element begins.
+/// The markup that begins an element.
 pub(crate) fn begin_of(tag: Tag) -> &'static [u8]
     ensures { result.now ≡ begin_text tag }
 {
@@ -89,7 +89,7 @@ pub(crate) fn begin_of(tag: Tag) -> &'static [u8]
     }
 }
 
-/// How an element ends.
+/// The markup that ends an element.
 pub(crate) fn end_of(tag: Tag) -> &'static [u8]
     ensures { result.now ≡ end_text tag }
 {
@@ -118,7 +118,7 @@ pub(crate) fn end_of(tag: Tag) -> &'static [u8]
     }
 }
 
-/// The part's bytes.
+/// The bytes of a part.
 pub(crate) fn bytes_of(part: Part) -> &'static [u8]
     ensures { result.now ≡ part_text part }
 {

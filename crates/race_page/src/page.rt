@@ -1,4 +1,4 @@
-//! What stands under the first line of a page: pieces, and rows.
+//! What follows the first line of a page: pieces, and rows.
 ghost use Rattle.std.specs.Prelude.{◌≡◌, ◌++◌, ◌∷◌, [], OnOk, List, ℕ, codes, decimal};
 ghost use Rattle.schedule.specs.Reordering.{IsCorrectReordering};
 ghost use Rattle.schedule.specs.Shows.{Shows};
@@ -15,8 +15,8 @@ use rapid_text::OutOfMemory;
 use std::alloc::Global;
 use std::marker::Model;
 
-/// What stands under the first line of a page, as it is being written, with the trace and its orders. Contracts see its trace, its text so far
-/// and its rows.
+/// What follows the first line of a page while it is written, with the trace and its orders. Contracts see the trace,
+/// the text so far and the rows.
 #[derive(Drop)]
 pub(crate) struct Page<'a> {
     analysis: &'a Analysis<'a>,
@@ -35,7 +35,7 @@ impl<'a> Model for Page<'a> {
 }
 
 impl<'a> Page<'a> {
-    /// A page of this trace on which nothing stands yet.
+    /// A page of this trace that is still empty.
     pub(crate) fn new(alloc: Global, analysis: &'a Analysis<'a>) -> Page<'a>
         ensures trace { result.trace ≡ analysis.now }
         ensures rows { result.rows ≡ [] }
@@ -61,12 +61,12 @@ impl<'a> Page<'a> {
         self.analysis
     }
 
-    /// The allocator.
+    /// The allocator of the text.
     pub(crate) fn allocator(&self) -> Global {
         *self.text.allocator()
     }
 
-    /// What was written.
+    /// What was written so far.
     pub(crate) fn bytes(&self) -> &[u8]
         ensures text { result.now ≡ self.now.text }
         ensures parts { AreParts self.now.trace self.now.text self.now.rows }
@@ -83,7 +83,7 @@ impl<'a> Page<'a> {
         Ok(())
     }
 
-    /// Writes a row in which this piece stands.
+    /// Writes a row with this piece in it.
     pub(crate) fn row(&mut self, shown: Shown, piece: &Piece) -> Result<(), OutOfMemory>
         ensures trace { self.new.trace ≡ self.old.trace }
         ensures rows { OnOk result (self.new.rows ≡ self.old.rows ++ shown ∷ []) }
@@ -92,7 +92,7 @@ impl<'a> Page<'a> {
         self.add_row(&mut row, shown, piece)
     }
 
-    /// Writes the row. It is put into a text that is empty first, so that where memory is refused the page has no half of it.
+    /// Writes the row. It is made in `row` first, so that the page has no half of a row if memory runs out.
     fn add_row(&mut self, row: &mut Vec<u8>, shown: Shown, piece: &Piece) -> Result<(), OutOfMemory>
         requires { row.now.items ≡ [] }
         ensures trace { self.new.trace ≡ self.old.trace }
@@ -105,7 +105,8 @@ impl<'a> Page<'a> {
         Ok(())
     }
 
-    /// Writes a row in which the schedule of these events is drawn between two pieces: a correct reordering that shows the row's pair.
+    /// Writes a row with a picture of a schedule between two pieces. The schedule must be a correct reordering that
+    /// shows the row's pair.
     pub(crate) fn drawn_row(
         &mut self,
         events: &[u32],
@@ -129,7 +130,7 @@ impl<'a> Page<'a> {
         self.add_drawn(figure.as_slice(), shown, before, after)
     }
 
-    /// Writes the row in which this figure stands.
+    /// Writes the row with this picture in it.
     fn add_drawn(
         &mut self,
         figure: &[u8],
@@ -150,7 +151,7 @@ impl<'a> Page<'a> {
     }
 }
 
-/// Appends a row in which these bytes stand, one behind the other.
+/// Appends a row with these bytes in it, one after another.
 fn append_drawn(
     out: &mut Vec<u8>,
     shown: Shown,
@@ -169,7 +170,7 @@ fn append_drawn(
     Ok(())
 }
 
-/// Appends a row in which these bytes stand.
+/// Appends a row with these bytes in it.
 fn append_row(out: &mut Vec<u8>, shown: Shown, bytes: &[u8]) -> Result<(), OutOfMemory>
     ensures { OnOk result (out.new.items ≡ out.old.items ++ row_text shown bytes.now) }
 {
@@ -179,7 +180,7 @@ fn append_row(out: &mut Vec<u8>, shown: Shown, bytes: &[u8]) -> Result<(), OutOf
     Ok(())
 }
 
-/// Appends how a row begins, with what stands beside it.
+/// Appends the beginning of a row, up to the word beside it.
 fn append_head(out: &mut Vec<u8>, shown: Shown) -> Result<(), OutOfMemory>
     ensures { OnOk result (out.new.items ≡ out.old.items
         ++ (row_begin shown.sort ++ decimal shown.first ++ codes "-" ++ decimal shown.second ++ codes "\">\n<summary>" ++ seen_text shown.seen)) }

@@ -1,4 +1,4 @@
-//! The one writer of a page's pieces. What it writes is own markup of a closed list, a number, or a text that is escaped.
+//! The only writer of a page's pieces. It writes the page's own markup, a closed list, or a number, or an escaped text.
 ghost use Rattle.std.specs.Prelude.{◌≡◌, ◌++◌, OnOk, OnErr};
 ghost use Rattle.markup.specs.Escaped.{escaped};
 ghost use Rattle.race_page.specs.Pages.{IsPiece};
@@ -10,26 +10,26 @@ use rapid_text::OutOfMemory;
 use std::alloc::Global;
 use std::marker::Model;
 
-/// What is written next of a piece.
+/// What is written next into a piece.
 #[derive(Clone, Copy)]
 pub(crate) enum Item<'a> {
-    /// An element begins.
+    /// The beginning of an element.
     Begin(Tag),
-    /// It ends.
+    /// The end of an element.
     End(Tag),
     /// A part that is always the same.
     Part(Part),
     /// A number in decimal digits.
     Number(u64),
-    /// A text, whatever it is: it is escaped.
+    /// Any text. It is escaped.
     Text(&'a [u8]),
     /// An element with a text in it.
     Element(Tag, &'a [u8]),
-    /// A number and what is counted, in the plural where it is not one.
+    /// A number and the word for what is counted; the word gets an `s` if the number is not 1.
     Count(u64, &'a [u8]),
 }
 
-/// A piece of a page that is being written. Contracts see its text so far.
+/// A piece of a page while it is written. Contracts see the text so far.
 #[derive(Drop)]
 pub(crate) struct Piece {
     text: Vec<u8>,
@@ -54,12 +54,12 @@ impl Piece {
         }
     }
 
-    /// The allocator.
+    /// The allocator of the text.
     pub(crate) fn allocator(&self) -> Global {
         *self.text.allocator()
     }
 
-    /// What was written.
+    /// What was written so far.
     pub(crate) fn bytes(&self) -> &[u8]
         ensures text { result.now ≡ self.now }
         ensures piece { IsPiece self.now }
@@ -67,12 +67,12 @@ impl Piece {
         self.text.as_slice()
     }
 
-    /// Takes away what was written, and keeps its memory.
+    /// Removes what was written, and keeps its memory.
     pub(crate) fn clear(&mut self) {
         self.text.clear();
     }
 
-    /// Writes these, one after another.
+    /// Writes these items, one after another.
     pub(crate) fn write(&mut self, items: &[Item<'_>]) -> Result<(), OutOfMemory> {
         for item in items {
             self.item(*item)?;
@@ -80,7 +80,7 @@ impl Piece {
         Ok(())
     }
 
-    /// Writes one of them.
+    /// Writes one item.
     fn item(&mut self, item: Item<'_>) -> Result<(), OutOfMemory> {
         match item {
             Item::Begin(tag) => self.begin(tag),
@@ -119,13 +119,13 @@ impl Piece {
         Ok(())
     }
 
-    /// Writes a text, whatever it is: it is escaped.
+    /// Writes any text, escaped.
     fn text(&mut self, text: &[u8]) -> Result<(), OutOfMemory> {
         append_text(&mut self.text, text)?;
         Ok(())
     }
 
-    /// Writes an element with a text.
+    /// Writes an element with a text in it.
     fn element(&mut self, tag: Tag, text: &[u8]) -> Result<(), OutOfMemory> {
         self.begin(tag)?;
         self.text(text)?;
@@ -141,7 +141,7 @@ impl Piece {
     }
 }
 
-/// Appends a text as markup that means just this text.
+/// Appends a text, escaped so that it is no markup.
 fn append_text(out: &mut Vec<u8>, text: &[u8]) -> Result<(), OutOfMemory>
     ensures ok { OnOk result (out.new.items ≡ out.old.items ++ escaped text.now) }
     ensures err { OnErr result (out.new.items ≡ out.old.items) }

@@ -1,4 +1,4 @@
-//! Why a pair of places is no race, in a line.
+//! Why a pair of locations is no race, in one line.
 ghost use Rattle.std.specs.Prelude.{◌<◌, IfOk, length};
 ghost use Rattle.race_page.specs.Raced.{IsRacedIn};
 
@@ -13,12 +13,13 @@ use race_triage::{Outcome, Verdict};
 use rapid_text::OutOfMemory;
 use std::alloc::Global;
 
-/// What is said where no open pair was tried, so that none could be shown.
+/// The line for a pair of locations if no open pair was tried, so that none could be shown.
 const UNTRIED: &[u8] =
     b"undecided: no pair was tried, and neither order nor lock forbids a schedule";
 
-/// Writes the first line of what `explain` prints of a row that is no race; of one where no pair was tried, that this is so. Where the two are apart by a
-/// read that itself races with the write that it reads, it says that too.
+/// Writes the first line of what `explain` prints of a row that is no race. If no pair was tried, writes that.
+///
+/// If the two are apart because of a read that itself races with the write that it reads, writes that too.
 pub(crate) fn write_reason(
     piece: &mut Piece,
     page: &Page<'_>,
@@ -38,7 +39,7 @@ pub(crate) fn write_reason(
     piece.write(&[Item::End(Tag::Facts)])
 }
 
-/// Writes the line, whose words are made in a text of their own.
+/// Writes the line. `text` is empty, and gets the reason.
 fn write_line(
     piece: &mut Piece,
     text: &mut Vec<u8>,
@@ -54,8 +55,8 @@ fn write_line(
     piece.write(&[Item::Begin(Tag::Facts), Item::Element(Tag::Isolated, line)])
 }
 
-/// Of the chains by which the first event comes before the second, the first step from a write to a read of what it wrote that race
-/// themselves.
+/// In the chains that keep the first event before the second: the first step from a write to a read of it whose two
+/// events race themselves.
 fn raced_in(
     alloc: Global,
     analysis: &Analysis<'_>,
@@ -71,7 +72,7 @@ fn raced_in(
     }
 }
 
-/// Writes that a step races, where there is one.
+/// Writes that the write and the read of a step race, if there is a step.
 fn write_raced(piece: &mut Piece, raced: Option<Step>) -> Result<(), OutOfMemory> {
     let Some(step) = raced else {
         return Ok(());
@@ -89,7 +90,7 @@ fn write_raced(piece: &mut Piece, raced: Option<Step>) -> Result<(), OutOfMemory
     ])
 }
 
-/// Appends the reason, of which the first line is shown.
+/// Appends the reason; only its first line is shown.
 fn append_reason(
     text: &mut Vec<u8>,
     page: &Page<'_>,

@@ -20,10 +20,11 @@ use rapid_text::OutOfMemory;
 /// The most rows of each sort.
 pub const MOST_ROWS: usize = 2_000;
 
-/// The most pictures; they are those of the first races.
+/// The most pictures on a page. The first races have them.
 pub const MOST_PICTURES: usize = 200;
 
-/// Writes a row for each of the verdicts, up to `MOST_ROWS`.
+/// Writes a row for each of the first `MOST_ROWS` verdicts. Of these, the first `MOST_PICTURES` get a picture if they
+/// are races.
 pub(crate) fn write_rows(
     page: &mut Page<'_>,
     piece: &mut Piece,
@@ -64,7 +65,7 @@ fn write_row(
     }
 }
 
-/// Writes what is seen of a row that is closed, after what stands beside it.
+/// Writes what a reader sees of a closed row, after the word beside it.
 fn write_summary(
     piece: &mut Piece,
     page: &Page<'_>,
@@ -80,7 +81,7 @@ fn write_summary(
     piece.write(&[Item::End(Tag::Summary)])
 }
 
-/// Ends the heading, and writes in short what was found.
+/// Ends the heading, and writes a short summary of what was found.
 fn write_facts(piece: &mut Piece, verdict: Verdict) -> Result<(), OutOfMemory> {
     piece.write(&[
         Item::End(Tag::RowHeading),
@@ -95,7 +96,7 @@ fn write_facts(piece: &mut Piece, verdict: Verdict) -> Result<(), OutOfMemory> {
     piece.write(&[Item::End(Tag::Facts)])
 }
 
-/// Writes how many pairs there are, and what is said of them.
+/// Writes how many pairs of events there are, and the outcome.
 fn write_outcome(piece: &mut Piece, verdict: Verdict) -> Result<(), OutOfMemory> {
     let pairs = pairs_of(verdict);
     let variables = u64::from(verdict.variables);
@@ -135,7 +136,8 @@ fn how_words(how: How) -> &'static [u8] {
     }
 }
 
-/// How many pairs are told: of places that are apart all; else the candidates, or the open ones where there are none.
+/// How many pairs of events a row counts. If the pair of locations is apart, all of its pairs. Else its candidates, or
+/// without any its open pairs.
 fn pairs_of(verdict: Verdict) -> u64 {
     let counts = verdict.row.counts;
     if verdict.outcome == Outcome::Apart {

@@ -1,4 +1,4 @@
-//! The row of a race with its schedule: its picture, and its runs in words.
+//! The row of a race with its schedule: a picture, and the runs in words.
 ghost use Rattle.std.specs.Prelude.{◌≡◌, ◌++◌, ◌∷◌, [], OnOk};
 ghost use Rattle.explain_report.specs.findings.Findings.{IsFinding};
 ghost use Rattle.schedule.specs.Reordering.{IsCorrectReordering};
@@ -16,7 +16,7 @@ use explain_report::{How, Verdict, explain_text, runs_of};
 use rapid_text::OutOfMemory;
 use std::alloc::Global;
 
-/// The most runs that are told in words; of more the last ones are.
+/// The most runs that are written in words. If there are more, only the last ones are written.
 const MOST_TOLD: usize = 2_000;
 
 const PICTURE: &[u8] =
@@ -28,7 +28,7 @@ const ALL_TOLD: &[u8] = b" All runs stand in words below.";
 const LAST_TOLD: &[u8] =
     b" The last runs stand in words below, and the command under them prints all.";
 
-/// Writes the row, the beginning of which stands in the piece: with the schedule that shows its pair, where there is one.
+/// Writes the rest of a row whose beginning is in the piece, with the schedule that shows its pair if there is one.
 pub(crate) fn write_with_schedule(
     page: &mut Page<'_>,
     piece: &mut Piece,
@@ -48,7 +48,7 @@ pub(crate) fn write_with_schedule(
     }
 }
 
-/// Writes the row without a schedule.
+/// Writes the rest of a row without a schedule.
 pub(crate) fn write_plain(
     page: &mut Page<'_>,
     piece: &mut Piece,
@@ -62,7 +62,7 @@ pub(crate) fn write_plain(
     page.row(shown, piece)
 }
 
-/// Writes the row with the schedule that was found, where one was.
+/// Writes the rest of a row with its schedule, if the finding has one.
 fn write_finding(
     page: &mut Page<'_>,
     piece: &mut Piece,
@@ -84,7 +84,7 @@ fn write_finding(
     }
 }
 
-/// Writes the row with the schedule of these events.
+/// Writes the rest of a row with the schedule of these events.
 fn write_race(
     page: &mut Page<'_>,
     piece: &mut Piece,
@@ -106,7 +106,7 @@ fn write_race(
     page.drawn_row(events, shown, piece, &after)
 }
 
-/// Whether all runs of the schedule are told in words.
+/// Whether all runs of the schedule are written in words.
 fn is_told(alloc: Global, indexed: &Indexed, events: &[u32]) -> Result<bool, OutOfMemory> {
     match runs_of(alloc, indexed, events) {
         Ok(runs) => Ok(runs.len() <= MOST_TOLD),
@@ -114,7 +114,7 @@ fn is_told(alloc: Global, indexed: &Indexed, events: &[u32]) -> Result<bool, Out
     }
 }
 
-/// Writes what stands over the picture, with a text that says what it shows.
+/// Writes what comes before the picture, with a caption that says what the picture shows.
 fn write_caption(
     piece: &mut Piece,
     events: u64,
@@ -138,7 +138,7 @@ fn write_caption(
     ])
 }
 
-/// Writes what stands under the picture: the runs in words, and the commands.
+/// Writes what comes after the picture: the runs in words, and the commands.
 fn write_after(
     piece: &mut Piece,
     page: &Page<'_>,
@@ -152,7 +152,7 @@ fn write_after(
     write_commands(piece, word, shown)
 }
 
-/// Writes what is told of the verdict, whose words are made in a text of their own.
+/// Writes the verdict in words. `text` is empty, and gets these words.
 fn write_explained(
     piece: &mut Piece,
     text: &mut Vec<u8>,

@@ -1,4 +1,4 @@
-//! Of which sort a verdict is, and its row.
+//! Which sort and which row a verdict has.
 ghost use Rattle.std.specs.Prelude.{◌≡◌, [], Some, IfOk, OnOk, option_map};
 ghost use Rattle.std.specs.List.{filter};
 ghost use Rattle.explain_report.specs.places.Located.{location_at};
@@ -13,7 +13,7 @@ use race_triage::{Outcome, Verdict};
 use rapid_text::OutOfMemory;
 use std::alloc::Global;
 
-/// Of which sort a verdict is.
+/// The sort of a verdict.
 fn sort_of(verdict: Verdict) -> Sort
     ensures { result ≡ outcome_sort verdict.outcome }
 {
@@ -28,7 +28,7 @@ fn sort_of(verdict: Verdict) -> Sort
     }
 }
 
-/// Whether two sorts are one.
+/// Whether two sorts are the same.
 fn are_same(one: Sort, other: Sort) -> bool
     ensures { result ≡ is_sort one other }
 {
@@ -40,7 +40,7 @@ fn are_same(one: Sort, other: Sort) -> bool
     }
 }
 
-/// The entry on the two events' locations: the first that has them.
+/// The first entry on the locations of the two events, if there is one.
 pub(crate) fn entry_of<'a>(
     about: About<'a>,
     indexed: &Indexed,
@@ -60,7 +60,7 @@ pub(crate) fn entry_of<'a>(
     }
 }
 
-/// How a race came out.
+/// What an entry says of a race, or that there is no entry.
 fn seen_by(found: Option<&Followed>) -> Seen
     ensures { result ≡ entry_seen (option_map (λ f. f.now) found.entry) }
 {
@@ -70,7 +70,7 @@ fn seen_by(found: Option<&Followed>) -> Seen
     }
 }
 
-/// The same of an entry.
+/// What an entry says of a race.
 fn seen_in(followed: &Followed) -> Seen
     ensures { result ≡ entry_seen (Some followed.now) }
 {
@@ -84,7 +84,7 @@ fn seen_in(followed: &Followed) -> Seen
     }
 }
 
-/// Whether the order matters.
+/// The outcome, by whether the order of the two accesses matters.
 fn order_of(matters: Option<bool>) -> Seen
     ensures { result ≡ order_seen matters }
 {
@@ -95,7 +95,7 @@ fn order_of(matters: Option<bool>) -> Seen
     }
 }
 
-/// What stands beside a race of these two events.
+/// The word beside a race of these two events.
 fn race_seen(about: About<'_>, indexed: &Indexed, first: u32, second: u32) -> Seen
     ensures { result ≡ seen_on (followed_in about.entry) (location_at indexed.now first) (location_at indexed.now second) }
 {
@@ -105,7 +105,7 @@ fn race_seen(about: About<'_>, indexed: &Indexed, first: u32, second: u32) -> Se
     seen_by(entry_of(about, indexed, first, second))
 }
 
-/// What stands beside the row of a verdict.
+/// The word beside the row of a verdict. Only races have one.
 fn seen_of(about: About<'_>, indexed: &Indexed, verdict: Verdict) -> Seen
     ensures { result ≡ sort_seen (outcome_sort verdict.outcome)
         (seen_on (followed_in about.entry) (location_at indexed.now verdict.first) (location_at indexed.now verdict.second)) }
@@ -144,7 +144,7 @@ pub(crate) fn of_sort(
     }
 }
 
-/// Keeps the verdicts of a sort.
+/// Adds the verdicts of a sort to `kept`, which is empty.
 fn keep_sort(kept: &mut Vec<Verdict>, told: &[Verdict], sort: Sort) -> Result<(), OutOfMemory>
     requires { kept.now.items ≡ [] }
     ensures { OnOk result (kept.new.items ≡ filter (is_of sort) told.now) }

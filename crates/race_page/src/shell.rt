@@ -1,4 +1,4 @@
-//! A name as one word for a shell.
+//! A file name as one word of a shell.
 ghost use Rattle.std.specs.Prelude.{◌≡◌, ◌++◌, IfOk, OnErr, OnOk, flat_map};
 ghost use Rattle.std.specs.List.{list_all};
 ghost use Rattle.race_page.specs.Shell.{bare_or_quoted, folder_text, is_letter, is_plain, quoted_byte, quoted_text, shell_word};
@@ -6,8 +6,8 @@ ghost use Rattle.race_page.specs.Shell.{bare_or_quoted, folder_text, is_letter, 
 use rapid_text::OutOfMemory;
 use std::alloc::Global;
 
-/// Appends a name as one word for a shell, which neither ends it nor reads more into it. A name that begins with a dash is no option.
-/// If memory is refused `out` stays as it was.
+/// Appends a name as one word of a shell, quoted if it has a byte that means something to the shell. A name that begins
+/// with a dash gets `./` before it, so that it is no option. If memory runs out, `out` stays as it was.
 pub fn append_shell_word(out: &mut Vec<u8>, name: &[u8]) -> Result<(), OutOfMemory>
     ensures ok { OnOk result (out.new.items ≡ out.old.items ++ shell_word name.now) }
     ensures err { OnErr result (out.new.items ≡ out.old.items) }
@@ -17,7 +17,7 @@ pub fn append_shell_word(out: &mut Vec<u8>, name: &[u8]) -> Result<(), OutOfMemo
     Ok(())
 }
 
-/// The name as one word for a shell.
+/// The name as one word of a shell.
 pub(crate) fn word_of(alloc: Global, name: &[u8]) -> Result<Vec<u8>, OutOfMemory>
     ensures { IfOk result (λ word. word.items ≡ shell_word name.now) }
 {
@@ -27,7 +27,7 @@ pub(crate) fn word_of(alloc: Global, name: &[u8]) -> Result<Vec<u8>, OutOfMemory
     Ok(word)
 }
 
-/// Appends the folder of a name that begins with a dash.
+/// Appends `./` if the name begins with a dash.
 fn append_folder(word: &mut Vec<u8>, name: &[u8]) -> Result<(), OutOfMemory>
     ensures { OnOk result (word.new.items ≡ word.old.items ++ folder_text name.now) }
 {
@@ -37,7 +37,7 @@ fn append_folder(word: &mut Vec<u8>, name: &[u8]) -> Result<(), OutOfMemory>
     Ok(())
 }
 
-/// Appends a name, between quotes if it has a byte that means something to a shell.
+/// Appends a name, in quotes if it is empty or has a byte that means something to the shell.
 fn append_name(word: &mut Vec<u8>, name: &[u8]) -> Result<(), OutOfMemory>
     ensures { OnOk result (word.new.items ≡ word.old.items ++ bare_or_quoted name.now) }
 {
@@ -48,7 +48,7 @@ fn append_name(word: &mut Vec<u8>, name: &[u8]) -> Result<(), OutOfMemory>
     }
 }
 
-/// Appends a name between quotes.
+/// Appends a name in quotes.
 fn append_quoted(word: &mut Vec<u8>, name: &[u8]) -> Result<(), OutOfMemory>
     ensures { OnOk result (word.new.items ≡ word.old.items ++ quoted_text name.now) }
 {
@@ -67,7 +67,7 @@ fn append_within(word: &mut Vec<u8>, name: &[u8]) -> Result<(), OutOfMemory>
     Ok(())
 }
 
-/// Appends a byte that comes between quotes. A quote ends the quotes, comes alone, and begins them again.
+/// Appends a byte between quotes. A quote ends the quotes, comes after a backslash, and begins them again: `'\''`.
 fn append_byte(word: &mut Vec<u8>, byte: u8) -> Result<(), OutOfMemory>
     ensures { OnOk result (word.new.items ≡ word.old.items ++ quoted_byte byte) }
 {
@@ -86,21 +86,21 @@ fn append_bytes(word: &mut Vec<u8>, bytes: &[u8]) -> Result<(), OutOfMemory>
     Ok(())
 }
 
-/// Whether each of the bytes means nothing to a shell.
+/// Whether no byte of the name means anything to the shell.
 fn are_plain(name: &[u8]) -> bool
     ensures { result ≡ list_all is_plain name.now }
 {
     name.iter().all(|byte| is_plain(*byte))
 }
 
-/// Whether the byte means nothing to a shell.
+/// Whether the byte means nothing to the shell.
 fn is_plain(byte: u8) -> bool
     ensures { result ≡ is_plain byte }
 {
     is_letter(byte) || b'+' <= byte && byte <= b':' || byte == b'_' || byte == b'@' || byte == b'%'
 }
 
-/// Whether the byte is a letter.
+/// Whether the byte is an ASCII letter.
 fn is_letter(byte: u8) -> bool
     ensures { result ≡ is_letter byte }
 {

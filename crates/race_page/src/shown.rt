@@ -1,51 +1,52 @@
-//! Which rows a page has.
+//! The rows of a page.
 ghost use Rattle.std.specs.Prelude.{◌≡◌};
 ghost use Rattle.race_page.specs.Own.{row_begin, seen_text};
 
-/// Of which sort a row is.
+/// The sort of a row.
 #[derive(Clone, Copy, PartialEq, Eq, Debug)]
 pub enum Sort {
     /// A race.
     Race,
-    /// A pair of places that is undecided.
+    /// A pair of locations that is undecided.
     Undecided,
-    /// One that is apart.
+    /// A pair of locations that is apart.
     Apart,
 }
 
-/// What stands beside a race: how it came out when it was followed on the real program. That was seen in a run, and is not proved.
+/// The word beside a race: what was found when it was followed on the real program. That was seen in a run, and is not
+/// proved.
 #[derive(Clone, Copy, PartialEq, Eq, Debug)]
 pub enum Seen {
-    /// Nothing: there is no file of followed races, or the row is no race.
+    /// No word: there is no file of followed races, or the row is no race.
     Unasked,
-    /// The file has no line on it.
+    /// `not followed`: the file has no line on the race.
     NotFollowed,
-    /// The run went another way than the schedule.
+    /// `departed`: the run went another way than the schedule.
     Departed,
-    /// Both threads were at their accesses, on different memory.
+    /// `other memory`: both threads were at their accesses, but on different memory.
     OtherMemory,
-    /// It matters which access comes first.
+    /// `order matters`: it matters which access comes first.
     Matters,
-    /// It does not.
+    /// `same in both orders`: the program ended the same with either access first.
     Same,
-    /// That is not known.
+    /// `order not known`: it is not known whether it matters.
     Unknown,
 }
 
 /// A row of a page.
 #[derive(Clone, Copy, PartialEq, Eq, Debug)]
 pub struct Shown {
-    /// Its sort.
+    /// The sort of the row.
     pub sort: Sort,
-    /// The earlier event.
+    /// The earlier event, by its number in the trace.
     pub first: u32,
-    /// The later event.
+    /// The later event, by its number in the trace.
     pub second: u32,
-    /// What stands beside it.
+    /// The word beside the row.
     pub seen: Seen,
 }
 
-/// How a row of the sort begins, up to its numbers.
+/// The beginning of a row of the sort, up to its numbers.
 pub(crate) fn row_begin_of(sort: Sort) -> &'static [u8]
     ensures { result.now ≡ row_begin sort }
 {
@@ -56,7 +57,7 @@ pub(crate) fn row_begin_of(sort: Sort) -> &'static [u8]
     }
 }
 
-/// What stands beside a row.
+/// The word beside a row, with its markup.
 pub(crate) fn seen_of(seen: Seen) -> &'static [u8]
     ensures { result.now ≡ seen_text seen }
 {

@@ -1,6 +1,7 @@
-//! How the page looks. It has a light and a dark form, a narrow one and one for paper; its policy lets nothing be fetched and nothing run.
+//! The look of the page. It has a light and a dark form, a form for narrow windows, and one for paper. Its policy
+//! forbids the page to fetch or run anything.
 
-/// What stands before the title.
+/// What comes before the title.
 pub(crate) const TOP: &[u8] = b"<!DOCTYPE html>
 <html lang=\"en\">
 <head>
@@ -11,8 +12,8 @@ pub(crate) const TOP: &[u8] = b"<!DOCTYPE html>
 <meta name=\"referrer\" content=\"no-referrer\">
 ";
 
-/// What stands between the title and the first heading. The second half is how pictures look: colours of the set by Okabe and Ito, and
-/// lighter ones on a dark page, as in a picture that is a file of its own.
+/// What comes between the title and the first heading. The second half of the style is for pictures: colours from the
+/// palette of Okabe and Ito, and lighter ones on a dark page. A picture in a separate file has the same.
 pub(crate) const BODY: &[u8] = b"<style>
 :root{--paper:#ffffff;--ink:#1b1b1b;--soft:#4c5a66;--edge:#8fa3b3;--tint:#f2f5f8;--mark:#b04a00}
 body{margin:0 auto;padding:1rem;max-width:80rem;background:var(--paper);color:var(--ink);font:1rem/1.5 sans-serif}
@@ -81,7 +82,7 @@ text{fill:#e6e6e6}
 <svg width=\"0\" height=\"0\" aria-hidden=\"true\"><defs><marker id=\"tip\" viewBox=\"0 0 8 8\" refX=\"8\" refY=\"4\" markerWidth=\"8\" markerHeight=\"8\" markerUnits=\"userSpaceOnUse\" orient=\"auto\"><path class=\"tip\" d=\"M0 0L8 4L0 8Z\"/></marker></defs></svg>
 ";
 
-/// What stands at the end.
+/// What comes at the end of the page.
 pub(crate) const FOOT: &[u8] = b"</main>
 </body>
 </html>

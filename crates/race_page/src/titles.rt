@@ -1,4 +1,4 @@
-//! The title of a row: the variable, and of each access what it does, in which function, and where.
+//! The title of a row: the variable, and for each access what it does, in which function, and where.
 use crate::own::Tag;
 use crate::piece::{Item, Piece};
 use event_index::Indexed;
@@ -6,7 +6,7 @@ use memchr::{memmem, memrchr};
 use race_triage::Verdict;
 use rapid_text::{Op, OutOfMemory, RawTrace};
 
-/// Writes the title of the verdict's two accesses.
+/// Writes the title for the verdict's two accesses.
 pub(crate) fn write_title(
     piece: &mut Piece,
     indexed: &Indexed,
@@ -25,7 +25,7 @@ pub(crate) fn write_title(
     write_access(piece, indexed, verdict.second)
 }
 
-/// Writes the name of the variable that the event accesses.
+/// Writes the name of the variable that the event accesses. Writes nothing if the trace has no such access.
 fn write_variable(piece: &mut Piece, indexed: &Indexed, event: u32) -> Result<(), OutOfMemory> {
     if event >= indexed.len() {
         return Ok(());
@@ -37,7 +37,7 @@ fn write_variable(piece: &mut Piece, indexed: &Indexed, event: u32) -> Result<()
     }
 }
 
-/// Writes the name of the variable, where the trace has it.
+/// Writes the name of the variable, if the trace has it.
 fn write_name(piece: &mut Piece, raw: &RawTrace, variable: u32) -> Result<(), OutOfMemory> {
     if variable >= raw.variables() {
         return Ok(());
@@ -45,7 +45,8 @@ fn write_name(piece: &mut Piece, raw: &RawTrace, variable: u32) -> Result<(), Ou
     piece.write(&[Item::Element(Tag::Isolated, raw.variable_name(variable))])
 }
 
-/// Writes what the access does, in which function, and where. A location is a place, and behind ` < ` the function, or the place of a call.
+/// Writes what the access does, in which function, and where. A location is a place; after ` < ` comes the function, or
+/// the place of a call.
 fn write_access(piece: &mut Piece, indexed: &Indexed, event: u32) -> Result<(), OutOfMemory> {
     if event >= indexed.len() {
         return Ok(());
@@ -63,7 +64,7 @@ fn write_access(piece: &mut Piece, indexed: &Indexed, event: u32) -> Result<(), 
     }
 }
 
-/// Writes a name behind these words, where there is one.
+/// Writes these words and the name, if the name is not empty.
 fn write_where<'a>(piece: &mut Piece, words: &'a [u8], name: &'a [u8]) -> Result<(), OutOfMemory> {
     if name.is_empty() {
         return Ok(());
@@ -71,7 +72,7 @@ fn write_where<'a>(piece: &mut Piece, words: &'a [u8], name: &'a [u8]) -> Result
     piece.write(&[Item::Text(words), Item::Element(Tag::Isolated, name)])
 }
 
-/// What an access does.
+/// The verb for an access: `read`, `write`, or `freed` for a write whose caller begins with `free in `.
 fn access_word(op: Op, caller: &[u8]) -> &'static [u8] {
     match op {
         Op::Read(_) => b"read",
@@ -84,10 +85,10 @@ fn access_word(op: Op, caller: &[u8]) -> &'static [u8] {
     }
 }
 
-/// With what the function begins where a block is given back.
+/// How the caller begins if the access frees a block of memory.
 const FREE: &[u8] = b"free in ";
 
-/// The name of the function.
+/// The name of the function, without `free in `.
 fn function_of(caller: &[u8]) -> &[u8] {
     match caller.strip_prefix(FREE) {
         Some(function) => function,
@@ -95,7 +96,7 @@ fn function_of(caller: &[u8]) -> &[u8] {
     }
 }
 
-/// The first part of a location, up to ` < `, and what stands behind that.
+/// The first part of a location, up to ` < `, and what comes after it.
 fn cut_frame(text: &[u8]) -> (&[u8], &[u8]) {
     match memmem::find(text, b" < ") {
         Some(end) => (&text[..end], &text[end + 3..]),
@@ -103,7 +104,7 @@ fn cut_frame(text: &[u8]) -> (&[u8], &[u8]) {
     }
 }
 
-/// Whether a part of a location is a place: it ends with a colon and the number of a line, or a question mark for one.
+/// Whether a part of a location is a place: after its last colon come only digits, or one question mark.
 fn is_place(part: &[u8]) -> bool {
     match memrchr(b':', part) {
         Some(colon) => is_line_number(&part[colon + 1..]),
@@ -111,7 +112,7 @@ fn is_place(part: &[u8]) -> bool {
     }
 }
 
-/// Whether this is the number of a line, or stands for one.
+/// Whether the text is the number of a line, or a question mark.
 fn is_line_number(text: &[u8]) -> bool {
     text == b"?".as_slice() || !text.is_empty() && text.iter().all(|byte| byte.is_ascii_digit())
 }

@@ -22,11 +22,16 @@ use must_order::Analysis;
 use race_triage::{Chosen, Verdict, Verdicts};
 use rapid_text::OutOfMemory;
 
-/// Appends a page (HTML) of these verdicts, of which some are chosen. Its first line is `6 races in pdsh.std`: how many are chosen, and `name` without
-/// folders. With known races or filters it goes on with how many pairs of places these left out. Then there is a row for each chosen race, each pair of places that is undecided, and where `apart` is true each that is apart; of each sort the
-/// first 2,000, and a picture for each of the first 200 races. Then come the eleven counts of the whole trace, and what the words mean. The page tells how
-/// many were left out. `about` has the trace's name, and how its races came out when they were followed on the real program: that stands beside each race.
-/// Where memory is refused `out` stays as it was.
+/// Appends a page (HTML) of the chosen verdicts. Its first line is `6 races in pdsh.std`: how many races are chosen,
+/// and the file of `about.name` without folders. With known races or filters, it also says how many pairs of locations
+/// they left out.
+///
+/// Then there is a row for each chosen race and each undecided pair of locations. If `apart` is true, there is one also
+/// for each that is apart. Each sort has at most 2,000 rows, and the first 200 races have a picture; a line says how
+/// many are left out.
+///
+/// Then come the eleven counts of the whole trace, and the meaning of the words. If `about` has followed races, each
+/// race has a word beside it. If memory runs out, `out` stays as it was.
 pub fn page_text(
     analysis: &Analysis<'_>,
     verdicts: &Verdicts,
@@ -35,8 +40,9 @@ pub fn page_text(
     about: About<'_>,
     out: &mut Vec<u8>,
 ) -> Result<(), OutOfMemory>
-    // What is appended is a page with a row for each of the chosen verdicts, of each sort the first 2,000, and no others. The first line has the number of
-    // chosen races, with those that have no row, the file's name, and what was left out.
+    // What is appended is a page with a row for each chosen verdict, of each sort the first 2,000, and no others. The
+    // first line has the number of all chosen races, also of those without a row. It also has the file's name, and what
+    // was left out.
     ensures ok { OnOk result ((text : List ℕ) × (out.new.items ≡ out.old.items ++ text)
         × IsPage analysis.now verdicts.now.verdicts.items chosen.now.races (left_of chosen.now) about.entry.name.now text
         (all_rows analysis.now (followed_in about.entry) apart chosen.now.verdicts.items)) }
@@ -46,7 +52,7 @@ pub fn page_text(
     append_page(&mut page, verdicts, chosen, apart, about, out)
 }
 
-/// Appends the page of the verdicts that are told, on which nothing stands yet.
+/// Appends the page of the chosen verdicts. `page` has no rows yet.
 fn append_page(
     page: &mut Page<'_>,
     verdicts: &Verdicts,
@@ -82,7 +88,8 @@ fn append_page(
     Ok(())
 }
 
-/// Appends the page, whose parts are written. Its beginning is made first, so that all is appended, or nothing.
+/// Appends the page, from parts that are written. Its beginning is made first, so that everything is appended, or
+/// nothing.
 fn append_written(
     page: &Page<'_>,
     end: &[u8],
@@ -101,7 +108,7 @@ fn append_written(
     Ok(())
 }
 
-/// What was left out of what is told.
+/// How many pairs of locations were left out.
 fn left_of(chosen: &Chosen) -> LeftOut
     ensures { result ≡ left_of chosen.now }
 {
@@ -111,7 +118,7 @@ fn left_of(chosen: &Chosen) -> LeftOut
     }
 }
 
-/// Appends three texts, or nothing.
+/// Appends three texts, or nothing if memory runs out.
 fn append_all(
     out: &mut Vec<u8>,
     first: &[u8],
@@ -128,7 +135,7 @@ fn append_all(
     Ok(())
 }
 
-/// Writes the rows. All their pieces are written in one, which keeps its memory.
+/// Writes the rows. One piece, which keeps its memory, is used for all.
 fn write_page(
     page: &mut Page<'_>,
     told: &[Verdict],
@@ -142,7 +149,7 @@ fn write_page(
     write_told(page, &mut piece, told, apart, about)
 }
 
-/// Writes a section for each sort, with the trace's name as one word of a shell.
+/// Writes a section for each sort. The trace's name becomes one word of a shell.
 fn write_told(
     page: &mut Page<'_>,
     piece: &mut Piece,
@@ -187,7 +194,7 @@ fn write_sections(
     Ok(())
 }
 
-/// Writes the section of a sort, of the verdicts that are told.
+/// Writes the section of a sort, from all verdicts.
 fn write_sort(
     page: &mut Page<'_>,
     piece: &mut Piece,
@@ -204,7 +211,7 @@ fn write_sort(
     }
 }
 
-/// Writes the section of a sort, with a row for each of these.
+/// Writes the section of a sort, with a row for each of the first 2,000 verdicts in `kept`.
 fn write_section(
     page: &mut Page<'_>,
     piece: &mut Piece,
@@ -244,7 +251,7 @@ fn begin_section(
     page.write(piece)
 }
 
-/// Writes what stands under the rows of a section.
+/// Writes what comes after the rows of a section.
 fn end_section(
     page: &mut Page<'_>,
     piece: &mut Piece,
@@ -261,7 +268,7 @@ fn end_section(
     page.write(piece)
 }
 
-/// The heading of a sort.
+/// The heading for a sort.
 fn heading_of(sort: Sort) -> &'static [u8] {
     match sort {
         Sort::Race => b"Races",

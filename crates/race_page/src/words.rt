@@ -1,11 +1,11 @@
-//! Texts of several lines.
+//! Texts with several lines.
 
 use crate::own::{Part, Tag};
 use crate::piece::{Item, Piece};
 use memchr::memchr;
 use rapid_text::OutOfMemory;
 
-/// Writes the lines of a text, each isolated, as lines that stay.
+/// Writes the lines of a text, each isolated, in an element that keeps line ends.
 pub(crate) fn lines(piece: &mut Piece, text: &[u8]) -> Result<(), OutOfMemory> {
     piece.write(&[Item::Begin(Tag::Lines)])?;
     let mut rest = text;
@@ -23,7 +23,7 @@ pub(crate) fn lines(piece: &mut Piece, text: &[u8]) -> Result<(), OutOfMemory> {
     piece.write(&[Item::End(Tag::Lines)])
 }
 
-/// The first line without its end, and what stands behind it.
+/// The first line without its end, and what comes after it.
 pub(crate) fn cut_line(text: &[u8]) -> (&[u8], &[u8]) {
     match memchr(b'\n', text) {
         Some(end) => (&text[..end], &text[end + 1..]),
