@@ -1,4 +1,4 @@
-//! What was found of a trace's pairs of places as JSON, for other programs: an object a line.
+//! The verdicts on a trace's pairs of locations as JSON, for other programs: an object a line.
 
 mod accesses;
 mod lines;

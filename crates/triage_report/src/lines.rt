@@ -1,4 +1,4 @@
-//! What was found of a trace's pairs of places as lines that editors and build logs take for a compiler's.
+//! The verdicts on a trace's pairs of locations as lines that editors and build logs read like a compiler's.
 
 mod accesses;
 mod blocks;

@@ -1,4 +1,4 @@
-//! What was found of a trace's pairs of places as SARIF 2.1.0, for code-scanning pages and viewers.
+//! The verdicts on a trace's pairs of locations as SARIF 2.1.0, for code-scanning pages and viewers.
 
 mod accesses;
 mod bases;

@@ -1,4 +1,4 @@
-//! Accesses as objects.
+//! Accesses as objects of JSON.
 ghost use Rattle.std.specs.Prelude.{◌≡◌, ◌<◌, ◌++◌, ◌∷◌, [], codes, IfOk, OnOk, length, map};
 ghost use Rattle.rapid_text.specs.Canonical.{name_at};
 ghost use Rattle.rapid_text.specs.Recording.{IsNamedOp};
@@ -14,7 +14,7 @@ use rapid_text::{Op, OutOfMemory, RawTrace};
 use serde_json::{Map, Value};
 use std::alloc::{AllocError, Global};
 
-/// The two accesses of a pair.
+/// The list of the two accesses of a pair, the earlier first.
 pub(crate) fn accesses_of(
     alloc: Global,
     analysis: &Analysis<'_>,
@@ -29,7 +29,7 @@ pub(crate) fn accesses_of(
     Ok(Value::Array(both))
 }
 
-/// Adds the access of the event, where the trace has it.
+/// Adds the access at this event, if the trace has such an event.
 fn push_access(
     both: &mut Vec<Value>,
     analysis: &Analysis<'_>,
@@ -45,7 +45,7 @@ fn push_access(
     Ok(())
 }
 
-/// The access of an event.
+/// The access at this event, as an object.
 fn access_of(alloc: Global, analysis: &Analysis<'_>, event: u32) -> Result<Value, OutOfMemory>
     requires event { event < length analysis.now.events }
     ensures { IfOk result (λ access. view access ∷ [] ≡ access_at analysis.now event) }
@@ -64,7 +64,7 @@ fn access_of(alloc: Global, analysis: &Analysis<'_>, event: u32) -> Result<Value
     Ok(access)
 }
 
-/// What an object tells of an access, but the locks that its thread holds.
+/// The members of an access, except the locks that its thread holds.
 #[derive(Clone, Copy)]
 struct Names<'a> {
     event: u32,
@@ -74,7 +74,7 @@ struct Names<'a> {
     location: &'a [u8],
 }
 
-/// An access with these names.
+/// The object of an access with these members and these locks.
 fn named(alloc: Global, names: Names<'_>, holds: Value) -> Result<Value, AllocError>
     ensures { IfOk result (λ access. view access ≡ access_object names.entry.event (view holds) names.entry.location.now
         names.entry.operation.now names.entry.thread.now names.entry.variable.now) }
@@ -86,7 +86,7 @@ fn named(alloc: Global, names: Names<'_>, holds: Value) -> Result<Value, AllocEr
     }
 }
 
-/// Puts the members of an access but the locks that its thread holds.
+/// Puts all members of an access, except the locks that its thread holds.
 fn put_names(
     members: &mut Map<String, Value>,
     alloc: Global,
@@ -104,7 +104,7 @@ fn put_names(
     Ok(())
 }
 
-/// The names of the locks that the event's thread holds before it.
+/// The list of the names of the locks that the thread holds before the event.
 fn locks_of(alloc: Global, analysis: &Analysis<'_>, event: u32) -> Result<Value, OutOfMemory>
     requires event { event < length analysis.now.events }
     ensures { IfOk result (λ names. view names ≡ lock_names analysis.now (held_locks analysis.now event)) }
@@ -113,7 +113,7 @@ fn locks_of(alloc: Global, analysis: &Analysis<'_>, event: u32) -> Result<Value,
     names_of(alloc, analysis.indexed(), locks.as_slice())
 }
 
-/// The names of these locks.
+/// The list of the names of these locks.
 fn names_of(alloc: Global, indexed: &Indexed, locks: &[u32]) -> Result<Value, OutOfMemory>
     ensures { IfOk result (λ names. view names ≡ lock_names indexed.now locks.now) }
 {
@@ -125,7 +125,7 @@ fn names_of(alloc: Global, indexed: &Indexed, locks: &[u32]) -> Result<Value, Ou
     Ok(Value::Array(names))
 }
 
-/// The name of a lock; nothing where the trace has no such lock.
+/// The name of a lock; empty if the trace has no such lock.
 fn lock_name(indexed: &Indexed, lock: u32) -> &[u8]
     ensures { result.now ≡ name_at indexed.now.locks lock }
 {
@@ -150,7 +150,7 @@ fn word_of(op: Op) -> &'static str
     }
 }
 
-/// The name of what the operation is done to.
+/// The name of the variable, lock or thread of an operation.
 fn name_of(trace: &RawTrace, op: Op) -> &[u8]
     requires { IsNamedOp trace.now op }
     ensures { result.now ≡ op_name trace.now op }

@@ -1,4 +1,4 @@
-//! The objects, a line each.
+//! The report as objects of JSON, a line each.
 ghost use Rattle.std.specs.Prelude.{◌≡◌, ◌++◌, List, ℕ, OnOk, OnErr, false};
 ghost use Rattle.serde_json.specs.View.{view};
 ghost use Rattle.serde_json.specs.Written.{has_float};
@@ -11,15 +11,16 @@ use race_triage::{Chosen, Totals, Verdict, Verdicts};
 use rapid_text::OutOfMemory;
 use serde_json::Value;
 
-/// Appends what `triage_text` tells, as JSON: an object a line, the counts first, then one for each of the chosen verdicts, in their order, and how
-/// many were left out last. Where memory is refused `out` stays as it was.
+/// Appends the report that `triage_text` prints, as JSON (docs/FORMATS.md, "The races of a trace"). Each line is an
+/// object: first the counts, and then one for each chosen verdict, in order. Last come objects that count what was left
+/// out. If memory runs out, `out` stays as it was.
 pub fn triage_json(
     analysis: &Analysis<'_>,
     found: &Verdicts,
     chosen: &Chosen,
     out: &mut Vec<u8>,
 ) -> Result<(), OutOfMemory>
-    // The text is the one that belongs to the trace, the counts of all verdicts, and the chosen ones.
+    // The text is determined by the trace, the counts of all verdicts, and the chosen verdicts.
     ensures ok { OnOk result ((text : List ℕ) × IsTriageJson analysis.now found.now.verdicts.items chosen.now text × (out.new.items ≡ out.old.items ++ text)) }
     ensures err { OnErr result (out.new.items ≡ out.old.items) }
 {
@@ -80,7 +81,7 @@ fn append_verdict(
     append_line(out, &object)
 }
 
-/// Appends the line of how many verdicts were left out, where that is told.
+/// Appends a line with how many verdicts were left out, if there is a number.
 fn append_left_out(out: &mut Vec<u8>, kind: &str, count: Option<u64>) -> Result<(), OutOfMemory>
     ensures { OnOk result (out.new.items ≡ out.old.items ++ left_out_line kind.now count) }
 {
@@ -93,7 +94,7 @@ fn append_left_out(out: &mut Vec<u8>, kind: &str, count: Option<u64>) -> Result<
     }
 }
 
-/// Appends the text of an object that has no fraction in it, and the end of the line.
+/// Appends the text of an object, and a line end. The object must have no fraction in it.
 fn append_line(out: &mut Vec<u8>, object: &Value) -> Result<(), OutOfMemory>
     requires { has_float (view object.now) ≡ false }
     ensures { OnOk result (out.new.items ≡ out.old.items ++ json_line (view object.now)) }

@@ -1,4 +1,4 @@
-//! Members of an object, put one by one.
+//! Puts members into an object, one by one.
 ghost use Rattle.std.specs.Prelude.{◌≡◌, IfOk, OnOk};
 ghost use Rattle.serde_json.specs.Data.{object, put as with_member, string};
 ghost use Rattle.serde_json.specs.View.{members_view, view};
@@ -7,7 +7,7 @@ ghost use Rattle.triage_report.specs.json.Objects.{text, whole};
 use serde_json::{Map, Value, put};
 use std::alloc::{AllocError, Global};
 
-/// Puts a number.
+/// Puts a member with this name and a number.
 pub fn put_number(
     members: &mut Map<String, Value>,
     alloc: Global,
@@ -19,7 +19,7 @@ pub fn put_number(
     put(members, alloc, name, Value::from(number))
 }
 
-/// Puts a word.
+/// Puts a member with this name and a word.
 pub fn put_word(
     members: &mut Map<String, Value>,
     alloc: Global,
@@ -34,7 +34,7 @@ pub fn put_word(
     }
 }
 
-/// Puts bytes from outside as a text: what is no UTF-8 becomes U+FFFD.
+/// Puts a member with this name and a text from outside. Bytes that are not UTF-8 become U+FFFD.
 pub fn put_text(
     members: &mut Map<String, Value>,
     alloc: Global,
@@ -49,7 +49,7 @@ pub fn put_text(
     }
 }
 
-/// The object of these members and one more.
+/// The object with these members and one more.
 pub(crate) fn object_with(
     alloc: Global,
     mut members: Map<String, Value>,
@@ -64,7 +64,7 @@ pub(crate) fn object_with(
     }
 }
 
-/// Bytes from outside as a text: what is no UTF-8 becomes U+FFFD.
+/// A text from outside as a value. Bytes that are not UTF-8 become U+FFFD.
 pub(crate) fn text_of(alloc: Global, bytes: &[u8]) -> Result<Value, AllocError>
     ensures { IfOk result (λ value. view value ≡ text bytes.now) }
 {

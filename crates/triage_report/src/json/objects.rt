@@ -1,4 +1,4 @@
-//! What was found, as objects.
+//! The findings as objects of JSON.
 ghost use Rattle.std.specs.Prelude.{◌≡◌, [], codes, IfOk, OnOk};
 ghost use Rattle.serde_json.specs.Data.{Data, object, put as with_member};
 ghost use Rattle.serde_json.specs.View.{members_view, view};
@@ -13,7 +13,7 @@ use rapid_text::OutOfMemory;
 use serde_json::{Map, Value, json};
 use std::alloc::{AllocError, Global};
 
-/// The counts of the whole trace.
+/// The object with the counts of the whole trace.
 pub(crate) fn counts_of(alloc: Global, totals: &Totals) -> Result<Value, AllocError>
     ensures { IfOk result (λ object. view object ≡ counts_object totals.now) }
 {
@@ -48,14 +48,14 @@ fn put_counts(
     Ok(())
 }
 
-/// How many verdicts were left out, and why.
+/// The object that says how many verdicts were left out. `kind` is `known` or `hidden`.
 pub(crate) fn left_out_of(alloc: Global, kind: &str, count: u64) -> Result<Value, AllocError>
     ensures { IfOk result (λ object. view object ≡ left_out_object kind.now count) }
 {
     json!(in alloc; {"kind": kind, "count": count})
 }
 
-/// A verdict with its two accesses.
+/// The object of a verdict, with its two accesses.
 pub(crate) fn verdict_of(
     alloc: Global,
     analysis: &Analysis<'_>,
@@ -68,7 +68,7 @@ pub(crate) fn verdict_of(
     Ok(object)
 }
 
-/// The same, of accesses that are told so.
+/// The object of a verdict, with the list of its accesses.
 fn told_of(alloc: Global, verdict: &Verdict, accesses: Value) -> Result<Value, AllocError>
     ensures { IfOk result (λ object. view object ≡ told_object verdict.now (view accesses)) }
 {
@@ -79,7 +79,7 @@ fn told_of(alloc: Global, verdict: &Verdict, accesses: Value) -> Result<Value, A
     }
 }
 
-/// Puts the members of a verdict but its accesses.
+/// Puts all members of a verdict, except its accesses.
 fn put_told(
     members: &mut Map<String, Value>,
     alloc: Global,
@@ -103,14 +103,14 @@ fn put_told(
     }
 }
 
-/// How much a verdict is about.
+/// How many pairs of events and how many variables a verdict is about.
 #[derive(Clone, Copy)]
 struct Reach {
     pairs: u64,
     variables: u32,
 }
 
-/// Puts the members of a race.
+/// Puts all members of a race, except its accesses.
 fn put_race(
     members: &mut Map<String, Value>,
     alloc: Global,
@@ -132,7 +132,7 @@ fn put_race(
     Ok(())
 }
 
-/// Puts the members of what is undecided.
+/// Puts all members of what is undecided, except its accesses.
 fn put_undecided(
     members: &mut Map<String, Value>,
     alloc: Global,
@@ -150,7 +150,7 @@ fn put_undecided(
     Ok(())
 }
 
-/// Puts the members of what is apart.
+/// Puts all members of what is apart, except its accesses.
 fn put_apart(members: &mut Map<String, Value>, alloc: Global, pairs: u64) -> Result<(), AllocError>
     requires { members.old.entries ≡ [] }
     ensures { OnOk result ((both : Data)

@@ -1,4 +1,4 @@
-//! What is said of an access: its place, thread, verb and variable.
+//! What a line says of an access: its place, thread, verb and variable.
 ghost use Rattle.std.specs.Prelude.{◌≡◌, ◌<◌, length};
 ghost use Rattle.rapid_text.specs.Recording.{IsNamedOp};
 ghost use Rattle.triage_report.specs.lines.Accesses.{op_name, spot, spot_at, thread_at, variable_at, verb, verb_at};
@@ -7,7 +7,7 @@ use event_index::Indexed;
 use explain_report::places::{cut_at_arrow, location_of};
 use rapid_text::{Op, RawTrace};
 
-/// The place of a location: what comes before its calls, or a question mark.
+/// The place of a location: what comes before the first ` < `, or `?` if that is empty.
 pub fn spot(location: &[u8]) -> &[u8]
     ensures { result.now ≡ spot location.now }
 {
@@ -15,14 +15,14 @@ pub fn spot(location: &[u8]) -> &[u8]
     if place.is_empty() { b"?" } else { place }
 }
 
-/// The place of the event.
+/// The place of the event's location.
 pub fn spot_of(indexed: &Indexed, event: u32) -> &[u8]
     ensures { result.now ≡ spot_at indexed.now event }
 {
     spot(location_of(indexed, event))
 }
 
-/// The name of the event's thread; nothing if the trace has no such event.
+/// The name of the event's thread; empty if the trace has no such event.
 pub fn thread_of(indexed: &Indexed, event: u32) -> &[u8]
     ensures { result.now ≡ thread_at indexed.now event }
 {
@@ -33,7 +33,7 @@ pub fn thread_of(indexed: &Indexed, event: u32) -> &[u8]
     }
 }
 
-/// What the event's thread does; nothing if the trace has no such event.
+/// The verb for the event, such as `reads`; empty if the trace has no such event.
 pub fn verb_of(indexed: &Indexed, event: u32) -> &'static [u8]
     ensures { result.now ≡ verb_at indexed.now event }
 {
@@ -44,7 +44,8 @@ pub fn verb_of(indexed: &Indexed, event: u32) -> &'static [u8]
     }
 }
 
-/// The name of the variable that the event accesses; nothing if the trace has no such event.
+/// The name of the variable that the event accesses. If it is no access, the name of its lock or thread. Empty if the
+/// trace has no such event.
 pub fn variable_of(indexed: &Indexed, event: u32) -> &[u8]
     ensures { result.now ≡ variable_at indexed.now event }
 {
@@ -55,7 +56,7 @@ pub fn variable_of(indexed: &Indexed, event: u32) -> &[u8]
     }
 }
 
-/// What a thread does at the operation.
+/// The verb for the operation.
 fn verb(op: Op) -> &'static [u8]
     ensures { result.now ≡ verb op }
 {
@@ -69,7 +70,7 @@ fn verb(op: Op) -> &'static [u8]
     }
 }
 
-/// The name of what the operation is done to.
+/// The name of the variable, lock or thread of an operation.
 fn name_of(trace: &RawTrace, op: Op) -> &[u8]
     requires { IsNamedOp trace.now op }
     ensures { result.now ≡ op_name trace.now op }

@@ -1,4 +1,4 @@
-//! The lines of a pair.
+//! The lines of one verdict.
 ghost use Rattle.std.specs.Prelude.{◌≡◌, ◌<◌, ◌++◌, OnOk, length};
 ghost use Rattle.rapid_text.specs.Canonical.{name_at};
 ghost use Rattle.race_triage.specs.Texts.{held_locks};
@@ -15,7 +15,7 @@ use race_triage::{Outcome, Verdict};
 use rapid_text::OutOfMemory;
 use report::{Piece, append_pieces};
 
-/// Appends the lines of a pair, its later access first.
+/// Appends the lines of a verdict, those of its later access first.
 pub(crate) fn append_verdict(
     out: &mut Vec<u8>,
     analysis: &Analysis<'_>,
@@ -31,7 +31,7 @@ pub(crate) fn append_verdict(
     Ok(())
 }
 
-/// The kind of a line, and what it says.
+/// The kind of the first line, and what was found.
 fn outcome_words(outcome: Outcome) -> &'static [u8]
     ensures { result.now ≡ outcome_words outcome }
 {
@@ -46,7 +46,8 @@ fn outcome_words(outcome: Outcome) -> &'static [u8]
     }
 }
 
-/// The name of the rule, at the end of a first line. With it no line ends in a place, which Emacs would take for the line's own.
+/// The name of the rule, at the end of the first line. Without it the line would end in a place, which Emacs would read
+/// as the line's own place.
 fn rule_words(outcome: Outcome) -> &'static [u8]
     ensures { result.now ≡ rule_words outcome }
 {
@@ -61,7 +62,7 @@ fn rule_words(outcome: Outcome) -> &'static [u8]
     }
 }
 
-/// Appends the first line of a pair.
+/// Appends the first line of a verdict.
 fn append_head(out: &mut Vec<u8>, indexed: &Indexed, verdict: &Verdict) -> Result<(), OutOfMemory>
     ensures { OnOk result (out.new.items ≡ out.old.items ++ head_line indexed.now verdict.now) }
 {
@@ -70,7 +71,7 @@ fn append_head(out: &mut Vec<u8>, indexed: &Indexed, verdict: &Verdict) -> Resul
     Ok(())
 }
 
-/// Appends what the first line of a pair says of its later access.
+/// Appends the part of the first line on the later access.
 fn append_later(out: &mut Vec<u8>, indexed: &Indexed, verdict: &Verdict) -> Result<(), OutOfMemory>
     ensures { OnOk result (out.new.items ≡ out.old.items ++ later_words indexed.now verdict.now) }
 {
@@ -91,7 +92,7 @@ fn append_later(out: &mut Vec<u8>, indexed: &Indexed, verdict: &Verdict) -> Resu
     )
 }
 
-/// Appends what it says of its earlier access.
+/// Appends the part of the first line on the earlier access, and ends the line.
 fn append_earlier(
     out: &mut Vec<u8>,
     indexed: &Indexed,
@@ -131,7 +132,7 @@ fn append_access(out: &mut Vec<u8>, analysis: &Analysis<'_>, event: u32) -> Resu
     Ok(())
 }
 
-/// Appends the line of an access.
+/// Appends the line `event` of an access.
 fn append_about(out: &mut Vec<u8>, indexed: &Indexed, event: u32) -> Result<(), OutOfMemory>
     ensures { OnOk result (out.new.items ≡ out.old.items ++ about_line indexed.now event) }
 {
@@ -152,7 +153,7 @@ fn append_about(out: &mut Vec<u8>, indexed: &Indexed, event: u32) -> Result<(), 
     )
 }
 
-/// Appends a line for each lock that the event's thread holds before it.
+/// Appends a line for each lock that the thread holds before the event.
 fn append_held(
     out: &mut Vec<u8>,
     analysis: &Analysis<'_>,
@@ -202,7 +203,7 @@ fn append_lock<'a>(
     )
 }
 
-/// The name of a lock; nothing if the trace has no such lock.
+/// The name of a lock; empty if the trace has no such lock.
 fn lock_name(indexed: &Indexed, lock: u32) -> &[u8]
     ensures { result.now ≡ name_at indexed.now.locks lock }
 {
@@ -214,7 +215,7 @@ fn lock_name(indexed: &Indexed, lock: u32) -> &[u8]
     }
 }
 
-/// Appends the last line of a pair.
+/// Appends the last line of a verdict, with the reason.
 fn append_reason(out: &mut Vec<u8>, indexed: &Indexed, verdict: &Verdict) -> Result<(), OutOfMemory>
     ensures { OnOk result (out.new.items ≡ out.old.items ++ reason_line indexed.now verdict.now) }
 {
@@ -230,7 +231,7 @@ fn append_reason(out: &mut Vec<u8>, indexed: &Indexed, verdict: &Verdict) -> Res
     Ok(())
 }
 
-/// Appends how to see it.
+/// Appends the command that explains the pair, and ends the line.
 fn append_how(out: &mut Vec<u8>, verdict: &Verdict) -> Result<(), OutOfMemory>
     ensures { OnOk result (out.new.items ≡ out.old.items ++ how_words verdict.now) }
 {
@@ -246,7 +247,7 @@ fn append_how(out: &mut Vec<u8>, verdict: &Verdict) -> Result<(), OutOfMemory>
     )
 }
 
-/// Appends why it is said.
+/// Appends the reason for the outcome.
 fn append_why(out: &mut Vec<u8>, outcome: Outcome) -> Result<(), OutOfMemory>
     ensures { OnOk result (out.new.items ≡ out.old.items ++ reason_words outcome) }
 {

@@ -1,4 +1,4 @@
-//! The lines of the calls round an access.
+//! The lines of the calls that led to an access.
 ghost use Rattle.std.specs.Prelude.{◌≡◌, ◌++◌, OnOk, option_map};
 ghost use Rattle.explain_report.specs.places.Places.{behind_arrow, calls_in};
 ghost use Rattle.explain_report.specs.declared.places.arrows.TheConstants.{MAX_CALLS as MOST};
@@ -8,7 +8,7 @@ use explain_report::places::{MAX_CALLS, call_of, cut_at_arrow};
 use rapid_text::OutOfMemory;
 use report::{Piece, append_pieces};
 
-/// Appends a line for each call of the location, of an access at this place.
+/// Appends a line for each call of the location, 64 at most. `place` is that of the access.
 pub(crate) fn append_calls(
     out: &mut Vec<u8>,
     place: &[u8],
@@ -30,7 +30,7 @@ pub(crate) fn append_calls(
     Ok(())
 }
 
-/// Appends the line of a call, of an access at this place.
+/// Appends the line of a call. `place` is that of the access.
 fn append_call<'a>(out: &mut Vec<u8>, place: &'a [u8], call: &'a [u8]) -> Result<(), OutOfMemory>
     ensures { OnOk result (out.new.items ≡ out.old.items ++ call_line place.now call.now) }
 {
@@ -38,7 +38,7 @@ fn append_call<'a>(out: &mut Vec<u8>, place: &'a [u8], call: &'a [u8]) -> Result
     append_said(out, place_or(place, call.place), call.function)
 }
 
-/// Appends the line of a call of this function, from this place.
+/// Appends the line of a call of this function, at this place.
 fn append_said<'a>(
     out: &mut Vec<u8>,
     place: &'a [u8],
@@ -67,7 +67,7 @@ fn append_said<'a>(
     }
 }
 
-/// The place of a call, or else that of the access.
+/// The call's own place, or `place` if it has none.
 fn place_or<'a>(place: &'a [u8], own: &'a [u8]) -> &'a [u8]
     ensures { result.now ≡ place_or place.now own.now }
 {

@@ -1,4 +1,4 @@
-//! The lines of all pairs.
+//! The lines of all verdicts.
 ghost use Rattle.std.specs.Prelude.{◌≡◌, ◌++◌, List, ℕ, OnOk, OnErr};
 ghost use Rattle.triage_report.specs.lines.Lines.{all_lines, IsLinesText};
 
@@ -7,14 +7,15 @@ use must_order::Analysis;
 use race_triage::{Chosen, Verdict};
 use rapid_text::OutOfMemory;
 
-/// Appends the lines of the chosen verdicts, in their order: of each one line `FILE:LINE: KIND: TEXT` at its later access, and notes in the same
-/// form. If memory is refused `out` stays as it was.
+/// Appends the lines of the chosen verdicts, in order (docs/FORMATS.md, "Lines for editors"). Each has a line
+/// `FILE:LINE: KIND: TEXT` at its later access, and then notes in the same form. If memory runs out, `out` stays as it
+/// was.
 pub fn triage_lines(
     analysis: &Analysis<'_>,
     chosen: &Chosen,
     out: &mut Vec<u8>,
 ) -> Result<(), OutOfMemory>
-    // The text is the one that belongs to the trace and the chosen verdicts.
+    // The text is determined by the trace and the chosen verdicts.
     ensures ok { OnOk result ((text : List ℕ) × IsLinesText analysis.now chosen.now text × (out.new.items ≡ out.old.items ++ text)) }
     ensures err { OnErr result (out.new.items ≡ out.old.items) }
 {

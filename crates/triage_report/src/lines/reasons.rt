@@ -1,18 +1,19 @@
-//! Why a pair is a race, undecided, or apart.
+//! Why a pair is a race, undecided, or apart, in words.
 ghost use Rattle.std.specs.Prelude.{◌≡◌, ◌++◌, OnErr, OnOk};
 ghost use Rattle.triage_report.specs.lines.Reasons.{apart_words, plural_end, race_words, undecided_words};
 
 use rapid_text::OutOfMemory;
 use report::{Piece, append_pieces};
 
-/// The end of the word for so many things.
+/// The plural end of the word after this number: empty after 1, else `s`.
 pub fn plural_end(count: u64) -> &'static [u8]
     ensures { result.now ≡ plural_end count }
 {
     if count == 1 { b"" } else { b"s" }
 }
 
-/// Appends that a schedule of so many events, of so many threads, shows a race.
+/// Appends that a schedule of `events` events of `threads` threads shows the race. If memory runs out, `out` stays as
+/// it was.
 pub fn append_race(out: &mut Vec<u8>, events: u64, threads: u64) -> Result<(), OutOfMemory>
     ensures ok { OnOk result (out.new.items ≡ out.old.items ++ race_words events threads) }
     ensures err { OnErr result (out.new.items ≡ out.old.items) }
@@ -33,7 +34,7 @@ pub fn append_race(out: &mut Vec<u8>, events: u64, threads: u64) -> Result<(), O
     )
 }
 
-/// Appends that no schedule was found for so many pairs of events.
+/// Appends that no schedule was found for `tried` pairs of events. If memory runs out, `out` stays as it was.
 pub fn append_undecided(out: &mut Vec<u8>, tried: u64) -> Result<(), OutOfMemory>
     ensures ok { OnOk result (out.new.items ≡ out.old.items ++ undecided_words tried) }
     ensures err { OnErr result (out.new.items ≡ out.old.items) }
@@ -50,7 +51,7 @@ pub fn append_undecided(out: &mut Vec<u8>, tried: u64) -> Result<(), OutOfMemory
     )
 }
 
-/// Appends that every correct reordering keeps a pair apart.
+/// Appends that every correct reordering keeps the pair apart. If memory runs out, `out` stays as it was.
 pub fn append_apart(out: &mut Vec<u8>) -> Result<(), OutOfMemory>
     ensures ok { OnOk result (out.new.items ≡ out.old.items ++ apart_words) }
     ensures err { OnErr result (out.new.items ≡ out.old.items) }

@@ -11,7 +11,7 @@ use rapid_text::OutOfMemory;
 use serde_json::{Map, Value, put};
 use std::alloc::Global;
 
-/// The folder of the code under its name, if one is named.
+/// The object that gives the folder of the code a name; without members if no folder is named.
 pub(crate) fn base_of(alloc: Global, root: &[u8]) -> Result<Value, OutOfMemory>
     ensures { IfOk result (λ made. view made ≡ base_object root.now) }
 {
@@ -22,7 +22,7 @@ pub(crate) fn base_of(alloc: Global, root: &[u8]) -> Result<Value, OutOfMemory>
     }
 }
 
-/// Puts its member.
+/// Puts the folder of the code, if one is named.
 fn put_base(members: &mut Map<String, Value>, alloc: Global, root: &[u8]) -> Result<(), OutOfMemory>
     requires { members.old.entries ≡ [] }
     ensures { OnOk result (object (members_view members.new.entries) ≡ base_object root.now) }
@@ -35,7 +35,7 @@ fn put_base(members: &mut Map<String, Value>, alloc: Global, root: &[u8]) -> Res
     Ok(())
 }
 
-/// The folder of the code: its URI if the path is an absolute one, else what it is.
+/// The folder of the code: its URI if the path is absolute, else a description.
 fn root_of(alloc: Global, root: &[u8]) -> Result<Value, OutOfMemory>
     ensures { IfOk result (λ made. view made ≡ root_object root.now) }
 {
@@ -46,7 +46,7 @@ fn root_of(alloc: Global, root: &[u8]) -> Result<Value, OutOfMemory>
     }
 }
 
-/// Puts its member.
+/// Puts the URI of the folder, or its description.
 fn put_root(members: &mut Map<String, Value>, alloc: Global, root: &[u8]) -> Result<(), OutOfMemory>
     requires { members.old.entries ≡ [] }
     ensures { OnOk result (object (members_view members.new.entries) ≡ root_object root.now) }
@@ -69,7 +69,7 @@ fn put_uri(members: &mut Map<String, Value>, alloc: Global, path: &[u8]) -> Resu
     Ok(())
 }
 
-/// Puts what the folder is.
+/// Puts the description of the folder.
 fn put_about(members: &mut Map<String, Value>, alloc: Global) -> Result<(), OutOfMemory>
     requires { members.old.entries ≡ [] }
     ensures { OnOk result (object (members_view members.new.entries) ≡ about_object) }
@@ -79,7 +79,7 @@ fn put_about(members: &mut Map<String, Value>, alloc: Global) -> Result<(), OutO
     Ok(())
 }
 
-/// How many verdicts were left out, as known or by a filter.
+/// The object that says how many verdicts were left out, as known races or by a filter.
 pub(crate) fn left_of(
     alloc: Global,
     known: Option<u64>,
@@ -94,7 +94,7 @@ pub(crate) fn left_of(
     }
 }
 
-/// Puts its members.
+/// Puts these two numbers.
 fn put_left(
     members: &mut Map<String, Value>,
     alloc: Global,

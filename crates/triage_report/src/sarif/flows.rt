@@ -1,4 +1,4 @@
-//! A schedule as a code flow: its steps by threads, each with its place in the schedule.
+//! A schedule as a code flow: the steps of each thread, each with its place in the schedule.
 ghost use Rattle.std.specs.Prelude.{◌≡◌, ◌++◌, ◌∷◌, [], codes, IfOk, OnOk, length, map};
 ghost use Rattle.serde_json.specs.Data.{Data, object, put as with_member};
 ghost use Rattle.serde_json.specs.View.{members_view, view};
@@ -13,13 +13,14 @@ use report::{Piece, append_pieces};
 use serde_json::{Map, Value, put};
 use std::alloc::Global;
 
-/// The largest number that the place of a step is told by.
+/// The largest place of a step, counted from 0, that has its own number in a code flow. Later steps get this number.
 pub const MOST_ORDER: u64 = 4_294_967_295;
 
-/// The most steps of a thread; of more the last ones are told.
+/// The most steps of one thread in a code flow. If the thread has more, the last ones are there.
 pub const MOST_STEPS: usize = 200;
 
-/// The steps of a schedule of this trace, whose code is in the folder `root`.
+/// The steps of a code flow: a schedule of this trace, and then the two accesses of the pair that it shows. `root` is
+/// the folder of the code.
 #[derive(Clone, Copy)]
 pub(crate) struct Flow<'a> {
     pub(crate) indexed: &'a Indexed,
@@ -39,7 +40,7 @@ pub(crate) fn flow_of(alloc: Global, flow: Flow<'_>) -> Result<Value, OutOfMemor
     }
 }
 
-/// A flow for each thread that has a step.
+/// The list of thread flows, one for each thread that has a step.
 fn threads_of(alloc: Global, flow: Flow<'_>) -> Result<Value, OutOfMemory>
     ensures { IfOk result (λ made. view made ≡ thread_flows flow.entry.indexed.now flow.entry.root.now flow.entry.steps.now) }
 {
@@ -63,7 +64,7 @@ fn push_flow(
     push_told(flows, alloc, flow, places.as_slice(), thread)
 }
 
-/// The same, by the places of its steps in the schedule.
+/// Adds the flow of a thread whose steps are at these places, if there are any.
 fn push_told(
     flows: &mut Vec<Value>,
     alloc: Global,
@@ -81,7 +82,7 @@ fn push_told(
     Ok(())
 }
 
-/// The places in the schedule of a thread's steps, rising.
+/// The places of a thread's steps in the schedule, rising.
 fn places_of(
     alloc: Global,
     indexed: &Indexed,
@@ -99,7 +100,7 @@ fn places_of(
     Ok(places)
 }
 
-/// Whether the step at this place is the thread's.
+/// Whether the step at this place belongs to the thread.
 fn is_step(indexed: &Indexed, steps: &[u32], thread: u32, at: usize) -> bool
     ensures { result ≡ is_step indexed.now steps.now thread at }
 {
@@ -119,7 +120,7 @@ fn step_at(steps: &[u32], at: usize) -> u32
     }
 }
 
-/// The flow of a thread with steps at these places.
+/// The flow of a thread whose steps are at these places.
 fn thread_flow_of(
     alloc: Global,
     flow: Flow<'_>,
@@ -135,7 +136,7 @@ fn thread_flow_of(
     }
 }
 
-/// Puts its members.
+/// Puts the members of a thread flow.
 fn put_flow(
     members: &mut Map<String, Value>,
     alloc: Global,
@@ -153,7 +154,7 @@ fn put_flow(
     put_count(members, alloc, places.len() as u64)
 }
 
-/// Puts how many steps there are, and whether all are told.
+/// Puts how many steps there are, and whether all are listed.
 fn put_count(members: &mut Map<String, Value>, alloc: Global, count: u64) -> Result<(), OutOfMemory>
     ensures { OnOk result (members_view members.new.entries ≡ count_members count (members_view members.old.entries)) }
 {
@@ -162,7 +163,7 @@ fn put_count(members: &mut Map<String, Value>, alloc: Global, count: u64) -> Res
     put_message(members, alloc, words.as_slice())
 }
 
-/// Appends how many steps there are, and whether all are told.
+/// Appends how many steps there are, and whether all are listed.
 fn append_count(out: &mut Vec<u8>, count: u64) -> Result<(), OutOfMemory>
     ensures { OnOk result (out.new.items ≡ out.old.items ++ count_words count) }
 {
@@ -181,7 +182,7 @@ fn append_count(out: &mut Vec<u8>, count: u64) -> Result<(), OutOfMemory>
     }
 }
 
-/// The name of a thread; nothing if the trace has no such thread.
+/// The name of a thread; empty if the trace has no such thread.
 fn thread_name(indexed: &Indexed, thread: u32) -> &[u8]
     ensures { result.now ≡ thread_name indexed.now thread }
 {
@@ -192,7 +193,7 @@ fn thread_name(indexed: &Indexed, thread: u32) -> &[u8]
     }
 }
 
-/// The steps at these places.
+/// The list of the steps at these places.
 fn steps_at(alloc: Global, flow: Flow<'_>, places: &[usize]) -> Result<Value, OutOfMemory>
     ensures { IfOk result (λ made. view made ≡ steps_at flow.entry.indexed.now flow.entry.root.now flow.entry.steps.now places.now) }
 {
@@ -217,7 +218,7 @@ fn push_step(
     Ok(())
 }
 
-/// The step at this place.
+/// The step at this place, as an object.
 fn step_of(alloc: Global, flow: Flow<'_>, at: usize) -> Result<Value, OutOfMemory>
     ensures { IfOk result (λ made. view made ≡ step flow.entry.indexed.now flow.entry.root.now flow.entry.steps.now at) }
 {
@@ -228,7 +229,7 @@ fn step_of(alloc: Global, flow: Flow<'_>, at: usize) -> Result<Value, OutOfMemor
     }
 }
 
-/// Puts its members.
+/// Puts the members of a step.
 fn put_step(
     members: &mut Map<String, Value>,
     alloc: Global,
@@ -250,14 +251,14 @@ fn put_step(
     Ok(())
 }
 
-/// The place, the first being 1.
+/// The execution order of the step at this place: 1 for the first.
 fn order_of(at: usize) -> u64
     ensures { result ≡ order_of at }
 {
     (at as u64).min(MOST_ORDER) + 1
 }
 
-/// How much the step at this place matters: the last two are the accesses of the pair.
+/// How important the step at this place is. The last two are the accesses of the pair.
 fn importance(len: usize, at: usize) -> &'static str
     ensures { result.now ≡ importance len at }
 {

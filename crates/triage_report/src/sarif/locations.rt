@@ -1,4 +1,4 @@
-//! Locations as objects.
+//! Locations as objects of SARIF.
 ghost use Rattle.std.specs.Prelude.{◌≡◌, [], codes, IfOk, OnOk};
 ghost use Rattle.serde_json.specs.Data.{Data, object, put as with_member};
 ghost use Rattle.serde_json.specs.View.{members_view, view};
@@ -11,18 +11,18 @@ use rapid_text::OutOfMemory;
 use serde_json::{Map, Value, put};
 use std::alloc::Global;
 
-/// Where something is, and what is said of it.
+/// A place in the code, with a message.
 #[derive(Clone, Copy)]
 pub(crate) struct Spot<'a> {
-    /// The place; nothing if it is not known.
+    /// The place; empty if it is not known.
     pub place: &'a [u8],
-    /// The function; nothing if it is not known.
+    /// The function; empty if it is not known.
     pub function: &'a [u8],
-    /// What is said.
+    /// The message.
     pub words: &'a [u8],
 }
 
-/// A list of one value.
+/// A list with one value.
 pub(crate) fn single_of(alloc: Global, value: Value) -> Result<Value, OutOfMemory>
     ensures { IfOk result (λ list. view list ≡ single (view value)) }
 {
@@ -33,7 +33,7 @@ pub(crate) fn single_of(alloc: Global, value: Value) -> Result<Value, OutOfMemor
     }
 }
 
-/// Puts a list of one value.
+/// Puts a list with one value.
 pub(crate) fn put_single(
     members: &mut Map<String, Value>,
     alloc: Global,
@@ -47,7 +47,7 @@ pub(crate) fn put_single(
     Ok(())
 }
 
-/// A location.
+/// The object of a location.
 pub(crate) fn location_of(alloc: Global, root: &[u8], spot: Spot<'_>) -> Result<Value, OutOfMemory>
     ensures { IfOk result (λ made. view made ≡ location root.now spot.entry.place.now spot.entry.function.now spot.entry.words.now) }
 {
@@ -74,7 +74,7 @@ fn put_location(
     put_physical(members, alloc, root, spot.place)
 }
 
-/// Puts what is said.
+/// Puts a message.
 pub(crate) fn put_message(
     members: &mut Map<String, Value>,
     alloc: Global,
@@ -87,7 +87,7 @@ pub(crate) fn put_message(
     Ok(())
 }
 
-/// What is said.
+/// The object of a message.
 pub(crate) fn message_of(alloc: Global, words: &[u8]) -> Result<Value, OutOfMemory>
     ensures { IfOk result (λ made. view made ≡ message words.now) }
 {
@@ -98,7 +98,7 @@ pub(crate) fn message_of(alloc: Global, words: &[u8]) -> Result<Value, OutOfMemo
     }
 }
 
-/// Puts the function, if it is known.
+/// Puts the function as a logical location, if it is known.
 fn put_function(
     members: &mut Map<String, Value>,
     alloc: Global,
@@ -113,7 +113,7 @@ fn put_function(
     put_single(members, alloc, "logicalLocations", value)
 }
 
-/// A function as a location.
+/// A function as a logical location.
 fn logical_of(alloc: Global, function: &[u8]) -> Result<Value, OutOfMemory>
     ensures { IfOk result (λ made. view made ≡ logical function.now) }
 {
@@ -124,7 +124,7 @@ fn logical_of(alloc: Global, function: &[u8]) -> Result<Value, OutOfMemory>
     }
 }
 
-/// Puts its members.
+/// Puts the members of a logical location.
 fn put_logical(
     members: &mut Map<String, Value>,
     alloc: Global,
@@ -138,7 +138,7 @@ fn put_logical(
     Ok(())
 }
 
-/// Puts the file and the line of a place, if it has a file.
+/// Puts the file and the line of a place, if the place is `FILE:LINE`.
 fn put_physical(
     members: &mut Map<String, Value>,
     alloc: Global,
@@ -155,7 +155,7 @@ fn put_physical(
     Ok(())
 }
 
-/// The file and the line of a place.
+/// The file and the line of a place, as a physical location.
 fn physical_of(alloc: Global, root: &[u8], place: &[u8]) -> Result<Value, OutOfMemory>
     ensures { IfOk result (λ made. view made ≡ physical root.now place.now) }
 {
@@ -166,7 +166,7 @@ fn physical_of(alloc: Global, root: &[u8], place: &[u8]) -> Result<Value, OutOfM
     }
 }
 
-/// Puts its members.
+/// Puts the members of a physical location.
 fn put_parts(
     members: &mut Map<String, Value>,
     alloc: Global,
@@ -181,7 +181,7 @@ fn put_parts(
     put_region(members, alloc, line_of(place))
 }
 
-/// Puts the line, if it is one.
+/// Puts the line, if it is 1 to `MOST_LINE`.
 fn put_region(members: &mut Map<String, Value>, alloc: Global, line: u64) -> Result<(), OutOfMemory>
     ensures { OnOk result (members_view members.new.entries ≡ region_members line (members_view members.old.entries)) }
 {
@@ -193,7 +193,7 @@ fn put_region(members: &mut Map<String, Value>, alloc: Global, line: u64) -> Res
     Ok(())
 }
 
-/// A line.
+/// The region that begins at this line.
 fn region_of(alloc: Global, line: u64) -> Result<Value, OutOfMemory>
     ensures { IfOk result (λ made. view made ≡ region line) }
 {
@@ -204,7 +204,7 @@ fn region_of(alloc: Global, line: u64) -> Result<Value, OutOfMemory>
     }
 }
 
-/// A file.
+/// The object of a file.
 fn artifact_of(alloc: Global, root: &[u8], path: &[u8]) -> Result<Value, OutOfMemory>
     ensures { IfOk result (λ made. view made ≡ artifact root.now path.now) }
 {
@@ -215,7 +215,7 @@ fn artifact_of(alloc: Global, root: &[u8], path: &[u8]) -> Result<Value, OutOfMe
     }
 }
 
-/// Puts its members.
+/// Puts the members of a file.
 fn put_artifact(
     members: &mut Map<String, Value>,
     alloc: Global,
@@ -231,7 +231,7 @@ fn put_artifact(
     put_base(members, alloc, root, path)
 }
 
-/// Puts the name of the folder, if there is one and the path is within it.
+/// Puts the name of the folder of the code, if a folder is named and the path is relative.
 fn put_base(
     members: &mut Map<String, Value>,
     alloc: Global,

@@ -16,14 +16,14 @@ use race_triage::{Chosen, Verdict};
 use rapid_text::OutOfMemory;
 use serde_json::Value;
 
-/// The most races with a code flow; they are the first ones.
+/// The most results that may have a code flow. They are the first ones.
 pub const MOST_FLOWS: usize = 200;
 
-/// What comes before the results.
+/// The bytes before the results.
 pub const HEAD: &[u8] =
     b"{\"$schema\":\"https://json.schemastore.org/sarif-2.1.0.json\",\"version\":\"2.1.0\",\"runs\":[{\"results\":[";
 
-/// What comes after the results: the tool, its rules, and what comes before the folder of the code.
+/// The bytes after the results: the tool, its rules, and what comes before the folder of the code.
 pub const TAIL: &[u8] = b"],\"tool\":{\"driver\":{\"name\":\"racebench\",\"rules\":[\
 {\"id\":\"data-race\",\"name\":\"DataRace\",\
 \"shortDescription\":{\"text\":\"Two threads access the same memory at the same time, and one of them writes.\"},\
@@ -36,21 +36,22 @@ them atomic, or order them.\"},\"defaultConfiguration\":{\"level\":\"error\"}},\
 \"shortDescription\":{\"text\":\"Two accesses that every correct reordering of the recorded run keeps apart.\"},\
 \"defaultConfiguration\":{\"level\":\"none\"}}]}},\"originalUriBaseIds\":";
 
-/// What comes before how many verdicts were left out.
+/// The bytes before the numbers of verdicts that were left out.
 pub const PROPERTIES: &[u8] = b",\"properties\":";
 
-/// What comes at the end.
+/// The bytes at the end.
 pub const END: &[u8] = b"}]}\n";
 
-/// Appends what was found as SARIF 2.1.0: a result for each of the chosen verdicts, in their order. A race has a schedule as a code flow, if it is
-/// one of the first `MOST_FLOWS` verdicts. If memory is refused `out` stays as it was.
+/// Appends the report as a log of SARIF 2.1.0 (docs/FORMATS.md, "SARIF"): a result for each chosen verdict, in order. A
+/// race among the first `MOST_FLOWS` verdicts has its schedule as a code flow. If memory runs out, `out` stays as it
+/// was.
 pub fn triage_sarif(
     analysis: &Analysis<'_>,
     chosen: &Chosen,
     sources: Sources<'_>,
     out: &mut Vec<u8>,
 ) -> Result<(), OutOfMemory>
-    // The text is the one that belongs to the trace, the chosen verdicts and the code.
+    // The text is determined by the trace, the chosen verdicts and the code.
     ensures ok { OnOk result ((text : List ℕ) × IsSarif analysis.now sources.entry chosen.now text × (out.new.items ≡ out.old.items ++ text)) }
     ensures err { OnErr result (out.new.items ≡ out.old.items) }
 {
@@ -107,7 +108,7 @@ fn append_results(
     Ok(())
 }
 
-/// Appends the result of a verdict after so many others.
+/// Appends the result of a verdict; `at` is how many results come before it.
 fn append_result(
     out: &mut Vec<u8>,
     analysis: &Analysis<'_>,
@@ -124,7 +125,8 @@ fn append_result(
     Ok(())
 }
 
-/// Appends the result of a verdict, which these steps show if there are any.
+/// Appends the result of a verdict. If there are steps, they are its code flow: the schedule that shows it, and its two
+/// accesses.
 fn append_shown(
     out: &mut Vec<u8>,
     indexed: &Indexed,
@@ -140,7 +142,7 @@ fn append_shown(
     append_item(out, is_later, &object)
 }
 
-/// Appends a value that has no fraction in it, after a comma if it is a later one.
+/// Appends a value, after a comma if another comes before it. The value must have no fraction in it.
 pub(crate) fn append_item(
     out: &mut Vec<u8>,
     is_later: bool,
@@ -155,7 +157,7 @@ pub(crate) fn append_item(
     append_value(out, object)
 }
 
-/// Appends a value that has no fraction in it.
+/// Appends a value. It must have no fraction in it.
 fn append_value(out: &mut Vec<u8>, object: &Value) -> Result<(), OutOfMemory>
     requires { has_float (view object.now) ≡ false }
     ensures { OnOk result (out.new.items ≡ out.old.items ++ compact_text (view object.now)) }

@@ -1,4 +1,5 @@
-//! A merged report as a log: a result for each pair of places. Its parts have no schedules, so no result has a code flow.
+//! A merged report as a log: a result for each pair of locations. Its parts have no schedules, so no result has a code
+//! flow.
 ghost use Rattle.std.specs.Prelude.{◌≡◌, ◌++◌, [], IfOk, OnErr, OnOk, Some};
 ghost use Rattle.serde_json.specs.Data.{object};
 ghost use Rattle.serde_json.specs.View.{members_view, view};
@@ -20,8 +21,9 @@ use report::{Piece, append_pieces};
 use serde_json::{Map, Value};
 use std::alloc::Global;
 
-/// Appends a merged report of so many parts as SARIF 2.1.0: a result for each of the pairs of places, in their order. The properties of the run
-/// count the known races that were left out, and what filters left out, if there are such numbers. If memory is refused `out` stays as it was.
+/// Appends a merged report of `parts` parts as a log of SARIF 2.1.0: a result for each of the pairs of locations, in
+/// order. If there are numbers, the properties of the run say how many known races were left out, and how many pairs
+/// filters left out. If memory runs out, `out` stays as it was.
 pub fn merged_sarif(
     parts: usize,
     pairs: &[Pair<'_>],
@@ -71,7 +73,7 @@ fn append_objects(
     Ok(())
 }
 
-/// Appends the result of a pair of places, after a comma if it is a later one.
+/// Appends the result of a pair of locations, after a comma if another comes before it.
 fn append_object(
     out: &mut Vec<u8>,
     parts: usize,
@@ -85,7 +87,7 @@ fn append_object(
     append_item(out, is_later, &object)
 }
 
-/// The result of a pair of places.
+/// The result of a pair of locations.
 fn object_of(
     alloc: Global,
     parts: usize,
@@ -98,7 +100,7 @@ fn object_of(
     object_in(alloc, parts, pair, &row, sources)
 }
 
-/// The same, of this row.
+/// The result of a pair of locations whose row is this.
 fn object_in(
     alloc: Global,
     parts: usize,
@@ -115,7 +117,7 @@ fn object_in(
     }
 }
 
-/// Puts its members.
+/// Puts the members of a result.
 fn put_row(
     members: &mut Map<String, Value>,
     alloc: Global,
@@ -138,7 +140,7 @@ fn put_row(
     put_found(members, alloc, sources, found)
 }
 
-/// The access at this place of a row.
+/// The first or second access of a row; its texts are empty if the row lacks it.
 fn access_of(row: &Value, place: usize) -> Access<'_>
     ensures { access_told result ≡ told_in place (view row.now) }
 {
@@ -153,7 +155,7 @@ fn access_of(row: &Value, place: usize) -> Access<'_>
     }
 }
 
-/// What an access of a row says.
+/// What a result says of this access of a row.
 fn told_by(access: &Value) -> Access<'_>
     ensures { access_told result ≡ told_by (Some (view access.now)) }
 {
@@ -165,7 +167,7 @@ fn told_by(access: &Value) -> Access<'_>
     }
 }
 
-/// What a thread does at an operation; another word as it is.
+/// The verb for an operation: `reads` for `r`, `writes` for `w`, and any other word unchanged.
 fn verb_of(word: &[u8]) -> &[u8]
     ensures { result.now ≡ verb_of word.now }
 {
@@ -178,7 +180,7 @@ fn verb_of(word: &[u8]) -> &[u8]
     }
 }
 
-/// Appends what is said of a pair of places.
+/// Appends the message of a pair of locations.
 fn append_words(
     out: &mut Vec<u8>,
     parts: usize,
@@ -206,7 +208,7 @@ fn append_pair(out: &mut Vec<u8>, rank: u8, row: &Value) -> Result<(), OutOfMemo
     Ok(())
 }
 
-/// Appends why a row of this rank says it.
+/// Appends the reason for the rank of this row.
 fn append_reason(out: &mut Vec<u8>, rank: u8, row: &Value) -> Result<(), OutOfMemory>
     ensures { OnOk result (out.new.items ≡ out.old.items ++ row_words rank (view row.now)) }
 {
@@ -217,7 +219,7 @@ fn append_reason(out: &mut Vec<u8>, rank: u8, row: &Value) -> Result<(), OutOfMe
     }
 }
 
-/// Appends in how many of the parts the two places are what.
+/// Appends in how many of the parts the pair is a race, undecided, and apart.
 fn append_tally(out: &mut Vec<u8>, parts: usize, pair: Pair<'_>) -> Result<(), OutOfMemory>
     ensures { OnOk result (out.new.items ≡ out.old.items ++ tally_words parts (pair_shown pair.entry)) }
 {
@@ -238,7 +240,7 @@ fn append_tally(out: &mut Vec<u8>, parts: usize, pair: Pair<'_>) -> Result<(), O
     )
 }
 
-/// What is said before the events and the part of a row of this rank.
+/// The words before the events and the part of a row of this rank.
 fn from_words(rank: u8) -> &'static [u8]
     ensures { result.now ≡ from_words rank }
 {
@@ -248,7 +250,7 @@ fn from_words(rank: u8) -> &'static [u8]
     }
 }
 
-/// Appends which part the row is from, and its two events.
+/// Appends the two events of the row, and the part that they are from.
 fn append_origin(out: &mut Vec<u8>, pair: Pair<'_>, row: &Value) -> Result<(), OutOfMemory>
     ensures { OnOk result (out.new.items ≡ out.old.items ++ origin_words (pair_shown pair.entry) (view row.now)) }
 {
@@ -265,7 +267,7 @@ fn append_origin(out: &mut Vec<u8>, pair: Pair<'_>, row: &Value) -> Result<(), O
     )
 }
 
-/// Whether a part with this name is a window.
+/// Whether the name of a part is that of a window.
 fn is_window(name: &[u8]) -> bool
     ensures { result ≡ is_window name.now }
 {
@@ -274,7 +276,7 @@ fn is_window(name: &[u8]) -> bool
     word == b"--window".as_slice()
 }
 
-/// Appends how to print the part, if it is a window.
+/// Appends the command that prints the part, if it is a window.
 fn append_window(out: &mut Vec<u8>, name: &[u8]) -> Result<(), OutOfMemory>
     ensures { OnOk result (out.new.items ≡ out.old.items ++ window_words name.now) }
 {

@@ -5,10 +5,10 @@ ghost use Rattle.triage_report.specs.sarif.Places.{encoded, encoded_byte, file_o
 use explain_report::places::{cut_at_last, is_line};
 use rapid_text::OutOfMemory;
 
-/// The largest number of a line.
+/// The largest line number that is written.
 pub const MOST_LINE: u64 = 1_000_000_000;
 
-/// The file of a place `FILE:LINE`; any other place as it is.
+/// The file of a place `FILE:LINE`; any other place unchanged.
 pub fn file_of(place: &[u8]) -> &[u8]
     ensures { result.now ≡ file_of place.now }
 {
@@ -16,7 +16,8 @@ pub fn file_of(place: &[u8]) -> &[u8]
     if is_line(place) { file } else { place }
 }
 
-/// The line of a place `FILE:LINE`; 0 of any other. A number above `MOST_LINE` may be any such number.
+/// The line of a place `FILE:LINE`, or 0 for any other place. If the line is above `MOST_LINE`, the result may be
+/// another number above it.
 pub fn line_of(place: &[u8]) -> u64
     ensures { result ≡ line_of place.now }
 {
@@ -28,7 +29,7 @@ pub fn line_of(place: &[u8]) -> u64
     }
 }
 
-/// The number that the digits are, if it is `MOST_LINE` or less; else one that is larger than that.
+/// The number with these digits, if it is at most `MOST_LINE`; else a number above that.
 fn line_number(digits: &[u8]) -> u64
     ensures { result ≡ line_number digits.now }
 {
@@ -37,7 +38,7 @@ fn line_number(digits: &[u8]) -> u64
     })
 }
 
-/// What comes after this folder in the path; the path as it is, if it does not begin with the folder.
+/// The path without this folder at its beginning; unchanged if it does not begin with the folder.
 pub fn relative<'a>(root: &[u8], path: &'a [u8]) -> &'a [u8]
     ensures { result.now ≡ relative root.now path.now }
 {
@@ -48,7 +49,7 @@ pub fn relative<'a>(root: &[u8], path: &'a [u8]) -> &'a [u8]
     }
 }
 
-/// Whether the path begins at the root of the file system.
+/// Whether the path is absolute: it begins with a slash.
 pub(crate) fn is_absolute(path: &[u8]) -> bool
     ensures { result ≡ is_absolute path.now }
 {
@@ -65,7 +66,7 @@ pub(crate) fn append_uri(out: &mut Vec<u8>, path: &[u8]) -> Result<(), OutOfMemo
     append_encoded(out, path)
 }
 
-/// Appends the path, encoded.
+/// Appends the path, encoded for a URI.
 fn append_encoded(out: &mut Vec<u8>, path: &[u8]) -> Result<(), OutOfMemory>
     ensures { OnOk result (out.new.items ≡ out.old.items ++ encoded path.now) }
 {
@@ -75,7 +76,7 @@ fn append_encoded(out: &mut Vec<u8>, path: &[u8]) -> Result<(), OutOfMemory>
     Ok(())
 }
 
-/// Appends a byte, encoded.
+/// Appends a byte, encoded for a URI.
 fn append_byte(out: &mut Vec<u8>, byte: u8) -> Result<(), OutOfMemory>
     ensures { OnOk result (out.new.items ≡ out.old.items ++ encoded_byte byte) }
 {
@@ -87,7 +88,7 @@ fn append_byte(out: &mut Vec<u8>, byte: u8) -> Result<(), OutOfMemory>
     Ok(())
 }
 
-/// Whether the byte may be in a path of a URI as it is.
+/// Whether the byte may be in the path of a URI as it is: a letter, a digit, or one of `-./_~`.
 fn is_plain(byte: u8) -> bool
     ensures { result ≡ is_plain byte }
 {
@@ -98,7 +99,7 @@ fn is_plain(byte: u8) -> bool
         || byte == b'~'
 }
 
-/// A digit of a number to base 16.
+/// A digit of a hexadecimal number, in upper case.
 fn hex_digit(value: u8) -> u8
     requires { value < 16 }
     ensures { result ≡ hex_digit value }

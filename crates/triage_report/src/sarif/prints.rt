@@ -1,4 +1,4 @@
-//! What tells a pair from another, although its lines have moved.
+//! Fingerprints: what a pair keeps if its lines move.
 ghost use Rattle.std.specs.Prelude.{◌≡◌, ◌++◌, [], IfOk, OnOk};
 ghost use Rattle.serde_json.specs.Data.{object};
 ghost use Rattle.serde_json.specs.View.{members_view, view};
@@ -17,7 +17,7 @@ use serde_json::{Map, Value};
 use std::alloc::Global;
 use std::cmp::Ordering;
 
-/// The fingerprint of a pair.
+/// The object with the fingerprint of a pair.
 pub(crate) fn print_of(
     alloc: Global,
     sources: Sources<'_>,
@@ -33,7 +33,7 @@ pub(crate) fn print_of(
     }
 }
 
-/// Puts its member.
+/// Puts the fingerprint.
 fn put_print(
     members: &mut Map<String, Value>,
     alloc: Global,
@@ -50,7 +50,7 @@ fn put_print(
     Ok(())
 }
 
-/// Appends the two sides of a pair.
+/// Appends the fingerprint: the sides of the two accesses.
 fn append_print(
     out: &mut Vec<u8>,
     sources: Sources<'_>,
@@ -65,7 +65,7 @@ fn append_print(
     append_beside(out, sources, one.as_slice(), second)
 }
 
-/// Appends this side and that of the access.
+/// Appends this side and the side of this access, the lesser first.
 fn append_beside(
     out: &mut Vec<u8>,
     sources: Sources<'_>,
@@ -100,7 +100,7 @@ fn append_both<'a>(out: &mut Vec<u8>, one: &'a [u8], other: &'a [u8]) -> Result<
     )
 }
 
-/// Appends the file, the function, the variable and the line of an access.
+/// Appends the side of an access: its file, function, variable and line of code.
 fn append_side<'a>(
     out: &mut Vec<u8>,
     sources: Sources<'a>,

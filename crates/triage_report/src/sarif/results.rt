@@ -1,4 +1,4 @@
-//! What was found of pairs as results.
+//! The findings on pairs as results.
 ghost use Rattle.std.specs.Prelude.{◌≡◌, [], IfOk, OnOk, option_map};
 ghost use Rattle.serde_json.specs.Data.{Data, object};
 ghost use Rattle.serde_json.specs.View.{members_view, view};
@@ -21,7 +21,8 @@ use rapid_text::OutOfMemory;
 use serde_json::{Map, Value, put};
 use std::alloc::Global;
 
-/// The result of a verdict, which these steps show if there are any.
+/// The result of a verdict. If there are steps, they are its code flow: the schedule that shows it, and its two
+/// accesses.
 pub(crate) fn result_of(
     alloc: Global,
     indexed: &Indexed,
@@ -38,7 +39,7 @@ pub(crate) fn result_of(
     }
 }
 
-/// Puts its members.
+/// Puts the members of a result.
 fn put_result(
     members: &mut Map<String, Value>,
     alloc: Global,
@@ -63,20 +64,20 @@ fn put_result(
     put_flow(members, alloc, indexed, sources.root, steps)
 }
 
-/// What was found of a pair: its rank, what is said of it, and its two accesses.
+/// A finding on a pair: its rank, its message, and its two accesses.
 #[derive(Clone, Copy)]
 pub struct Found<'a> {
     /// 0 for a race, 1 for what is undecided, 2 for what is apart.
     pub rank: u8,
-    /// What is said.
+    /// The message of the result.
     pub words: &'a [u8],
     /// The earlier access.
     pub first: Access<'a>,
-    /// The later one.
+    /// The later access.
     pub second: Access<'a>,
 }
 
-/// Puts what every result has: the rule, what is said, the accesses and the fingerprint.
+/// Puts what every result has: the rule, the message, the accesses and the fingerprint.
 pub(crate) fn put_found(
     members: &mut Map<String, Value>,
     alloc: Global,
@@ -93,7 +94,7 @@ pub(crate) fn put_found(
     put_print(members, alloc, sources, found.first, found.second)
 }
 
-/// Puts the rule, and how bad it is.
+/// Puts the kind, the level and the rule.
 fn put_words(members: &mut Map<String, Value>, alloc: Global, rank: u8) -> Result<(), OutOfMemory>
     ensures { OnOk result (members_view members.new.entries ≡ word_members rank (members_view members.old.entries)) }
 {

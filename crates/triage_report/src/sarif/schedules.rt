@@ -1,4 +1,4 @@
-//! The schedule of a pair, with its two accesses after it.
+//! The schedule that shows a pair, followed by the two accesses.
 ghost use Rattle.std.specs.Prelude.{◌≡◌, ◌<◌, ◌++◌, ◌∷◌, [], IfOk, length};
 ghost use Rattle.explain_report.specs.findings.Findings.{IsFinding};
 ghost use Rattle.triage_report.specs.sarif.Flows.{is_race, AreSteps, IsFlowOf};
@@ -9,7 +9,7 @@ use race_triage::{Outcome, Verdict};
 use rapid_text::OutOfMemory;
 use std::alloc::Global;
 
-/// The steps that show a verdict, if it is a race that is drawn.
+/// The steps of a code flow for the verdict; None if it is no race or `is_drawn` is false.
 pub(crate) fn steps_of(
     alloc: Global,
     analysis: &Analysis<'_>,
@@ -24,7 +24,7 @@ pub(crate) fn steps_of(
     steps_to(alloc, analysis, verdict.first, verdict.second)
 }
 
-/// Whether it is a race.
+/// Whether the outcome is a race.
 fn is_race(outcome: Outcome) -> bool
     ensures { result ≡ is_race outcome }
 {
@@ -39,7 +39,7 @@ fn is_race(outcome: Outcome) -> bool
     }
 }
 
-/// The steps that show a pair.
+/// The steps that show a pair; None if no schedule is found, or if the trace lacks one of the two events.
 fn steps_to(
     alloc: Global,
     analysis: &Analysis<'_>,
@@ -58,7 +58,7 @@ fn steps_to(
     }
 }
 
-/// The steps of what was found of a pair.
+/// The steps for a finding on a pair; None if it is no race.
 fn steps_in(
     alloc: Global,
     _analysis: &Analysis<'_>,
@@ -80,7 +80,7 @@ fn steps_in(
     }
 }
 
-/// These events, and the two after them.
+/// These events, followed by the two of the pair.
 fn steps_behind(
     alloc: Global,
     events: &[u32],

@@ -16,7 +16,7 @@ use rapid_text::OutOfMemory;
 use serde_json::{Map, Value, put};
 use std::alloc::Global;
 
-/// The function in which a location is; nothing if it does not say that.
+/// The function that a location is in; empty if the location names none.
 pub(crate) fn own_function(location: &[u8]) -> &[u8]
     ensures { result.now ≡ own_function location.now }
 {
@@ -26,7 +26,7 @@ pub(crate) fn own_function(location: &[u8]) -> &[u8]
     }
 }
 
-/// The function of the first call, if it has no place.
+/// The function of the first call, if that call has no place; else empty.
 fn function_in(text: &[u8]) -> &[u8]
     ensures { result.now ≡ function_in text.now }
 {
@@ -39,7 +39,7 @@ fn function_in(text: &[u8]) -> &[u8]
     }
 }
 
-/// The calls of a location that led to its function.
+/// The calls that led to the function of the location.
 fn callers(location: &[u8]) -> Option<&[u8]>
     ensures { option_map (λ t. t.now) result ≡ callers location.now }
 {
@@ -49,7 +49,7 @@ fn callers(location: &[u8]) -> Option<&[u8]>
     }
 }
 
-/// All calls but the first, if that has no place.
+/// All calls except the first if it has no place; else all.
 fn callers_in(text: &[u8]) -> Option<&[u8]>
     ensures { option_map (λ t. t.now) result ≡ callers_in text.now }
 {
@@ -61,7 +61,7 @@ fn callers_in(text: &[u8]) -> Option<&[u8]>
     }
 }
 
-/// The location of the access that is the event, with what is said of it.
+/// The location of the access at this event, with a message.
 pub(crate) fn access_of(
     alloc: Global,
     indexed: &Indexed,
@@ -73,7 +73,7 @@ pub(crate) fn access_of(
     told_of(alloc, root, access_at(indexed, event))
 }
 
-/// The location of an access, with what is said of it.
+/// The location of an access, with a message.
 pub(crate) fn told_of(alloc: Global, root: &[u8], access: Access<'_>) -> Result<Value, OutOfMemory>
     ensures { IfOk result (λ made. view made ≡ told_location root.now (access_told access.entry)) }
 {
@@ -91,7 +91,7 @@ pub(crate) fn told_of(alloc: Global, root: &[u8], access: Access<'_>) -> Result<
     )
 }
 
-/// The stacks of the two accesses.
+/// The list of the stacks of the two accesses.
 pub(crate) fn stacks_of(
     alloc: Global,
     root: &[u8],
@@ -131,7 +131,7 @@ fn stack_of(alloc: Global, root: &[u8], access: Access<'_>) -> Result<Value, Out
     }
 }
 
-/// Puts its members.
+/// Puts the members of a stack.
 fn put_stack(
     members: &mut Map<String, Value>,
     alloc: Global,
@@ -146,7 +146,7 @@ fn put_stack(
     put_said(members, alloc, access)
 }
 
-/// Puts what is said of an access.
+/// Puts the message about an access.
 fn put_said(
     members: &mut Map<String, Value>,
     alloc: Global,
@@ -182,7 +182,7 @@ fn push_own(
     push_frame(list, alloc, location)
 }
 
-/// Adds a frame for each call.
+/// Adds a frame for each call, 64 at most.
 fn push_calls(
     list: &mut Vec<Value>,
     alloc: Global,
@@ -227,7 +227,7 @@ fn push_call(
     push_frame(list, alloc, location)
 }
 
-/// What is said of a call of this function.
+/// The message of a call: its function, or `a call`.
 fn caller_words(function: &[u8]) -> &[u8]
     ensures { result.now ≡ caller_words function.now }
 {

@@ -1,4 +1,4 @@
-//! What is said of an access, and of a pair. A rank is 0 for a race, 1 for what is undecided, 2 for what is apart.
+//! The words for an access, and for a pair. A rank is 0 for a race, 1 for what is undecided, 2 for what is apart.
 ghost use Rattle.std.specs.Prelude.{◌≡◌, ◌++◌, OnOk};
 ghost use Rattle.triage_report.specs.lines.Accesses.{spot};
 ghost use Rattle.triage_report.specs.sarif.Accesses.{access_told};
@@ -11,7 +11,7 @@ use race_triage::{Outcome, Verdict};
 use rapid_text::OutOfMemory;
 use report::{Piece, append_pieces};
 
-/// The rank of what was found.
+/// The rank of an outcome.
 pub(crate) fn outcome_rank(outcome: Outcome) -> u8
     ensures { result ≡ outcome_rank outcome }
 {
@@ -26,7 +26,7 @@ pub(crate) fn outcome_rank(outcome: Outcome) -> u8
     }
 }
 
-/// Whether the rule is broken.
+/// The `kind` of a result: whether the rule is broken.
 pub(crate) fn kind_word(rank: u8) -> &'static str
     ensures { result.now ≡ kind_word rank }
 {
@@ -37,7 +37,7 @@ pub(crate) fn kind_word(rank: u8) -> &'static str
     }
 }
 
-/// How bad that is.
+/// The `level` of a result: how serious it is.
 pub(crate) fn level_word(rank: u8) -> &'static str
     ensures { result.now ≡ level_word rank }
 {
@@ -59,7 +59,7 @@ pub(crate) fn rule_word(rank: u8) -> &'static str
     }
 }
 
-/// The place of the rule among the rules, the first being 0.
+/// The index of the rule among the rules, from 0.
 pub(crate) fn rule_number(rank: u8) -> u64
     ensures { result ≡ rule_number rank }
 {
@@ -88,7 +88,7 @@ pub(crate) fn append_access(out: &mut Vec<u8>, access: Access<'_>) -> Result<(),
     )
 }
 
-/// Appends what is said of a pair.
+/// Appends the message on a verdict.
 pub(crate) fn append_message(
     out: &mut Vec<u8>,
     indexed: &Indexed,
@@ -139,7 +139,7 @@ pub(crate) fn append_title(
     )
 }
 
-/// What was found.
+/// The words for what was found.
 fn found_words(rank: u8) -> &'static [u8]
     ensures { result.now ≡ found_words rank }
 {
@@ -150,7 +150,7 @@ fn found_words(rank: u8) -> &'static [u8]
     }
 }
 
-/// Appends why it is said.
+/// Appends the reason for the outcome.
 fn append_reason(out: &mut Vec<u8>, outcome: Outcome) -> Result<(), OutOfMemory>
     ensures { OnOk result (out.new.items ≡ out.old.items ++ reason_words outcome) }
 {
@@ -165,7 +165,7 @@ fn append_reason(out: &mut Vec<u8>, outcome: Outcome) -> Result<(), OutOfMemory>
     }
 }
 
-/// Appends how to see more.
+/// Appends the command that explains the pair.
 fn append_more(out: &mut Vec<u8>, verdict: &Verdict) -> Result<(), OutOfMemory>
     ensures { OnOk result (out.new.items ≡ out.old.items ++ more_words verdict.now) }
 {
