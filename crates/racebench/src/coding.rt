@@ -1,4 +1,4 @@
-//! The lines of the code that a trace names, read from the folder that `--source` names.
+//! Reads the lines of code that a trace names, from the folder that `--source` names.
 ghost use Rattle.std.specs.Prelude.{◌≤◌, length};
 
 use crate::lines::first_line;
@@ -14,7 +14,7 @@ use std::alloc::Global;
 use std::fs::{File, metadata};
 use std::io;
 
-/// The most bytes of a file of code. A larger one is not read.
+/// The most bytes of a file of code. A larger file is not read.
 const MAX_CODE: u64 = 16_777_216;
 
 /// 94: a file of code, which is input 5, could not be read.
@@ -29,7 +29,7 @@ const MAX_KEPT: usize = 65_536;
 /// The most bytes of a line that are kept.
 const MAX_TEXT: usize = 256;
 
-/// Whether a folder is at this path.
+/// Whether there is a folder at this path.
 pub(crate) fn is_folder(rt: &HostRuntime, path: &str) -> bool {
     match metadata(rt, path) {
         Ok(found) => found.is_dir(),
@@ -37,7 +37,7 @@ pub(crate) fn is_folder(rt: &HostRuntime, path: &str) -> bool {
     }
 }
 
-/// Says in a note that the folder of code at this path has no file of those that were read, if notes are wanted.
+/// Writes a note, if notes are wanted, that the folder of code has none of the files that the accesses name.
 pub(crate) fn tell_codeless(rt: &HostRuntime, path: &str) -> Result<(), OutOfMemory> {
     if !are_wanted(rt) {
         return Ok(());
@@ -62,7 +62,7 @@ pub(crate) fn root_of(alloc: Global, folder: &str) -> Result<Vec<u8>, OutOfMemor
     Ok(root)
 }
 
-/// The lines at the places of the trace, as far as they can be read.
+/// The lines of code at the places of the trace, as far as they can be read.
 pub(crate) fn lines_of(
     rt: &HostRuntime,
     indexed: &Indexed,
@@ -72,7 +72,7 @@ pub(crate) fn lines_of(
     lines_at(rt, root, places.as_slice())
 }
 
-/// The lines at the places of these cells, as far as they can be read.
+/// The lines of code at the places of these cells, as far as they can be read.
 pub(crate) fn lines_of_cells(
     rt: &HostRuntime,
     cells: &[Cell<'_>],
@@ -82,7 +82,7 @@ pub(crate) fn lines_of_cells(
     lines_at(rt, root, places.as_slice())
 }
 
-/// The places of these cells that have a file and a line, those of one file side by side.
+/// The places of the cells that are `FILE:LINE`, sorted, so that those of one file are next to each other.
 fn places_of_cells<'a>(alloc: Global, cells: &[Cell<'a>]) -> Result<Vec<&'a [u8]>, OutOfMemory> {
     let mut places = Vec::new(alloc);
     for cell in cells {
@@ -93,7 +93,7 @@ fn places_of_cells<'a>(alloc: Global, cells: &[Cell<'a>]) -> Result<Vec<&'a [u8]
     Ok(places)
 }
 
-/// Adds the place of a location, if it has a file and a line.
+/// Adds the place of a location, if it is `FILE:LINE`.
 fn add_place<'a>(places: &mut Vec<&'a [u8]>, location: &'a [u8]) -> Result<(), OutOfMemory> {
     let (place, _) = cut_at_arrow(location);
     if is_line(place) {
@@ -102,7 +102,7 @@ fn add_place<'a>(places: &mut Vec<&'a [u8]>, location: &'a [u8]) -> Result<(), O
     Ok(())
 }
 
-/// The places of the trace that have a file and a line, those of one file side by side.
+/// The places of the trace that are `FILE:LINE`, sorted, so that those of one file are next to each other.
 fn places_in(alloc: Global, indexed: &Indexed) -> Result<Vec<&[u8]>, OutOfMemory> {
     let mut places = Vec::new(alloc);
     for event in 0..indexed.len() {
@@ -115,7 +115,7 @@ fn places_in(alloc: Global, indexed: &Indexed) -> Result<Vec<&[u8]>, OutOfMemory
     Ok(places)
 }
 
-/// The lines at these places.
+/// The lines of code at these places.
 fn lines_at(
     rt: &HostRuntime,
     root: &[u8],
@@ -149,7 +149,7 @@ fn add_files(
     Ok(())
 }
 
-/// How many of the first places are in this file.
+/// How many of the places, from the first on, are in this file.
 fn count_of(places: &[&[u8]], file: &[u8]) -> usize
     ensures { result ≤ length places.now }
 {
@@ -175,7 +175,7 @@ fn add_file(
     }
 }
 
-/// Appends the path of a file: in the folder, if it is not absolute.
+/// Appends the path of a file. If it is not absolute, the folder comes before it.
 fn append_path(out: &mut Vec<u8>, root: &[u8], file: &[u8]) -> Result<(), OutOfMemory> {
     if !file.starts_with(b"/") {
         out.extend_from_slice(root)?;
@@ -197,7 +197,7 @@ fn add_read(
     }
 }
 
-/// What a plain file of code holds, if it is not too large and can be read.
+/// The bytes of the file at this path. None if it is missing, may not be read, is no plain file, or is too large.
 fn code_at(rt: &HostRuntime, path: &str) -> Result<Option<Vec<u8>>, ReplayFault> {
     match metadata(rt, path) {
         Ok(found) if found.is_file() && found.len() <= MAX_CODE => opened_at(rt, path),
@@ -207,7 +207,7 @@ fn code_at(rt: &HostRuntime, path: &str) -> Result<Option<Vec<u8>>, ReplayFault>
     }
 }
 
-/// What the file at this path holds, if it can be read.
+/// The bytes of the file at this path. None if it is missing, may not be read, or is too large.
 fn opened_at(rt: &HostRuntime, path: &str) -> Result<Option<Vec<u8>>, ReplayFault> {
     match File::open(rt, path) {
         Ok(file) => bytes_in(rt.alloc(), file),
@@ -215,7 +215,7 @@ fn opened_at(rt: &HostRuntime, path: &str) -> Result<Option<Vec<u8>>, ReplayFaul
     }
 }
 
-/// What a file holds, if it can be read whole.
+/// The bytes of an open file. None if it is longer than an input may be.
 fn bytes_in(alloc: Global, file: File) -> Result<Option<Vec<u8>>, ReplayFault> {
     let mut source = FromRead::new(file);
     match read_all(alloc, &mut source) {
@@ -226,7 +226,7 @@ fn bytes_in(alloc: Global, file: File) -> Result<Option<Vec<u8>>, ReplayFault> {
     }
 }
 
-/// Nothing, if a file is not there or may not be read; a fault, if it could not be opened for another reason.
+/// The outcome if a file can't be opened: None if it is not there or may not be read, else a fault.
 fn unopened(why: &io::Error) -> Result<Option<Vec<u8>>, ReplayFault> {
     match why.kind() {
         io::ErrorKind::NotFound => Ok(None),
@@ -236,7 +236,7 @@ fn unopened(why: &io::Error) -> Result<Option<Vec<u8>>, ReplayFault> {
     }
 }
 
-/// Adds the lines of a text at these places of its file.
+/// Adds the lines of a file at these places. `text` is what the file holds.
 fn add_lines(
     alloc: Global,
     lines: &mut Vec<SourceLine>,
@@ -250,7 +250,7 @@ fn add_lines(
     Ok(())
 }
 
-/// Where the lines of a text begin.
+/// Where each line of a text begins.
 fn starts_of(alloc: Global, text: &[u8]) -> Result<Vec<usize>, OutOfMemory> {
     let mut starts = Vec::new(alloc);
     starts.push(0)?;
@@ -262,7 +262,7 @@ fn starts_of(alloc: Global, text: &[u8]) -> Result<Vec<usize>, OutOfMemory> {
     Ok(starts)
 }
 
-/// Adds the line at a place of the text's file, unless it is there.
+/// Adds the line at this place, unless it was the last one added, or no more are kept.
 fn add_line(
     alloc: Global,
     lines: &mut Vec<SourceLine>,
@@ -281,7 +281,7 @@ fn add_line(
     Ok(())
 }
 
-/// Whether the last line is the one at this place.
+/// Whether the last added line is the one at this place.
 fn is_last(lines: &Vec<SourceLine>, place: &[u8]) -> bool {
     match lines.as_slice().last() {
         Some(line) => line.place.as_slice() == place,
@@ -289,7 +289,7 @@ fn is_last(lines: &Vec<SourceLine>, place: &[u8]) -> bool {
     }
 }
 
-/// The line of this number, from 1, without blanks at its ends; nothing if there is none.
+/// The line with this number, counted from 1, without blanks at its ends; empty if there is none.
 fn line_at<'a>(text: &'a [u8], starts: &[usize], number: u64) -> &'a [u8] {
     let index = number.saturating_sub(1).min(MAX_CODE) as usize;
     match starts.get(index) {
@@ -300,7 +300,7 @@ fn line_at<'a>(text: &'a [u8], starts: &[usize], number: u64) -> &'a [u8] {
     }
 }
 
-/// The first bytes of a line.
+/// The first bytes of a line, 256 at most.
 fn shown(line: &[u8]) -> &[u8] {
     &line[..line.len().min(MAX_TEXT)]
 }

@@ -1,4 +1,4 @@
-//! What the program does at `cut`: it prints a window of a trace, or writes all of them as files.
+//! What the program does at `cut`: it prints a window of a trace, or writes all windows as files.
 ghost use Rattle.std.specs.Prelude.{◌<◌};
 
 use crate::doing::finish;
@@ -17,10 +17,10 @@ use std::process::ExitCode;
 use std::{fs, io};
 use window::Window;
 
-/// How many digits the number of a window has at least, so that names sort as numbers do.
+/// How many digits a window's number has at least in file names and names of parts. So the names sort by number.
 const DIGITS: usize = 9;
 
-/// Prints the window that is asked for, or writes all windows.
+/// Prints the requested window, or writes all windows. Reports any fault.
 pub(crate) fn cut_of_file(rt: &HostRuntime, task: &CutTask<'_>) -> ExitCode
     requires { 0 < task.now.most }
 {
@@ -30,7 +30,7 @@ pub(crate) fn cut_of_file(rt: &HostRuntime, task: &CutTask<'_>) -> ExitCode
     }
 }
 
-/// The same, but for the faults of the trace.
+/// Prints the requested window, or writes all windows. Returns faults of the trace.
 fn cut_by(rt: &HostRuntime, task: &CutTask<'_>) -> Result<ExitCode, BenchFault>
     requires { 0 < task.now.most }
 {
@@ -41,7 +41,8 @@ fn cut_by(rt: &HostRuntime, task: &CutTask<'_>) -> Result<ExitCode, BenchFault>
     }
 }
 
-/// Prints a window: of a trace that is read whole if it has not too many events or threads, or else of what was read up to it.
+/// Prints a window. If the trace has not too many events or threads, it is read whole. Else only the part up to the
+/// window is read.
 fn print_window(
     rt: &HostRuntime,
     mut pieces: Pieces,
@@ -62,7 +63,7 @@ fn print_window(
     }
 }
 
-/// Whether nothing was printed since the trace has too many threads.
+/// Whether nothing was printed because the trace has too many threads.
 fn is_too_wide(printed: &Result<ExitCode, BenchFault>) -> bool {
     match printed {
         Err(BenchFault::Replay(ReplayFault::Text(refusal))) => {
@@ -72,13 +73,13 @@ fn is_too_wide(printed: &Result<ExitCode, BenchFault>) -> bool {
     }
 }
 
-/// Whether the trace is read whole.
+/// Whether the trace can be read whole: it has not more events than a trace may have, nor more bytes than can be kept.
 fn is_whole(pieces: &mut Pieces) -> Result<bool, ReplayFault> {
     let whole = pieces.span_kept(0, MAX_EVENTS)?;
     pieces.is_end(whole.end)
 }
 
-/// Prints the window of a trace that was read whole.
+/// Prints a window of a trace that was read whole.
 fn print_whole(
     rt: &HostRuntime,
     pieces: &Pieces,
@@ -93,7 +94,7 @@ fn print_whole(
     Ok(finish(rt, &mut writer))
 }
 
-/// Prints the window of a longer trace.
+/// Prints a window of a longer trace.
 fn print_long(
     rt: &HostRuntime,
     pieces: Pieces,
@@ -103,7 +104,7 @@ fn print_long(
     print_at(rt, &mut windows, task)
 }
 
-/// Prints one of these windows.
+/// Prints the window that begins at the requested event.
 fn print_at(
     rt: &HostRuntime,
     windows: &mut Windows,
@@ -128,22 +129,22 @@ pub(crate) fn print_text(rt: &HostRuntime, text: &[u8]) -> ExitCode {
     }
 }
 
-/// What is at the path of a folder.
+/// What is at the path of the folder for the windows.
 #[derive(Clone, Copy, PartialEq, Eq)]
 enum Folder {
-    /// A folder without files, which may have been made now.
+    /// A folder without files. It may have been made just now.
     Empty,
     /// A folder with files.
     Full,
-    /// Something that cannot be read as a folder.
+    /// Something that can't be read as a folder.
     Unread,
-    /// Nothing, and no folder can be made.
+    /// Nothing, and no folder can be made there.
     Unmade,
-    /// There was no memory to look.
+    /// Memory ran out while looking.
     NoMemory,
 }
 
-/// What is at a path, if looking failed so.
+/// What is at a path, if it could not be read because of this error. If nothing is there, makes a folder.
 fn failed_at(rt: &HostRuntime, path: &str, error: io::Error) -> Folder {
     match error.kind() {
         io::ErrorKind::NotFound => made_at(rt, path),
@@ -152,7 +153,7 @@ fn failed_at(rt: &HostRuntime, path: &str, error: io::Error) -> Folder {
     }
 }
 
-/// A new folder at the path.
+/// Makes a folder at the path.
 fn made_at(rt: &HostRuntime, path: &str) -> Folder {
     match fs::create_dir(rt, path) {
         Ok(()) => Folder::Empty,
@@ -166,17 +167,17 @@ fn made_at(rt: &HostRuntime, path: &str) -> Folder {
     }
 }
 
-/// What is at the path of a folder of which the first name could not be taken for this.
+/// What is at the path of a folder, if reading its first name failed with this error.
 fn unnamed_in(error: io::Error) -> Folder {
     match error.kind() {
-        // There is a file, and its name is no text.
+        // There is a file, and its name is not text.
         io::ErrorKind::InvalidFilename => Folder::Full,
         io::ErrorKind::OutOfMemory => Folder::NoMemory,
         _ => Folder::Unread,
     }
 }
 
-/// What is at the path of a folder. If there is nothing, the folder is made.
+/// What is at the path of a folder. If nothing is there, the folder is made.
 fn folder_at(rt: &HostRuntime, path: &str) -> Folder {
     match fs::read_dir(rt, path) {
         Ok(mut entries) => match entries.next() {
@@ -188,7 +189,7 @@ fn folder_at(rt: &HostRuntime, path: &str) -> Folder {
     }
 }
 
-/// Writes all windows as files into a folder.
+/// Writes all windows as files into a folder, if it is empty. Else reports why not.
 fn write_windows(
     rt: &HostRuntime,
     pieces: Pieces,
@@ -215,18 +216,18 @@ fn write_all_windows(
     write_each(rt, &mut windows, folder)
 }
 
-/// How it went to write the next window.
+/// How writing the next window went.
 #[derive(Clone, Copy)]
 enum Written {
     /// It was written.
     Window,
-    /// There is none.
+    /// There are no more windows.
     Nothing,
-    /// It was not written, which was told.
+    /// It was not written. The fault was reported, and this is the status.
     Failed(ExitCode),
 }
 
-/// Writes each of these windows as a file into this folder.
+/// Writes each of the windows as a file into this folder, and prints the counts.
 fn write_each(
     rt: &HostRuntime,
     windows: &mut Windows,
@@ -264,7 +265,7 @@ fn write_window(rt: &HostRuntime, window: &Window, folder: &str) -> Result<Writt
     }
 }
 
-/// Writes this text as a file at this path.
+/// Writes this text as a file at this path. Reports a failure.
 fn write_at(rt: &HostRuntime, path: &str, text: &[u8]) -> Written {
     if write_file(rt, path, text) {
         Written::Window
@@ -273,7 +274,7 @@ fn write_at(rt: &HostRuntime, path: &str, text: &[u8]) -> Written {
     }
 }
 
-/// The path of the file of the window at the event of this number.
+/// The path of a window's file; `number` is that of the window's first event.
 fn path_of(alloc: Global, folder: &str, number: u64) -> Result<String, OutOfMemory> {
     let mut path = Vec::new(alloc);
     path.extend_from_slice(folder.as_bytes())?;
@@ -283,7 +284,7 @@ fn path_of(alloc: Global, folder: &str, number: u64) -> Result<String, OutOfMemo
     Ok(String::from_utf8_lossy(alloc, &path)?)
 }
 
-/// Appends a number with noughts before it.
+/// Appends a number with zeros before it, nine digits at least.
 pub(crate) fn append_padded(out: &mut Vec<u8>, number: u64) -> Result<(), OutOfMemory> {
     let mut digits = Vec::new(*out.allocator());
     append_number(&mut digits, number)?;
@@ -294,7 +295,7 @@ pub(crate) fn append_padded(out: &mut Vec<u8>, number: u64) -> Result<(), OutOfM
     Ok(())
 }
 
-/// Writes a new file. If that fails, no part of it is left.
+/// Writes a new file. If that fails, no part of it is left. Returns whether it succeeded.
 fn write_file(rt: &HostRuntime, path: &str, text: &[u8]) -> bool {
     let Ok(file) = File::create_new(rt, path) else {
         return false;
@@ -307,7 +308,7 @@ fn write_file(rt: &HostRuntime, path: &str, text: &[u8]) -> bool {
     is_written
 }
 
-/// Prints how many windows there are, of how many events, and how many of them are shorter.
+/// Prints the counts of the windows: see `append_counts`.
 fn print_counts(rt: &HostRuntime, windows: &Windows, count: u64) -> ExitCode {
     let mut text = Vec::new(rt.alloc());
     match append_counts(&mut text, windows, count) {
@@ -316,7 +317,7 @@ fn print_counts(rt: &HostRuntime, windows: &Windows, count: u64) -> ExitCode {
     }
 }
 
-/// Appends the lines of the counts.
+/// Appends four lines: how many windows there are, how many of them are shorter, and how many events and threads.
 pub(crate) fn append_counts(
     out: &mut Vec<u8>,
     windows: &Windows,

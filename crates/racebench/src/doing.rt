@@ -1,4 +1,5 @@
-//! What the program does at each of its words: it opens the inputs, makes the call, hands on what the writer keeps back, and answers the status.
+//! What the program does for each of its commands: opens the inputs, makes the call, flushes the writer, and returns
+//! the exit status.
 ghost use Rattle.std.specs.Prelude.{◌≡◌, ◌<◌, ◌≤◌, All, false, vec_len};
 
 use crate::input::{Input, Watched, input_at, inputs_at};
@@ -16,7 +17,7 @@ use std::process::ExitCode;
 use std::sync::Wait;
 use std::thread::Threads;
 
-/// Hands on what a writer keeps back.
+/// Flushes the writer, and returns the exit status.
 pub(crate) fn finish<W: io::Write>(rt: &HostRuntime, writer: &mut FromWrite<W>) -> ExitCode {
     match writer.flush() {
         Ok(()) => ExitCode::SUCCESS,
@@ -24,7 +25,8 @@ pub(crate) fn finish<W: io::Write>(rt: &HostRuntime, writer: &mut FromWrite<W>) 
     }
 }
 
-/// The same after a trace was read from an input at this path.
+/// Flushes the writer after a trace was read, and returns the exit status. If the trace begins with a byte order mark,
+/// a note says so.
 fn finish_read<W: io::Write>(
     rt: &HostRuntime,
     writer: &mut FromWrite<W>,
@@ -40,7 +42,7 @@ fn finish_read<W: io::Write>(
     }
 }
 
-/// Replays the joint text on standard input. A text without a line `---` has no script, which a note says.
+/// Replays the joint text on standard input. If it has no line `---`, a note says that there is no script.
 pub(crate) fn replay_input(rt: &HostRuntime) -> ExitCode {
     match Watched::new(rt.alloc(), rt.reader()) {
         Ok(mut input) => replay_watched(rt, &mut input),
@@ -48,7 +50,7 @@ pub(crate) fn replay_input(rt: &HostRuntime) -> ExitCode {
     }
 }
 
-/// Replays the joint text that this gives.
+/// Replays the joint text that this input gives.
 fn replay_watched<R: io::Read + Drop>(rt: &HostRuntime, input: &mut Watched<R>) -> ExitCode
     requires { input.old.reader.1 ≡ false }
 {
@@ -65,7 +67,7 @@ fn replay_watched<R: io::Read + Drop>(rt: &HostRuntime, input: &mut Watched<R>) 
     }
 }
 
-/// Says of a joint text that was replayed that it has no script, or begins with a byte order mark, if it is so.
+/// Writes notes on a replayed joint text: that it has no script, or begins with a byte order mark.
 fn note_watched<R: io::Read + Drop>(rt: &HostRuntime, input: &Watched<R>) {
     if !input.has_divider() && are_wanted(rt) {
         say(rt, b"note: there is no line `---`, so there is no script\n");
@@ -85,7 +87,7 @@ pub(crate) fn info_of_file(rt: &HostRuntime, trace: &str) -> ExitCode {
     }
 }
 
-/// What a word names, as the calls take it.
+/// The name of an event or location, in the type that the calls take.
 pub(crate) fn name_of(named: Named<'_>) -> Name<'_> {
     match named {
         Named::Event(number) => Name::Event(number),
@@ -104,7 +106,7 @@ pub(crate) fn explain_in_file(rt: &HostRuntime, pair: &PairTask<'_>, all: bool) 
     }
 }
 
-/// The form of a schedule, as the call takes it.
+/// The form of a schedule, in the type that the call takes.
 fn form_of(form: ScheduleForm) -> Form {
     match form {
         ScheduleForm::Events => Form::Events,
@@ -168,8 +170,8 @@ fn run_scripts<R: Threads + Wait + Sync + Clone + Send + Drop + 'static>(
     }
 }
 
-/// Runs the scripts in files on the trace in another, each in a thread of its own. More scripts than there are clients for are refused
-/// before a file is opened.
+/// Runs the scripts in files on the trace in another file, each script in a separate thread if one can be started. If
+/// there are too many scripts, they are refused before a file is opened.
 pub(crate) fn threads_on_files<R: Threads + Wait + Sync + Clone + Send + Drop + 'static>(
     rt: &HostRuntime,
     starts: &R,

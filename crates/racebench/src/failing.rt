@@ -1,24 +1,24 @@
-//! The status with `--fail`.
+//! The exit status with `--fail`.
 ghost use Rattle.std.specs.Prelude.{◌≡◌, ◌<◌, true, false};
 ghost use Rattle.std.specs.Process.{exit_status};
 
 use crate::telling::say;
 use std::process::ExitCode;
 
-/// The status if a race is printed.
+/// The exit status if a race is printed.
 const RACES: u8 = 3;
 
-/// The status if nothing was judged.
+/// The exit status if nothing was judged.
 const UNJUDGED: u8 = 4;
 
-/// What standard error says of a trace without events.
+/// The line on standard error if the trace has no events.
 pub(crate) const NO_TRACE_EVENTS: &[u8] =
     b"racebench: the trace has no events: nothing was judged\n";
 
-/// What it says of parts without events.
+/// The line on standard error if no part has events.
 pub(crate) const NO_PART_EVENTS: &[u8] = b"racebench: no part has events: nothing was judged\n";
 
-/// The status after so many races were printed. If nothing was judged, standard error has these words.
+/// The exit status after `races` races were printed. If it is 4, prints `words` on standard error first.
 pub(crate) fn status_of(
     rt: &HostRuntime,
     fail: bool,
@@ -26,10 +26,10 @@ pub(crate) fn status_of(
     is_judged: bool,
     words: &[u8],
 ) -> ExitCode
-    // Without `--fail` races are no failure.
+    // Without `--fail` the status is 0, also if there are races.
     ensures plain { fail ≡ false → exit_status result ≡ 0 }
 
-    // With it a race is one, and else that nothing was judged.
+    // With `--fail` it is 3 if there are races. Else it is 0 if something was judged, and 4 if not.
     ensures races { fail ≡ true → 0 < races → exit_status result ≡ 3 }
     ensures judged { fail ≡ true → races ≡ 0 → is_judged ≡ true → exit_status result ≡ 0 }
     ensures unjudged { fail ≡ true → races ≡ 0 → is_judged ≡ false → exit_status result ≡ 4 }

@@ -1,4 +1,4 @@
-//! Notes on files that the arguments name: what is wrong with a file that was not read, and what stands in one that was refused.
+//! Notes on files that the arguments name: why a file was not read, and what a refused file looks like.
 
 use crate::input::is_standard;
 use crate::likeness::{Likeness, likeness_of};
@@ -15,7 +15,7 @@ use rapid_text::{OutOfMemory, TextRefusal};
 use std::fs::{File, metadata};
 use std::io;
 
-/// Whether the file is there and a plain one.
+/// Whether there is a plain file at this path.
 pub(crate) fn is_plain(rt: &HostRuntime, path: &str) -> bool {
     match metadata(rt, path) {
         Ok(found) => found.is_file(),
@@ -23,7 +23,8 @@ pub(crate) fn is_plain(rt: &HostRuntime, path: &str) -> bool {
     }
 }
 
-/// What a file holds, read again. None if that fails, or if it is no plain file, since another kind may not give its bytes twice, or wait.
+/// The bytes of a file, which is read again. None if that fails, or if it is no plain file: another kind may block, or
+/// give other bytes.
 fn bytes_again(rt: &HostRuntime, path: &str) -> Option<Vec<u8>> {
     if !is_plain(rt, path) {
         return None;
@@ -34,7 +35,7 @@ fn bytes_again(rt: &HostRuntime, path: &str) -> Option<Vec<u8>> {
     }
 }
 
-/// What is read of a file, if it can be read whole.
+/// The bytes of an open file, if it can be read whole.
 fn bytes_of(rt: &HostRuntime, file: File) -> Option<Vec<u8>> {
     let mut source = FromRead::new(file);
     match read_all(rt.alloc(), &mut source) {
@@ -43,7 +44,7 @@ fn bytes_of(rt: &HostRuntime, file: File) -> Option<Vec<u8>> {
     }
 }
 
-/// What is wrong with a file that was not found or not opened.
+/// Why a file was not found or not opened, in words.
 fn unopened_words(error: &io::Error) -> &'static [u8] {
     match error.kind() {
         io::ErrorKind::NotFound => b" does not exist",
@@ -52,7 +53,7 @@ fn unopened_words(error: &io::Error) -> &'static [u8] {
     }
 }
 
-/// What is wrong with a plain file that was not read.
+/// Why a plain file was not read, in words.
 fn unread_file_words(rt: &HostRuntime, path: &str) -> &'static [u8] {
     match File::open(rt, path) {
         Ok(_) => unread_words(ReadCause::Device),
@@ -60,7 +61,7 @@ fn unread_file_words(rt: &HostRuntime, path: &str) -> &'static [u8] {
     }
 }
 
-/// What is wrong with the input at this path, which was not read. What is no plain file is not opened again.
+/// Why the input at this path was not read, in words. A file that is not plain is not opened again.
 fn unread_path_words(rt: &HostRuntime, path: &str) -> &'static [u8] {
     if is_standard(path) {
         return unread_words(ReadCause::Device);
@@ -73,7 +74,7 @@ fn unread_path_words(rt: &HostRuntime, path: &str) -> &'static [u8] {
     }
 }
 
-/// Appends the note on an input that was not read; none on one that no argument names.
+/// Appends the note on an input that was not read. If no argument names the input, there is no note.
 fn append_unread_note(
     rt: &HostRuntime,
     out: &mut Vec<u8>,
@@ -102,7 +103,7 @@ fn append_trace_file_notes(
     }
 }
 
-/// Appends the notes on an event that breaks a rule of the trace in a file.
+/// Appends the notes on an event that breaks a rule, of the trace in a file.
 fn append_rule_file_notes(
     rt: &HostRuntime,
     out: &mut Vec<u8>,
@@ -128,7 +129,8 @@ fn append_script_file_notes(
     }
 }
 
-/// Appends the notes on a fault of a trace and scripts in files, of which the first is the trace: input 1, and then the scripts.
+/// Appends the notes on a fault of a trace and scripts in files. The first path is that of the trace, input 1; those of
+/// the scripts follow.
 pub(crate) fn append_file_notes(
     rt: &HostRuntime,
     out: &mut Vec<u8>,
@@ -157,13 +159,13 @@ pub(crate) fn append_file_notes(
     }
 }
 
-/// What a file was to hold, of which a line is refused.
+/// What a file should have held, if a line of it is refused.
 #[derive(Clone, Copy)]
 pub(crate) struct Form {
     own: Likeness,
-    /// What a note says of a file of another kind, after the kind.
+    /// What a note says of a file of another known kind, after the kind.
     other: &'static [u8],
-    /// What it says of a file of this kind or of none that is known.
+    /// What a note says of a file of the right kind, or of no known kind.
     wrong: &'static [u8],
 }
 
@@ -174,7 +176,7 @@ pub(crate) const LOG: Form = Form {
     wrong: b" is not what `racebench session` writes",
 };
 
-/// Races that were followed.
+/// A file of followed races.
 pub(crate) const CONFIRMED: Form = Form {
     own: Likeness::Part,
     other: b", and not what `record/confirm --json` writes",
@@ -188,7 +190,7 @@ pub(crate) const PART: Form = Form {
     wrong: b" is not whole, or not what `racebench triage --json` writes",
 };
 
-/// Appends the notes on a refused line of a file that was to have this form.
+/// Appends the notes on a refused line of a file that should have this form.
 pub(crate) fn append_form_notes(
     rt: &HostRuntime,
     out: &mut Vec<u8>,
@@ -202,7 +204,7 @@ pub(crate) fn append_form_notes(
     }
 }
 
-/// The same of this text.
+/// Appends the notes on a refused line of this text, which should have this form.
 fn append_form_notes_of(
     out: &mut Vec<u8>,
     path: &str,
@@ -222,7 +224,7 @@ fn append_form_notes_of(
     }
 }
 
-/// Whether a file that can be read again looks like no log.
+/// Whether the file does not look like a log. False if it can't be read again.
 fn is_no_log(rt: &HostRuntime, path: &str) -> bool {
     match bytes_again(rt, path) {
         Some(text) => likeness_of(&text) != Likeness::Log,
@@ -244,7 +246,7 @@ pub(crate) fn append_other_log_note(
     append_named(out, path, words)
 }
 
-/// Appends the note on a triage file that is refused.
+/// Appends the note on a refused triage file.
 pub(crate) fn append_triaged_note(out: &mut Vec<u8>, path: &str) -> Result<(), OutOfMemory> {
     append_named(
         out,
@@ -253,7 +255,7 @@ pub(crate) fn append_triaged_note(out: &mut Vec<u8>, path: &str) -> Result<(), O
     )
 }
 
-/// The path of the input of this number.
+/// The path of the input with this number, counted from 1; empty if there is none.
 fn path_of<'a>(paths: &[&'a str], input: u32) -> &'a str {
     match paths.get((input as usize).saturating_sub(1)) {
         Some(path) => path,

@@ -1,11 +1,11 @@
-//! A trace of any length, as far as it was read. The promises of `window::Front` are taken here alone, so that no proof of a caller carries
-//! them along.
+//! A trace of any length, as far as it was read. Only this module uses the contracts of `window::Front`, so that the
+//! proofs of callers stay small.
 
 use rapid_text::OutOfMemory;
 use std::alloc::Global;
 use window::{Front, FrontFault, Window};
 
-/// Nothing was read.
+/// A front of which nothing was read.
 pub(crate) fn begun(alloc: Global) -> Front {
     Front::begin(alloc)
 }
@@ -20,17 +20,17 @@ pub(crate) fn lines_of(front: &Front) -> u64 {
     front.lines()
 }
 
-/// How many events may be read next.
+/// How many events may be read next, at least.
 pub(crate) fn room_of(front: &Front) -> u32 {
     front.room()
 }
 
-/// How many threads the events have that were read, with those that are only forked or joined.
+/// How many threads the events have that were read. Threads that are only forked or joined count.
 pub(crate) fn threads_of(alloc: Global, front: &Front) -> Result<usize, OutOfMemory> {
     front.threads(alloc)
 }
 
-/// The window of the events after what was read, with at most so many of them.
+/// The window of the events that follow what was read: the events in `more`, `most` at most.
 pub(crate) fn window_of(
     alloc: Global,
     front: &Front,
@@ -43,7 +43,7 @@ pub(crate) fn window_of(
     front.window(alloc, more, most)
 }
 
-/// Reads on by these whole lines.
+/// Reads these lines too. They must be whole.
 pub(crate) fn read_on(alloc: Global, front: &mut Front, more: &[u8]) -> Result<(), FrontFault> {
     front.go_on(alloc, more)
 }

@@ -1,5 +1,5 @@
-//! What the program reads: files that the arguments name, which may not have been opened, and standard input, whose bytes are looked at
-//! as they pass.
+//! The inputs of the program. They are files that the arguments name, which may not be open, and standard input, whose
+//! bytes are watched.
 ghost use Rattle.std.specs.Prelude.{◌≡◌, All, IfOk, false, length, vec_len};
 
 use crate::marked::{Head, after};
@@ -9,7 +9,7 @@ use std::fs::File;
 use std::io;
 use std::io::StdinLock;
 
-/// The path that stands for standard input.
+/// The path that means standard input.
 const STANDARD: &str = "-";
 
 /// Where the bytes of an input come from.
@@ -57,12 +57,12 @@ impl Source for Input {
     }
 }
 
-/// Whether the path stands for standard input.
+/// Whether the path means standard input.
 pub(crate) fn is_standard(path: &str) -> bool {
     path == STANDARD
 }
 
-/// What the path names: a file, or standard input.
+/// The stream that the path names: a file, or standard input.
 fn stream_at(rt: &HostRuntime, path: &str) -> Stream {
     if is_standard(path) {
         return Stream::Standard(FromRead::new(rt.reader()));
@@ -96,28 +96,28 @@ pub(crate) fn inputs_at(rt: &HostRuntime, paths: &[&str]) -> Result<Vec<Input>, 
     Ok(inputs)
 }
 
-/// How many of the first bytes of standard input are kept, so that a note can show a line of them.
+/// How many of the first bytes of standard input are kept, so that a note can show a line.
 const MAX_KEPT: usize = 1_048_576;
 
-/// The room that is made for them at once, so that little input never wants more.
+/// The room that is reserved first, so that a short input never needs more.
 const FIRST_ROOM: usize = 65_536;
 
 /// What a line holds so far.
 #[derive(Clone, Copy, PartialEq, Eq)]
 enum Line {
-    /// Blanks alone.
+    /// Only blanks.
     Blank,
     /// One hyphen.
     One,
-    /// Two hyphens side by side.
+    /// Two hyphens next to each other.
     Two,
-    /// Three hyphens side by side, and blanks: a divider, if the line ends so.
+    /// Three hyphens next to each other, and blanks. It is a divider, if the line ends so.
     Divider,
     /// Anything else.
     Other,
 }
 
-/// What the line holds with one byte more.
+/// What the line holds after one more byte.
 fn with_byte(line: Line, byte: u8) -> Line {
     match byte {
         b'\n' => Line::Blank,
@@ -140,11 +140,11 @@ fn with_byte(line: Line, byte: u8) -> Line {
 #[derive(Drop)]
 pub(crate) struct Watched<R: io::Read> {
     reader: FromRead<R>,
-    /// Its first bytes.
+    /// The first bytes that came.
     pub(crate) kept: Vec<u8>,
-    /// Whether these are all bytes that came.
+    /// Whether `kept` has all bytes that came.
     pub(crate) is_whole: bool,
-    // whether a line `---` has ended, and what the last line holds
+    // Whether a line `---` has ended, and what the last line holds.
     is_divided: bool,
     line: Line,
 }
@@ -174,12 +174,12 @@ impl<R: io::Read + Drop> Watched<R> {
         self.is_divided || self.line == Line::Divider
     }
 
-    // Takes in the bytes that came.
+    // Looks at the bytes that came.
     fn note(&mut self, bytes: &[u8])
         ensures { self.new.reader ≡ self.old.reader }
     {
         self.keep(bytes);
-        // (behind a divider nothing more is asked)
+        // After a divider, lines do not matter.
         if self.is_divided {
             return;
         }
@@ -192,7 +192,7 @@ impl<R: io::Read + Drop> Watched<R> {
         }
     }
 
-    // Keeps them while they are among the first. Where there is no memory for that, the rest is not kept.
+    // Keeps the bytes, if they are among the first. If memory runs out, no more bytes are kept.
     fn keep(&mut self, bytes: &[u8])
         ensures { self.new.reader ≡ self.old.reader }
     {

@@ -24,7 +24,7 @@ use window_parts::parts_of;
 /// Why no more windows are judged.
 #[derive(Clone, Copy)]
 pub(crate) enum Stop {
-    /// The trace has no more windows that can be made.
+    /// A fault of the trace, or of making the next window.
     Trace(BenchFault),
     /// A window was not judged.
     Window(TriageFault),
@@ -47,7 +47,7 @@ impl From<MergeFault> for Stop {
     }
 }
 
-/// The trace, the events of a window, and the windows that were judged.
+/// The options, what is left out, the size of a window, and the parts of the windows that were judged.
 #[derive(Drop)]
 pub(crate) struct Report<'a> {
     pub(crate) task: &'a TriageTask<'a>,
@@ -57,7 +57,8 @@ pub(crate) struct Report<'a> {
     pub(crate) count: u64,
 }
 
-/// The next windows, as many as are judged at once. A fault that comes after one of them is kept for the next time.
+/// The next windows, `width` at most, which are judged at the same time. If a fault comes after the first of them, the
+/// next call returns it.
 fn batch(alloc: Global, windows: &mut Windows, width: u32) -> Result<Vec<Window>, BenchFault> {
     let mut batch = Vec::new(alloc);
     match fill(alloc, windows, width, &mut batch) {
@@ -89,7 +90,7 @@ fn fill(
 }
 
 impl Report<'_> {
-    // The name of the part that a window is: with `racebench cut` before it, it prints the window.
+    // The name of the part that a window is. With `racebench cut` before it, it is a command that prints the window.
     fn name_of(&self, alloc: Global, number: u64) -> Result<Vec<u8>, OutOfMemory> {
         let mut name = Vec::new(alloc);
         append_trace(&mut name, self.task.trace)?;
@@ -100,7 +101,7 @@ impl Report<'_> {
         Ok(name)
     }
 
-    // Takes in what was printed of a window.
+    // Takes in what was printed of a window, as a part.
     fn take(&mut self, alloc: Global, number: u64, part: &[u8]) -> Result<(), Stop> {
         let name = self.name_of(alloc, number)?;
         self.count = self.count.saturating_add(1);
@@ -112,7 +113,7 @@ impl Report<'_> {
         }
     }
 
-    // Takes in these windows.
+    // Judges these windows, and takes in their parts.
     fn take_all<R: Threads + Sync>(
         &mut self,
         alloc: Global,
@@ -143,7 +144,7 @@ impl Report<'_> {
     }
 }
 
-/// Appends the path of a trace as one word for a shell. `-` is standard input.
+/// Appends the path of a trace as one word of a shell. For standard input it is `-`.
 fn append_trace(out: &mut Vec<u8>, path: &str) -> Result<(), OutOfMemory> {
     if is_standard(path) {
         out.extend_from_slice(path.as_bytes())?;
@@ -152,7 +153,7 @@ fn append_trace(out: &mut Vec<u8>, path: &str) -> Result<(), OutOfMemory> {
     append_shell_word(out, path.as_bytes())
 }
 
-/// Says how far the work is: on a terminal, or if that is asked for.
+/// Shows how far the work is, if standard error is a terminal or the options request it.
 fn show(rt: &HostRuntime, task: &TriageTask<'_>, windows: &Windows, count: u64) {
     if !task.progress && !rt.stderr().is_terminal() {
         return;
@@ -163,7 +164,7 @@ fn show(rt: &HostRuntime, task: &TriageTask<'_>, windows: &Windows, count: u64) 
     }
 }
 
-/// Appends the line that says how far the work is.
+/// Appends the line that shows how far the work is.
 fn append_progress(out: &mut Vec<u8>, events: u64, count: u64) -> Result<(), OutOfMemory> {
     out.extend_from_slice(b"windows ")?;
     append_number(out, count)?;
@@ -173,7 +174,7 @@ fn append_progress(out: &mut Vec<u8>, events: u64, count: u64) -> Result<(), Out
     Ok(())
 }
 
-/// Judges all windows. Without workers one window is kept at a time.
+/// Judges all windows. With fewer than two workers, one window at a time is in memory.
 pub(crate) fn judge_all<R: Threads + Sync>(
     rt: &HostRuntime,
     starts: &R,
@@ -191,7 +192,7 @@ pub(crate) fn judge_all<R: Threads + Sync>(
     Ok(())
 }
 
-/// Judges the next window; whether there was one.
+/// Judges the next window. Returns whether there was one.
 fn judge_next<R: Threads + Sync>(
     rt: &HostRuntime,
     starts: &R,
@@ -204,7 +205,7 @@ fn judge_next<R: Threads + Sync>(
     }
 }
 
-/// Judges these windows; whether there were any.
+/// Judges these windows. Returns whether there were any.
 fn judge_batch<R: Threads + Sync>(
     rt: &HostRuntime,
     starts: &R,
@@ -220,7 +221,7 @@ fn judge_batch<R: Threads + Sync>(
     Ok(true)
 }
 
-/// Judges all windows, so many at once, and reads as many of the next ones meanwhile.
+/// Judges all windows, in batches of as many as there are workers. It reads the next batch at the same time.
 fn judge_ahead<R: Threads + Sync>(
     rt: &HostRuntime,
     starts: &R,
@@ -242,8 +243,8 @@ fn judge_ahead<R: Threads + Sync>(
     Ok(())
 }
 
-/// Judges these windows, and reads as many of the next ones meanwhile. What is wrong with the next ones comes behind
-/// what was found of these.
+/// Judges these windows, and reads the next batch at the same time. The findings of these windows come before a fault
+/// of the next batch.
 fn judge_these<R: Threads + Sync>(
     rt: &HostRuntime,
     starts: &R,
@@ -263,7 +264,7 @@ fn judge_these<R: Threads + Sync>(
 /// What is printed of each window.
 type Judged = Result<Vec<Result<Vec<u8>, TriageFault>>, OutOfMemory>;
 
-/// What is printed of each of these windows, and as many of the next ones, which are read meanwhile.
+/// What is printed of each of these windows, and the next batch, which is read at the same time.
 fn judged_ahead<'a, R: Threads + Sync>(
     alloc: Global,
     starts: &'a R,

@@ -1,10 +1,10 @@
-//! A writer that keeps what is written.
+//! A writer that keeps what is written in memory.
 ghost use Rattle.std.specs.Prelude.{◌≡◌, false};
 
 use client_scripts::{Failed, Sink};
 use std::alloc::Global;
 
-/// The bytes that were written, and whether memory was refused for more.
+/// The bytes that were written, and whether memory ran out for more.
 #[derive(Drop)]
 pub(crate) struct Kept {
     pub(crate) bytes: Vec<u8>,
@@ -12,7 +12,7 @@ pub(crate) struct Kept {
 }
 
 impl Kept {
-    /// Nothing was written yet.
+    /// A writer to which nothing was written yet.
     pub(crate) fn new(alloc: Global) -> Kept
         ensures { result.failed ≡ false }
     {

@@ -23,7 +23,7 @@ use toml::{Table, Value};
 /// The number of the text of known races in faults.
 const KNOWN: u32 = 2;
 
-/// What is asked for, of which pairs of locations are left out.
+/// The options that say which pairs of locations are left out.
 #[derive(Clone, Copy)]
 pub(crate) struct Wanted<'a> {
     known: Option<&'a str>,
@@ -33,7 +33,7 @@ pub(crate) struct Wanted<'a> {
     hide: &'a [&'a str],
 }
 
-/// What `merge` is asked for.
+/// These options of `merge`.
 pub(crate) fn wanted_of<'a>(task: &'a MergeTask<'_>) -> Wanted<'a> {
     Wanted {
         known: task.known,
@@ -44,7 +44,7 @@ pub(crate) fn wanted_of<'a>(task: &'a MergeTask<'_>) -> Wanted<'a> {
     }
 }
 
-/// What `triage --windows` is asked for.
+/// These options of `triage --windows`.
 pub(crate) fn wanted_in<'a>(task: &'a TriageTask<'_>) -> Wanted<'a> {
     Wanted {
         known: task.known,
@@ -55,7 +55,7 @@ pub(crate) fn wanted_in<'a>(task: &'a TriageTask<'_>) -> Wanted<'a> {
     }
 }
 
-/// Whether anything may be left out.
+/// Whether any of these options is given.
 pub(crate) fn is_any(wanted: Wanted<'_>) -> bool {
     wanted.known.is_some()
         || wanted.triage.is_some()
@@ -63,14 +63,14 @@ pub(crate) fn is_any(wanted: Wanted<'_>) -> bool {
         || !wanted.hide.is_empty()
 }
 
-/// What was read of it: the text of known races, and the triage file.
+/// The files that these options name: the text of known races, and the triage file.
 #[derive(Drop)]
 pub(crate) struct Decided {
     known: Option<Vec<u8>>,
     table: Option<Table>,
 }
 
-/// The text of known races, if one is named. A fault is told.
+/// Reads the text of known races, if one is named. Reports a fault.
 fn known_at(rt: &HostRuntime, path: Option<&str>) -> Result<Option<Vec<u8>>, ExitCode> {
     let Some(path) = path else {
         return Ok(None);
@@ -81,7 +81,7 @@ fn known_at(rt: &HostRuntime, path: Option<&str>) -> Result<Option<Vec<u8>>, Exi
     }
 }
 
-/// The triage file, if one is named. A fault is told.
+/// Reads the triage file, if one is named. Reports a fault.
 fn table_at(rt: &HostRuntime, wanted: Wanted<'_>) -> Result<Option<Table>, ExitCode> {
     let Some(path) = wanted.triage else {
         return Ok(None);
@@ -95,7 +95,7 @@ fn table_at(rt: &HostRuntime, wanted: Wanted<'_>) -> Result<Option<Table>, ExitC
     }
 }
 
-/// Reads what is left out. A fault is told.
+/// Reads the files that the options name. Reports a fault.
 pub(crate) fn read_decided(rt: &HostRuntime, wanted: Wanted<'_>) -> Result<Decided, ExitCode> {
     match table_at(rt, wanted) {
         Ok(table) => decided_with(rt, wanted, table),
@@ -103,7 +103,7 @@ pub(crate) fn read_decided(rt: &HostRuntime, wanted: Wanted<'_>) -> Result<Decid
     }
 }
 
-/// The same with this triage file.
+/// Reads the text of known races, and adds this triage file. Reports a fault.
 fn decided_with(
     rt: &HostRuntime,
     wanted: Wanted<'_>,
@@ -131,7 +131,7 @@ fn entries_in(decided: &Decided) -> Option<&[Value]> {
     }
 }
 
-/// What leaves pairs of locations out.
+/// What leaves pairs of locations out, in the type that the calls take.
 fn choice_of<'a>(decided: &'a Decided, wanted: Wanted<'a>) -> Choice<'a> {
     Choice {
         known: text_in(decided),
@@ -151,7 +151,7 @@ pub(crate) struct Printed<'a> {
     pub(crate) source: Option<&'a str>,
 }
 
-/// What is asked for in this form.
+/// The options of a merged report in this form.
 fn asked_of<'a>(choice: Choice<'a>, apart: bool, form: MergedForm<'a>) -> MergedAsked<'a> {
     MergedAsked {
         choice,
@@ -160,14 +160,14 @@ fn asked_of<'a>(choice: Choice<'a>, apart: bool, form: MergedForm<'a>) -> Merged
     }
 }
 
-/// The lines of the code in this folder at the places of the parts.
+/// The lines of code in this folder at the places of the parts.
 fn code_of(rt: &HostRuntime, parts: &Parts, root: &[u8]) -> Result<Vec<SourceLine>, TriageFault> {
     let rows = rows_of(rt.alloc(), parts)?;
     let cells = cells_of(rt.alloc(), &rows)?;
     Ok(lines_of_cells(rt, &cells, root)?)
 }
 
-/// Writes what is told of the parts as a log, with the code in this folder.
+/// Writes the merged report as a SARIF log, with the code in this folder. Returns how many races it has.
 fn write_log_of<K: Sink>(
     rt: &HostRuntime,
     parts: &Parts,
@@ -193,7 +193,7 @@ fn write_log_of<K: Sink>(
     }
 }
 
-/// How many races were told of. If the folder of the code had none of the files, that is said.
+/// Returns how many races were written. If the folder of code had none of the files, a note says so.
 fn with_code(
     rt: &HostRuntime,
     written: Result<u64, TriageFault>,
@@ -206,7 +206,7 @@ fn with_code(
     written
 }
 
-/// The form of a log without code, or another one.
+/// The form of the report. A SARIF log has no code here.
 fn form_of<'a>(form: RacesForm) -> MergedForm<'a> {
     match form {
         RacesForm::Json => MergedForm::Json,
@@ -221,7 +221,7 @@ fn form_of<'a>(form: RacesForm) -> MergedForm<'a> {
     }
 }
 
-/// The folder of the code, if a log is printed and one is named.
+/// The folder of code, if the report is a SARIF log and a folder is named.
 fn code_folder<'a>(printed: Printed<'a>) -> Option<&'a str> {
     match printed.form {
         RacesForm::Sarif => printed.source,
@@ -229,7 +229,7 @@ fn code_folder<'a>(printed: Printed<'a>) -> Option<&'a str> {
     }
 }
 
-/// Writes what is told of the parts. Answers how many races are told of.
+/// Writes the merged report without what the options leave out. Returns how many races it has.
 pub(crate) fn write_decided<K: Sink>(
     rt: &HostRuntime,
     parts: &Parts,
@@ -250,7 +250,7 @@ pub(crate) fn write_decided<K: Sink>(
     }
 }
 
-/// Notes which of the entries are about a race of these cells.
+/// Marks which of the entries are about a race of these cells.
 fn mark_all(
     rt: &HostRuntime,
     rows: &[Row<'_>],
@@ -266,7 +266,7 @@ fn mark_all(
     Ok(())
 }
 
-/// Says which entries of the triage file at this path are about no race, and which `fixed` ones are about a race.
+/// Prints which entries of the triage file at this path are about no race, and which `fixed` ones are about a race.
 fn tell_entries(
     rt: &HostRuntime,
     parts: &Parts,
@@ -280,7 +280,7 @@ fn tell_entries(
     }
 }
 
-/// The same of these rows and cells.
+/// Prints the same, from these rows and cells.
 fn tell_entries_of(
     rt: &HostRuntime,
     rows: &[Row<'_>],
@@ -296,7 +296,7 @@ fn tell_entries_of(
     tell_marks(rt, path, marks.as_slice())
 }
 
-/// Says what `triage` says after its output: of entries, and of a text of known races without a block.
+/// Prints what `triage` prints after its output: on entries, and on a text of known races without a block.
 pub(crate) fn tell_decided(
     rt: &HostRuntime,
     parts: &Parts,

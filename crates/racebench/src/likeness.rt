@@ -1,11 +1,11 @@
-//! What a file looks like that is not what was asked for, by its first bytes.
+//! What kind of file an input looks like, if it is not of the right kind. Its first bytes decide.
 
 use crate::lines::first_line;
 use crate::pieces::before;
 use memchr::memchr;
 use rapid_text::trim_start;
 
-/// What users hand over in place of a trace, of a part of a report, or of a log.
+/// The kinds of files that users pass instead of a trace, a part of a report, or a log.
 #[derive(Clone, Copy, PartialEq, Eq)]
 pub(crate) enum Likeness {
     /// A file that gzip has packed.
@@ -14,7 +14,7 @@ pub(crate) enum Likeness {
     Zstandard,
     /// A file that xz has packed.
     Xz,
-    /// A program or a library.
+    /// A program or a library (ELF).
     Elf,
     /// A text that begins with a UTF-8 byte order mark.
     Mark,
@@ -22,23 +22,23 @@ pub(crate) enum Likeness {
     Sanitizer,
     /// Races as JSON: a part of a report.
     Part,
-    /// Races as text, as a page or as a log for code-scanning pages.
+    /// Races as text, as a page or as a SARIF log.
     Printed,
     /// The log of a session.
     Log,
     /// A trace.
     Trace,
-    /// None of these.
+    /// None of these kinds.
     Other,
 }
 
-/// How many of the first bytes are searched for the head of a report.
+/// How many of the first bytes are searched for the head of a report, or for an event.
 const MAX_SEARCHED: usize = 4_096;
 
-/// What stands at the head of a report of ThreadSanitizer.
+/// The bytes at the head of a report of ThreadSanitizer.
 const REPORT: &[u8] = b"WARNING: ThreadSanitizer";
 
-/// Whether the bytes stand among the first of the text.
+/// Whether these bytes begin among the first 4,096 bytes of the text.
 fn has_near_start(text: &[u8], bytes: &[u8]) -> bool {
     let searched = text.len().min(MAX_SEARCHED);
     for start in 0..searched {
@@ -49,7 +49,7 @@ fn has_near_start(text: &[u8], bytes: &[u8]) -> bool {
     false
 }
 
-/// Whether the line begins as an event does: a name, a bar and an operation.
+/// Whether the line begins like an event: a name, a bar and an operation.
 fn is_event(line: &[u8]) -> bool {
     let Some(bar) = memchr(b'|', line) else {
         return false;
@@ -63,7 +63,7 @@ fn is_event(line: &[u8]) -> bool {
         || operation.starts_with(b"join(")
 }
 
-/// What a text looks like that no other program has made.
+/// The kind of a text that begins like a log, a report or a trace; else `Other`.
 fn own_likeness(text: &[u8]) -> Likeness {
     if text.starts_with(b"racebench log ") {
         Likeness::Log
@@ -80,7 +80,7 @@ fn own_likeness(text: &[u8]) -> Likeness {
     }
 }
 
-/// What the text looks like.
+/// The kind of file that the text looks like.
 pub(crate) fn likeness_of(text: &[u8]) -> Likeness {
     if text.starts_with(b"\x1f\x8b") {
         Likeness::Gzip
@@ -99,11 +99,11 @@ pub(crate) fn likeness_of(text: &[u8]) -> Likeness {
     }
 }
 
-/// What a note says of a trace that is read although it begins with a byte order mark, after the file's name.
+/// The note on a trace that begins with a byte order mark and was read, after the file's name.
 pub(crate) const MARKED: &[u8] =
     b" begins with a UTF-8 byte order mark, which is read as part of the first thread's name: remove it";
 
-/// What a note says that it is, after the file's name.
+/// The note on a file of this kind, after the file's name.
 pub(crate) fn words_of(likeness: Likeness) -> &'static [u8] {
     match likeness {
         Likeness::Gzip => b" is packed by gzip",
@@ -119,7 +119,7 @@ pub(crate) fn words_of(likeness: Likeness) -> &'static [u8] {
     }
 }
 
-/// What the note says after that, if the file was to hold a trace.
+/// The rest of the note, if the file should have held a trace.
 pub(crate) fn words_for_trace(likeness: Likeness) -> &'static [u8] {
     match likeness {
         Likeness::Gzip => b": unpack it on the way, as in `zcat FILE | racebench triage -`",

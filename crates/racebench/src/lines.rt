@@ -1,21 +1,22 @@
-//! Lines of a text that is noted on, and the words of a line.
+//! Finds lines in a text, and words in a line, for notes.
 ghost use Rattle.std.specs.Prelude.{◌≤◌, length};
 
 use memchr::memchr;
 use rapid_text::trim;
 
-/// Whether the line is `---` with blanks round it.
+/// Whether the line is `---`, possibly with blanks around it.
 pub(crate) fn is_divider(line: &[u8]) -> bool {
     trim(line) == b"---".as_slice()
 }
 
-/// What stands behind the first line end, if there is one.
+/// What comes after the first line end; None if there is none.
 pub(crate) fn behind_line(text: &[u8]) -> Option<&[u8]> {
     let end = memchr(b'\n', text)?;
     Some(&text[end + 1..])
 }
 
-/// The first line of these first bytes of a text, without its end. None where it may go on past them.
+/// The first line of a text, without its end. `text` may be only the beginning of it. None if the line may go on after
+/// that.
 pub(crate) fn first_line(text: &[u8], is_whole: bool) -> Option<&[u8]> {
     match memchr(b'\n', text) {
         Some(end) => Some(&text[..end]),
@@ -23,7 +24,7 @@ pub(crate) fn first_line(text: &[u8], is_whole: bool) -> Option<&[u8]> {
     }
 }
 
-/// The line of this number, from 1, of these first bytes of a text.
+/// The line with this number, counted from 1, of a text. `text` may be only the beginning of it.
 pub(crate) fn line_of(text: &[u8], is_whole: bool, number: u64) -> Option<&[u8]> {
     if number == 0 {
         return None;
@@ -35,7 +36,7 @@ pub(crate) fn line_of(text: &[u8], is_whole: bool, number: u64) -> Option<&[u8]>
     first_line(rest, is_whole)
 }
 
-/// What stands behind the first line `---`.
+/// What comes after the first line `---`.
 pub(crate) fn behind_divider(text: &[u8]) -> Option<&[u8]> {
     let mut rest = text;
     'lines: for _ in 0..text.len() {
@@ -48,7 +49,7 @@ pub(crate) fn behind_divider(text: &[u8]) -> Option<&[u8]> {
     None
 }
 
-/// How long the first word is.
+/// The length of the first word.
 pub(crate) fn word_len(text: &[u8]) -> usize
     ensures { result ≤ length text.now }
 {
@@ -57,18 +58,18 @@ pub(crate) fn word_len(text: &[u8]) -> usize
         .unwrap_or(text.len())
 }
 
-/// The first word of a text that begins with it.
+/// The first word of the text, which begins with it.
 pub(crate) fn first_word(text: &[u8]) -> &[u8] {
     &text[..word_len(text)]
 }
 
-/// The second word of a line of a script: the command word, or nothing.
+/// The second word of a line of a script: the command word; empty if there is none.
 pub(crate) fn command_of(line: &[u8]) -> &[u8] {
     let line = trim(line);
     first_word(trim(&line[word_len(line)..]))
 }
 
-/// What stands before two blanks side by side.
+/// What comes before the first two blanks next to each other.
 pub(crate) fn before_gap(text: &[u8]) -> &[u8] {
     for end in 1..text.len() {
         if text[end - 1] == b' ' && text[end] == b' ' {

@@ -1,4 +1,4 @@
-//! Lists the races of the trace in a file, over the calls of `calls::triage`.
+//! Lists the races of the trace in a file, with the calls of `calls::triage`.
 ghost use Rattle.std.specs.Prelude.{◌≡◌, IfSome, false};
 
 use crate::coding::{lines_of, root_of};
@@ -14,7 +14,7 @@ use program_words::{RacesForm, TriageTask};
 use std::thread::Threads;
 use toml::Value;
 
-/// What is listed: by which task, how the trace's races came out when they were followed, and the entries of a triage file.
+/// What is listed: the options, what was found when races were followed, and the entries of a triage file.
 #[derive(Clone, Copy)]
 pub(crate) struct Listing<'a> {
     pub(crate) task: &'a TriageTask<'a>,
@@ -22,7 +22,7 @@ pub(crate) struct Listing<'a> {
     pub(crate) triage: Option<&'a [Value]>,
 }
 
-/// What is asked for, as the call takes it.
+/// The options, in the type that the call takes.
 fn asked_of<'a>(listing: Listing<'a>, sources: Sources<'a>) -> Asked<'a> {
     let task = listing.task;
     Asked {
@@ -47,7 +47,7 @@ fn asked_of<'a>(listing: Listing<'a>, sources: Sources<'a>) -> Asked<'a> {
     }
 }
 
-/// The file of known races, where one is named.
+/// The file of known races, if one is named.
 fn known_at(rt: &HostRuntime, path: Option<&str>) -> Option<Input>
     ensures { IfSome result (λ input. input.failed ≡ false) }
 {
@@ -57,7 +57,8 @@ fn known_at(rt: &HostRuntime, path: Option<&str>) -> Option<Input>
     }
 }
 
-/// Lists the races of the trace in a file. Who watches is told how far that is, and of the end before anything is written.
+/// Writes the report on the trace in a file. The watcher learns how far the work is, and of its end before anything is
+/// written. Returns how many races were written.
 pub(crate) fn list_to<R: Threads + Sync, K: Sink, W: Watch + Sync>(
     rt: &HostRuntime,
     crew: &Crew<'_, R, Seen<'_, W>>,
@@ -75,7 +76,7 @@ pub(crate) fn list_to<R: Threads + Sync, K: Sink, W: Watch + Sync>(
     }
 }
 
-/// The same without the lines of the code.
+/// Writes the report without lines of code.
 fn list_plain<R: Threads + Sync, K: Sink, W: Watch + Sync>(
     rt: &HostRuntime,
     crew: &Crew<'_, R, Seen<'_, W>>,
@@ -99,7 +100,7 @@ fn list_plain<R: Threads + Sync, K: Sink, W: Watch + Sync>(
     listed
 }
 
-/// The same with the code in this folder.
+/// Writes the report with the code in this folder.
 fn list_in<R: Threads + Sync, K: Sink, W: Watch + Sync>(
     rt: &HostRuntime,
     crew: &Crew<'_, R, Seen<'_, W>>,
@@ -120,7 +121,7 @@ fn list_in<R: Threads + Sync, K: Sink, W: Watch + Sync>(
     }
 }
 
-/// The same of a trace that was read, with the code in this folder.
+/// Writes the report on a trace that was read, with the code in this folder.
 fn list_code<R: Threads + Sync, K: Sink, W: Watch + Sync>(
     rt: &HostRuntime,
     crew: &Crew<'_, R, Seen<'_, W>>,
@@ -135,7 +136,7 @@ fn list_code<R: Threads + Sync, K: Sink, W: Watch + Sync>(
     list_lines(rt, crew, listing, indexed, root.as_slice(), writer)
 }
 
-/// The same, with the lines of the code.
+/// Reads the lines of code, and writes the report with them.
 fn list_lines<R: Threads + Sync, K: Sink, W: Watch + Sync>(
     rt: &HostRuntime,
     crew: &Crew<'_, R, Seen<'_, W>>,
@@ -155,7 +156,7 @@ fn list_lines<R: Threads + Sync, K: Sink, W: Watch + Sync>(
     list_with(rt, crew, listing, indexed, sources, writer)
 }
 
-/// The same, with these lines.
+/// Writes the report with these lines of code.
 fn list_with<R: Threads + Sync, K: Sink, W: Watch + Sync>(
     rt: &HostRuntime,
     crew: &Crew<'_, R, Seen<'_, W>>,

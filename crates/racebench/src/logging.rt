@@ -13,14 +13,14 @@ use race_parts::{Cell, cells_of, rows_of};
 use std::io;
 use std::process::ExitCode;
 
-/// What was written: how many races, and whether a folder of code has none of the files.
+/// What was written: how many races, and whether the folder of code had none of the files.
 #[derive(Clone, Copy)]
 struct Written {
     races: u64,
     lacks_code: bool,
 }
 
-/// The lines of the code at the places of these cells; nothing if no folder is named.
+/// The lines of code at the places of these cells; none if no folder is named.
 fn lines_of(
     rt: &HostRuntime,
     cells: &[Cell<'_>],
@@ -32,7 +32,7 @@ fn lines_of(
     lines_of_cells(rt, cells, root)
 }
 
-/// Writes the log of the parts, with the code in this folder.
+/// Writes the parts as a SARIF log, with the code in this folder.
 fn write_log<K: Sink>(
     rt: &HostRuntime,
     parts: &Parts,
@@ -59,8 +59,8 @@ fn write_log<K: Sink>(
     })
 }
 
-/// Writes the log of the parts, with the code in this folder, if one is named. Answers how many races are told of.
-/// A folder of code without a file that it names is told.
+/// Writes the parts as a SARIF log, with the code in this folder, if one is named. Returns how many races the log has.
+/// If the folder has none of the files, a note says so.
 pub(crate) fn write_log_in<K: Sink>(
     rt: &HostRuntime,
     parts: &Parts,
@@ -81,7 +81,7 @@ pub(crate) fn write_log_in<K: Sink>(
     Ok(written.races)
 }
 
-/// The status after the log was printed. A folder of code without a file that it names is told.
+/// The exit status after the log was printed. If the folder of code has none of the files, a note says so.
 fn status_of(rt: &HostRuntime, parts: &Parts, task: &MergeTask<'_>, written: Written) -> ExitCode {
     if written.lacks_code && tell_codeless(rt, task.source.unwrap_or("")).is_err() {
         return tell_replay(rt, ReplayFault::OutOfMemory);
@@ -89,7 +89,7 @@ fn status_of(rt: &HostRuntime, parts: &Parts, task: &MergeTask<'_>, written: Wri
     status_at(rt, parts, written.races, task.fail)
 }
 
-/// Prints the log of the parts, with the code in this folder.
+/// Prints the parts as a SARIF log, with the code in this folder.
 fn print_in(rt: &HostRuntime, parts: &Parts, task: &MergeTask<'_>, root: &[u8]) -> ExitCode {
     let mut writer = FromWrite::new(io::writer(rt));
     match write_log(rt, parts, task.apart, root, &mut writer) {
@@ -101,7 +101,7 @@ fn print_in(rt: &HostRuntime, parts: &Parts, task: &MergeTask<'_>, root: &[u8]) 
     }
 }
 
-/// Prints what is told of the parts as a log.
+/// Prints the parts as a SARIF log.
 pub(crate) fn print_log(rt: &HostRuntime, parts: &Parts, task: &MergeTask<'_>) -> ExitCode {
     let Some(folder) = task.source else {
         return print_in(rt, parts, task, b"");

@@ -1,5 +1,5 @@
-//! The workbench as a program: replays a script on a trace, runs several at once, answers lines as they come, prints what a trace holds, lists its races,
-//! explains a pair of its events, or merges reports.
+//! The program. It replays scripts, runs several at the same time, and answers sessions. It prints what a trace holds,
+//! its races and its windows, explains a pair of its events, and merges reports.
 #![tactic(auto)]
 
 ghost use Rattle.program_words.specs.Tasks.{IsWithin};
@@ -59,7 +59,7 @@ use std::process::ExitCode;
 use std::sync::Wait;
 use std::thread::Threads;
 
-/// What the words may ask for. There is a client more than there may be scripts at once, which is left for what a search finds.
+/// The limits of the arguments. There is one client more than scripts: the one that proposes what workers find.
 const LIMITS: Limits = Limits {
     clients: MAX_SCRIPTS as u32 + 1,
     workers: MAX_WORKERS,
@@ -67,7 +67,7 @@ const LIMITS: Limits = Limits {
     events: MAX_EVENTS as u32,
 };
 
-/// The words that the program is called with, its own name first.
+/// The arguments of the program, with its own name first.
 fn read_words(rt: &HostRuntime) -> Result<Vec<String>, Told> {
     match std::env::args(rt) {
         Ok(words) => match words.collect(rt.alloc()) {
@@ -81,7 +81,7 @@ fn read_words(rt: &HostRuntime) -> Result<Vec<String>, Told> {
     }
 }
 
-/// Does what is asked for. What starts threads is passed beside the rest, since it is given to `main` alone.
+/// Does the task. `starts` starts threads; it is a separate parameter, since only `main` gets it.
 fn work<R: Threads + Wait + Sync + Clone + Send + Drop + 'static>(
     rt: &HostRuntime,
     starts: &R,
@@ -107,7 +107,7 @@ fn work<R: Threads + Wait + Sync + Clone + Send + Drop + 'static>(
     }
 }
 
-/// Does what the words ask for.
+/// Reads the arguments, and does the task that they name.
 fn work_on_words<R: Threads + Wait + Sync + Clone + Send + Drop + 'static>(
     rt: &HostRuntime,
     starts: &R,

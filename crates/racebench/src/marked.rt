@@ -1,4 +1,4 @@
-//! Whether bytes that come in pieces begin with a UTF-8 byte order mark, and what is said of a trace that does.
+//! Whether bytes that come in pieces begin with a UTF-8 byte order mark, and the note on a trace that does.
 
 use crate::input::Input;
 use crate::likeness::MARKED;
@@ -12,15 +12,15 @@ pub(crate) enum Head {
     Empty,
     /// The first byte of a mark.
     One,
-    /// The first two.
+    /// The first two bytes of a mark.
     Two,
-    /// A mark.
+    /// A whole mark.
     Mark,
-    /// Something else.
+    /// No mark.
     Other,
 }
 
-/// What they are with one byte more.
+/// What the first bytes are after one more byte.
 fn with_byte(head: Head, byte: u8) -> Head {
     match head {
         Head::Empty => { if byte == 0xef { Head::One } else { Head::Other } }
@@ -37,7 +37,7 @@ fn with_byte(head: Head, byte: u8) -> Head {
     }
 }
 
-/// What they are with the first of these bytes, of which so many came. Three bytes decide.
+/// What the first bytes are after the first `count` of these bytes. Three bytes decide.
 pub(crate) fn after(head: Head, bytes: &[u8], count: usize) -> Head {
     let mut head = head;
     for at in 0..bytes.len().min(count).min(3) {
@@ -46,7 +46,7 @@ pub(crate) fn after(head: Head, bytes: &[u8], count: usize) -> Head {
     head
 }
 
-/// Says of a trace that was read, which has this name, that it begins with a byte order mark.
+/// Writes a note, if notes are wanted, that the trace with this name begins with a byte order mark.
 pub(crate) fn say_marked(rt: &HostRuntime, name: &str) {
     if are_wanted(rt) {
         let mut line = Vec::new(rt.alloc());
@@ -56,7 +56,7 @@ pub(crate) fn say_marked(rt: &HostRuntime, name: &str) {
     }
 }
 
-/// Says of a trace that this input gave that it begins with a byte order mark, if it does.
+/// Writes that note, if the trace that this input gave begins with a mark.
 pub(crate) fn tell_mark(rt: &HostRuntime, input: &Input, path: &str) {
     if input.has_mark() {
         say_marked(rt, path);

@@ -22,7 +22,7 @@ use rapid_text::OutOfMemory;
 use std::io;
 use std::process::ExitCode;
 
-/// The path of the file with this number, the first being 1.
+/// The path of the file with this number, counted from 1; empty if there is none.
 fn path_of<'a>(paths: &[&'a str], file: u32) -> &'a str {
     match paths.get((file as usize).saturating_sub(1)) {
         Some(path) => path,
@@ -30,7 +30,7 @@ fn path_of<'a>(paths: &[&'a str], file: u32) -> &'a str {
     }
 }
 
-/// Appends the line that tells why a file is refused.
+/// Appends the line that says why a file is refused.
 fn append_refusal(
     out: &mut Vec<u8>,
     fault: MergeFault,
@@ -56,7 +56,7 @@ fn append_refusal(
     Ok(())
 }
 
-/// Appends the same, and the notes on a line that is refused.
+/// Appends that line, and the notes on a refused line of the file.
 fn append_refusal_notes(
     rt: &HostRuntime,
     out: &mut Vec<u8>,
@@ -73,7 +73,7 @@ fn append_refusal_notes(
     }
 }
 
-/// Says that a file is refused.
+/// Reports that a file is refused.
 fn tell_refusal(rt: &HostRuntime, fault: MergeFault, path: &str, other: &str) -> ExitCode
     ensures { 0 < exit_status result }
 {
@@ -82,7 +82,7 @@ fn tell_refusal(rt: &HostRuntime, fault: MergeFault, path: &str, other: &str) ->
     end(rt, &lines, made, ExitCode::FAILURE)
 }
 
-/// Tells a fault of the file with this number.
+/// Reports a fault of the file with this number.
 fn tell_merge(rt: &HostRuntime, fault: MergeFault, file: u32, paths: &[&str]) -> ExitCode
     ensures { 0 < exit_status result }
 {
@@ -95,7 +95,7 @@ fn tell_merge(rt: &HostRuntime, fault: MergeFault, file: u32, paths: &[&str]) ->
     }
 }
 
-/// Takes in the files at these paths. At a fault the number of its file stands beside it.
+/// Takes in the parts of the files at these paths. A fault comes with the number of its file.
 fn read_parts(rt: &HostRuntime, paths: &[&str]) -> Result<Parts, (MergeFault, u32)> {
     let mut parts = Parts::new(rt.alloc());
     match take_in(rt, &mut parts, paths) {
@@ -122,7 +122,7 @@ fn take_file(rt: &HostRuntime, parts: &mut Parts, path: &str, file: u32) -> Resu
     read_part(rt.alloc(), parts, path.as_bytes(), &mut reader, file)
 }
 
-/// The status after so many races of the parts were printed.
+/// The exit status after `races` races of the parts were printed.
 pub(crate) fn status_at(rt: &HostRuntime, parts: &Parts, races: u64, fail: bool) -> ExitCode
     ensures plain { fail ≡ false → exit_status result ≡ 0 }
     ensures races { fail ≡ true → 0 < races → exit_status result ≡ 3 }
@@ -153,7 +153,7 @@ fn print_merged(
     }
 }
 
-/// Prints it without what is left out.
+/// Prints the merged report without what the options leave out.
 fn print_decided(
     rt: &HostRuntime,
     parts: &Parts,
@@ -175,7 +175,8 @@ fn print_decided(
     }
 }
 
-/// The status after so many races were printed. What the files that leave races out are not about is told.
+/// The exit status after `races` races were printed. Reports first which entries are about no race, and whether known
+/// races have no block.
 fn status_after(
     rt: &HostRuntime,
     parts: &Parts,
@@ -189,7 +190,7 @@ fn status_after(
     }
 }
 
-/// Prints it as a page.
+/// Prints the merged report as a page.
 fn print_page(rt: &HostRuntime, parts: &Parts, task: &MergeTask<'_>) -> ExitCode {
     let mut writer = FromWrite::new(io::writer(rt));
     match write_merged_page(rt.alloc(), parts, task.apart, &mut writer) {
@@ -201,7 +202,7 @@ fn print_page(rt: &HostRuntime, parts: &Parts, task: &MergeTask<'_>) -> ExitCode
     }
 }
 
-/// Prints it as text or as JSON.
+/// Prints the merged report as text or as JSON.
 fn print_lines(rt: &HostRuntime, parts: &Parts, task: &MergeTask<'_>, form: RacesForm) -> ExitCode {
     let mut writer = FromWrite::new(io::writer(rt));
     let written = match form {
@@ -217,7 +218,7 @@ fn print_lines(rt: &HostRuntime, parts: &Parts, task: &MergeTask<'_>, form: Race
     }
 }
 
-/// Merges the reports in files into one, if the folder of the code is there.
+/// Merges the reports in files into one. Refuses a folder of code that is not there.
 pub(crate) fn merge_files(rt: &HostRuntime, task: &MergeTask<'_>) -> ExitCode {
     match task.source {
         Some(folder) if !is_folder(rt, folder) => tell_folder(rt, folder),
@@ -225,7 +226,7 @@ pub(crate) fn merge_files(rt: &HostRuntime, task: &MergeTask<'_>) -> ExitCode {
     }
 }
 
-/// Merges the reports in files into one, after what is left out was read.
+/// Reads what is left out, and merges the reports.
 fn merge_read(rt: &HostRuntime, task: &MergeTask<'_>) -> ExitCode {
     match read_decided(rt, wanted_of(task)) {
         Ok(decided) => merge_decided(rt, task, &decided),
@@ -233,7 +234,7 @@ fn merge_read(rt: &HostRuntime, task: &MergeTask<'_>) -> ExitCode {
     }
 }
 
-/// Merges the reports in files into one.
+/// Reads the parts, and prints the merged report.
 fn merge_decided(rt: &HostRuntime, task: &MergeTask<'_>, decided: &Decided) -> ExitCode {
     match read_parts(rt, &task.parts) {
         Ok(parts) => print_merged(rt, &parts, task, decided),

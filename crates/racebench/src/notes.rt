@@ -1,4 +1,4 @@
-//! Notes: what stands after the line of a fault and says more of it, each in a line of its own.
+//! Notes: lines after the line of a fault that say more about it.
 
 use crate::likeness::{Likeness, words_of};
 use crate::lines::{
@@ -15,17 +15,17 @@ use std::io::IsTerminal;
 /// The most bytes of a word that a note shows.
 const MAX_SHOWN: usize = 40;
 
-/// The variable of the environment that asks for notes where standard error is no terminal.
+/// The environment variable that requests notes if standard error is no terminal.
 const ASKED_BY: &str = "RACEBENCH_NOTES";
 
-/// How notes call standard input and output, and the script of a joint text.
+/// The names of standard input, standard output, and the script of a joint text in notes.
 const STANDARD_INPUT: &str = "standard input";
 
 pub(crate) const STANDARD_OUTPUT: &str = "standard output";
 
 const SCRIPT: &str = "the script";
 
-/// Whether notes are written: on a terminal, or if the environment asks for them by the value 1.
+/// Whether notes are wanted: standard error is a terminal, or the environment variable `RACEBENCH_NOTES` is 1.
 pub(crate) fn are_wanted(rt: &HostRuntime) -> bool {
     if rt.stderr().is_terminal() {
         return true;
@@ -36,7 +36,7 @@ pub(crate) fn are_wanted(rt: &HostRuntime) -> bool {
     }
 }
 
-/// How a line with this command word is written after the client, as help has it.
+/// How a line with this command word is written after the client, as help says it.
 fn usage_of(command: &[u8]) -> Option<&'static [u8]> {
     let mut rest = overview().as_bytes();
     let mut is_listed = false;
@@ -51,7 +51,7 @@ fn usage_of(command: &[u8]) -> Option<&'static [u8]> {
     None
 }
 
-/// Appends a note of these words on an input.
+/// Appends a note on an input: its name, and these words.
 pub(crate) fn append_named(out: &mut Vec<u8>, name: &str, words: &[u8]) -> Result<(), OutOfMemory> {
     out.extend_from_slice(b"note: ")?;
     append_name(out, name)?;
@@ -60,7 +60,7 @@ pub(crate) fn append_named(out: &mut Vec<u8>, name: &str, words: &[u8]) -> Resul
     Ok(())
 }
 
-/// Appends a note that says what an input looks like, and then these words.
+/// Appends a note that says what kind of file an input looks like, and then these words.
 pub(crate) fn append_kind(
     out: &mut Vec<u8>,
     name: &str,
@@ -75,7 +75,7 @@ pub(crate) fn append_kind(
     Ok(())
 }
 
-/// What is wrong with an input that was opened, and not read.
+/// Why an opened input was not read, in words.
 pub(crate) fn unread_words(why: ReadCause) -> &'static [u8] {
     match why {
         ReadCause::TooLong => b" has more than 268,435,456 bytes",
@@ -83,7 +83,7 @@ pub(crate) fn unread_words(why: ReadCause) -> &'static [u8] {
     }
 }
 
-/// Appends the note that says how a line with this command word is written.
+/// Appends the note on how a line with this command word is written.
 fn append_usage_note(out: &mut Vec<u8>, command: &[u8]) -> Result<(), OutOfMemory> {
     match usage_of(command) {
         Some(usage) => {
@@ -96,7 +96,7 @@ fn append_usage_note(out: &mut Vec<u8>, command: &[u8]) -> Result<(), OutOfMemor
     Ok(())
 }
 
-/// Appends the notes on the command word of a line that is refused for it, or for the number of its arguments.
+/// Appends the notes on a line that is refused for its command word, or for the number of its arguments.
 fn append_word_notes(out: &mut Vec<u8>, line: &[u8]) -> Result<(), OutOfMemory> {
     let command = command_of(line);
     if command.is_empty() {
@@ -132,7 +132,7 @@ pub(crate) fn append_script_notes(
     Ok(())
 }
 
-/// Appends the notes on a fault of a joint text, of which these are the first bytes.
+/// Appends the notes on a fault of a joint text. `text` has its first bytes.
 pub(crate) fn append_joint_notes(
     out: &mut Vec<u8>,
     text: &[u8],

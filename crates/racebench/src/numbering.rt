@@ -7,7 +7,7 @@ use rapid_text::OutOfMemory;
 use std::alloc::Global;
 use window::Window;
 
-/// The number that the digits at the front are, and what stands after them.
+/// The number that the digits at the front make, and what comes after them.
 fn number_at(bytes: &[u8]) -> (u64, &[u8]) {
     let end = bytes
         .iter()
@@ -22,13 +22,14 @@ fn number_at(bytes: &[u8]) -> (u64, &[u8]) {
     (number, from(bytes, end))
 }
 
-/// What stands before the number of an event. In a text of JSON each quote has a backslash before it.
+/// What comes before the number of an event. Quotes within texts of JSON have a backslash before them, so no text has
+/// these bytes.
 const EVENT: &[u8] = b"{\"event\":";
 
-/// What the line of the counts begins with, before how many pairs of places are apart.
+/// The beginning of the line of counts, before the number of pairs of locations that are apart.
 const APART: &[u8] = b"{\"apart\":";
 
-/// The first line, with its end, and what stands after it.
+/// The first line, with its end, and what comes after it.
 fn cut_line(text: &[u8]) -> (&[u8], &[u8]) {
     let end = memchr(b'\n', text).unwrap_or(text.len()).saturating_add(1);
     (before(text, end), from(text, end))
@@ -68,8 +69,8 @@ fn count_of_prologue(part: &[u8], window: &Window) -> u64 {
     count
 }
 
-/// What `triage --json` printed of a window, with the numbers that its events have in the trace, and without pairs of events of its
-/// prologue, which are all apart.
+/// What `triage --json` printed of a window, with the numbers that the events have in the trace. Pairs of events of the
+/// prologue, which are all apart, are left out.
 pub(crate) fn moved(alloc: Global, part: &[u8], window: &Window) -> Result<Vec<u8>, OutOfMemory> {
     let gone = count_of_prologue(part, window);
     let mut out = Vec::new(alloc);
@@ -86,7 +87,7 @@ pub(crate) fn moved(alloc: Global, part: &[u8], window: &Window) -> Result<Vec<u
     Ok(out)
 }
 
-/// Appends the line of the counts, with so many pairs of places fewer that are apart.
+/// Appends the line of counts, with `gone` fewer pairs of locations that are apart.
 fn append_counts(out: &mut Vec<u8>, line: &[u8], gone: u64) -> Result<(), OutOfMemory> {
     let (apart, behind) = number_at(from(line, APART.len()));
     out.extend_from_slice(APART)?;

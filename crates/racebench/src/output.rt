@@ -1,4 +1,5 @@
-//! Standard output of a session, which can say that it failed: its log is written too, and the fault of both is one.
+//! Standard output of a session. It knows whether it failed, because a failed write may also be one of the log, and
+//! both are fault 95.
 ghost use Rattle.std.specs.Prelude.{◌≡◌, false};
 
 use crate::notes::STANDARD_OUTPUT;
@@ -23,7 +24,7 @@ impl<K: Sink> Output<K> {
         }
     }
 
-    /// What was not written at fault 95 of a session on this log.
+    /// What was not written at fault 95: standard output, or the log with this name.
     pub(crate) fn unwritten<'a>(&self, log: &'a str) -> &'a str {
         if self.failed { STANDARD_OUTPUT } else { log }
     }

@@ -1,4 +1,4 @@
-//! The note on two names of no pair: which of the reasons it is.
+//! The note on two names that mean no pair: which of the reasons it is.
 
 ghost use Rattle.std.specs.Prelude.{◌≡◌, false};
 
@@ -13,8 +13,8 @@ use event_index::Indexed;
 use program_words::PairTask;
 use rapid_text::OutOfMemory;
 
-/// Appends the note that says why the names of the trace in a file mean no pair. The file is read once more, so a file
-/// that is not plain gets no note.
+/// Appends the note on why the names mean no pair of the trace in a file. The file is read again, so there is no note
+/// if it is not plain.
 pub(crate) fn append_pair_note(
     rt: &HostRuntime,
     out: &mut Vec<u8>,
@@ -27,7 +27,7 @@ pub(crate) fn append_pair_note(
     append_note_of(rt, out, &mut input, pair)
 }
 
-/// Appends the note, of the trace that this input holds.
+/// Appends the note, for the trace that this input gives.
 fn append_note_of(
     rt: &HostRuntime,
     out: &mut Vec<u8>,
@@ -42,7 +42,7 @@ fn append_note_of(
     }
 }
 
-/// Appends the note, of this trace.
+/// Appends the note, for this trace.
 fn append_reason_of(
     rt: &HostRuntime,
     out: &mut Vec<u8>,
@@ -55,7 +55,7 @@ fn append_reason_of(
     }
 }
 
-/// Appends the note on an event and what another name means.
+/// Appends the note on an event and another name.
 fn append_event_reason(
     rt: &HostRuntime,
     out: &mut Vec<u8>,
@@ -96,7 +96,7 @@ fn append_reason(
     Ok(())
 }
 
-/// Appends the note on a number that is no event of a trace of so many events.
+/// Appends the note on a number that is no event. `len` is how many events the trace has.
 pub(crate) fn append_no_event(out: &mut Vec<u8>, event: u32, len: u32) -> Result<(), OutOfMemory> {
     out.extend_from_slice(b"note: ")?;
     append_number(out, u64::from(event))?;

@@ -11,10 +11,10 @@ use std::alloc::Global;
 /// How many bytes are read at a time.
 const CHUNK: usize = 65_536;
 
-/// More than the bytes that are kept: so many reads of a byte or more, or lines, are never done at once.
+/// More than the number of bytes that are kept. So no loop over reads or lines takes that many turns.
 const READS: usize = LIMIT + 2;
 
-/// Lines that were read and not taken yet, and where more come from.
+/// Lines that were read and not taken yet, and the input that gives more.
 #[derive(Drop)]
 pub(crate) struct Pieces {
     input: Input,
@@ -29,8 +29,8 @@ pub(crate) struct Span {
     pub(crate) events: usize,
 }
 
-/// Whether the line is an event, or is refused: all lines but empty ones, and the bounds of atomic blocks. It comes
-/// with its line feed, which `trim` does not take for a blank.
+/// Whether the line is an event, or is refused. These are all lines except empty ones and bounds of atomic blocks.
+/// `line` has its line feed, which is removed first, since `trim` does not take it for a blank.
 fn is_event(line: &[u8]) -> bool {
     let line = trim(before(line, line.len().saturating_sub(1)));
     match memchr(b'|', line) {
@@ -42,22 +42,22 @@ fn is_event(line: &[u8]) -> bool {
     }
 }
 
-/// What stands after this place.
+/// What comes after this index.
 fn behind(bytes: &[u8], at: usize) -> &[u8] {
     from(bytes, at.saturating_add(1))
 }
 
-/// What stands from this place on.
+/// What comes from this index on.
 pub(crate) fn from(bytes: &[u8], at: usize) -> &[u8] {
     &bytes[at.min(bytes.len())..]
 }
 
-/// What stands before this place.
+/// What comes before this index.
 pub(crate) fn before(bytes: &[u8], at: usize) -> &[u8] {
     &bytes[..at.min(bytes.len())]
 }
 
-/// The place after the end of the first line from this place on, of which no end stands before another place.
+/// Where the first line from `from_place` on ends. No line ends between there and `looked`, so the search begins there.
 fn line_end(bytes: &[u8], from_place: usize, looked: usize) -> Option<usize> {
     let start = from_place.max(looked);
     match memchr(b'\n', from(bytes, start)) {
@@ -66,7 +66,7 @@ fn line_end(bytes: &[u8], from_place: usize, looked: usize) -> Option<usize> {
     }
 }
 
-/// Where the line of this number ends, from 1; 0 if there is none before it.
+/// Where the line with this number ends, counted from 1; the end of the last line if there are fewer. 0 for number 0.
 pub(crate) fn end_of_line(bytes: &[u8], number: u64) -> usize {
     let mut end = 0;
     for _ in 0..number {
@@ -78,7 +78,7 @@ pub(crate) fn end_of_line(bytes: &[u8], number: u64) -> usize {
     end
 }
 
-/// How many lines end before this place.
+/// How many lines end before this index.
 pub(crate) fn lines_before(bytes: &[u8], at: usize) -> u64 {
     let mut lines = 0u64;
     for byte in before(bytes, at).iter() {
@@ -89,7 +89,7 @@ pub(crate) fn lines_before(bytes: &[u8], at: usize) -> u64 {
     lines
 }
 
-/// Where the lines before the event of this number end, from 0.
+/// Where the line of the event with this number begins. Events are counted from 0.
 pub(crate) fn start_of_event(bytes: &[u8], number: u64) -> usize {
     let mut start = 0;
     let mut met = 0u64;
@@ -109,7 +109,7 @@ pub(crate) fn start_of_event(bytes: &[u8], number: u64) -> usize {
 }
 
 impl Pieces {
-    /// Nothing was read of it yet.
+    /// An input of which nothing was read yet.
     pub(crate) fn new(alloc: Global, input: Input) -> Pieces {
         Pieces {
             input,
@@ -118,7 +118,7 @@ impl Pieces {
         }
     }
 
-    /// Says of the trace at this path that it begins with a byte order mark, if it does.
+    /// If the trace begins with a byte order mark, writes a note on it. `path` is that of the trace.
     pub(crate) fn tell_mark(&self, rt: &HostRuntime, path: &str) {
         tell_mark(rt, &self.input, path);
     }
@@ -128,14 +128,15 @@ impl Pieces {
         self.bytes.as_slice()
     }
 
-    /// Takes what stands before this place.
+    /// Takes away what comes before this index.
     pub(crate) fn take(&mut self, alloc: Global, end: usize) -> Result<(), ReplayFault> {
         let left = Vec::from_slice(alloc, from(self.bytes.as_slice(), end))?;
         self.bytes = left;
         Ok(())
     }
 
-    // Reads on, if there is room for as much as is read at a time. At the end of the input, the last line gets an end if it has none.
+    // Reads more, if there is room for a whole chunk. At the end of the input, the last line gets an end if it has
+    // none.
     fn read_on(&mut self) -> Result<(), ReplayFault> {
         if self.bytes.len().saturating_add(CHUNK) > LIMIT {
             return Err(unread(ReadCause::TooLong));
@@ -152,7 +153,7 @@ impl Pieces {
         Ok(())
     }
 
-    // The input has ended.
+    // Notes that the input has ended.
     fn end(&mut self) -> Result<(), ReplayFault> {
         self.is_ended = true;
         if !self.bytes.is_empty() && !self.bytes.ends_with(b"\n") {
@@ -161,7 +162,7 @@ impl Pieces {
         Ok(())
     }
 
-    // The end of the line at this place; nothing at the end of the input.
+    // Where the line from this index on ends; None at the end of the input.
     fn next_line(&mut self, start: usize) -> Result<Option<usize>, ReplayFault> {
         let mut looked = start;
         for _ in 0..READS {
@@ -177,7 +178,7 @@ impl Pieces {
         Err(unread(ReadCause::TooLong))
     }
 
-    /// The lines from this place on, up to the last of so many events, or to the end of the input.
+    /// The lines from this index on, up to the last of `events` events, or to the end of the input.
     pub(crate) fn span(&mut self, start: usize, events: usize) -> Result<Span, ReplayFault> {
         let mut span = Span {
             end: start,
@@ -195,7 +196,7 @@ impl Pieces {
         Ok(span)
     }
 
-    /// The same, or as many of these lines as are kept at once with those before this place.
+    /// The same; fewer lines, if no more can be kept at once.
     pub(crate) fn span_kept(&mut self, start: usize, events: usize) -> Result<Span, ReplayFault> {
         let none = Span {
             end: start,
@@ -204,7 +205,7 @@ impl Pieces {
         self.span_more(none, events)
     }
 
-    /// The same, where these first lines were found before.
+    /// The same, if these first lines were found before.
     pub(crate) fn span_more(&mut self, found: Span, events: usize) -> Result<Span, ReplayFault> {
         let mut span = found;
         for _ in 0..READS {
@@ -225,7 +226,7 @@ impl Pieces {
         Ok(span)
     }
 
-    // The span with the line that ends at this place.
+    // The span with one line more, which ends at this index.
     fn with_line(&self, span: Span, end: usize) -> Span {
         let line = from(before(self.bytes.as_slice(), end), span.end);
         let more = if is_event(line) { 1 } else { 0 };
@@ -235,7 +236,7 @@ impl Pieces {
         }
     }
 
-    /// Whether no event comes after this place. If no more lines are kept at once, one may come.
+    /// Whether no event comes after this index. False if no more lines can be kept.
     pub(crate) fn is_end(&mut self, start: usize) -> Result<bool, ReplayFault> {
         match self.span(start, 1) {
             Ok(more) => Ok(more.events == 0),
@@ -249,7 +250,7 @@ impl Pieces {
     }
 }
 
-/// Whether no more is kept at once.
+/// Whether the fault is that no more can be kept.
 fn is_full(fault: ReplayFault) -> bool {
     match fault {
         ReplayFault::Read {

@@ -1,4 +1,5 @@
-//! The note on two locations of no pair of events: none, several, or no conflict.
+//! The note on names that mean no pair, if at least one is a location. A name fits no access, or several places; or
+//! nothing conflicts.
 
 ghost use Rattle.std.specs.Prelude.{◌≡◌, length};
 
@@ -14,7 +15,7 @@ use std::alloc::Global;
 /// The most locations that a note lists.
 const MAX_LISTED: usize = 4;
 
-/// Appends the note that says why two names of this trace mean no pair, one of which is a location.
+/// Appends the note on why two names mean no pair of this trace, if at least one is a location.
 pub(crate) fn append_place_reason(
     alloc: Global,
     out: &mut Vec<u8>,
@@ -33,7 +34,7 @@ pub(crate) fn append_place_reason(
     append_both_note(out, one, other, ones.as_slice(), others.as_slice())
 }
 
-/// Appends the note on a name that means nothing, or accesses at several locations; whether there was such a note.
+/// Appends the note on a name that means no access, or accesses at several places. Returns whether there was a note.
 fn append_name_note(
     alloc: Global,
     out: &mut Vec<u8>,
@@ -59,7 +60,7 @@ fn append_name_note(
     }
 }
 
-/// Appends the note on a number that is no event; whether it is none.
+/// Appends the note on a number that is no event. Returns whether it is none.
 fn append_event_note(
     out: &mut Vec<u8>,
     indexed: &Indexed,
@@ -80,7 +81,7 @@ fn append_word(out: &mut Vec<u8>, word: &[u8]) -> Result<(), OutOfMemory> {
     Ok(())
 }
 
-/// Appends the note on a word that fits no access, and the locations of accesses in its file, if it names a file and a line.
+/// Appends the note on a word that fits no access, with places of accesses in the word's file, if there are any.
 fn append_unknown(
     alloc: Global,
     out: &mut Vec<u8>,
@@ -102,7 +103,7 @@ fn append_unknown(
     Ok(())
 }
 
-/// The file of a word `FILE:LINE`, else the word.
+/// The file of a word `FILE:LINE`; any other word as it is.
 fn file_of(word: &[u8]) -> &[u8] {
     match memrchr(b':', word) {
         Some(at) => &word[..at],
@@ -110,7 +111,7 @@ fn file_of(word: &[u8]) -> &[u8] {
     }
 }
 
-/// Appends the note on a word that fits accesses at several locations.
+/// Appends the note on a word that fits accesses at several places.
 fn append_several(
     out: &mut Vec<u8>,
     indexed: &Indexed,
@@ -124,8 +125,8 @@ fn append_several(
     Ok(())
 }
 
-/// Appends these words, if there are any places, and the first places of the events with a flag, each once, if their
-/// files end with this text.
+/// Appends these words and the places of the events with a flag, each once, four at most. Only places whose file ends
+/// with `file` count. If there are none, appends nothing.
 fn append_places(
     out: &mut Vec<u8>,
     words: &[u8],
@@ -170,7 +171,7 @@ fn is_place(name: Name<'_>) -> bool {
     }
 }
 
-/// Appends the note on two names that mean accesses at one location each, and no pair.
+/// Appends the note on two names that each mean accesses at one place, but no pair.
 fn append_both_note(
     out: &mut Vec<u8>,
     one: Name<'_>,

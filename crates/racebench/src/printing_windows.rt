@@ -13,7 +13,7 @@ use program_words::RacesForm;
 use std::alloc::Global;
 use std::io;
 
-/// Writes the merged report of the windows. Answers how many races are printed.
+/// Writes the merged report of the windows. Returns how many races it has.
 fn write_report<K: Sink>(
     rt: &HostRuntime,
     windows: &Windows,
@@ -38,7 +38,7 @@ fn write_report<K: Sink>(
     }
 }
 
-/// Writes the same without what is left out.
+/// Writes the merged report without what the options leave out. As text, it comes after the counts of the windows.
 fn write_chosen<K: Sink>(
     rt: &HostRuntime,
     windows: &Windows,
@@ -60,7 +60,7 @@ fn write_chosen<K: Sink>(
     }
 }
 
-/// Writes the merged report of the windows without what is left out.
+/// Writes the merged report without what the options leave out, and without counts.
 fn write_rest<K: Sink>(
     rt: &HostRuntime,
     report: &Report<'_>,
@@ -84,7 +84,7 @@ fn write_rest<K: Sink>(
     ))
 }
 
-/// The answer, as the calls on merged reports have it.
+/// The outcome, in the type of the calls on merged reports.
 fn told_of(written: Result<u64, TriageFault>) -> Result<u64, MergeFault> {
     match written {
         Ok(races) => Ok(races),
@@ -93,7 +93,7 @@ fn told_of(written: Result<u64, TriageFault>) -> Result<u64, MergeFault> {
     }
 }
 
-/// Writes the counts of the windows, and the merged report as text. Answers how many races are printed.
+/// Writes the counts of the windows, and the merged report as text. Returns how many races it has.
 fn write_lines<K: Sink>(
     alloc: Global,
     windows: &Windows,
@@ -110,7 +110,7 @@ fn write_lines<K: Sink>(
     }
 }
 
-/// Prints the merged report of the windows. Answers how many races are printed.
+/// Prints the merged report of the windows. Returns how many races it has.
 pub(crate) fn print_report(
     rt: &HostRuntime,
     windows: &Windows,

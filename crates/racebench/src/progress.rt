@@ -1,5 +1,5 @@
-//! What standard error shows while `triage` looks for races. On a terminal: a line that is written anew a few times a second, and wiped out
-//! before anything else is written. Elsewhere: the same, as lines.
+//! What standard error shows while `triage` works. On a terminal it is one line, written again a few times a second,
+//! and wiped out before other output. Elsewhere it is many lines.
 
 use crate::telling::say;
 use calls::triage::Watch;
@@ -9,16 +9,17 @@ use std::sync::atomic::{AtomicU64, Ordering};
 use std::sync::{Mutex, Wait};
 use std::time::Duration;
 
-/// How many milliseconds the work takes before a line is shown, so that what is quick shows none.
+/// How many milliseconds pass before the first line, so that quick work shows none.
 const FIRST: u64 = 1_000;
 
-/// How many milliseconds lie between two lines.
+/// How many milliseconds pass between two lines.
 const BETWEEN: u64 = 200;
 
-/// As many blanks as the longest line has characters, that of 1,048,576 pairs of places. A line is never shorter than the one before it.
+/// As many blanks as the longest line has characters, that for 1,048,576 pairs of locations. A line is never shorter
+/// than the one before it.
 const WIPE: &[u8] = b"\r                                  \r";
 
-/// How far the work is. Those who work count here, and one thread beside them shows it.
+/// How far the work is. The threads that work count here, and another thread shows it.
 #[derive(Drop)]
 pub(crate) struct Progress<'a, R: Wait> {
     rt: &'a HostRuntime,
@@ -29,12 +30,12 @@ pub(crate) struct Progress<'a, R: Wait> {
     has_ended: AtomicU64,
     // Whether standard error is a terminal.
     is_terminal: bool,
-    // Whether a line is to be wiped out. Who has this alone writes.
+    // Whether a line must be wiped out. Only the thread that holds this mutex writes.
     is_shown: Mutex<bool>,
 }
 
 impl<'a, R: Wait> Progress<'a, R> {
-    /// The progress of work that begins. What waits is passed beside the rest.
+    /// The progress of work that begins now. `waits` is what threads wait with.
     pub(crate) fn new(rt: &'a HostRuntime, waits: &'a R, is_terminal: bool) -> Progress<'a, R> {
         Progress {
             rt,
@@ -48,7 +49,7 @@ impl<'a, R: Wait> Progress<'a, R> {
         }
     }
 
-    /// Shows it until the work has ended.
+    /// Shows how far the work is, until the work has ended.
     pub(crate) fn show(&self) {
         let mut nap = FIRST;
         for _ in self.waits.forever() {
@@ -63,7 +64,7 @@ impl<'a, R: Wait> Progress<'a, R> {
         unreachable!()
     }
 
-    // Writes the line, where there is something to tell. The work may have ended meanwhile.
+    // Writes the line, if there is one and the work has not ended.
     fn show_once(&self) {
         let mut line = Vec::new(self.rt.alloc());
         let is_made = self.append_line(&mut line).is_ok();
@@ -74,7 +75,8 @@ impl<'a, R: Wait> Progress<'a, R> {
         }
     }
 
-    // Appends the line, or nothing before the trace was read. On a terminal it takes the place of the one before it.
+    // Appends the line. It is empty before the trace was read. On a terminal it begins with a carriage return, so that
+    // it replaces the last one.
     fn append_line(&self, out: &mut Vec<u8>) -> Result<(), OutOfMemory> {
         let judged = self.judged.load(Ordering::SeqCst);
         let events = self.events.load(Ordering::SeqCst);
@@ -96,7 +98,7 @@ impl<'a, R: Wait> Progress<'a, R> {
     }
 }
 
-// Appends how many pairs of places have their verdict.
+// Appends how many pairs of locations have their verdict.
 fn append_judged(out: &mut Vec<u8>, judged: u64, pairs: u64) -> Result<(), OutOfMemory> {
     append_pieces(
         out,

@@ -1,4 +1,4 @@
-//! How notes show bytes from outside: names of inputs and refused lines.
+//! How notes show bytes from outside: names of inputs, and refused lines.
 
 use rapid_text::{OutOfMemory, trim};
 use report::{Piece, append_pieces};
@@ -6,7 +6,7 @@ use report::{Piece, append_pieces};
 /// The most bytes of a line that a note shows.
 const MAX_LINE_SHOWN: usize = 60;
 
-/// Appends the bytes, a question mark instead of each that can't be printed.
+/// Appends the bytes, with a question mark instead of each that is no printable ASCII character.
 pub(crate) fn append_shown(out: &mut Vec<u8>, bytes: &[u8]) -> Result<(), OutOfMemory> {
     for byte in bytes {
         let is_printed = *byte >= b' ' && *byte <= b'~';
@@ -15,7 +15,7 @@ pub(crate) fn append_shown(out: &mut Vec<u8>, bytes: &[u8]) -> Result<(), OutOfM
     Ok(())
 }
 
-/// Appends the name of an input, a question mark instead of each control character. `-` is standard input.
+/// Appends the name of an input, with a question mark instead of each control character. `-` becomes `standard input`.
 pub(crate) fn append_name(out: &mut Vec<u8>, name: &str) -> Result<(), OutOfMemory> {
     if name == "-" {
         out.extend_from_slice(b"standard input")?;
@@ -33,7 +33,7 @@ pub(crate) fn append_number(out: &mut Vec<u8>, number: u64) -> Result<(), OutOfM
     append_pieces(out, &[Piece::Number(number)])
 }
 
-/// Appends the note that quotes a refused line of an input, which has this number there.
+/// Appends the note that quotes a refused line, which has this number in the input.
 pub(crate) fn append_quote(
     out: &mut Vec<u8>,
     name: &str,
@@ -43,7 +43,7 @@ pub(crate) fn append_quote(
     append_quoted(out, b"line ", name, number, line)
 }
 
-/// Appends the note that quotes the line of an event, which has this number in an input.
+/// Appends the note that quotes the line of an event, which has this number in the input.
 pub(crate) fn append_event(
     out: &mut Vec<u8>,
     name: &str,
@@ -53,7 +53,7 @@ pub(crate) fn append_event(
     append_quoted(out, b"event ", name, number, line)
 }
 
-/// Appends the note that quotes a line, of which this word and number say which it is.
+/// Appends the note that quotes a line. The word and the number say which line it is.
 fn append_quoted(
     out: &mut Vec<u8>,
     word: &[u8],

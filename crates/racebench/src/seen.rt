@@ -1,15 +1,15 @@
-//! What `triage` has seen of its inputs, so that nothing found can be told from nothing judged.
+//! What `triage` has seen of its inputs. So a caller knows whether nothing was found or nothing was judged.
 
 use calls::triage::{Hears, Watch};
 use std::sync::atomic::{AtomicU64, Ordering};
 
-/// The mark of an entry of a triage file that leaves a race out, and is about none.
+/// The mark of an entry of a triage file that leaves races out but is about none.
 pub(crate) const UNMET: u64 = 1;
 
-/// The mark of an entry that says that its race was fixed, and is about one.
+/// The mark of an entry of a triage file that says `fixed` but is about a race.
 pub(crate) const BACK: u64 = 2;
 
-/// Notes what was read, and hands on to another who watches.
+/// Records what was read, and passes it on to another watcher.
 #[derive(Drop)]
 pub(crate) struct Seen<'a, W: Watch> {
     watch: &'a W,
@@ -20,7 +20,7 @@ pub(crate) struct Seen<'a, W: Watch> {
 }
 
 impl<'a, W: Watch> Seen<'a, W> {
-    /// Nothing was read yet. There is a mark for each entry of a triage file.
+    /// A watcher that has seen nothing. `marks` has a mark for each entry of a triage file.
     pub(crate) fn new(watch: &'a W, marks: &'a [AtomicU64]) -> Seen<'a, W> {
         Seen {
             watch,
@@ -36,17 +36,17 @@ impl<'a, W: Watch> Seen<'a, W> {
         self.events.load(Ordering::SeqCst) != 0
     }
 
-    /// Whether a text of known races was read in which no block `race` stands.
+    /// Whether a text of known races was read that has no block `race`.
     pub(crate) fn lacks_blocks(&self) -> bool {
         self.blockless.load(Ordering::SeqCst) != 0
     }
 
-    /// The folder of the code was read, and whether it has a file that the trace names.
+    /// Records whether the folder of code has a file that the trace names.
     pub(crate) fn coded(&self, has_files: bool) {
         self.codeless.store(u64::from(!has_files), Ordering::SeqCst);
     }
 
-    /// Whether a folder of code was read that has no file that the trace names.
+    /// Whether the folder of code was read and has no file that the trace names.
     pub(crate) fn lacks_code(&self) -> bool {
         self.codeless.load(Ordering::SeqCst) != 0
     }
@@ -81,7 +81,7 @@ impl<W: Watch> Hears for Seen<'_, W> {
     }
 }
 
-/// The mark of an entry; 0 if nothing is said of it.
+/// The mark of an entry; 0 if there is nothing to report.
 fn mark_of(hides: bool, is_met: bool) -> u64 {
     if hides && !is_met {
         UNMET

@@ -1,4 +1,5 @@
-//! What the program does at the words `session` and `log`: it opens the inputs and the file of a log, which it makes where it is missing.
+//! What the program does at `session` and `log`: opens the inputs and the file of the log. If the log is missing,
+//! `session` makes it.
 ghost use Rattle.std.specs.Prelude.{◌≡◌, true, false};
 
 use crate::doing::finish;
@@ -20,7 +21,7 @@ use std::{fs, io};
 /// How many names are tried for the file that becomes the log.
 const MAX_NAMES: u32 = 1_000;
 
-/// The log's file was not read.
+/// 94: the log's file was not read.
 fn unread() -> SessionFault {
     SessionFault::Replay(ReplayFault::Read {
         input: 2,
@@ -28,12 +29,12 @@ fn unread() -> SessionFault {
     })
 }
 
-/// The log's file was not written.
+/// 95: the log's file was not written.
 fn unwritten() -> SessionFault {
     SessionFault::Replay(ReplayFault::Write)
 }
 
-/// Puts the folder of a path on the disk, with the names in it.
+/// Syncs the folder of a path to the disk, with the names in it.
 fn sync_folder(rt: &HostRuntime, path: &str) -> Result<(), SessionFault> {
     let folder = match Path::new(path).parent() {
         Some(folder) if !folder.as_str().is_empty() => folder.as_str(),
@@ -45,7 +46,7 @@ fn sync_folder(rt: &HostRuntime, path: &str) -> Result<(), SessionFault> {
     }
 }
 
-/// Gives the file of a new log its name. Where a file of that name is there by now, that one is the log.
+/// Gives the file of a new log its name. If a file with that name is there by now, that file is the log.
 fn put_in_place(rt: &HostRuntime, made: &str, path: &str) -> Result<(), SessionFault> {
     let is_linked = match fs::hard_link(rt, made, path) {
         Ok(()) => true,
@@ -57,7 +58,7 @@ fn put_in_place(rt: &HostRuntime, made: &str, path: &str) -> Result<(), SessionF
     Ok(())
 }
 
-/// Fills the file of a new log, which has this name, and gives it its own.
+/// Fills the file of a new log, which has the name `made`, and then gives it the name `path`.
 fn fill_file(
     rt: &HostRuntime,
     file: File,
@@ -75,7 +76,8 @@ fn fill_file(
     }
 }
 
-/// Makes the file of a log under this name, and gives it its own. Where a file has this name already, answers that none was made.
+/// Makes the file of a log under the name `made`, and then gives it the name `path`. Returns false if a file named
+/// `made` is there already.
 fn make_file_by(
     rt: &HostRuntime,
     made: &str,
@@ -102,7 +104,7 @@ fn make_file_by(
     }
 }
 
-/// Makes the file of a log by way of a name with this number.
+/// Makes the file of a log by way of a name with this number. Returns false if that name is taken.
 fn make_file_numbered(
     rt: &HostRuntime,
     number: u32,
@@ -115,7 +117,8 @@ fn make_file_numbered(
     }
 }
 
-/// Makes the file of a log: whole under another name first, so that a crash leaves no part of a head under its own.
+/// Makes the file of a log. It is written under another name first, so that a crash leaves no part of a head under
+/// the log's name.
 fn make_file(rt: &HostRuntime, path: &str, head: &[u8]) -> Result<(), SessionFault> {
     for number in 0..MAX_NAMES {
         if make_file_numbered(rt, number, path, head)? {
@@ -125,7 +128,7 @@ fn make_file(rt: &HostRuntime, path: &str, head: &[u8]) -> Result<(), SessionFau
     Err(unwritten())
 }
 
-/// Whether there is nothing at a path.
+/// Whether nothing is at a path.
 fn is_missing(rt: &HostRuntime, path: &str) -> bool {
     match fs::symlink_metadata(rt, path) {
         Ok(_) => false,
@@ -133,7 +136,7 @@ fn is_missing(rt: &HostRuntime, path: &str) -> bool {
     }
 }
 
-/// The log's file was not opened to be read and written: if it can be read, it was not written.
+/// The fault if the log can't be opened for reading and writing: not written if it can be read, else not read.
 fn unopened(rt: &HostRuntime, path: &str) -> SessionFault {
     if File::open(rt, path).is_ok() {
         unwritten()
@@ -142,8 +145,11 @@ fn unopened(rt: &HostRuntime, path: &str) -> SessionFault {
     }
 }
 
-/// Opens the file of a log, which is made if it is missing. Another kind of file may have no end, so it is not read. The log's name is on the disk
-/// before a line is answered: another session may have given it the name just now, and been killed.
+/// Opens the file of a log, which is made if it is missing. It must be a plain file, since another kind may have no
+/// end.
+///
+/// The log's name is on the disk before a line is answered. Another session may have made the file just now and been
+/// killed.
 fn log_at(rt: &HostRuntime, path: &str, head: &[u8]) -> Result<File, SessionFault> {
     if is_missing(rt, path) {
         make_file(rt, path, head)?;
@@ -158,7 +164,7 @@ fn log_at(rt: &HostRuntime, path: &str, head: &[u8]) -> Result<File, SessionFaul
     }
 }
 
-/// The trace in a file.
+/// Reads the trace in a file.
 fn trace_at(rt: &HostRuntime, path: &str) -> Result<Indexed, SessionFault> {
     let mut input = input_at(rt, path);
     match read_trace(rt.alloc(), &mut input) {
@@ -170,7 +176,7 @@ fn trace_at(rt: &HostRuntime, path: &str) -> Result<Indexed, SessionFault> {
     }
 }
 
-/// Answers standard input in a session.
+/// Answers the lines on standard input in a session.
 fn answer_lines<D: Device + Drop, K: Sink>(
     rt: &HostRuntime,
     session: &mut Session<D>,
@@ -201,7 +207,7 @@ fn answer_on_file<K: Sink>(
     }
 }
 
-/// The head of the log of a trace, and the file of the log at this path.
+/// The head of the log for a trace, and the opened file of the log at this path.
 fn opened_for(
     rt: &HostRuntime,
     indexed: &Indexed,
@@ -232,7 +238,7 @@ fn answer_on_trace<K: Sink>(
     }
 }
 
-/// Answers standard input on the trace in a file and the log in another.
+/// Answers standard input on the trace in one file and the log in another.
 fn answer_input<K: Sink>(
     rt: &HostRuntime,
     trace: &str,
@@ -248,7 +254,7 @@ fn answer_input<K: Sink>(
     }
 }
 
-/// A folder that stays open. It takes the place of a standard stream that is closed, if there is one: reads and writes of it fail.
+/// An open folder. If a standard stream is closed, it takes that place, and reads and writes there fail.
 fn held(rt: &HostRuntime) -> Result<File, SessionFault> {
     match File::open(rt, "/") {
         Ok(file) => Ok(file),
@@ -259,7 +265,8 @@ fn held(rt: &HostRuntime) -> Result<File, SessionFault> {
     }
 }
 
-/// The same with the place of each standard stream taken. Else the log could be opened in such a place, and answers be written into it.
+/// Answers standard input, with the places of closed standard streams taken. Else the log might be opened in such a
+/// place, and answers written into it.
 fn answer_apart<K: Sink>(
     rt: &HostRuntime,
     trace: &str,
@@ -275,7 +282,7 @@ fn answer_apart<K: Sink>(
     answer_input(rt, trace, log, client, writer)
 }
 
-/// Answers the lines on standard input, as they come. A failed write is told of standard output or of the log.
+/// Answers the lines on standard input as they come. If a write fails, the report names standard output or the log.
 pub(crate) fn session_on_files(
     rt: &HostRuntime,
     trace: &str,

@@ -1,4 +1,4 @@
-//! What the program says where it stops short of what the words ask for, and the status that it ends with then.
+//! Reports why the program stops before it has done its task, and returns the exit status.
 ghost use Rattle.std.specs.Prelude.{◌≡◌, ◌≢◌, ◌<◌, MatchResult};
 ghost use Rattle.std.specs.Process.{exit_status};
 ghost use Rattle.calls.specs.declared.fault.BenchFault.TheVariants.{TooManyScripts};
@@ -19,7 +19,7 @@ use program_words::PairTask;
 use rapid_text::OutOfMemory;
 use std::process::ExitCode;
 
-/// The status where words are refused, or ask for more than the program does.
+/// The exit status if arguments are refused, or request more than the program does.
 pub(crate) const REFUSED: u8 = 2;
 
 /// 94: an input could not be read.
@@ -28,7 +28,7 @@ const UNREAD: ReplayFault = ReplayFault::Read {
     why: ReadCause::Device,
 };
 
-/// Writes these bytes on standard error. Where that fails there is nobody left to tell.
+/// Writes these bytes on standard error. A failure is ignored, since it can't be reported.
 pub(crate) fn say(rt: &HostRuntime, bytes: &[u8]) {
     let mut errors = FromWrite::new(rt.stderr());
     let _ = write_all(&mut errors, bytes);
@@ -57,7 +57,7 @@ fn append_text(out: &mut Vec<u8>, fault: &Fault) -> Result<(), OutOfMemory> {
     }
 }
 
-/// Appends the line that tells a fault.
+/// Appends the line that reports a fault.
 pub(crate) fn append_fault(out: &mut Vec<u8>, fault: &Fault) -> Result<(), OutOfMemory> {
     out.extend_from_slice(b"racebench: ")?;
     append_text(out, fault)?;
@@ -65,7 +65,7 @@ pub(crate) fn append_fault(out: &mut Vec<u8>, fault: &Fault) -> Result<(), OutOf
     Ok(())
 }
 
-/// Says these lines and ends with this status; where there was no memory to make them, says that.
+/// Writes these lines and returns this status. If memory ran out while they were made, reports that instead.
 pub(crate) fn end(
     rt: &HostRuntime,
     lines: &[u8],
@@ -86,7 +86,7 @@ pub(crate) fn end(
     }
 }
 
-/// Tells a fault without notes.
+/// Reports a fault without notes.
 pub(crate) fn tell(rt: &HostRuntime, fault: Fault) -> ExitCode
     ensures { exit_status result ≡ 1 }
 {
@@ -95,14 +95,14 @@ pub(crate) fn tell(rt: &HostRuntime, fault: Fault) -> ExitCode
     end(rt, &lines, made, ExitCode::FAILURE)
 }
 
-/// Tells a fault that has no input to name: standard output was not written, or memory was refused.
+/// Reports a fault that names no input: standard output was not written, or memory ran out.
 pub(crate) fn tell_replay(rt: &HostRuntime, fault: ReplayFault) -> ExitCode
     ensures { 0 < exit_status result }
 {
     tell_joint(rt, fault, &[], false)
 }
 
-/// Appends the line that tells a fault of a joint text, of which these are the first bytes, and its notes.
+/// Appends the line that reports a fault of a joint text, and its notes. `kept` has the first bytes of the text.
 fn append_in_joint(
     rt: &HostRuntime,
     out: &mut Vec<u8>,
@@ -117,7 +117,7 @@ fn append_in_joint(
     Ok(())
 }
 
-/// Tells a fault of the joint text, of which these are the first bytes.
+/// Reports a fault of the joint text. `kept` has the first bytes of the text.
 pub(crate) fn tell_joint(
     rt: &HostRuntime,
     fault: ReplayFault,
@@ -131,7 +131,7 @@ pub(crate) fn tell_joint(
     end(rt, &lines, made, ExitCode::FAILURE)
 }
 
-/// Appends the line that tells a fault of the trace and the scripts at these paths, and its notes.
+/// Appends the line that reports a fault of the trace and the scripts at these paths, and its notes.
 fn append_in_files(
     rt: &HostRuntime,
     out: &mut Vec<u8>,
@@ -145,7 +145,7 @@ fn append_in_files(
     Ok(())
 }
 
-/// The status of a fault.
+/// The exit status for a fault.
 fn status_of(fault: &BenchFault) -> ExitCode
     ensures refused { fault.now ≡ TooManyScripts → exit_status result ≡ 2 }
     ensures failed { fault.now ≢ TooManyScripts → exit_status result ≡ 1 }
@@ -156,7 +156,7 @@ fn status_of(fault: &BenchFault) -> ExitCode
     }
 }
 
-/// Tells a fault of the trace and the scripts at these paths.
+/// Reports a fault of the trace and the scripts at these paths.
 pub(crate) fn tell_files(rt: &HostRuntime, fault: BenchFault, paths: &[&str]) -> ExitCode
     ensures { 0 < exit_status result }
 {
@@ -165,7 +165,7 @@ pub(crate) fn tell_files(rt: &HostRuntime, fault: BenchFault, paths: &[&str]) ->
     end(rt, &lines, made, status_of(&fault))
 }
 
-/// Appends the line that tells a fault of a call on a pair of events, and the note on two events that are no pair.
+/// Appends the line that reports a fault of a call on a pair of events, and its note.
 fn append_in_pair(
     rt: &HostRuntime,
     out: &mut Vec<u8>,
@@ -186,7 +186,7 @@ fn append_in_pair(
     Ok(())
 }
 
-/// Tells a fault of a call on this pair of events.
+/// Reports a fault of a call on this pair of events.
 pub(crate) fn tell_pair(rt: &HostRuntime, fault: PairFault, pair: &PairTask<'_>) -> ExitCode
     ensures { 0 < exit_status result }
 {
@@ -200,7 +200,7 @@ pub(crate) fn tell_pair(rt: &HostRuntime, fault: PairFault, pair: &PairTask<'_>)
     }
 }
 
-/// Appends the line that tells that a folder is not there.
+/// Appends the line that reports that a folder is not there.
 fn append_no_folder(out: &mut Vec<u8>, path: &str) -> Result<(), OutOfMemory> {
     out.extend_from_slice(b"racebench: no such folder: ")?;
     append_name(out, path)?;
@@ -208,7 +208,7 @@ fn append_no_folder(out: &mut Vec<u8>, path: &str) -> Result<(), OutOfMemory> {
     Ok(())
 }
 
-/// 109: tells that the folder of the code at this path is not there.
+/// 109: reports that the folder of code at this path is not there.
 pub(crate) fn tell_folder(rt: &HostRuntime, path: &str) -> ExitCode
     ensures { 0 < exit_status result }
 {
@@ -217,7 +217,7 @@ pub(crate) fn tell_folder(rt: &HostRuntime, path: &str) -> ExitCode
     end(rt, &lines, made, ExitCode::FAILURE)
 }
 
-/// Appends the line that tells that a folder is not empty.
+/// Appends the line that reports that a folder is not empty.
 fn append_full(out: &mut Vec<u8>, path: &str) -> Result<(), OutOfMemory> {
     out.extend_from_slice(b"racebench: the folder has files: ")?;
     append_name(out, path)?;
@@ -225,7 +225,7 @@ fn append_full(out: &mut Vec<u8>, path: &str) -> Result<(), OutOfMemory> {
     Ok(())
 }
 
-/// 105: tells that the folder at this path, into which windows are to be written, is not empty.
+/// 105: reports that the folder for windows at this path is not empty.
 pub(crate) fn tell_full(rt: &HostRuntime, path: &str) -> ExitCode
     ensures { 0 < exit_status result }
 {
@@ -234,7 +234,7 @@ pub(crate) fn tell_full(rt: &HostRuntime, path: &str) -> ExitCode
     end(rt, &lines, made, ExitCode::FAILURE)
 }
 
-/// Appends the line that tells a failed write, and the note that names what was not written.
+/// Appends the line that reports a failed write, and the note that names what was not written.
 fn append_unwritten(rt: &HostRuntime, out: &mut Vec<u8>, name: &str) -> Result<(), OutOfMemory> {
     append_fault(out, &Fault::Bench(BenchFault::from(ReplayFault::Write)))?;
     if are_wanted(rt) {
@@ -243,7 +243,7 @@ fn append_unwritten(rt: &HostRuntime, out: &mut Vec<u8>, name: &str) -> Result<(
     Ok(())
 }
 
-/// Tells that what has this name was not written.
+/// 95: reports that the output with this name was not written.
 pub(crate) fn tell_unwritten(rt: &HostRuntime, name: &str) -> ExitCode
     ensures { 0 < exit_status result }
 {
@@ -252,7 +252,7 @@ pub(crate) fn tell_unwritten(rt: &HostRuntime, name: &str) -> ExitCode
     end(rt, &lines, made, ExitCode::FAILURE)
 }
 
-/// Appends the line that tells of a folder that was not read, and the note that names it.
+/// Appends the line that reports that a folder was not read, and the note that names it.
 fn append_unlisted(rt: &HostRuntime, out: &mut Vec<u8>, path: &str) -> Result<(), OutOfMemory> {
     append_fault(out, &Fault::Bench(BenchFault::from(UNREAD)))?;
     if are_wanted(rt) {
@@ -261,7 +261,7 @@ fn append_unlisted(rt: &HostRuntime, out: &mut Vec<u8>, path: &str) -> Result<()
     Ok(())
 }
 
-/// 94: tells that the folder at this path, into which windows are to be written, was not read.
+/// 94: reports that the folder for windows at this path was not read.
 pub(crate) fn tell_unlisted(rt: &HostRuntime, path: &str) -> ExitCode
     ensures { 0 < exit_status result }
 {

@@ -1,4 +1,4 @@
-//! What is said of a fault of a session or of its log.
+//! Reports a fault of a session or of its log.
 ghost use Rattle.std.specs.Prelude.{◌<◌};
 ghost use Rattle.std.specs.Process.{exit_status};
 
@@ -11,7 +11,8 @@ use kept_session::SessionFault;
 use rapid_text::OutOfMemory;
 use std::process::ExitCode;
 
-/// Tells a fault of a session on the trace and the log at these paths. If it is a failed write, what has the last name was not written.
+/// Reports a fault of a session on the trace and the log at these paths. If a write failed, `unwritten` names what was
+/// not written.
 pub(crate) fn tell_session(
     rt: &HostRuntime,
     fault: SessionFault,
@@ -35,7 +36,7 @@ pub(crate) fn tell_session(
     }
 }
 
-/// Appends the line that tells a fault of the log at this path, and its notes.
+/// Appends the line that reports a fault of the log at this path, and its notes.
 fn append_in_session(
     rt: &HostRuntime,
     out: &mut Vec<u8>,
@@ -53,7 +54,7 @@ fn append_in_session(
     }
 }
 
-/// Tells a fault of the log at this path, which is input 2.
+/// Reports a fault of the log at this path, which is input 2.
 pub(crate) fn tell_log(rt: &HostRuntime, fault: SessionFault, log: &str) -> ExitCode
     ensures { 0 < exit_status result }
 {

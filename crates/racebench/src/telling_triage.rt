@@ -1,4 +1,4 @@
-//! What is said of a fault of `triage` or `merge`, and of what leaves races out and is about none.
+//! Reports faults of `triage` and `merge`, and what is wrong with files that leave races out.
 ghost use Rattle.std.specs.Prelude.{◌<◌};
 ghost use Rattle.std.specs.Process.{exit_status};
 
@@ -15,7 +15,7 @@ use report::{Piece, append_pieces};
 use std::process::ExitCode;
 use std::sync::atomic::{AtomicU64, Ordering};
 
-/// Tells a fault of `triage` on the trace and the known races at these paths.
+/// Reports a fault of `triage` on the trace and the known races at these paths.
 pub(crate) fn tell_triage(rt: &HostRuntime, fault: TriageFault, paths: &[&str]) -> ExitCode
     ensures { 0 < exit_status result }
 {
@@ -25,7 +25,7 @@ pub(crate) fn tell_triage(rt: &HostRuntime, fault: TriageFault, paths: &[&str]) 
     }
 }
 
-/// Appends the line that tells a refused line of the followed races at this path, and its notes.
+/// Appends the line that reports a refused line of the followed races at this path, and its notes.
 fn append_in_confirmed(
     rt: &HostRuntime,
     out: &mut Vec<u8>,
@@ -39,7 +39,7 @@ fn append_in_confirmed(
     Ok(())
 }
 
-/// Tells a fault of the followed races that the task names, which are input 3.
+/// Reports a fault of the file of followed races, which is input 3.
 pub(crate) fn tell_confirmed(
     rt: &HostRuntime,
     fault: ConfirmedFault,
@@ -62,7 +62,7 @@ pub(crate) fn tell_confirmed(
     }
 }
 
-/// Tells a fault of the triage file that the task names, which is input 4.
+/// Reports a fault of the triage file at this path, which is input 4.
 pub(crate) fn tell_triaged(rt: &HostRuntime, fault: TriagedFault, path: &str) -> ExitCode
     ensures { 0 < exit_status result }
 {
@@ -78,7 +78,7 @@ pub(crate) fn tell_triaged(rt: &HostRuntime, fault: TriagedFault, path: &str) ->
     }
 }
 
-/// Appends the line that tells a fault of the triage file at this path, and the note that names it.
+/// Appends the line that reports a fault of the triage file at this path, and the note that names it.
 fn append_in_triaged(
     rt: &HostRuntime,
     out: &mut Vec<u8>,
@@ -92,7 +92,7 @@ fn append_in_triaged(
     Ok(())
 }
 
-/// Says that the date is not known.
+/// Reports that the clock has no date.
 pub(crate) fn tell_dateless(rt: &HostRuntime) -> ExitCode
     ensures { 0 < exit_status result }
 {
@@ -103,7 +103,7 @@ pub(crate) fn tell_dateless(rt: &HostRuntime) -> ExitCode
     ExitCode::FAILURE
 }
 
-/// Says of the entries of the triage file at this path which are about no race, and which of a race that was fixed are about one.
+/// Prints which entries of the triage file at this path are about no race, and which `fixed` ones are about a race.
 pub(crate) fn tell_marks(
     rt: &HostRuntime,
     path: &str,
@@ -127,7 +127,7 @@ pub(crate) fn tell_marks(
     Ok(())
 }
 
-/// Appends what is said of the entry with this number, from 0.
+/// Appends the line on an entry; `at` is its number, counted from 0.
 fn append_mark(out: &mut Vec<u8>, path: &str, at: u64, words: &[u8]) -> Result<(), OutOfMemory> {
     out.extend_from_slice(b"racebench: ")?;
     append_name(out, path)?;
@@ -141,7 +141,7 @@ fn append_mark(out: &mut Vec<u8>, path: &str, at: u64, words: &[u8]) -> Result<(
     )
 }
 
-/// Says that no block `race` stands in the text of known races at this path.
+/// Prints that the text of known races at this path has no block `race`.
 pub(crate) fn tell_blockless(rt: &HostRuntime, path: &str) -> Result<(), OutOfMemory> {
     let mut line = Vec::new(rt.alloc());
     line.extend_from_slice(b"racebench: ")?;

@@ -1,4 +1,4 @@
-//! What is said in place of a task: help, or why the words are refused.
+//! What the program prints instead of doing a task: help, or why the arguments are refused.
 
 use crate::notes::are_wanted;
 use crate::telling::{REFUSED, say, tell_replay};
@@ -7,11 +7,11 @@ use program_words::Told;
 use std::io;
 use std::process::ExitCode;
 
-/// The note on words that are refused.
+/// The note on refused arguments.
 const HELP: &[u8] =
     b"note: `racebench help` lists the commands, and `racebench help COMMAND` the options of one\n";
 
-/// Prints the help that the words ask for.
+/// Prints the help that the arguments request.
 fn help(rt: &HostRuntime, text: &[u8]) -> ExitCode {
     let mut writer = FromWrite::new(io::writer(rt));
     if write_all(&mut writer, text).is_err() || writer.flush().is_err() {
@@ -20,7 +20,7 @@ fn help(rt: &HostRuntime, text: &[u8]) -> ExitCode {
     ExitCode::SUCCESS
 }
 
-/// Tells what is said in place of a task.
+/// Prints help, or reports why the arguments are refused.
 pub(crate) fn tell_words(rt: &HostRuntime, told: &Told) -> ExitCode {
     match told {
         Told::Help(text) => help(rt, text.as_bytes()),

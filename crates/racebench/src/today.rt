@@ -2,7 +2,8 @@
 
 use std::time::{SystemTime, UNIX_EPOCH};
 
-/// The number of this day, such as 20271231: the one that was given, or else that of the clock, in UTC; nothing if the clock does not say.
+/// Today as one number, such as 20271231. It is the given day, or else the clock's in UTC; None if the clock has no
+/// date.
 pub(crate) fn today_of(rt: &HostRuntime, given: Option<u32>) -> Option<u32> {
     match given {
         Some(day) => Some(day),
@@ -10,7 +11,7 @@ pub(crate) fn today_of(rt: &HostRuntime, given: Option<u32>) -> Option<u32> {
     }
 }
 
-/// The day that the clock says.
+/// The day that the clock shows.
 fn day_now(rt: &HostRuntime) -> Option<u32> {
     let Ok(now) = SystemTime::now(rt) else {
         return None;
@@ -21,7 +22,8 @@ fn day_now(rt: &HostRuntime) -> Option<u32> {
     }
 }
 
-/// The number of the day that comes so many days after 1 January 1970. Years are counted from March, so that a leap day is their last.
+/// The number of the day that comes `days` days after 1 January 1970. Years begin in March here, so that a leap day is
+/// the last of its year.
 fn day_after(days: u64) -> u64 {
     let all = days.saturating_add(719_468);
     let (era, day) = (all / 146_097, all % 146_097);
@@ -44,7 +46,7 @@ fn day_in(year: u64, day: u64) -> u64 {
     }
 }
 
-/// Year, month and day one after another, in decimal digits.
+/// Year, month and day as one number, such as 20271231.
 fn number_of(year: u64, month: u64, date: u64) -> u64 {
     let days = month.saturating_mul(100).saturating_add(date);
     year.saturating_mul(10_000).saturating_add(days)

@@ -1,4 +1,4 @@
-//! Notes on a trace whose text is refused, or which breaks a rule: its line, and what to do.
+//! Notes on a trace that is refused or breaks a rule: its line, and what to do.
 
 use crate::likeness::{Likeness, likeness_of, words_for_trace};
 use crate::lines::{first_line, is_divider, line_of};
@@ -7,7 +7,7 @@ use crate::pieces::{from, start_of_event};
 use crate::quoted::{append_event, append_quote};
 use rapid_text::{OutOfMemory, TextCause, TextRefusal};
 
-/// Appends the note that says what else the text of a refused trace looks like.
+/// Appends the note on what kind of file a refused trace looks like.
 fn append_likeness(out: &mut Vec<u8>, name: &str, text: &[u8]) -> Result<(), OutOfMemory> {
     match likeness_of(text) {
         Likeness::Trace | Likeness::Other => Ok(()),
@@ -15,15 +15,15 @@ fn append_likeness(out: &mut Vec<u8>, name: &str, text: &[u8]) -> Result<(), Out
     }
 }
 
-/// What to do with a trace that is too long.
+/// The note on a trace that is too long.
 const LONG: &[u8] =
     b"note: `racebench triage --windows` reads a trace of any length, and `racebench cut` prints a part of it\n";
 
-/// What to do with a trace that has too many threads.
+/// The note on a trace that has too many threads.
 const WIDE: &[u8] =
     b"note: a trace has at most 256 threads; `triage --windows` reads more, in windows of at most 256\n";
 
-/// Appends the note on a trace that is too long or has too many threads, if it is so.
+/// Appends the note on a trace that is too long or has too many threads, if that is the refusal.
 pub(crate) fn append_limit_note(
     out: &mut Vec<u8>,
     refusal: &TextRefusal,
@@ -36,7 +36,7 @@ pub(crate) fn append_limit_note(
     Ok(())
 }
 
-/// Appends the notes on a refused line of a trace: the line, and what the text looks like.
+/// Appends the notes on a refused line of a trace: the line, and what kind of file the text looks like.
 pub(crate) fn append_text_notes(
     out: &mut Vec<u8>,
     name: &str,
@@ -50,7 +50,7 @@ pub(crate) fn append_text_notes(
     append_likeness(out, name, text)
 }
 
-/// Appends the notes on an event that breaks a rule: its line, and what the text looks like.
+/// Appends the notes on an event that breaks a rule: its line, and what kind of file the text looks like.
 pub(crate) fn append_rule_notes(
     out: &mut Vec<u8>,
     name: &str,
@@ -65,7 +65,7 @@ pub(crate) fn append_rule_notes(
     append_likeness(out, name, text)
 }
 
-/// Appends the notes on a refused line of a trace that is to stand alone, of which this is the whole text.
+/// Appends the notes on a refused line of a trace in a separate file. `text` is the whole file.
 pub(crate) fn append_trace_notes(
     out: &mut Vec<u8>,
     path: &str,

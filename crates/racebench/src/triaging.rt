@@ -25,7 +25,7 @@ use std::thread::Threads;
 use std::{io, thread};
 use toml::Value;
 
-/// How races came out when they were followed, by the file at this path, if one is named.
+/// Reads the file of followed races at this path, if one is named.
 fn confirmed_at(
     rt: &HostRuntime,
     path: Option<&str>,
@@ -36,7 +36,8 @@ fn confirmed_at(
     }
 }
 
-/// The status after all was printed. A text of known races without a block is told, and a folder of code without a file of the trace.
+/// The exit status after the report was printed. Reports first if the known races have no block, or the folder of code
+/// has none of the files.
 fn status_after<W: Watch>(
     rt: &HostRuntime,
     task: &TriageTask<'_>,
@@ -53,7 +54,7 @@ fn status_after<W: Watch>(
     status_of(rt, task.fail, races, is_judged, NO_TRACE_EVENTS)
 }
 
-/// Lists the races on standard output; says how it went.
+/// Prints the report on standard output, and returns the exit status.
 fn list_races<R: Threads + Sync, W: Watch + Sync>(
     rt: &HostRuntime,
     starts: &R,
@@ -77,7 +78,7 @@ fn marks_of(rt: &HostRuntime, triage: Option<&[Value]>) -> Result<Vec<AtomicU64>
     Ok(marks)
 }
 
-/// The same with these marks.
+/// Prints the report, with these marks.
 fn list_marked<R: Threads + Sync, W: Watch + Sync>(
     rt: &HostRuntime,
     starts: &R,
@@ -106,7 +107,7 @@ fn list_marked<R: Threads + Sync, W: Watch + Sync>(
     }
 }
 
-/// The same, while a thread beside this one shows on standard error how far the work is.
+/// Prints the report, while another thread shows on standard error how far the work is.
 fn list_shown<R: Threads + Wait + Sync>(
     rt: &HostRuntime,
     starts: &R,
@@ -121,7 +122,8 @@ fn list_shown<R: Threads + Wait + Sync>(
     status
 }
 
-/// Lists the races of the trace in a file. Standard error shows how far that is if it is a terminal, or if that is asked for.
+/// Prints the report on the trace in a file. If standard error is a terminal or the options request it, shows there how
+/// far the work is.
 fn list_about<R: Threads + Wait + Sync>(
     rt: &HostRuntime,
     starts: &R,
@@ -134,7 +136,7 @@ fn list_about<R: Threads + Wait + Sync>(
     }
 }
 
-/// The same of races that were followed, as this list says, and of those that a triage file leaves out, if there are such lists.
+/// Prints the report, with these followed races and these entries of a triage file, if there are any.
 fn list_followed<R: Threads + Wait + Sync>(
     rt: &HostRuntime,
     starts: &R,
@@ -152,7 +154,7 @@ fn list_followed<R: Threads + Wait + Sync>(
     list_about(rt, starts, listing)
 }
 
-/// The same, after the triage file was read, if one is named.
+/// Reads the triage file, if one is named, and prints the report.
 fn list_decided<R: Threads + Wait + Sync>(
     rt: &HostRuntime,
     starts: &R,
@@ -171,7 +173,7 @@ fn list_decided<R: Threads + Wait + Sync>(
     }
 }
 
-/// The same, after what the file of followed races says was read.
+/// Reads the file of followed races, if one is named, and prints the report.
 fn triage_followed<R: Threads + Wait + Sync>(
     rt: &HostRuntime,
     starts: &R,
@@ -184,7 +186,7 @@ fn triage_followed<R: Threads + Wait + Sync>(
     }
 }
 
-/// The same, if the folder of the code is there.
+/// Does `triage` on the trace in a file. Refuses a folder of code that is not there.
 pub(crate) fn triage_file<R: Threads + Wait + Sync>(
     rt: &HostRuntime,
     starts: &R,

@@ -1,4 +1,5 @@
-//! What the program does at `triage --windows`: it cuts a trace of any length, lists the races of each window, and merges that.
+//! What the program does at `triage --windows`: cuts a trace of any length into windows, judges each, and merges the
+//! findings.
 ghost use Rattle.std.specs.Prelude.{◌<◌};
 ghost use Rattle.std.specs.Process.{exit_status};
 
@@ -19,7 +20,7 @@ use program_words::TriageTask;
 use std::process::ExitCode;
 use std::thread::Threads;
 
-/// Whether the trace is at fault, so that what was found before is printed.
+/// Whether the trace is at fault. If it is, the findings up to there are printed.
 fn is_of_trace(stop: Stop) -> bool {
     match stop {
         Stop::Trace(BenchFault::Replay(ReplayFault::Text(_))) => true,
@@ -30,7 +31,7 @@ fn is_of_trace(stop: Stop) -> bool {
     }
 }
 
-/// Tells why no more windows were judged.
+/// Reports why no more windows were judged.
 fn tell_stop(rt: &HostRuntime, stop: Stop, task: &TriageTask<'_>) -> ExitCode
     ensures { 0 < exit_status result }
 {
@@ -47,7 +48,8 @@ fn tell_stop(rt: &HostRuntime, stop: Stop, task: &TriageTask<'_>) -> ExitCode
     }
 }
 
-/// Lists the races of the windows of the trace in a file, which have at most so many events, if the folder of the code is there.
+/// Does `triage` on the windows of the trace in a file; `most` is how many events each has at most. Refuses a folder of
+/// code that is not there.
 pub(crate) fn triage_windows<R: Threads + Sync>(
     rt: &HostRuntime,
     starts: &R,
@@ -63,7 +65,8 @@ pub(crate) fn triage_windows<R: Threads + Sync>(
     }
 }
 
-/// The status after so many races were printed. What the files that leave races out are not about is told.
+/// The exit status after `races` races were printed. Reports first which entries are about no race, and whether known
+/// races have no block.
 fn status_after(rt: &HostRuntime, report: &Report<'_>, races: u64) -> ExitCode {
     let task = report.task;
     match tell_decided(rt, &report.parts, report.decided, wanted_in(task)) {
@@ -72,7 +75,7 @@ fn status_after(rt: &HostRuntime, report: &Report<'_>, races: u64) -> ExitCode {
     }
 }
 
-/// Lists the races of the windows of the trace in a file, which have at most so many events.
+/// Judges the windows of the trace in a file, `most` events each at most, and prints the report.
 fn list_windows<R: Threads + Sync>(
     rt: &HostRuntime,
     starts: &R,
@@ -92,7 +95,7 @@ fn list_windows<R: Threads + Sync>(
     list_report(rt, starts, &mut windows, &mut report)
 }
 
-/// The same, of which nothing was judged yet.
+/// Judges the windows, and prints the report. Nothing was judged yet.
 fn list_report<R: Threads + Sync>(
     rt: &HostRuntime,
     starts: &R,
@@ -106,7 +109,7 @@ fn list_report<R: Threads + Sync>(
     }
 }
 
-/// Prints what was found, after all windows were judged.
+/// Prints the report after all windows were judged.
 fn print_judged(rt: &HostRuntime, windows: &Windows, report: &Report<'_>) -> ExitCode {
     match print_report(rt, windows, report) {
         Ok(races) => {
@@ -117,7 +120,7 @@ fn print_judged(rt: &HostRuntime, windows: &Windows, report: &Report<'_>) -> Exi
     }
 }
 
-/// Prints what was found before the trace was refused, and tells that.
+/// Prints the report up to where the trace was refused, and then reports why.
 fn print_stopped(rt: &HostRuntime, windows: &Windows, report: &Report<'_>, stop: Stop) -> ExitCode {
     match print_report(rt, windows, report) {
         Ok(_) => tell_stop(rt, stop, report.task),
@@ -125,7 +128,7 @@ fn print_stopped(rt: &HostRuntime, windows: &Windows, report: &Report<'_>, stop:
     }
 }
 
-/// Tells why the report was not printed.
+/// Reports why the report was not printed.
 fn tell_unprinted(rt: &HostRuntime, fault: MergeFault, task: &TriageTask<'_>) -> ExitCode
     ensures { 0 < exit_status result }
 {

@@ -1,4 +1,4 @@
-//! The windows of a trace of any length, one after the other.
+//! The windows of a trace of any length, one after another.
 
 mod faults;
 mod one;
@@ -11,25 +11,25 @@ use rapid_text::OutOfMemory;
 use std::alloc::Global;
 use window::{Front, FrontFault, Window};
 
-/// The windows of a trace of at most so many events, as far as they were made.
+/// The windows of a trace, as far as they were made. Each has `most` events at most.
 #[derive(Drop)]
 pub(crate) struct Windows {
     pieces: Pieces,
     front: Front,
     most: u32,
-    // Why there are no more.
+    // Why there are no more windows.
     fault: Option<BenchFault>,
     is_done: bool,
     short: u64,
-    // The lines at the front that were found for the window before, if they were.
+    // The first lines of the next window, if they were found for the window before.
     found: Option<Span>,
-    // How often the number of events was halved for the last window, since more have too many threads.
+    // How often the number of events was halved for the last window, because of too many threads.
     halvings: u32,
-    // No more events than so many are gone past at once: twice as many as the last time.
+    // The most events to go past at once: twice as many as the last time.
     stride: u64,
 }
 
-/// Half of so many, rounded up.
+/// Half of this number, rounded up.
 fn half_of(count: usize) -> usize {
     (count / 2).saturating_add(count % 2)
 }
@@ -37,23 +37,23 @@ fn half_of(count: usize) -> usize {
 /// More often than a number of events is halved and doubled for one window.
 const HALVINGS: u32 = 128;
 
-/// So many events, halved so often; at least one.
+/// `most` events, halved this often; at least one.
 fn halved(most: u32, halvings: u32) -> u32 {
     most.checked_shr(halvings).unwrap_or(0).max(1)
 }
 
-/// What came of making a window of some lines.
+/// The result of trying to make a window of some lines.
 #[derive(Drop)]
 enum Tried {
     /// The window, if there is one.
     Made(Option<Window>),
-    /// The lines are a window, and more lines may be one.
+    /// The lines fit into a window, and more lines may fit.
     Fits,
-    /// The lines have more threads than a trace may have, with those that hold a lock.
+    /// With the threads that hold a lock, the lines have more threads than a trace may have.
     TooWide,
 }
 
-/// The lines of a window: those that the next window does not have, and all.
+/// The lines of a window: `first`, which the next window does not have, and `all`.
 #[derive(Clone, Copy)]
 struct Spans {
     first: Span,
@@ -61,7 +61,7 @@ struct Spans {
 }
 
 impl Spans {
-    /// The lines that the next window has too, once the others are taken.
+    /// The lines that the next window has too, after the first ones were taken away.
     fn rest(self) -> Span {
         Span {
             end: self.all.end.saturating_sub(self.first.end),
@@ -71,7 +71,7 @@ impl Spans {
 }
 
 impl Windows {
-    /// No window was made yet.
+    /// Windows of which none was made yet.
     pub(crate) fn new(alloc: Global, pieces: Pieces, most: u32) -> Windows {
         Windows {
             pieces,
@@ -86,12 +86,12 @@ impl Windows {
         }
     }
 
-    /// Says of the trace at this path that it begins with a byte order mark, if it does.
+    /// If the trace begins with a byte order mark, writes a note on it. `path` is that of the trace.
     pub(crate) fn tell_mark(&self, rt: &HostRuntime, path: &str) {
         self.pieces.tell_mark(rt, path);
     }
 
-    /// How many windows have fewer events than were asked for, although more follow.
+    /// How many windows have fewer events than requested although more follow.
     pub(crate) fn short(&self) -> u64 {
         self.short
     }
@@ -101,17 +101,17 @@ impl Windows {
         events_of(&self.front)
     }
 
-    /// How many threads the events have that were read, with those that are only forked or joined.
+    /// How many threads the events have that were read. Threads that are only forked or joined count.
     pub(crate) fn threads(&self, alloc: Global) -> Result<u64, OutOfMemory> {
         Ok(threads_of(alloc, &self.front)? as u64)
     }
 
-    // How many events fit after the text in the place of what was read.
+    // How many events a window may have: the requested number, or fewer if the text before it takes room.
     fn room(&self) -> u32 {
         self.most.min(room_of(&self.front)).max(1)
     }
 
-    /// The next window, if there is one. After a fault there is none.
+    /// The next window, or None if there is none. After a fault, returns that fault again.
     pub(crate) fn next(&mut self, alloc: Global) -> Result<Option<Window>, BenchFault> {
         match self.made_next(alloc) {
             Ok(next) => Ok(next),
@@ -134,7 +134,7 @@ impl Windows {
         self.made(alloc, most)
     }
 
-    // The lines of a window of so many events, or of as many as are kept at once.
+    // The lines of a window of `most` events, or of as many as can be kept.
     fn spans(&mut self, most: u32) -> Result<Spans, ReplayFault> {
         let half = half_of(most as usize);
         let first = self.first_span(half)?;
@@ -154,7 +154,7 @@ impl Windows {
         Ok(Spans { first, all })
     }
 
-    // The lines of so many events at the front, or of as many as are kept at once.
+    // The first lines, with `half` events, or with as many as can be kept.
     fn first_span(&mut self, half: usize) -> Result<Span, ReplayFault> {
         let found = self.found;
         self.found = None;
@@ -169,19 +169,19 @@ impl Windows {
         }
     }
 
-    // The same of these lines, half of which the next window has.
+    // All these lines, and the first ones, with half of their events.
     fn spans_of(&mut self, all: Span) -> Result<Spans, ReplayFault> {
         let first = self.pieces.span(0, half_of(all.events))?;
         Ok(Spans { first, all })
     }
 
-    // The window of the events before this place.
+    // The window of the events before this index.
     fn window_before(&self, alloc: Global, end: usize, most: u32) -> Result<Window, FrontFault> {
         window_of(alloc, &self.front, before(self.pieces.bytes(), end), most)
     }
 
-    // The window of at most so many events. If they have too many threads, it has half of them, or half of these, and so on. The last
-    // window says where to begin, so that no window costs more than it has events.
+    // The window of at most `most` events. If they have too many threads, the number is halved until they have few
+    // enough. The search begins where it ended for the last window, so that each window costs no more than its events.
     fn made(&mut self, alloc: Global, most: u32) -> Result<Option<Window>, BenchFault> {
         let mut halvings = self.halvings.saturating_sub(1);
         let mut is_widest = halvings == 0;
@@ -210,8 +210,8 @@ impl Windows {
         Err(BenchFault::NoSuchEvent)
     }
 
-    // The window of these lines, if they are the most that may be one; if one of them is refused, or breaks a rule, that of the lines
-    // before it.
+    // The window of these lines, if they are the most that fit. If one of the lines is refused or breaks a rule, it is
+    // the window of the lines before that one.
     fn tried(
         &mut self,
         alloc: Global,
@@ -231,7 +231,7 @@ impl Windows {
         }
     }
 
-    // The window of the lines before the one that is refused, or breaks a rule.
+    // The window of the lines before the one that is refused or breaks a rule.
     fn made_before(
         &mut self,
         alloc: Global,
@@ -239,7 +239,7 @@ impl Windows {
         most: u32,
     ) -> Result<Tried, BenchFault> {
         let mut fault = fault;
-        // Before a line that is refused there may be an event that breaks a rule.
+        // There may be an event that breaks a rule before a line that is refused.
         for _ in 0..2 {
             let told = self.told_of(fault);
             self.fault = Some(told);
@@ -260,7 +260,7 @@ impl Windows {
         Err(self.told_of(fault))
     }
 
-    // The last window, of the lines before this place.
+    // The last window, which has the lines before this index.
     fn ended(
         &mut self,
         alloc: Global,
@@ -271,7 +271,7 @@ impl Windows {
         Ok(Some(window))
     }
 
-    // This window, after which the next one may be made.
+    // This window. Goes on, so that the next one can be made.
     fn made_of(
         &mut self,
         alloc: Global,
@@ -285,7 +285,7 @@ impl Windows {
         }
     }
 
-    // Goes past what the next window does not have of these lines, so many events of which were made a window.
+    // Goes past the lines that the next window does not have. `covered` is how many events the window has.
     fn go_past(&mut self, alloc: Global, covered: usize, spans: Spans) -> Result<(), BenchFault> {
         match self.pieces.is_end(spans.all.end) {
             Ok(is_last) => self.go_past_all(alloc, covered, spans, is_last),
@@ -296,7 +296,7 @@ impl Windows {
         }
     }
 
-    // The same, where these may be the last lines of the trace.
+    // Goes past these lines. `is_last` says whether they are the last ones of the trace.
     fn go_past_all(
         &mut self,
         alloc: Global,
@@ -330,7 +330,7 @@ impl Windows {
         Ok(self.pieces.span(0, half)?.end)
     }
 
-    // Goes on to this place.
+    // Goes past the lines before this index.
     fn go_on(&mut self, alloc: Global, end: usize) -> Result<(), BenchFault> {
         let gone = read_on(alloc, &mut self.front, before(self.pieces.bytes(), end));
         if let Err(fault) = gone {

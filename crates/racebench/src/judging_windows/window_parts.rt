@@ -1,4 +1,4 @@
-//! What is printed of windows, by as many threads as there are windows.
+//! Judges windows with as many threads as there are windows, and keeps what is printed of each.
 
 use crate::input::Input;
 use crate::kept::Kept;
@@ -14,7 +14,7 @@ use std::thread;
 use std::thread::Threads;
 use window::Window;
 
-/// What is asked for of a window.
+/// The options for one window.
 fn asked_of<'a>(task: &TriageTask<'_>) -> Asked<'a> {
     Asked {
         filters: Filters {
@@ -29,7 +29,7 @@ fn asked_of<'a>(task: &TriageTask<'_>) -> Asked<'a> {
     }
 }
 
-/// What `triage --json` prints of a window, with the numbers that its events have in the trace.
+/// What `triage --json` prints of a window, with the numbers that the events have in the trace.
 fn part_of<R: Threads + Sync>(
     alloc: Global,
     starts: &R,
@@ -56,7 +56,8 @@ fn part_of<R: Threads + Sync>(
     moved_part(alloc, listed, writer.bytes.as_slice(), window)
 }
 
-/// What was printed of a window, with the numbers that its events have in the trace, if it was listed so.
+/// The printed part of a window, with the numbers that the events have in the trace. A fault if the window was not
+/// listed.
 fn moved_part(
     alloc: Global,
     listed: Result<u64, TriageFault>,
@@ -65,7 +66,7 @@ fn moved_part(
 ) -> Result<Vec<u8>, TriageFault> {
     match listed {
         Ok(_) => Ok(moved(alloc, part, window)?),
-        // The writer keeps what is written, so it fails if there is no memory.
+        // The writer keeps its bytes in memory, so a failed write means that memory ran out.
         Err(TriageFault::Replay(ReplayFault::Write)) => {
             Err(TriageFault::Replay(ReplayFault::OutOfMemory))
         }
@@ -73,7 +74,7 @@ fn moved_part(
     }
 }
 
-/// What is printed of each of the windows, by as many threads.
+/// What `triage --json` prints of each window. Several windows are judged at the same time.
 pub(crate) fn parts_of<R: Threads + Sync>(
     alloc: Global,
     starts: &R,

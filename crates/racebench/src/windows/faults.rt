@@ -9,13 +9,13 @@ use rapid_text::{TextCause, TextRefusal};
 use trace_rules::RuleRefusal;
 use window::FrontFault;
 
-/// The fault of a line that is refused.
+/// The fault of a refused line.
 fn refused_line(line: u64, why: TextCause) -> BenchFault {
     BenchFault::Replay(ReplayFault::from(TextRefusal { line, why }))
 }
 
 impl Windows {
-    // Where the lines end before the one that is refused, or breaks a rule.
+    // Where the lines end that come before the line that is refused or breaks a rule.
     pub(super) fn sound_end(&self, fault: FrontFault) -> usize {
         let bytes = self.pieces.bytes();
         match fault {
@@ -56,7 +56,8 @@ impl Windows {
         }
     }
 
-    // The fault of the event at the end of these lines, which has more threads than a trace may have, with those that hold a lock.
+    // The fault of the event at the end of these lines. With the threads that hold a lock, they have more threads than
+    // a trace may have.
     pub(super) fn told_wide(&self, end: usize) -> BenchFault {
         let lines = lines_before(self.pieces.bytes(), end);
         refused_line(
@@ -65,7 +66,7 @@ impl Windows {
         )
     }
 
-    // The fault of these lines, which have too many threads, if they have one event alone.
+    // The fault of these lines, which have too many threads, if they have only one event.
     pub(super) fn check_width(&self, all: Span) -> Result<(), BenchFault> {
         if all.events > 1 {
             return Ok(());

@@ -1,4 +1,4 @@
-//! One window of a trace of any length, at an event of any number.
+//! One window of a trace of any length. It begins at an event with any number.
 
 use super::{HALVINGS, Windows, halved};
 use crate::front::{events_of, read_on, room_of};
@@ -8,7 +8,7 @@ use std::alloc::Global;
 use window::{FrontFault, Window};
 
 impl Windows {
-    // Goes on by these lines, or by the first of them, if they have too many threads.
+    // Goes past these lines, or past the first ones if they have too many threads.
     fn go_on_by(&mut self, alloc: Global, span: Span) -> Result<(), BenchFault> {
         let mut span = span;
         for _ in 0..HALVINGS {
@@ -34,7 +34,7 @@ impl Windows {
         Ok(self.pieces.span(0, span.events / 2)?)
     }
 
-    /// The window at the event of this number.
+    /// The window that begins at the event with this number; None if there is no such event.
     pub(crate) fn at(&mut self, alloc: Global, number: u64) -> Result<Option<Window>, BenchFault> {
         for _ in 0..number.saturating_add(1) {
             let left = number.saturating_sub(events_of(&self.front));
@@ -51,7 +51,7 @@ impl Windows {
         Ok(None)
     }
 
-    // The window after what was read.
+    // The window of the events after what was read.
     fn one(&mut self, alloc: Global) -> Result<Option<Window>, BenchFault> {
         let most = self.room();
         for halvings in 0..HALVINGS {
