@@ -1,7 +1,7 @@
 //! A trace of any length, as far as it was read. Only this module uses the contracts of `window::Front`, so that the
 //! proofs of callers stay small.
 
-use rapid_text::OutOfMemory;
+use rapid_text::{MAX_EVENTS, MAX_THREADS, OutOfMemory};
 use std::alloc::Global;
 use window::{Front, FrontFault, Window};
 
@@ -23,6 +23,12 @@ pub(crate) fn lines_of(front: &Front) -> u64 {
 /// How many events may be read next, at least.
 pub(crate) fn room_of(front: &Front) -> u32 {
     front.room()
+}
+
+/// How many acquires are held after what was read.
+pub(crate) fn held_of(front: &Front) -> u64 {
+    let most = (MAX_EVENTS as u64).saturating_sub(3 * MAX_THREADS as u64);
+    most.saturating_sub(u64::from(front.room()))
 }
 
 /// How many threads the events have that were read. Threads that are only forked or joined count.

@@ -317,8 +317,16 @@ impl Windows {
             if end == spans.first.end {
                 self.found = Some(spans.rest());
             }
+            self.look_at_holds(covered);
         }
         Ok(())
+    }
+
+    // Ends the windows if a window of so many events is small beside what is held.
+    fn look_at_holds(&mut self, covered: usize) {
+        if let Err(fault) = self.check_holds(covered) {
+            self.fault = Some(fault);
+        }
     }
 
     // Where the lines end that the next window does not have.

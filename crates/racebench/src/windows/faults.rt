@@ -1,13 +1,19 @@
 //! Why no window is made of the next lines of a trace.
 
 use super::Windows;
-use crate::front::{events_of, lines_of};
+use crate::front::{events_of, held_of, lines_of};
 use crate::pieces::{Span, end_of_line, lines_before, start_of_event};
 use calls::BenchFault;
 use client_scripts::{ReadCause, ReplayFault};
 use rapid_text::{TextCause, TextRefusal};
 use trace_rules::RuleRefusal;
 use window::FrontFault;
+
+/// How many acquires may be held where a window begins that has few events.
+const FREE_HOLDS: u64 = 4_096;
+
+/// How many acquires may be held where a window begins, for each event that the window before it has.
+const HOLDS_AN_EVENT: u64 = 4;
 
 /// The fault of a refused line.
 fn refused_line(line: u64, why: TextCause) -> BenchFault {
@@ -72,5 +78,15 @@ impl Windows {
             return Ok(());
         }
         Err(self.told_wide(all.end))
+    }
+
+    // The fault of too many events, if more acquires are held than windows of so many events may begin with. Each window begins with all
+    // of them, so many small windows would cost far more than the trace is long.
+    pub(super) fn check_holds(&self, events: usize) -> Result<(), BenchFault> {
+        let held = held_of(&self.front);
+        if held <= FREE_HOLDS || held <= HOLDS_AN_EVENT.saturating_mul(events as u64) {
+            return Ok(());
+        }
+        Err(self.told_of(FrontFault::TooLong))
     }
 }

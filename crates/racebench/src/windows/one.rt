@@ -8,8 +8,8 @@ use std::alloc::Global;
 use window::{FrontFault, Window};
 
 impl Windows {
-    // Goes past these lines, or past the first ones if they have too many threads.
-    fn go_on_by(&mut self, alloc: Global, span: Span) -> Result<(), BenchFault> {
+    // Goes past these lines, or past the first ones if they have too many threads. Returns how many events it went past.
+    fn go_on_by(&mut self, alloc: Global, span: Span) -> Result<usize, BenchFault> {
         let mut span = span;
         for _ in 0..HALVINGS {
             let more = before(self.pieces.bytes(), span.end);
@@ -17,7 +17,7 @@ impl Windows {
                 Ok(()) => {
                     self.stride = (span.events as u64).saturating_mul(2).max(1);
                     self.pieces.take(alloc, span.end)?;
-                    return Ok(());
+                    return Ok(span.events);
                 }
                 Err(FrontFault::TooManyThreads) => span = self.half_span(span)?,
                 Err(fault) => return Err(self.told_of(fault)),
@@ -46,7 +46,10 @@ impl Windows {
             if span.events == 0 {
                 return Ok(None);
             }
-            self.go_on_by(alloc, span)?;
+            let events = self.go_on_by(alloc, span)?;
+            if events_of(&self.front) < number {
+                self.check_holds(events)?;
+            }
         }
         Ok(None)
     }
