@@ -1,10 +1,11 @@
 -- Names with their texts, put together.
 use Rattle.std.proofs.Common.{◌≡◌, ℕ, cond, List, [], ◌∷◌, ◌++◌, append_assoc, Option, Some, None, refl, sym, ap, ◌∙◌, inl, inr}
 use Rattle.std.specs.BTreeMap.{is_at}
+use Rattle.std.specs.Option.{option_or}
 use Rattle.std.specs.Cmp.Lexicographic.{nat_list_cmp_total}
 use Rattle.std.proofs.lemmas.Map.Lookups.{exact_bytes, btree_map_from_get}
 use Rattle.std.proofs.lemmas.Bool.{cases_Bool}
-use Rattle.race_parts.specs.Parts.{bytes_cmp, joined, told_in}
+use Rattle.race_parts.specs.Parts.{bytes_cmp, held_from, joined, told_in}
 use Rattle.race_parts.specs.Laws.{MergingIsAUnion}
 
 pub joined-none : (o : Option (List ℕ)) → joined o None ≡ o
@@ -14,6 +15,18 @@ joined-none (Some s) = refl
 pub joined-assoc : (o p r : Option (List ℕ)) → joined (joined o p) r ≡ joined o (joined p r)
 joined-assoc None p r = refl
 joined-assoc (Some s) p r = refl
+
+pub or-none : {X : Type 0} (o : Option X) → option_or o None ≡ o
+or-none None = refl
+or-none (Some x) = refl
+
+pub or-assoc : {X : Type 0} (o p r : Option X) → option_or (option_or o p) r ≡ option_or o (option_or p r)
+or-assoc None p r = refl
+or-assoc (Some x) p r = refl
+
+pub held-joined : (file : ℕ) (o p : Option (List ℕ)) → held_from file (joined o p) ≡ option_or (held_from file o) (held_from file p)
+held-joined file None p = refl
+held-joined file (Some s) p = refl
 
 joined-again : (o : Option (List ℕ)) → joined o o ≡ o
 joined-again None = refl

@@ -1,13 +1,18 @@
 -- What a file gives: a part, or the parts of a merged report. All notions here are this project's own.
-use Rattle.std.specs.Prelude.{◌≡◌, ◌⊎◌, ℕ, ◌+◌, ◌-◌, nat_eq, nat_lt, Bool, ◌&&◌, not, true, false, cond, All, List, [], ◌∷◌, ◌++◌, length, map, take, position, Option, Some, None, codes, ⊤}
+use Rattle.std.specs.Prelude.{◌≡◌, ◌⊎◌, ℕ, ◌+◌, ◌-◌, nat_eq, nat_lt, Bool, ◌&&◌, not, true, false, cond, All, List, [], ◌∷◌, ◌++◌, length, map, take, position, Option, Some, None, Vec, codes, ⊤}
+use Rattle.std.specs.BTreeMap.{BTreeMap}
+use Rattle.std.specs.Option.{option_or}
+use Rattle.std.specs.declared.alloc.Global.{Global}
 use Rattle.serde_json.specs.Data.{Data}
 use Rattle.serde_json.specs.View.{view}
 use Rattle.serde_json.specs.declared.value.Value.{Value}
 use Rattle.race_parts.specs.Lines.{AreLines, StopsAt}
 use Rattle.race_parts.specs.Members.{has_number, has_text, is_kind, said_number, said_text}
+use Rattle.race_parts.specs.Parts.{HasOther, held_at, held_from, told_in}
 use Rattle.race_parts.specs.Rows.{is_other_version, wrong_line}
 use Rattle.race_parts.specs.declared.lines.PartRefusal.{PartRefusal}
 use Rattle.race_parts.specs.declared.lines.PartRefusal.TheVariants.{Line, Version, Clash, OutOfMemory}
+use Rattle.race_parts.specs.declared.parts.Part.{Part}
 
 -- whether the first line says that the file is of another version
 abbrev pub is_foreign : List Data → Bool
@@ -159,3 +164,29 @@ IsRefused text (Line line) =
 IsRefused text Version = (ds : List Data) × AreLines text ds × (is_foreign ds ≡ true)
 IsRefused text (Clash file) = ⊤
 IsRefused text OutOfMemory = ⊤
+
+-- the text is that of a merged report, whose lines of parts give these names with texts
+abbrev pub ListsReport : List ℕ → List (List ℕ × List ℕ) → Type 0
+ListsReport text given =
+    (vs : List Value) × AreLines text (map view vs) × (is_foreign (map view vs) ≡ false) × (is_merged (map view vs) ≡ true)
+    × (wrong_merged vs ≡ None) × (given ≡ told_parts vs)
+
+-- a file of this name gives these names with texts, not all of which need to be parts
+abbrev pub Lists : List ℕ → List ℕ → List (List ℕ × List ℕ) → Type 0
+Lists name text given =
+    ((d : Data) × IsSound text d × (is_merged_head d ≡ false) × (given ≡ (name, text) ∷ []))
+    ⊎ ListsReport text given
+
+-- The file of this number gives these names with texts. One of them is a part whose name has another text: that of a part that was there, or
+-- else that of one that stands before it. The other text comes from the file of the last number.
+pub record IsClash (old : BTreeMap (Vec ℕ Global) Part) (number : ℕ) (given : List (List ℕ × List ℕ)) (file : ℕ) : Type 0 where
+  pub done : List (List ℕ × List ℕ)
+  pub one : List ℕ × List ℕ
+  pub behind : List (List ℕ × List ℕ)
+  pub all : given ≡ done ++ one ∷ behind
+  pub part : IsPartText one.1
+  pub other : HasOther (λ key. option_or (held_at old key) (held_from number (told_in done key.items))) one.0 one.1 file
+
+-- a part in a file of this name and number has the name of another part
+abbrev pub ClashesIn : BTreeMap (Vec ℕ Global) Part → List ℕ → List ℕ → ℕ → ℕ → Type 0
+ClashesIn old name text number file = (given : List (List ℕ × List ℕ)) × Lists name text given × IsClash old number given file

@@ -1,5 +1,5 @@
 -- Parts by their names, and how they are joined. All notions here are this project's own.
-use Rattle.std.specs.Prelude.{ℕ, cond, List, Vec, Option, Some, None, option_map, ⊤}
+use Rattle.std.specs.Prelude.{◌≡◌, ◌≢◌, ℕ, cond, List, Vec, Option, Some, None, option_map, ⊤}
 use Rattle.std.specs.declared.alloc.Global.{Global}
 use Rattle.std.specs.declared.cmp.Ordering.{Ordering}
 use Rattle.std.specs.BTreeMap.{BTreeMap, get, is_at}
@@ -21,6 +21,14 @@ name_cmp a b = bytes_cmp a.items b.items
 abbrev pub text_at : BTreeMap (Vec ℕ Global) Part → Vec ℕ Global → Option (List ℕ)
 text_at parts q = option_map (λ p. p.text.items) (get name_cmp parts q)
 
+-- the same, and the number of the file that it comes from
+abbrev pub held_at : BTreeMap (Vec ℕ Global) Part → Vec ℕ Global → Option (List ℕ × ℕ)
+held_at parts q = option_map (λ p. (p.text.items, p.file)) (get name_cmp parts q)
+
+-- a text as one that comes from the file of this number
+abbrev pub held_from : ℕ → Option (List ℕ) → Option (List ℕ × ℕ)
+held_from file o = option_map (λ s. (s, file)) o
+
 -- a text that is there stays
 abbrev pub joined : Option (List ℕ) → Option (List ℕ) → Option (List ℕ)
 joined None o = o
@@ -40,3 +48,14 @@ IsPutFault (Line line) = ⊥
 IsPutFault Version = ⊥
 IsPutFault (Clash file) = ⊤
 IsPutFault OutOfMemory = ⊤
+
+-- among parts that are held so, another text has this name: one from the file of this number
+abbrev pub HasOther : (Vec ℕ Global → Option (List ℕ × ℕ)) → List ℕ → List ℕ → ℕ → Type 0
+HasOther held name text file = (key : Vec ℕ Global) × (key.items ≡ name) × (s : List ℕ) × (held key ≡ Some (s, file)) × (s ≢ text)
+
+-- if it is a clash, this is so of its file
+abbrev pub IfClash : PartRefusal → (ℕ → Type 0) → Type 0
+IfClash (Line line) P = ⊤
+IfClash Version P = ⊤
+IfClash (Clash file) P = P file
+IfClash OutOfMemory P = ⊤

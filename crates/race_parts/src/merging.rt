@@ -1,13 +1,16 @@
 //! How a file is taken in: as a part, or as a merged report with the parts in it.
 ghost use Rattle.std.specs.Prelude.{◌≡◌, ◌<◌, ◌∷◌, All, codes, List, ℕ, None, Some, Vec, IfErr, IfOk, OnOk, false, length, map, not, option_map, position, take, true, slice_get};
+ghost use Rattle.std.specs.Option.{option_or};
 ghost use Rattle.std.specs.declared.alloc.Global.{Global};
 ghost use Rattle.serde_json.specs.View.{view};
-ghost use Rattle.race_parts.specs.Merging.{told_of, told_parts, Gives, IsPartRefused, IsPartText, IsRefused, IsReportRefused, GivesReport, IsSound, IsUnsound, IsUnputOr, is_foreign, is_merged_head, is_part_line, wrong_behind_head, wrong_merged, AreWrongIn, IsLineRefused, IsUntaken, one_behind, part_lines};
+ghost use Rattle.race_parts.specs.Merging.{told_of, told_parts, Gives, IsPartRefused, IsPartText, IsRefused, IsReportRefused, GivesReport, IsSound, IsUnsound, IsUnputOr};
+ghost use Rattle.race_parts.specs.Merging.{is_foreign, is_merged_head, is_part_line, wrong_behind_head, wrong_merged, AreWrongIn, IsLineRefused, IsUntaken, one_behind, part_lines};
+ghost use Rattle.race_parts.specs.Merging.{ClashesIn, IsClash, ListsReport};
 ghost use Rattle.race_parts.specs.Kept.{AreKept};
 ghost use Rattle.race_parts.specs.Lines.{AreLines, IsReadOn};
 ghost use Rattle.race_parts.specs.Members.{said_text};
 ghost use Rattle.race_parts.specs.Rows.{wrong_line};
-ghost use Rattle.race_parts.specs.Parts.{IsPutFault, joined, told_in, single, text_at};
+ghost use Rattle.race_parts.specs.Parts.{HasOther, IfClash, IsPutFault, held_at, held_from, joined, told_in, single, text_at};
 
 use crate::kept::KeptRow;
 use crate::lines::{Begun, PartRefusal, ReadRows, begin, lines_in, rows_in};
@@ -20,7 +23,7 @@ use serde_json::Value;
 use std::alloc::Global;
 
 /// Takes in a file: a part, which has this name, or a merged report, whose parts have names of their own. If it is refused, some of its
-/// parts may have been taken in.
+/// parts may have been taken in. A clash names the file of the part that was there, or that stands before in this file.
 pub fn take_file(
     alloc: Global,
     parts: &mut Parts,
@@ -30,7 +33,10 @@ pub fn take_file(
 ) -> Result<(), PartRefusal>
     ensures ok { OnOk result ((given : List (List ℕ × List ℕ)) × Gives name.now text.now given
         × ((q : Vec ℕ Global) → text_at parts.new q ≡ joined (text_at parts.old q) (told_in given q.items))) }
+    ensures held { OnOk result ((given : List (List ℕ × List ℕ)) × Gives name.now text.now given
+        × ((q : Vec ℕ Global) → held_at parts.new q ≡ option_or (held_at parts.old q) (held_from file (told_in given q.items)))) }
     ensures err { IfErr result (IsRefused text.now) }
+    ensures clash { IfErr result (λ why. IfClash why (ClashesIn parts.old name.now text.now file)) }
 {
     if text.is_empty() {
         return Err(PartRefusal::Line(0));
@@ -69,7 +75,11 @@ fn take_part(
     requires { IsReadOn text.now begun.rest.now (view begun.head) }
     ensures ok { OnOk result (IsSound text.now (view begun.entry.head)
         × ((q : Vec ℕ Global) → text_at parts.new q ≡ joined (text_at parts.old q) (single name.now text.now q.items))) }
+    ensures held { OnOk result ((q : Vec ℕ Global) → held_at parts.new q
+        ≡ option_or (held_at parts.old q) (held_from file (single name.now text.now q.items))) }
     ensures err { IfErr result (IsUnputOr (IsUnsound text.now (view begun.entry.head))) }
+    ensures clash { IfErr result (λ why. IfClash why
+        (λ other. IsSound text.now (view begun.entry.head) × HasOther (held_at parts.old) name.now text.now other)) }
 {
     let rows = check_part(alloc, text, &begun)?;
     put_copy(alloc, parts, name, text, rows, file)
@@ -86,7 +96,10 @@ fn put_copy(
 ) -> Result<(), PartRefusal>
     requires { AreKept text.now rows }
     ensures ok { OnOk result ((q : Vec ℕ Global) → text_at parts.new q ≡ joined (text_at parts.old q) (single name.now text.now q.items)) }
+    ensures held { OnOk result ((q : Vec ℕ Global) → held_at parts.new q
+        ≡ option_or (held_at parts.old q) (held_from file (single name.now text.now q.items))) }
     ensures why { IfErr result IsPutFault }
+    ensures clash { IfErr result (λ why. IfClash why (HasOther (held_at parts.old) name.now text.now)) }
 {
     let name = copied(alloc, name)?;
     let text = copied(alloc, text)?;
@@ -187,7 +200,12 @@ fn take_line(
     ensures ok { OnOk result (IsPartText (said_text (codes "text") (view line.now))
         × ((q : Vec ℕ Global) → text_at parts.new q
         ≡ joined (text_at parts.old q) (single (said_text (codes "name") (view line.now)) (said_text (codes "text") (view line.now)) q.items))) }
+    ensures held { OnOk result ((q : Vec ℕ Global) → held_at parts.new q
+        ≡ option_or (held_at parts.old q)
+        (held_from file (single (said_text (codes "name") (view line.now)) (said_text (codes "text") (view line.now)) q.items))) }
     ensures err { IfErr result (IsLineRefused (said_text (codes "text") (view line.now)) place) }
+    ensures clash { IfErr result (λ why. IfClash why (λ other. IsPartText (said_text (codes "text") (view line.now))
+        × HasOther (held_at parts.old) (said_text (codes "name") (view line.now)) (said_text (codes "text") (view line.now)) other)) }
 {
     let text = text_of(line, "text");
     match check_text(alloc, text) {
@@ -214,7 +232,10 @@ fn take_told(
 ) -> Result<(), PartRefusal>
     ensures ok { OnOk result (All (λ p. IsPartText p.1) (map told_of lines.now)
         × ((q : Vec ℕ Global) → text_at parts.new q ≡ joined (text_at parts.old q) (told_in (map told_of lines.now) q.items))) }
+    ensures held { OnOk result ((q : Vec ℕ Global) → held_at parts.new q
+        ≡ option_or (held_at parts.old q) (held_from file (told_in (map told_of lines.now) q.items))) }
     ensures err { IfErr result (IsUntaken lines.now) }
+    ensures clash { IfErr result (λ why. IfClash why (IsClash parts.old file (map told_of lines.now))) }
 {
     let mut left = lines;
     let mut place = 1;
@@ -236,7 +257,11 @@ fn take_merged(
 ) -> Result<(), PartRefusal>
     ensures ok { OnOk result ((wrong_merged lines.now ≡ None) × All (λ p. IsPartText p.1) (told_parts lines.now)
         × ((q : Vec ℕ Global) → text_at parts.new q ≡ joined (text_at parts.old q) (told_in (told_parts lines.now) q.items))) }
+    ensures held { OnOk result ((q : Vec ℕ Global) → held_at parts.new q
+        ≡ option_or (held_at parts.old q) (held_from file (told_in (told_parts lines.now) q.items))) }
     ensures err { IfErr result (AreWrongIn lines.now) }
+    ensures clash { IfErr result (λ why. IfClash why
+        (λ other. (wrong_merged lines.now ≡ None) × IsClash parts.old file (told_parts lines.now) other)) }
 {
     if let Some(at) = wrong_merged(lines) {
         return Err(PartRefusal::Line(at));
@@ -267,7 +292,11 @@ fn take_report(
     requires merged { is_merged_head (view begun.head) ≡ true }
     ensures ok { OnOk result ((given : List (List ℕ × List ℕ)) × GivesReport text.now given
         × ((q : Vec ℕ Global) → text_at parts.new q ≡ joined (text_at parts.old q) (told_in given q.items))) }
+    ensures held { OnOk result ((given : List (List ℕ × List ℕ)) × GivesReport text.now given
+        × ((q : Vec ℕ Global) → held_at parts.new q ≡ option_or (held_at parts.old q) (held_from file (told_in given q.items)))) }
     ensures err { IfErr result (IsReportRefused text.now) }
+    ensures clash { IfErr result (λ why. IfClash why
+        (λ other. (given : List (List ℕ × List ℕ)) × ListsReport text.now given × IsClash parts.old file given other)) }
 {
     let lines = lines_in(alloc, text, begun)?;
     if is_foreign(&lines) {

@@ -1,7 +1,7 @@
 //! How a part is put among others.
-ghost use Rattle.std.specs.Prelude.{◌≡◌, ◌≢◌, List, ℕ, None, Some, Vec, IfErr, OnOk};
-ghost use Rattle.race_parts.specs.Parts.{IsPutFault, joined, single, text_at};
-ghost use Rattle.race_parts.specs.declared.lines.PartRefusal.TheVariants.{Clash};
+ghost use Rattle.std.specs.Prelude.{◌≡◌, ℕ, Vec, IfErr, OnOk};
+ghost use Rattle.race_parts.specs.Parts.{HasOther, IfClash, IsPutFault, held_at, held_from, joined, single, text_at};
+ghost use Rattle.std.specs.Option.{option_or};
 ghost use Rattle.std.specs.declared.alloc.Global.{Global};
 
 use crate::lines::PartRefusal;
@@ -10,8 +10,10 @@ use crate::parts::{Part, Parts};
 /// Puts a part under its name. If it is there, nothing changes. If another part has the name, that is a clash.
 pub(crate) fn put(parts: &mut Parts, name: Vec<u8>, part: Part) -> Result<(), PartRefusal>
     ensures ok { OnOk result ((q : Vec ℕ Global) → text_at parts.new q ≡ joined (text_at parts.old q) (single name.items part.text.items q.items)) }
+    ensures held { OnOk result ((q : Vec ℕ Global) → held_at parts.new q
+        ≡ option_or (held_at parts.old q) (held_from part.file (single name.items part.text.items q.items))) }
     ensures why { IfErr result IsPutFault }
-    ensures clash { IfErr result (λ why. (file : ℕ) → why ≡ Clash file → (s : List ℕ) × (text_at parts.old name ≡ Some s) × (s ≢ part.text.items)) }
+    ensures clash { IfErr result (λ why. IfClash why (HasOther (held_at parts.old) name.items part.text.items)) }
 {
     match parts.get(&name) {
         Some(known) => {
