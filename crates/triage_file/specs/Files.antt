@@ -1,10 +1,10 @@
 -- Which text is a triage file, and why another one is refused. All notions here are this project's own, but for TOML.
-use Rattle.std.specs.Prelude.{◌≡◌, ◌≤◌, ℕ, ◌+◌, ◌&&◌, Bool, true, false, List, [], ◌∷◌, length, position, Option, Some, None, is_some, option_and_then, codes, bytes_eq, IsUtf8, ⊤}
+use Rattle.std.specs.Prelude.{◌≡◌, ◌≤◌, ℕ, ◌+◌, ◌&&◌, Bool, true, false, List, [], ◌∷◌, length, position, Option, Some, None, is_some, option_and_then, codes, cond, bytes_eq, IsUtf8, ⊤}
 use Rattle.std.specs.List.{list_all}
 use Rattle.toml.specs.Data.{Data, Members, as_array, get_member}
 use Rattle.toml.specs.Parse.{parse_document}
 use Rattle.triage_file.specs.Entries.{is_expired, items_by, key_of, keys_in, mistake_of}
-use Rattle.triage_file.specs.Spots.{headers_before, HasNoKey, IsHeader, IsKeySpot, IsSpot}
+use Rattle.triage_file.specs.Spots.{headers_before, HasNoKey, IsHeader, IsKeySpot, IsNameSpot, IsSpot}
 use Rattle.triage_file.specs.declared.files.Refusal.{Refusal}
 use Rattle.triage_file.specs.declared.files.Refusal.TheVariants.{Toml, Top, Entry, Expired, OutOfMemory}
 use Rattle.triage_file.specs.declared.mistakes.Mistake.{Mistake}
@@ -27,6 +27,11 @@ is_race_key key = bytes_eq key race_key
 -- at its top a file has nothing but an array `race`, if anything
 abbrev pub is_top : Members → Bool
 is_top ms = list_all is_race_key (keys_in ms) && is_list_by (get_member race_key ms)
+
+-- the first key that is not `race`, or else `race`
+abbrev pub other_key : List (List ℕ) → List ℕ
+other_key [] = race_key
+other_key (key ∷ keys) = cond (is_race_key key) (other_key keys) key
 
 abbrev pub or_mistaken : ℕ → Option Mistake → Option (ℕ × Mistake) → Option (ℕ × Mistake)
 or_mistaken n None later = later
@@ -89,7 +94,7 @@ IsOver text today ds refusal = ⊥
 abbrev pub IsRefusal : List ℕ → ℕ → Refusal → Type 0
 IsRefusal text today (Toml spot) = (IsUtf8 text → parse_document text ≡ None) × ((n : ℕ) × (n ≤ length text) × IsSpot text n spot)
 IsRefusal text today (Top spot) =
-    (ms : Members) × IsDocument text ms × (is_top ms ≡ false) × ((n : ℕ) × (n ≤ length text) × IsSpot text n spot)
+    (ms : Members) × IsDocument text ms × (is_top ms ≡ false) × IsNameSpot (other_key (keys_in ms)) text spot
 IsRefusal text today (Entry spot number mistake) = IsMistaken text spot number mistake
 IsRefusal text today (Expired spot number) =
     (ms : Members) × IsDocument text ms × (is_top ms ≡ true) × (mistaken_from 0 (races_in ms) ≡ None) × IsOutdated text today (races_in ms) spot number

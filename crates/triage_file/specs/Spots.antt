@@ -69,3 +69,26 @@ pub record HasNoKey (key text : List ℕ) (start : ℕ) : Type 0 where
 pub record IsSpot (text : List ℕ) (n : ℕ) (spot : Spot) : Type 0 where
   pub line : spot.line ≡ line_at text n
   pub column : spot.column ≡ column_at text n
+
+-- where the first word of a line begins that begins at n: behind one or two brackets, if they are there
+abbrev pub word_start : List ℕ → ℕ → ℕ
+word_start text n = cond (slice_index text n == 91) (cond (slice_index text (n + 1) == 91) (n + 2) (n + 1)) n
+
+-- a line begins at n with this key, alone or in brackets
+abbrev pub is_name_at : List ℕ → List ℕ → ℕ → Bool
+is_name_at key text n =
+    is_line_start text n
+    && (starts_with nat_eq (drop (word_start text n) text) key && not (is_bare (slice_index text (word_start text n + length key))))
+
+-- no line before n begins with this key, alone or in brackets
+abbrev pub IsNameless : List ℕ → List ℕ → ℕ → Type 0
+IsNameless key text n = (m : ℕ) → m < n → is_name_at key text m ≡ false
+
+-- the first line that begins with this key, alone or in brackets, begins at n; n is 0 if no line does
+pub data IsNamePlace (key text : List ℕ) : ℕ → Type 0 where
+  named : (n : ℕ) → n < length text → is_name_at key text n ≡ true → IsNameless key text n → IsNamePlace key text n
+  unnamed : IsNameless key text (length text) → IsNamePlace key text 0
+
+-- the spot is that of the first line that names the key
+abbrev pub IsNameSpot : List ℕ → List ℕ → Spot → Type 0
+IsNameSpot key text spot = (n : ℕ) × IsNamePlace key text n × IsSpot text n spot

@@ -6,8 +6,8 @@ ghost use Rattle.toml.specs.Errors.{IsMemory, IsWithin};
 ghost use Rattle.toml.specs.Parse.{parse_document};
 ghost use Rattle.toml.specs.View.{table_view, view};
 ghost use Rattle.triage_file.specs.Entries.{is_expired, keys_in};
-ghost use Rattle.triage_file.specs.Files.{first_expired, is_race_key, is_top, mistaken_from, races_in, IsDocument, IsKeyReport, IsOver, IsRefusal, IsTaken};
-ghost use Rattle.triage_file.specs.Spots.{IsHeader, IsSpot};
+ghost use Rattle.triage_file.specs.Files.{first_expired, is_race_key, is_top, mistaken_from, other_key, races_in, IsDocument, IsKeyReport, IsOver, IsRefusal, IsTaken};
+ghost use Rattle.triage_file.specs.Spots.{IsHeader, IsNameSpot, IsSpot};
 
 use crate::dates::is_expired;
 use crate::fields::items_of;
@@ -100,13 +100,15 @@ fn check(text: &[u8], table: &Table, today: u32) -> Result<(), Refusal>
 
 /// Where the first key is that is not `race`, or else `race`.
 fn top_spot(text: &[u8], table: &Table) -> Spot
-    ensures { (n : ℕ) × (n ≤ length text.now) × IsSpot text.now n result }
+    ensures { IsNameSpot (other_key (keys_in (table_view table.now))) text.now result }
 {
     name_spot(other_key(table), text)
 }
 
 /// The first key that is not `race`, or else `race`.
-fn other_key(table: &Table) -> &[u8] {
+fn other_key(table: &Table) -> &[u8]
+    ensures { result.now ≡ other_key (keys_in (table_view table.now)) }
+{
     for (key, _) in table.iter() {
         if key.as_bytes() != b"race".as_slice() {
             return key.as_bytes();

@@ -1,6 +1,6 @@
 //! Lines and columns of a text, both counted from 1, and where its entries and their keys are.
 ghost use Rattle.std.specs.Prelude.{◌≡◌, ◌≤◌, ◌<◌, ℕ, None, IfSome, count_by, length, slice_index};
-ghost use Rattle.triage_file.specs.Spots.{begins_at, headers_before, is_bare, is_feed, is_first_byte, is_header_at, is_key_at, HasNoKey, IsHeader, IsKeySpot, IsSpot};
+ghost use Rattle.triage_file.specs.Spots.{begins_at, headers_before, is_bare, is_feed, is_first_byte, is_header_at, is_key_at, is_name_at, word_start, HasNoKey, IsHeader, IsKeySpot, IsNameSpot, IsSpot};
 
 use explain_report::places::cut_at_last;
 
@@ -123,29 +123,40 @@ pub(crate) fn key_in(key: &[u8], text: &[u8], start: usize) -> Option<usize>
     None
 }
 
-/// Where a line names this key, alone or in brackets; else the beginning.
+/// Where the first line begins that names this key, alone or in brackets; the beginning if no line does.
 pub(crate) fn name_spot(key: &[u8], text: &[u8]) -> Spot
-    ensures { (n : ℕ) × (n ≤ length text.now) × IsSpot text.now n result }
+    ensures { IsNameSpot key.now text.now result }
 {
     for at in 0..text.len() {
-        if (at == 0 || text[at - 1] == b'\n') && is_named_in(key, &text[at..]) {
+        if is_name_at(key, text, at) {
             return spot_at(text, at);
         }
     }
     spot_at(text, 0)
 }
 
-/// Whether the text begins with this key, alone or in brackets.
-fn is_named_in(key: &[u8], text: &[u8]) -> bool {
-    is_name(key, text)
-        || match text {
-            [b'[', b'[', rest @ ..] => is_name(key, rest),
-            [b'[', rest @ ..] => is_name(key, rest),
-            _ => false,
-        }
+/// Whether a line begins there with this key, alone or in brackets.
+fn is_name_at(key: &[u8], text: &[u8], at: usize) -> bool
+    requires { at < length text.now }
+    ensures { result ≡ is_name_at key.now text.now at }
+{
+    let start = word_start(text, at);
+    begins_at(b"", text, at)
+        && text[start..].starts_with(key)
+        && !is_bare_at(text, start + key.len())
 }
 
-/// Whether the text begins with this key.
-fn is_name(key: &[u8], text: &[u8]) -> bool {
-    text.starts_with(key) && !is_bare_at(text, key.len())
+/// Where the first word of the line begins that begins there: behind one or two brackets, if they are there.
+fn word_start(text: &[u8], at: usize) -> usize
+    requires { at < length text.now }
+    ensures is { result ≡ word_start text.now at }
+    ensures within { result ≤ length text.now }
+{
+    if text[at] != b'[' {
+        return at;
+    }
+    if at + 1 < text.len() && text[at + 1] == b'[' {
+        return at + 2;
+    }
+    at + 1
 }
