@@ -10,7 +10,9 @@ use Rattle.trace_rules.specs.Rules.{IsDisciplined, IsFirstBreach, no_memory}
 use Rattle.trace_rules.specs.declared.refusal.RuleCause.TheVariants.{OutOfMemory}
 use Rattle.trace_rules.specs.declared.refusal.RuleRefusal.{RuleRefusal}
 use Rattle.window.specs.Fronts.{HasTooManyEvents}
-use Rattle.window.specs.Streams.{IsFirstRefused, IsFront, IsPast, IsUnrefused, IsKept, IsWhole, Past, Stands, Stream, feeds, fork_uses, join_uses, long_trace, no_past, own_uses, said_in}
+use Rattle.window.specs.Heads.{IsReadAfter}
+use Rattle.window.specs.Tables.{found_name, has_fork, has_join, has_thread}
+use Rattle.window.specs.Streams.{IsFirstRefused, IsFront, IsHeldText, IsPast, IsUnrefused, IsKept, IsWhole, Past, Stands, Stream, feeds, fork_uses, join_uses, long_trace, no_past, own_uses, said_in}
 use Rattle.rapid_text.proofs.NameNumbers.{has, has-first_uses}
 use Rattle.window.proofs.NameLemmas.{few_uses}
 use Rattle.window.proofs.UsesLemmas.{forks_among, joins_among, one_of_three, own_among, three_uses}
@@ -18,9 +20,10 @@ use Rattle.std.specs.List.{IsDistinct}
 use Rattle.std.proofs.Math.Nat.{le_antisymm}
 use Rattle.std.proofs.lemmas.Cmp.{nat_list_eq_equiv}
 use Rattle.std.proofs.lemmas.Map.Made.{length-le_from_is_member}
-use Rattle.window.proofs.RefusalLemmas.{feeds-append, unrefused-append, refuses_law, too_large}
+use Rattle.window.proofs.KnownLemmas.{next_is}
+use Rattle.window.proofs.RefusalLemmas.{feeds-append, none_behind, unrefused-append, refuses_law, too_large}
 use Rattle.window.proofs.StreamLemmas.{begins_law, breaks_law, read_is, said-append}
-use Rattle.window.proofs.SummaryLemmas.{long_piece}
+use Rattle.window.proofs.SummaryLemmas.{goes_law, long_piece, summary-size}
 
 pub whole-none : (text : List ℕ) → length text ≡ 0 → IsWhole text
 whole-none [] none = inl refl
@@ -127,6 +130,25 @@ module _ (read : List ℕ) (past : Past) (holds number lines : ℕ) (is : IsFron
       let told = refuses_law read more why is.is_past.whole is.unrefused refused few narrow in
       let place : feeds read + why.line ≡ line = omega (arith, here, is.lines_are) in
       subst (λ (i : ℕ). IsFirstRefused (read ++ more) i why.why) place told
+
+-- How many events a piece has that was read after a text in the place of what was read.
+pub long_after : (read more : List ℕ) (r : Recording) (from : ℕ) → IsReadAfter read more r from → length r.events ≡ from + length (said_in more)
+long_after read more r from (head, stands, reads, size) = omega (arith, size, long_piece head more r stands.ends reads)
+
+-- What is kept after such a piece.
+pub goes_after : (read more : List ℕ) (past next : Past) (r : Recording) (from : ℕ) → IsPast read past → IsWhole more → IsReadAfter read more r from → IsDisciplined r.events
+    → ((name : List ℕ) → has next.forked name ≡ (has past.forked name || found_name r.threads (has_fork r.events from (length r.events)) (length r.threads) name))
+    → ((name : List ℕ) → has next.seen name ≡ (has past.seen name || found_name r.threads (has_thread r.events from (length r.events)) (length r.threads) name))
+    → ((name : List ℕ) → has next.joined name ≡ (has past.joined name || found_name r.threads (has_join r.events from (length r.events)) (length r.threads) name))
+    → {holds : ℕ} → (is : IsHeldText r next.held) × (holds ≡ length is.events)
+    → IsPast (read ++ more) next × IsUnrefused more × (holds ≡ length (said_in next.held))
+goes_after read more past next r from is whole (head, stands, reads, size) rules forked seen joined {holds} held =
+    let piece : r ≡ recording_of (said_in head ++ said_in more) = read_is (head ++ more) r reads ∙ ap recording_of (said-append head more stands.ends) in
+    let on = next_is past next head more r from piece size forked seen joined held.0 in (
+      goes_law read head more r past next is stands whole reads rules on,
+      none_behind head more r stands.ends reads,
+      held.1 ∙ sym (summary-size (head ++ more) r reads next.held held.0),
+    )
 
 -- a piece that is read, but not after the head
 pub size_told : (head more : List ℕ) (why : TextRefusal) → IsWhole head → IsKept head → ((s : Recording) × (reading_of more ≡ Ok s)) → (why ≡ no_text) ⊎ (reading_of (head ++ more) ≡ Err why) → 0 < why.line

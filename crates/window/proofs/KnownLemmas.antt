@@ -5,7 +5,6 @@ use Rattle.std.specs.Cmp.Lexicographic.{bytes_decides}
 use Rattle.std.proofs.lemmas.Bool.{and_parts, cases_Bool, cases_eq, cases_lt, or_left, or_right, false≢true}
 use Rattle.std.proofs.Math.Seq.{drop-append_seam}
 use Rattle.std.proofs.lemmas.List.{get_or_default, get_or_past, length-append, length-map, take_all, take_more}
-use Rattle.std.proofs.lemmas.List.Sums.{position_or_len_is}
 use Rattle.std.proofs.lemmas.List.Folds.{list_any-append, list_any_at}
 use Rattle.std.specs.Option.{option_map}
 use Rattle.std.proofs.lemmas.Option.{slice_get_within, slice_get-map, get_or_from_slice_get}
@@ -118,10 +117,6 @@ table_name keys i v at name is =
 pub first_is : (names : List (List ℕ)) → 0 < length names → has names (first_name names) ≡ true
 first_is names some = has_at names 0 some
 
--- no name of no names is the first
-pub first_none : (names : List (List ℕ)) → length names ≡ 0 → [] ≡ first_name names
-first_none names none = sym (get_or_past names 0 [] (omega (arith, none)))
-
 -- the first that is none of the others is one of the names
 pub outside_is : (names others : List (List ℕ)) → 0 < length names → has names (first_outside names others) ≡ true
 outside_is names others some =
@@ -141,24 +136,6 @@ outside_more names others i name at here before k lt =
           let same : i ≡ k = omega (arith, lt, over) in
           subst (λ (j : ℕ). is_named others (get_or names j []) ≡ true) same (ap (is_named others) at ∙ here)
     ]
-
--- the first that is none of the others
-pub outside_at : (names others : List (List ℕ)) (i : ℕ) (name : List ℕ) → i < length names → get_or names i [] ≡ name → is_named others name ≡ false
-    → ((k : ℕ) → k < i → is_named others (get_or names k []) ≡ true) → name ≡ first_outside names others
-outside_at names others i name lt at free before =
-    let place : position_or_len (λ n. not (is_named others n)) names ≡ i =
-    position_or_len_is (λ n. not (is_named others n)) names i [] (omega (arith, lt)) (λ k below. ap not (before k below))
-    (λ _. ap (λ n. not (is_named others n)) at ∙ ap not free) in
-    sym at ∙ get_or_default names i [] (first_name names) lt ∙ ap (λ (j : ℕ). get_or names j (first_name names)) (sym place)
-
--- the first of all, if each is one of the others
-pub outside_none : (names others : List (List ℕ)) (n : ℕ) → length names ≤ n → ((k : ℕ) → k < n → is_named others (get_or names k []) ≡ true)
-    → first_name names ≡ first_outside names others
-outside_none names others n all before =
-    let place : position_or_len (λ name. not (is_named others name)) names ≡ length names =
-    position_or_len_is (λ name. not (is_named others name)) names (length names) [] (omega arith) (λ k lt. ap not (before k (omega (arith, lt, all))))
-    (λ lt. absurd (omega (arith, lt))) in
-    sym (ap (λ (j : ℕ). get_or names j (first_name names)) place ∙ get_or_past names (length names) (first_name names) (omega arith))
 
 -- noting one more name of a table
 pub noted_item : {A : Type 0} (new cur old : List (List ℕ)) (keys : List (Vec ℕ A)) (i : ℕ) (v : Vec ℕ A) → slice_get keys i ≡ Some v → (name : List ℕ) → name ≡ v.items

@@ -13,6 +13,7 @@ pub mod HoldLemmas
 pub mod HoldsLemmas
 pub mod KnownLemmas
 pub mod LeavingLemmas
+pub mod LevelLemmas
 pub mod LeftLemmas
 pub mod LineLemmas
 pub mod MadeLemmas

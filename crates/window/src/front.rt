@@ -1,26 +1,24 @@
 //! A trace of any length, as far as it was read.
-ghost use Rattle.std.specs.Prelude.{◌≡◌, ◌≢◌, ◌⊎◌, ◌+◌, ◌-◌, ◌<◌, ◌≤◌, ◌++◌, ℕ, List, length, Ok, Err, IfOk, IfErr, OnOk, OnErr, IfSome, None};
+ghost use Rattle.std.specs.Prelude.{◌≡◌, ◌+◌, ◌-◌, ◌<◌, ◌≤◌, ◌++◌, ℕ, List, length, Ok, Err, IfOk, IfErr, OnOk, OnErr, IfSome, None};
 ghost use Rattle.rapid_text.specs.Limits.{event_limit};
 ghost use Rattle.rapid_text.specs.Reading.{first_uses, reading_of, thread_uses};
-ghost use Rattle.rapid_text.specs.Recording.{Recording};
-ghost use Rattle.rapid_text.specs.Refusals.{no_memory};
-ghost use Rattle.trace_rules.specs.Rules.{IsDisciplined, IsFirstBreach, no_memory as no_table};
+ghost use Rattle.trace_rules.specs.Rules.{IsDisciplined};
 ghost use Rattle.window.specs.Fronts.{IsFrontFault, IsHead};
 ghost use Rattle.window.specs.HeadText.{all_of, head_text};
-ghost use Rattle.window.specs.Heads.{past_of};
-ghost use Rattle.window.specs.Streams.{IsKept, IsPast, IsPieceFault, IsUnrefused, IsWhole, IsWindowAt, Stands, feeds, long_trace, nothing_read, said_in};
+ghost use Rattle.window.specs.Heads.{IsReadAfter};
+ghost use Rattle.window.specs.Streams.{IsKept, IsPast, IsPieceFault, IsWhole, IsWindowAt, Stands, feeds, long_trace, nothing_read, said_in};
 
 use crate::cutting::Window;
 use crate::fault::FrontFault;
 use crate::known::Known;
 use crate::past::with_piece;
-use crate::piece::{Next, PieceFault, is_too_wide, kept_size, known_after, window_after};
+use crate::piece::{PieceFault, kept_size, piece, window_after};
 use crate::whole::{is_whole, lines_in};
 use boxcar::tag::Tag;
-use rapid_text::{MAX_EVENTS, MAX_THREADS, OutOfMemory, RawTrace, TextCause, TextRefusal, parse};
+use rapid_text::{MAX_EVENTS, MAX_THREADS, OutOfMemory, RawTrace, parse};
 use std::alloc::Global;
 use std::marker::Model;
-use trace_rules::{RuleCause, RuleRefusal};
+use trace_rules::Trace;
 
 /// More events than are counted.
 const MAX_NUMBER: u64 = 1_000_000_000_000_000_000;
@@ -34,15 +32,22 @@ pub struct Front {
     // What is kept of it.
     known: Known,
     // How many events and lines were read.
-    number: u64,
-    lines: u64,
+    pub(crate) number: u64,
+    pub(crate) lines: u64,
 }
 
-// A text in the place of what was read, and how many events it has.
+/// A text in the place of what was read, and how many events it has.
 #[derive(Drop)]
-struct Head {
-    text: Vec<u8>,
-    size: u32,
+pub(crate) struct Head {
+    pub(crate) text: Vec<u8>,
+    pub(crate) size: u32,
+}
+
+// The trace that such a text and a piece after it are, and how many of its events are those of the text.
+#[derive(Drop)]
+struct Next {
+    trace: Trace,
+    from: u32,
 }
 
 impl Model for Front {
@@ -139,11 +144,8 @@ impl Front {
         ensures err { OnErr result (self.new ≡ self.old) }
         ensures fault { IfErr result (IsFrontFault self.old more.now) }
     {
-        match self.after(alloc, more) {
-            Ok(next) => {
-                *self = next;
-                Ok(())
-            }
+        match self.read_on(alloc, more) {
+            Ok(next) => self.take_in(alloc, more, &next),
             Err(fault) => Err(fault),
         }
     }
@@ -173,7 +175,7 @@ impl Front {
             (λ head. IfSome head (λ h. (more : List ℕ) → Stands self.now.read h.text.items more)) }
         ensures size { IfOk result (λ head. IfSome head (λ h. h.size ≡ length (said_in h.text.items))) }
     {
-        if self.known.seen.len() > MAX_THREADS {
+        if self.known.is_wide() {
             return Ok(None);
         }
         let text = self.known.whole_head(alloc)?;
@@ -235,13 +237,9 @@ impl Front {
         }
     }
 
-    // What is kept after the piece, if it is read after a head of all threads.
+    // What is read of the piece, if it is after a head of all threads.
     fn quick_next(&self, alloc: Global, more: &[u8]) -> Result<Option<Next>, OutOfMemory>
-        requires { IsWhole more.now }
-        ensures past { IfOk result (λ made. IfSome made
-            (λ next. IsPast (self.now.read ++ more.now) (past_of next.known) × IsUnrefused more.now)) }
-        ensures counts { IfOk result (λ made. IfSome made
-            (λ next. (next.known.holds ≡ length (said_in next.known.held.items)) × (next.events ≡ length (said_in more.now)))) }
+        ensures { IfOk result (λ made. IfSome made (λ next. IsReadAfter self.now.read more.now next.trace next.from)) }
     {
         let Some(head) = self.whole_head(alloc)? else {
             return Ok(None);
@@ -252,20 +250,18 @@ impl Front {
         }
     }
 
-    // What is kept after the piece.
+    // What is read of the piece after this head.
     fn next(&self, alloc: Global, head: &Head, more: &[u8]) -> Result<Next, PieceFault>
-        requires whole { IsWhole more.now }
         requires stands { Stands self.now.read head.now.text.items more.now }
         requires size { head.now.size ≡ length (said_in head.now.text.items) }
-        ensures past { IfOk result
-            (λ next. IsPast (self.now.read ++ more.now) (past_of next.known) × IsUnrefused more.now) }
-        ensures counts { IfOk result
-            (λ next. (next.known.holds ≡ length (said_in next.known.held.items)) × (next.events ≡ length (said_in more.now))) }
+        ensures ok { IfOk result (λ next. IsReadAfter self.now.read more.now next.trace next.from) }
         ensures err { IfErr result (IsPieceFault (head.now.text.items ++ more.now) head.now.size) }
     {
-        let text = head.text.as_slice();
-        match known_after(alloc, &self.known, text, head.size, more) {
-            Ok(next) => Ok(next),
+        match piece(alloc, head.text.as_slice(), more) {
+            Ok(trace) => Ok(Next {
+                trace,
+                from: head.size,
+            }),
             Err(fault) => Err(fault),
         }
     }
@@ -280,136 +276,45 @@ impl Front {
         Ok(text)
     }
 
-    // The fault of a head that is none that is read.
-    fn unkept(&self, alloc: Global, head: &[u8], more: &[u8]) -> FrontFault
-        requires is { IsHead self.now more.now head.now }
-        requires unkept { ¬ IsKept head.now }
-        ensures { IsFrontFault self.now more.now result }
-    {
-        match is_too_wide(alloc, head) {
-            Ok(true) => FrontFault::TooManyThreads,
-            Ok(false) => FrontFault::TooLong,
-            Err(_) => FrontFault::OutOfMemory,
-        }
-    }
-
-    // What comes of reading on by these lines.
-    fn after(&self, alloc: Global, more: &[u8]) -> Result<Front, FrontFault>
-        ensures ok { IfOk result (λ next. next.read ≡ self.now.read ++ more.now) }
+    // What is read of these lines.
+    fn read_on(&self, alloc: Global, more: &[u8]) -> Result<Next, FrontFault>
+        ensures whole { IfOk result (λ next. IsWhole more.now) }
+        ensures ok { IfOk result (λ next. IsReadAfter self.now.read more.now next.trace next.from) }
         ensures fault { IfErr result (IsFrontFault self.now more.now) }
     {
         if !is_whole(more) {
             return Err(FrontFault::Unended);
         }
         if let Some(next) = self.quick_next(alloc, more)? {
-            return self.with_next(more, next);
+            return Ok(next);
         }
         let head = self.head(alloc, more)?;
         match self.next(alloc, &head, more) {
-            Ok(next) => self.with_next(more, next),
+            Ok(next) => Ok(next),
             Err(fault) => Err(self.told(&head, more, fault)),
         }
     }
 
-    // What was read and the piece, of which this is kept.
-    fn with_next(&self, more: &[u8], next: Next) -> Result<Front, FrontFault>
-        requires past { IsPast (self.now.read ++ more.now) (past_of next.known) }
-        requires unrefused { IsUnrefused more.now }
-        requires holds { next.known.holds ≡ length (said_in next.known.held.items) }
-        requires events { next.events ≡ length (said_in more.now) }
-        ensures ok { IfOk result (λ front. front.read ≡ self.now.read ++ more.now) }
-        ensures fault { IfErr result (IsFrontFault self.now more.now) }
+    // Keeps what is so after these lines. If they cannot be counted, or memory runs out, nothing changes.
+    fn take_in(&mut self, alloc: Global, more: &[u8], next: &Next) -> Result<(), FrontFault>
+        requires whole { IsWhole more.now }
+        requires next { IsReadAfter self.old.read more.now next.now.trace next.now.from }
+        ensures ok { OnOk result (self.new.read ≡ self.old.read ++ more.now) }
+        ensures err { OnErr result (self.new ≡ self.old) }
+        ensures fault { IfErr result (IsFrontFault self.old more.now) }
     {
-        let Some(number) = counted(self.number, next.events) else {
+        let events = next.trace.raw().len() - next.from;
+        let Some(number) = counted(self.number, events) else {
             return Err(FrontFault::TooLong);
         };
         let Some(lines) = self.lines.checked_add(lines_in(more)) else {
             return Err(FrontFault::TooLong);
         };
-        Ok(Front {
-            read: with_piece(&self.read, more),
-            known: next.known,
-            number,
-            lines,
-        })
-    }
-
-    // The fault, with the number of the line or the event in all that was read.
-    fn told(&self, head: &Head, more: &[u8], fault: PieceFault) -> FrontFault
-        requires stands { Stands self.now.read head.now.text.items more.now }
-        requires kept { IsKept head.now.text.items }
-        requires size { head.now.size ≡ length (said_in head.now.text.items) }
-        requires is { IsHead self.now more.now head.now.text.items }
-        requires fault { IsPieceFault (head.now.text.items ++ more.now) head.now.size fault }
-        ensures { IsFrontFault self.now more.now result }
-    {
-        match fault {
-            PieceFault::Text(refusal) => self.told_size(head, more, refusal),
-            PieceFault::Rule(refusal) => self.told_event(head, more, refusal),
-            PieceFault::NoSuchEvent => FrontFault::NoSuchEvent,
-            PieceFault::NoName => FrontFault::NoName,
-            PieceFault::OutOfMemory => FrontFault::OutOfMemory,
-        }
-    }
-
-    // The fault of a line of the piece that is refused.
-    fn told_line(&self, more: &[u8], refusal: TextRefusal) -> FrontFault
-        requires { (refusal ≡ no_memory) ⊎ (reading_of more.now ≡ Err refusal) }
-        ensures { IsFrontFault self.now more.now result }
-    {
-        if refusal.line == 0 {
-            return FrontFault::OutOfMemory;
-        }
-        if refusal.why == TextCause::TooManyEvents {
-            return FrontFault::TooLong;
-        }
-        if refusal.why == TextCause::TooManyNames {
-            return FrontFault::TooManyThreads;
-        }
-        match self.lines.checked_add(refusal.line) {
-            Some(line) => FrontFault::Text {
-                line,
-                why: refusal.why,
-            },
-            None => FrontFault::TooLong,
-        }
-    }
-
-    // The fault of a piece that is read, but not after the head: both have too many threads, or too many events.
-    fn told_size(&self, head: &Head, more: &[u8], refusal: TextRefusal) -> FrontFault
-        requires stands { Stands self.now.read head.now.text.items more.now }
-        requires kept { IsKept head.now.text.items }
-        requires is { IsHead self.now more.now head.now.text.items }
-        requires fault { (refusal ≡ no_memory) ⊎ (reading_of (head.now.text.items ++ more.now) ≡ Err refusal) }
-        ensures { IsFrontFault self.now more.now result }
-    {
-        if refusal.line == 0 {
-            return FrontFault::OutOfMemory;
-        }
-        if refusal.why == TextCause::TooManyNames {
-            return FrontFault::TooManyThreads;
-        }
-        FrontFault::TooLong
-    }
-
-    // The fault of an event that breaks a rule.
-    fn told_event(&self, head: &Head, more: &[u8], refusal: RuleRefusal) -> FrontFault
-        requires stands { Stands self.now.read head.now.text.items more.now }
-        requires kept { IsKept head.now.text.items }
-        requires size { head.now.size ≡ length (said_in head.now.text.items) }
-        requires fault { (r : Recording)
-            × (reading_of (head.now.text.items ++ more.now) ≡ Ok r)
-            × ((refusal ≡ no_table) ⊎ IsFirstBreach r.events refusal) }
-        ensures { IsFrontFault self.now more.now result }
-    {
-        if refusal.why == RuleCause::OutOfMemory {
-            return FrontFault::OutOfMemory;
-        }
-        let later = u64::from(refusal.event).saturating_sub(u64::from(head.size));
-        FrontFault::Rule {
-            event: self.number + later,
-            why: refusal.why,
-        }
+        self.known.go_on(alloc, &next.trace, next.from)?;
+        self.read = with_piece(&self.read, more);
+        self.number = number;
+        self.lines = lines;
+        Ok(())
     }
 }
 

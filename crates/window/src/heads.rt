@@ -1,10 +1,11 @@
 //! A text that stands in the place of what was read, before a piece of a trace.
 ghost use Rattle.std.specs.Prelude.{◌≡◌, ◌++◌, [], if◌then◌else◌, codes, IfOk, OnOk};
 ghost use Rattle.window.specs.HeadText.{all_kept, all_of, head_text, noted_lines, said_line};
-ghost use Rattle.window.specs.Heads.{names_of, past_of};
+ghost use Rattle.window.specs.Heads.{level_names, names_of, past_of};
 ghost use Rattle.window.specs.Streams.{is_named, read_name};
 
-use crate::known::{Known, Names, first_of, first_other, is_noted};
+use crate::known::Known;
+use crate::levels::{Levels, Names, first_of, first_other, is_noted};
 use rapid_text::{OutOfMemory, RawTrace};
 use std::alloc::Global;
 
@@ -29,14 +30,14 @@ fn append_said(
 // Appends the line that this thread forks or joins that of the name, if it is noted.
 fn append_call(
     text: &mut Vec<u8>,
-    noted: &Names,
+    noted: &Levels,
     thread: &[u8],
     word: &[u8],
     name: &[u8],
 ) -> Result<(), OutOfMemory>
     ensures { OnOk result
         (text.new.items
-        ≡ text.old.items ++ (if is_named (names_of noted.now) name.now then said_line thread.now word.now name.now else [])) }
+        ≡ text.old.items ++ (if is_named (level_names noted.now) name.now then said_line thread.now word.now name.now else [])) }
 {
     if is_noted(noted, name) {
         append_said(text, thread, word, name)?;
@@ -48,13 +49,13 @@ fn append_call(
 fn append_calls(
     text: &mut Vec<u8>,
     raw: &RawTrace,
-    noted: &Names,
+    noted: &Levels,
     thread: &[u8],
     word: &[u8],
 ) -> Result<(), OutOfMemory>
     ensures { OnOk result
         (text.new.items
-        ≡ text.old.items ++ noted_lines (λ name. said_line thread.now word.now name) (names_of noted.now) raw.now.threads) }
+        ≡ text.old.items ++ noted_lines (λ name. said_line thread.now word.now name) (level_names noted.now) raw.now.threads) }
 {
     for other in 0..raw.threads() {
         append_call(text, noted, thread, word, raw.thread_name(other))?;
@@ -63,10 +64,10 @@ fn append_calls(
 }
 
 // Appends the line of a read by the thread of this name, if it is noted.
-fn append_read(text: &mut Vec<u8>, noted: &Names, name: &[u8]) -> Result<(), OutOfMemory>
+fn append_read(text: &mut Vec<u8>, noted: &Levels, name: &[u8]) -> Result<(), OutOfMemory>
     ensures { OnOk result
         (text.new.items
-        ≡ text.old.items ++ (if is_named (names_of noted.now) name.now then said_line name.now (codes "r") read_name else [])) }
+        ≡ text.old.items ++ (if is_named (level_names noted.now) name.now then said_line name.now (codes "r") read_name else [])) }
 {
     if is_noted(noted, name) {
         append_said(text, name, b"r", b"seen")?;
@@ -75,10 +76,10 @@ fn append_read(text: &mut Vec<u8>, noted: &Names, name: &[u8]) -> Result<(), Out
 }
 
 // Appends such a line for each thread of the piece that is noted.
-fn append_reads(text: &mut Vec<u8>, raw: &RawTrace, noted: &Names) -> Result<(), OutOfMemory>
+fn append_reads(text: &mut Vec<u8>, raw: &RawTrace, noted: &Levels) -> Result<(), OutOfMemory>
     ensures { OnOk result
         (text.new.items
-        ≡ text.old.items ++ noted_lines (λ name. said_line name (codes "r") read_name) (names_of noted.now) raw.now.threads) }
+        ≡ text.old.items ++ noted_lines (λ name. said_line name (codes "r") read_name) (level_names noted.now) raw.now.threads) }
 {
     for other in 0..raw.threads() {
         append_read(text, noted, raw.thread_name(other))?;
@@ -86,33 +87,65 @@ fn append_reads(text: &mut Vec<u8>, raw: &RawTrace, noted: &Names) -> Result<(),
     Ok(())
 }
 
-// Appends the line of each thread that is noted.
-fn append_all_calls(
+// Appends the line of each thread of the level that is noted.
+fn append_level_calls(
     text: &mut Vec<u8>,
-    noted: &Names,
+    noted: &Levels,
+    level: &Names,
     thread: &[u8],
     word: &[u8],
 ) -> Result<(), OutOfMemory>
     ensures { OnOk result
         (text.new.items
         ≡ text.old.items
-        ++ noted_lines (λ name. said_line thread.now word.now name) (names_of noted.now) (names_of noted.now)) }
+        ++ noted_lines (λ name. said_line thread.now word.now name) (level_names noted.now) (names_of level.now)) }
 {
-    for at in 0..noted.len() {
-        append_call(text, noted, thread, word, noted[at].as_slice())?;
+    for at in 0..level.len() {
+        append_call(text, noted, thread, word, level[at].as_slice())?;
+    }
+    Ok(())
+}
+
+// Appends the line of each thread that is noted.
+fn append_all_calls(
+    text: &mut Vec<u8>,
+    noted: &Levels,
+    thread: &[u8],
+    word: &[u8],
+) -> Result<(), OutOfMemory>
+    ensures { OnOk result
+        (text.new.items
+        ≡ text.old.items
+        ++ noted_lines (λ name. said_line thread.now word.now name) (level_names noted.now) (level_names noted.now)) }
+{
+    for at in 0..noted.levels.len() {
+        append_level_calls(text, noted, &noted.levels[at], thread, word)?;
+    }
+    Ok(())
+}
+
+// Appends the line of a read by each thread of the level that is noted.
+fn append_level_reads(text: &mut Vec<u8>, noted: &Levels, level: &Names) -> Result<(), OutOfMemory>
+    ensures { OnOk result
+        (text.new.items
+        ≡ text.old.items
+        ++ noted_lines (λ name. said_line name (codes "r") read_name) (level_names noted.now) (names_of level.now)) }
+{
+    for at in 0..level.len() {
+        append_read(text, noted, level[at].as_slice())?;
     }
     Ok(())
 }
 
 // Appends the line of a read by each thread that is noted.
-fn append_all_reads(text: &mut Vec<u8>, noted: &Names) -> Result<(), OutOfMemory>
+fn append_all_reads(text: &mut Vec<u8>, noted: &Levels) -> Result<(), OutOfMemory>
     ensures { OnOk result
         (text.new.items
         ≡ text.old.items
-        ++ noted_lines (λ name. said_line name (codes "r") read_name) (names_of noted.now) (names_of noted.now)) }
+        ++ noted_lines (λ name. said_line name (codes "r") read_name) (level_names noted.now) (level_names noted.now)) }
 {
-    for at in 0..noted.len() {
-        append_read(text, noted, noted[at].as_slice())?;
+    for at in 0..noted.levels.len() {
+        append_level_reads(text, noted, &noted.levels[at])?;
     }
     Ok(())
 }

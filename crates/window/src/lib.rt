@@ -9,12 +9,14 @@ mod holding;
 mod known;
 mod laws;
 mod leaving;
+mod levels;
 mod lines;
 mod moving;
 mod naming;
 mod past;
 mod piece;
 mod prologue;
+mod telling;
 mod touching;
 mod whole;
 

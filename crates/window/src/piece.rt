@@ -1,16 +1,13 @@
 //! Windows of a trace of any length, which is read in pieces, and what is kept of it.
 ghost use Rattle.std.specs.Prelude.{◌≡◌, ◌⊎◌, ◌+◌, ◌<◌, ◌≤◌, ◌++◌, ℕ, List, length, true, None, Ok, IfOk, IfErr, IfSome};
 ghost use Rattle.window.specs.Fronts.{HasTooManyThreads};
-ghost use Rattle.window.specs.Heads.{past_of};
 ghost use Rattle.rapid_text.specs.Reading.{reading_of};
-ghost use Rattle.rapid_text.specs.Recording.{Recording};
 ghost use Rattle.trace_rules.specs.Rules.{IsDisciplined, IsFirstBreach, no_memory as no_table};
-ghost use Rattle.window.specs.Streams.{IsKept, IsNext, IsPieceFault, IsWhole, IsWindowAt, Stands, long_trace, said_in};
+ghost use Rattle.window.specs.Streams.{IsKept, IsPieceFault, IsWhole, IsWindowAt, Stands, long_trace, said_in};
 ghost use Rattle.window.specs.declared.piece.PieceFault.TheVariants.{Rule};
 
 use crate::cutting::{Window, cut_at};
 use crate::fault::CutFault;
-use crate::known::Known;
 use rapid_text::{OutOfMemory, RawTrace, TextCause, TextRefusal, parse};
 use std::alloc::Global;
 use trace_rules::{RuleCause, RuleRefusal, Trace, check};
@@ -116,8 +113,8 @@ pub(crate) fn is_too_wide(alloc: Global, text: &[u8]) -> Result<bool, OutOfMemor
     }
 }
 
-// The trace that the head and the piece after it are.
-fn piece(alloc: Global, head: &[u8], more: &[u8]) -> Result<Trace, PieceFault>
+/// The trace that the head and the piece after it are.
+pub(crate) fn piece(alloc: Global, head: &[u8], more: &[u8]) -> Result<Trace, PieceFault>
     ensures ok { IfOk result (λ trace. reading_of (head.now ++ more.now) ≡ Ok trace) }
     ensures err { IfErr result (λ fault. (size : ℕ) → IsPieceFault (head.now ++ more.now) size fault) }
 {
@@ -165,43 +162,4 @@ pub(crate) fn window_after(
         Err(CutFault::NoName) => Err(PieceFault::NoName),
         Err(CutFault::OutOfMemory) => Err(PieceFault::OutOfMemory),
     }
-}
-
-/// What is kept after a piece, and how many events the piece has.
-#[derive(Drop)]
-pub(crate) struct Next {
-    pub(crate) known: Known,
-    pub(crate) events: u32,
-}
-
-/// What is kept after what a head of so many events stands for and the piece after it.
-pub(crate) fn known_after(
-    alloc: Global,
-    known: &Known,
-    head: &[u8],
-    size: u32,
-    more: &[u8],
-) -> Result<Next, PieceFault>
-    requires whole { IsWhole head.now }
-    requires size { size ≡ length (said_in head.now) }
-    ensures next { IfOk result (λ next.
-        (r : Recording)
-        × (reading_of (head.now ++ more.now) ≡ Ok r)
-        × IsDisciplined r.events
-        × IsNext (past_of known.now) (past_of next.known) r more.now) }
-    ensures holds { IfOk result (λ next. next.known.holds ≡ length (said_in next.known.held.items)) }
-    ensures events { IfOk result (λ next. next.events ≡ length (said_in more.now)) }
-    ensures err { IfErr result (IsPieceFault (head.now ++ more.now) size) }
-{
-    let trace = match piece(alloc, head, more) {
-        Ok(trace) => trace,
-        Err(fault) => return Err(fault),
-    };
-    let len = trace.raw().len();
-    let from = size.min(len);
-    let known = known.after(alloc, &trace, from)?;
-    Ok(Next {
-        known,
-        events: len - from,
-    })
 }

@@ -1,9 +1,9 @@
-use Rattle.std.proofs.Common.{◌≡◌, ◌++◌, codes, take}
+use Rattle.std.proofs.Common.{◌≡◌, ◌++◌, codes, flat_map, take}
 use Rattle.window.specs.HeadText.{noted_lines, said_line}
-use Rattle.window.specs.Heads.{names_of}
+use Rattle.window.specs.Heads.{level_names, names_of}
 use Rattle.window.specs.Streams.{read_name}
 use Rattle.window.proofs.heads.append_all_reads.Given as goal
 
 abbrev pub invariant-loop-at : goal.invariant-loop-at
 invariant-loop-at l =
-    l.text.items ≡ l.fn.text.items ++ noted_lines (λ name. said_line name (codes "r") read_name) (names_of l.noted) (take l.at (names_of l.noted))
+    l.text.items ≡ l.fn.text.items ++ noted_lines (λ name. said_line name (codes "r") read_name) (level_names l.noted) (flat_map names_of (take l.at l.noted.levels.items))

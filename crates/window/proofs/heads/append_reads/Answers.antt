@@ -1,6 +1,6 @@
 use Rattle.std.proofs.Common.{codes}
 use Rattle.window.specs.HeadText.{said_line}
-use Rattle.window.specs.Heads.{names_of}
+use Rattle.window.specs.Heads.{level_names}
 use Rattle.window.specs.Streams.{read_name}
 use Rattle.window.proofs.GrowthLemmas.{goes_on}
 use Rattle.window.proofs.HeadLemmas.{noted_more}
@@ -9,4 +9,4 @@ use Rattle.window.proofs.heads.append_reads.Goals as goal
 pub loop-other-preserved : goal.loop-other-preserved
 loop-other-preserved c =
     goes_on c.args.text.now.items _ _ _ _ _ c.in_ok-append_read.ensures c.loop-other.invariant
-    (noted_more (λ name. said_line name (codes "r") read_name) (names_of c.args.noted.now) c.args.raw.now.threads c.loop-other.other _ c.thread_name.ensures)
+    (noted_more (λ name. said_line name (codes "r") read_name) (level_names c.args.noted.now) c.args.raw.now.threads c.loop-other.other _ c.thread_name.ensures)

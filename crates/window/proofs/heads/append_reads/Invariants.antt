@@ -1,9 +1,9 @@
 use Rattle.std.proofs.Common.{◌≡◌, ◌++◌, codes, take}
 use Rattle.window.specs.HeadText.{noted_lines, said_line}
-use Rattle.window.specs.Heads.{names_of}
+use Rattle.window.specs.Heads.{level_names}
 use Rattle.window.specs.Streams.{read_name}
 use Rattle.window.proofs.heads.append_reads.Given as goal
 
 abbrev pub invariant-loop-other : goal.invariant-loop-other
 invariant-loop-other l =
-    l.text.items ≡ l.fn.text.items ++ noted_lines (λ name. said_line name (codes "r") read_name) (names_of l.noted) (take l.other l.raw.threads)
+    l.text.items ≡ l.fn.text.items ++ noted_lines (λ name. said_line name (codes "r") read_name) (level_names l.noted) (take l.other l.raw.threads)

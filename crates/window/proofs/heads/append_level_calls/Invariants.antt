@@ -1,0 +1,8 @@
+use Rattle.std.proofs.Common.{◌≡◌, ◌++◌, take}
+use Rattle.window.specs.HeadText.{noted_lines, said_line}
+use Rattle.window.specs.Heads.{level_names, names_of}
+use Rattle.window.proofs.heads.append_level_calls.Given as goal
+
+abbrev pub invariant-loop-at : goal.invariant-loop-at
+invariant-loop-at l =
+    l.text.items ≡ l.fn.text.items ++ noted_lines (λ name. said_line l.thread l.word name) (level_names l.noted) (take l.at (names_of l.level))

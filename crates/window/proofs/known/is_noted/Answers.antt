@@ -1,6 +1,0 @@
-use Rattle.std.proofs.Common.{◌∙◌, bytes_eq}
-use Rattle.window.proofs.KnownLemmas.{any-items}
-use Rattle.window.proofs.known.is_noted.Goals as goal
-
-pub returns : goal.returns
-returns c = c.contains.ensures ∙ any-items (bytes_eq c.args.name.now) c.args.names.now.keys

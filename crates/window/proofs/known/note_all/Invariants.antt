@@ -1,7 +1,0 @@
-use Rattle.std.proofs.Common.{◌≡◌, ◌||◌, ℕ, List, take}
-use Rattle.rapid_text.proofs.NameNumbers.{has}
-use Rattle.window.specs.Heads.{names_of}
-use Rattle.window.proofs.known.note_all.Given as goal
-
-abbrev pub invariant-loop-at : goal.invariant-loop-at
-invariant-loop-at l = (other : List ℕ) → has (names_of l.names) other ≡ (has (names_of l.fn.names) other || has (take l.at (names_of l.others)) other)
