@@ -13,7 +13,10 @@ use race_parts::{Parts, cells_of, merged_json, merged_text, races_in, rows_of, t
 use std::alloc::Global;
 
 /// Reads a whole file and takes in its parts: those of a merged report, or one part, which gets this name. `file` is
-/// the number of the file, counted from 1. If the file is refused, some of its parts may have been taken in.
+/// the number of the file, counted from 1.
+///
+/// The faults are 94, 96, 103, 104 and 114 (docs/FORMATS.md). After a fault, some parts of the file may have been taken
+/// in.
 pub fn read_part<S: Source>(
     alloc: Global,
     parts: &mut Parts,
@@ -59,8 +62,10 @@ fn json_of(alloc: Global, parts: &Parts) -> Result<(Vec<u8>, u64), MergeFault>
     Ok((text, races_in(&cells) as u64))
 }
 
-/// Writes the merged report of the parts as text; with `apart`, it also has blocks of what is apart. Returns how many
-/// races the report has.
+/// Writes the merged report of the parts as text (docs/FORMATS.md, "A merged report"). With `apart`, it also has blocks
+/// of what is apart. Returns how many races the report has.
+///
+/// At fault 96 nothing is written. At 95 the writer has taken a beginning of the text.
 pub fn write_merged<K: Sink>(
     alloc: Global,
     parts: &Parts,
@@ -82,6 +87,8 @@ pub fn write_merged<K: Sink>(
 }
 
 /// Writes the merged report of the parts as JSON, which may be merged again. Returns how many races the report has.
+///
+/// At fault 96 nothing is written. At 95 the writer has taken a beginning of the text.
 pub fn write_merged_json<K: Sink>(
     alloc: Global,
     parts: &Parts,

@@ -21,7 +21,8 @@ pub enum ConfirmedFault {
     Line(u64),
 }
 
-/// Reads a whole file of followed races, an entry for each line (docs/FORMATS.md, "Followed races").
+/// Reads a whole file of followed races, an entry for each line (docs/FORMATS.md, "Followed races"). In faults it is
+/// input 3.
 pub fn read_confirmed<S: Source>(
     alloc: Global,
     reader: &mut S,

@@ -256,7 +256,9 @@ fn told_in(
 }
 
 /// Writes the merged report of the parts as requested. Known races, and blocks that the filters drop, are left out and
-/// counted. Returns how many races are printed.
+/// counted (docs/FORMATS.md, "What is left out of a merged report"). Returns how many races are printed.
+///
+/// At fault 96 nothing is written. At 95 the writer has taken a beginning of the text.
 pub fn write_left<K: Sink>(
     alloc: Global,
     parts: &Parts,

@@ -55,7 +55,10 @@ pub fn triage<R: Threads + Sync, S: Source, L: Source + Drop, K: Sink, W: Watch 
     }
 }
 
-/// Writes the report of a trace that was read already.
+/// Writes the report of a trace that was read already, as `triage` does.
+///
+/// At the faults 94, 96 and 100 nothing is written. At 95 the writer has taken a beginning of the text. In faults
+/// `known` is input 2.
 pub fn triage_on<R: Threads + Sync, L: Source + Drop, K: Sink, W: Watch + Hears + Sync>(
     crew: &Crew<'_, R, W>,
     alloc: Global,

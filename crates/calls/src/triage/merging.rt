@@ -56,6 +56,8 @@ fn log_of<'a>(
 
 /// Writes the merged report of the parts as a log of SARIF 2.1.0 (docs/FORMATS.md, "SARIF"). `rows` are the rows of all
 /// parts, and `cells` are these rows in the order of the report. Returns how many races the log has.
+///
+/// At fault 96 nothing is written. At 95 the writer has taken a beginning of the log.
 pub fn write_merged_sarif<'a, K: Sink>(
     alloc: Global,
     parts: &Parts,
@@ -95,6 +97,8 @@ fn page_of(alloc: Global, parts: &Parts, apart: bool) -> Result<(Vec<u8>, u64), 
 
 /// Writes the merged report of the parts as a page (HTML). With `apart`, the page also has what is apart. Returns how
 /// many races the page has.
+///
+/// At fault 96 nothing is written. At 95 the writer has taken a beginning of the page.
 pub fn write_merged_page<K: Sink>(
     alloc: Global,
     parts: &Parts,

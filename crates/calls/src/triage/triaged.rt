@@ -23,8 +23,8 @@ pub enum TriagedFault {
     File(Refusal),
 }
 
-/// Reads a whole triage file. `today` is a date as one number, such as 20271231. An entry whose last day is before it
-/// is refused.
+/// Reads a whole triage file (docs/FORMATS.md, "Triage files"). `today` is a date as one number, such as 20271231. An
+/// entry whose last day is before it is refused. In faults the file is input 4.
 pub fn read_triaged<S: Source>(
     alloc: Global,
     reader: &mut S,
