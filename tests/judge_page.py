@@ -450,8 +450,8 @@ UNLISTED = "Pairs of places that are apart have no rows here; with --apart they 
 ACCESSES = ["Event", "Line of the trace", "Locks held before it"]
 FOLLOWED = ["Access", "Event", "Place", "How the program ended with it first"]
 DRAWN = "A column is a thread, a box is a run of its events, and time goes downwards. Of a long schedule the picture has the last runs, and the last of those that they waited for."
-ALL_TOLD = "All runs stand in words below."
-LAST_TOLD = "The last runs stand in words below, and the command under them prints all."
+ALL_TOLD = "All runs are listed in words below."
+LAST_TOLD = "The last runs are listed in words below, and the command under them prints all."
 # So many rows of each sort, pictures, and runs in words a page has at most.
 MOST_ROWS = 2000
 MOST_PICTURES = 200

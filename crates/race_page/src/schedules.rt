@@ -23,10 +23,10 @@ const PICTURE: &[u8] =
     b". A column is a thread, a box is a run of its events, and time goes downwards. Of a long schedule the picture has \
 the last runs, and the last of those that they waited for.";
 
-const ALL_TOLD: &[u8] = b" All runs stand in words below.";
+const ALL_TOLD: &[u8] = b" All runs are listed in words below.";
 
 const LAST_TOLD: &[u8] =
-    b" The last runs stand in words below, and the command under them prints all.";
+    b" The last runs are listed in words below, and the command under them prints all.";
 
 /// Writes the rest of a row whose beginning is in the piece, with the schedule that shows its pair if there is one.
 pub(crate) fn write_with_schedule(

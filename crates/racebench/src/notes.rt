@@ -100,7 +100,7 @@ fn append_usage_note(out: &mut Vec<u8>, command: &[u8]) -> Result<(), OutOfMemor
 fn append_word_notes(out: &mut Vec<u8>, line: &[u8]) -> Result<(), OutOfMemory> {
     let command = command_of(line);
     if command.is_empty() {
-        out.extend_from_slice(b"note: there is no command behind the client's number\n")?;
+        out.extend_from_slice(b"note: there is no command after the client's number\n")?;
         return Ok(());
     }
     let shown = command.len().min(MAX_SHOWN);
