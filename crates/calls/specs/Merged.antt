@@ -7,7 +7,7 @@ use Rattle.client_scripts.specs.Replay.{AppendsPart}
 use Rattle.client_scripts.specs.Steps.{IsInput}
 use Rattle.client_scripts.specs.declared.fault.ReplayFault.TheVariants.{Write, OutOfMemory as NoMemory}
 use Rattle.race_parts.specs.Cells.{AreSorted, row_said, rows_in}
-use Rattle.race_parts.specs.Merging.{Gives, IsRefused}
+use Rattle.race_parts.specs.Merging.{ClashesIn, Gives, IsRefused}
 use Rattle.race_parts.specs.Objects.{merged_lines}
 use Rattle.race_parts.specs.Parts.{joined, text_at, told_in}
 use Rattle.race_parts.specs.Texts.{heads_count, merged_words}
@@ -37,13 +37,14 @@ IsTaken rest name old new =
     × IfSome rest (λ told. bytes ≡ told) × Gives name bytes given
     × ((q : Vec ℕ Global) → text_at new q ≡ joined (text_at old q) (told_in given q.items))
 
--- why a file is not taken in: it is not read, or what is read is refused
-abbrev pub IsUntaken : ℕ → Option (List ℕ) → MergeFault → Type 0
-IsUntaken file rest (Replay NoMemory) = ⊤
-IsUntaken file rest (Replay fault) = IsInput file rest (Err fault)
-IsUntaken file rest (Line line) = (bytes : List ℕ) × IfSome rest (λ told. bytes ≡ told) × IsRefused bytes (WrongLine line)
-IsUntaken file rest Version = (bytes : List ℕ) × IfSome rest (λ told. bytes ≡ told) × IsRefused bytes OtherVersion
-IsUntaken file rest (Clash other) = ⊤
+-- Why a file of this name and number is not taken in among parts: it is not read, or what is read is refused. At a clash a part of it has the
+-- name of another part, which has another text and comes from the file of the last number.
+abbrev pub IsUntaken : Named → ℕ → List ℕ → Option (List ℕ) → MergeFault → Type 0
+IsUntaken old file name rest (Replay NoMemory) = ⊤
+IsUntaken old file name rest (Replay fault) = IsInput file rest (Err fault)
+IsUntaken old file name rest (Line line) = (bytes : List ℕ) × IfSome rest (λ told. bytes ≡ told) × IsRefused bytes (WrongLine line)
+IsUntaken old file name rest Version = (bytes : List ℕ) × IfSome rest (λ told. bytes ≡ told) × IsRefused bytes OtherVersion
+IsUntaken old file name rest (Clash other) = (bytes : List ℕ) × IfSome rest (λ told. bytes ≡ told) × ClashesIn old name bytes file other
 
 -- The text tells of the rows of all parts, in the order of their keys, and of so many races.
 pub record IsMergedText (parts : Named) (apart : Bool) (races : ℕ) (text : List ℕ) : Type 0 where

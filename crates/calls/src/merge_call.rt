@@ -27,7 +27,7 @@ pub fn read_part<S: Source>(
     requires { S.has_failed reader.old ≡ false }
     // The parts come from bytes that were read. If the type of the reader shows its bytes, they are those.
     ensures ok { OnOk result (IsTaken (S.rest reader.old) name.now parts.old parts.new) }
-    ensures err { IfErr result (IsUntaken file (S.rest reader.old)) }
+    ensures err { IfErr result (IsUntaken parts.old file name.now (S.rest reader.old)) }
     ensures device { result ≡ Err (Replay (Read file Device)) → S.has_failed reader.new ≡ true }
     ensures failed { S.has_failed reader.new ≡ true → result ≡ Err (Replay (Read file Device)) }
 {
