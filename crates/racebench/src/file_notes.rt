@@ -186,7 +186,7 @@ pub(crate) const CONFIRMED: Form = Form {
 /// A part of a report.
 pub(crate) const PART: Form = Form {
     own: Likeness::Part,
-    other: b", and no part: `racebench triage --json` makes a part of a trace",
+    other: b", not a part: `racebench triage --json` makes a part of a trace",
     wrong: b" is not whole, or not what `racebench triage --json` writes",
 };
 
@@ -239,9 +239,9 @@ pub(crate) fn append_other_log_note(
     path: &str,
 ) -> Result<(), OutOfMemory> {
     let words: &[u8] = if is_no_log(rt, path) {
-        b" is no log of a session: take another name for the log"
+        b" is not the log of a session: pass another name for the log"
     } else {
-        b" was made with another trace: take that trace, or another name for the log"
+        b" was made with another trace: pass that trace, or another name for the log"
     };
     append_named(out, path, words)
 }

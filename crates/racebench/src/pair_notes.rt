@@ -96,15 +96,15 @@ fn append_reason(
     Ok(())
 }
 
-/// Appends the note on a number that is no event. `len` is how many events the trace has.
+/// Appends the note on a number that is not an event. `len` is how many events the trace has.
 pub(crate) fn append_no_event(out: &mut Vec<u8>, event: u32, len: u32) -> Result<(), OutOfMemory> {
     out.extend_from_slice(b"note: ")?;
     append_number(out, u64::from(event))?;
     if len == 0 {
-        out.extend_from_slice(b" is no event: the trace has none\n")?;
+        out.extend_from_slice(b" is not an event: the trace has none\n")?;
         return Ok(());
     }
-    out.extend_from_slice(b" is no event: those of the trace are 0 to ")?;
+    out.extend_from_slice(b" is not an event: those of the trace are 0 to ")?;
     append_number(out, u64::from(len - 1))?;
     out.extend_from_slice(b"\n")?;
     Ok(())

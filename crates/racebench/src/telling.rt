@@ -256,7 +256,7 @@ pub(crate) fn tell_unwritten(rt: &HostRuntime, name: &str) -> ExitCode
 fn append_unlisted(rt: &HostRuntime, out: &mut Vec<u8>, path: &str) -> Result<(), OutOfMemory> {
     append_fault(out, &Fault::Bench(BenchFault::from(UNREAD)))?;
     if are_wanted(rt) {
-        append_named(out, path, b" is no folder that can be read")?;
+        append_named(out, path, b" is not a folder that can be read")?;
     }
     Ok(())
 }
