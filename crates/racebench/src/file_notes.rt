@@ -1,7 +1,7 @@
 //! Notes on files that the arguments name: why a file was not read, and what a refused file looks like.
 
 use crate::input::is_standard;
-use crate::likeness::{Likeness, likeness_of};
+use crate::likeness::{Likeness, likeness_of, words_for_script};
 use crate::lines::line_of;
 use crate::notes::{
     STANDARD_OUTPUT, append_kind, append_named, append_script_notes, append_write_note,
@@ -124,8 +124,25 @@ fn append_script_file_notes(
     refusal: &ScriptRefusal,
 ) -> Result<(), OutOfMemory> {
     match bytes_again(rt, path) {
-        Some(text) => append_script_notes(out, path, &text, true, refusal),
+        Some(text) => append_own_script_notes(out, path, &text, refusal),
         None => Ok(()),
+    }
+}
+
+/// Appends the notes on a refused line of this script, which is a whole file.
+fn append_own_script_notes(
+    out: &mut Vec<u8>,
+    path: &str,
+    text: &[u8],
+    refusal: &ScriptRefusal,
+) -> Result<(), OutOfMemory> {
+    append_script_notes(out, path, text, true, refusal)?;
+    if refusal.line != 1 {
+        return Ok(());
+    }
+    match likeness_of(text) {
+        Likeness::Other => Ok(()),
+        likeness => append_kind(out, path, likeness, words_for_script(likeness)),
     }
 }
 

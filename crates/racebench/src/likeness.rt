@@ -131,3 +131,11 @@ pub(crate) fn words_for_trace(likeness: Likeness) -> &'static [u8] {
         _ => b": triage needs a recorded trace",
     }
 }
+
+/// The rest of the note, if the file should have held a script.
+pub(crate) fn words_for_script(likeness: Likeness) -> &'static [u8] {
+    match likeness {
+        Likeness::Mark => b", which a script must not have",
+        _ => b", not a script",
+    }
+}

@@ -96,10 +96,15 @@ fn append_reason(
     Ok(())
 }
 
-/// Appends the note on a number that is not an event. `len` is how many events the trace has.
+/// Appends the note on a number that is not an event. `len` is how many events the trace has. A number past those of
+/// events comes as the largest, so the note does not show that one.
 pub(crate) fn append_no_event(out: &mut Vec<u8>, event: u32, len: u32) -> Result<(), OutOfMemory> {
     out.extend_from_slice(b"note: ")?;
-    append_number(out, u64::from(event))?;
+    if event == u32::MAX {
+        out.extend_from_slice(b"so large a number")?;
+    } else {
+        append_number(out, u64::from(event))?;
+    }
     if len == 0 {
         out.extend_from_slice(b" is not an event: the trace has none\n")?;
         return Ok(());
