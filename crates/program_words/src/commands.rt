@@ -289,7 +289,7 @@ parts means nothing, and a part that comes twice counts once.",
         Word {
             name: "fail",
             kind: Kind::Flag(&[]),
-            help: Some("Exit with status 3 if a race is printed, or 4 if no part has events"),
+            help: Some("End with status 3 if a race is printed, or 4 if no part has events"),
         },
     ],
 };

@@ -25,8 +25,9 @@ pub(crate) const EXPLAIN: Words = Words {
 Events are counted from 0, in the order of the trace. A location is a file and a line, or a part
 that only one line has. Of two locations, `explain` takes the pair of events that `triage` reports.
 The first line is the verdict: `race`, with a schedule after which both are next in their threads;
-`apart`, with what keeps the two apart in every correct reordering of this trace; or `undecided`. Apart is about this trace only: each read keeps
-the write that it saw, and in another run it may see another one.",
+`apart`, with what keeps the two apart in every correct reordering of this trace; or `undecided`.
+Apart is about this trace only: each read keeps the write that it saw, and in another run it may see
+another one.",
     words: &[
         TRACE,
         FIRST,
