@@ -7,7 +7,7 @@ ghost use Rattle.window.specs.Tables.{found_name, has_fork, has_join, has_thread
 use crate::leaving::held_text;
 use crate::levels::{Grown, Levels, Names, no_names, note_levels, with_found};
 use crate::touching::{forks_in, joins_in, threads_in};
-use rapid_text::{MAX_THREADS, OutOfMemory, TextKeyed};
+use rapid_text::{MAX_THREADS, OutOfMemory};
 use std::alloc::Global;
 use trace_rules::Trace;
 
@@ -58,7 +58,7 @@ impl Known {
             ≡ ((is_named (past_of self.now).seen name || is_named (past_of self.now).forked name)
             || is_named (past_of self.now).joined name)) }
     {
-        let mut all = no_names(alloc, TextKeyed::of(&[]));
+        let mut all = no_names(alloc, self.seen.keyed());
         note_levels(&mut all, alloc, self.seen.levels.as_slice())?;
         note_levels(&mut all, alloc, self.forked.levels.as_slice())?;
         note_levels(&mut all, alloc, self.joined.levels.as_slice())?;

@@ -9,12 +9,13 @@ ghost use Rattle.window.specs.Tables.{found_name};
 use indexmap::IndexSet;
 use rapid_text::{OutOfMemory, RawTrace, TextKeyed};
 use std::alloc::Global;
+use std::hash::{BuildHasher, Hasher};
 
 /// Names, each once.
 pub(crate) type Names = IndexSet<Vec<u8>, TextKeyed>;
 
-/// Names in levels, each in one of them. A table never grows: its hashers are keyed by the text of the last piece whose names it has, so
-/// nobody can choose names that collide there.
+/// Names in levels, each in one of them. A table does not grow once it is a level, and its hashers are keyed by all texts that were read up to
+/// then. So nobody can choose names that collide there.
 #[derive(Drop)]
 pub(crate) struct Levels {
     pub(crate) levels: Vec<Names>,
@@ -156,6 +157,13 @@ fn kept_levels(known: &Levels, names: usize) -> usize
     0
 }
 
+// The hashers of what was read before and of this trace: each name of both is a part of their key.
+fn keyed_by(known: &Levels, raw: &RawTrace) -> TextKeyed {
+    let mut both = known.keyed().build_hasher();
+    both.write_u64(raw.keyed().build_hasher().finish());
+    TextKeyed::of(&both.finish().to_le_bytes())
+}
+
 // The level of these names, and of the levels before it that it replaces. Names stay in the order in which they came.
 fn joined(
     alloc: Global,
@@ -189,7 +197,7 @@ pub(crate) fn with_found(
         ≡ (is_named (level_names known.now) other
         || found_name raw.now.threads (λ t. slice_index_or found.now t false) (length raw.now.threads) other)) }
 {
-    let keyed = raw.keyed();
+    let keyed = keyed_by(known, raw);
     let mut names = no_names(alloc, keyed);
     note_found(&mut names, alloc, raw, known, found)?;
     let grown = joined(alloc, keyed, known, &names)?;
@@ -242,6 +250,14 @@ impl Levels {
     {
         Levels {
             levels: Vec::new(alloc),
+        }
+    }
+
+    /// The hashers of the last level. Each piece makes a level, so all that was read is a part of their key.
+    pub(crate) fn keyed(&self) -> TextKeyed {
+        match self.levels.last() {
+            Some(level) => *level.hasher(),
+            None => TextKeyed::of(&[]),
         }
     }
 
