@@ -1,17 +1,17 @@
 -- The parts of a merged report, taken in one after another.
-use Rattle.std.proofs.Common.{◌≡◌, ◌==◌, ℕ, ◌+◌, ◌-◌, All, IfErr, List, [], ◌∷◌, ◌++◌, append_assoc, append-nil, length, map, Vec, Result, Ok, Err, OnOk, inl, inr, true, false, refl, sym, ap, ◌∙◌, subst, arith}
+use Rattle.std.proofs.Common.{◌≡◌, ◌==◌, ℕ, ◌+◌, ◌-◌, All, IfErr, List, [], ◌∷◌, ◌++◌, append_assoc, append-nil, length, map, Vec, Some, Result, Ok, Err, OnOk, inl, inr, true, false, refl, sym, ap, ◌∙◌, subst, arith}
 use Rattle.std.specs.BTreeMap.{BTreeMap}
 use Rattle.std.specs.declared.alloc.Global.{Global}
 use Rattle.std.proofs.lemmas.Bool.{eqb-true}
 use Rattle.std.specs.Option.{option_or}
 use Rattle.std.proofs.lemmas.List.{length-append, map-append}
-use Rattle.std.proofs.lemmas.List.Elements.{All-cons}
+use Rattle.std.proofs.lemmas.List.Elements.{All-append, All-cons, All-nil, All-weaker}
 use Rattle.serde_json.specs.declared.value.Value.{Value}
 use Rattle.serde_json.specs.View.{view}
 use Rattle.serde_json.specs.Data.{Data}
 use Rattle.race_parts.specs.Lines.{AreLines, IsUnread}
 use Rattle.race_parts.specs.Merging.{IsPartRefused, IsRefused, IsReportRefused, IsUnsound, is_merged, is_merged_head, IsClash, IsLineRefused, IsPartText, IsSound, IsUnputOr, IsUntaken, ListsReport, ClashesIn, told_of}
-use Rattle.race_parts.specs.Parts.{HasOther, IfClash, IsPutFault, held_at, held_from, joined, single, text_at, told_in}
+use Rattle.race_parts.specs.Parts.{AreThere, HasOther, IfClash, IsPutFault, held_at, held_from, joined, single, text_at, told_in}
 use Rattle.race_parts.specs.declared.lines.PartRefusal.{PartRefusal}
 use Rattle.race_parts.specs.declared.lines.PartRefusal.TheVariants.{Line, Version, Clash, OutOfMemory}
 use Rattle.race_parts.specs.declared.parts.Part.{Part}
@@ -19,6 +19,10 @@ use Rattle.race_parts.proofs.UnionLemmas.{held-joined, joined-assoc, or-assoc, o
 
 abbrev Named : Type 0
 Named = BTreeMap (Vec ℕ Global) Part
+
+-- the name has the text that it is given
+abbrev IsThere : Named → List ℕ × List ℕ → Type 0
+IsThere parts p = (key : Vec ℕ Global) → key.items ≡ p.0 → text_at parts key ≡ Some p.1
 
 -- Of these lines, some were taken in, and the others are left. All are of the file of this number.
 pub record IsTaking (old now : Named) (file : ℕ) (lines left : List Value) (place : ℕ) : Type 0 where
@@ -28,6 +32,7 @@ pub record IsTaking (old now : Named) (file : ℕ) (lines left : List Value) (pl
   pub all : lines ≡ done ++ left
   pub place_is : place ≡ length done + 1
   pub held : (q : Vec ℕ Global) → held_at now q ≡ option_or (held_at old q) (held_from file (told_in (map told_of done) q.items))
+  pub there : AreThere now (map told_of done)
 
 pub taking_begins : (old : Named) (file : ℕ) (lines : List Value) → IsTaking old old file lines lines 1
 taking_begins old file lines = record {
@@ -37,6 +42,7 @@ taking_begins old file lines = record {
   all = refl;
   place_is = refl;
   held = λ q. sym (or-none (held_at old q));
+  there = All-nil (IsThere old);
 }
 
 -- one line more
@@ -47,15 +53,34 @@ held-more file done v q =
     ∙ ap (held_from file) (told-append (map told_of done) (told_of v ∷ []) q)
     ∙ held-joined file (told_in (map told_of done) q) (told_in (told_of v ∷ []) q)
 
+pub there-one : (parts : Named) (p : List ℕ × List ℕ) → IsThere parts p → AreThere parts (p ∷ [])
+there-one parts p h = All-cons (IsThere parts) p [] h (All-nil (IsThere parts))
+
+-- a text that was there stays
+there-stays : (now new : Named) (v : Value) (p : List ℕ × List ℕ)
+    → ((q : Vec ℕ Global) → text_at new q ≡ joined (text_at now q) (single (told_of v).0 (told_of v).1 q.items))
+    → IsThere now p → IsThere new p
+there-stays now new v p took h key same = took key ∙ ap (λ o. joined o (single (told_of v).0 (told_of v).1 key.items)) (h key same)
+
+there-more : (now new : Named) (done : List Value) (v : Value) → AreThere now (map told_of done)
+    → ((q : Vec ℕ Global) → text_at new q ≡ joined (text_at now q) (single (told_of v).0 (told_of v).1 q.items))
+    → IsThere new (told_of v)
+    → AreThere new (map told_of (done ++ v ∷ []))
+there-more now new done v all took puts =
+    subst (AreThere new) (sym (map-append told_of done (v ∷ [])))
+    (All-append (IsThere new) (map told_of done) (told_of v ∷ [])
+    (All-weaker (IsThere now) (IsThere new) (λ p. there-stays now new v p took) (map told_of done) all) (there-one new (told_of v) puts))
+
 pub taking_goes_on : (old now new : Named) (file : ℕ) (lines left behind : List Value) (v : Value) (place next : ℕ)
     → IsTaking old now file lines left place
     → left ≡ v ∷ behind
     → IsPartText (told_of v).1
     → ((q : Vec ℕ Global) → text_at new q ≡ joined (text_at now q) (single (told_of v).0 (told_of v).1 q.items))
     → ((q : Vec ℕ Global) → held_at new q ≡ option_or (held_at now q) (held_from file (single (told_of v).0 (told_of v).1 q.items)))
+    → ((key : Vec ℕ Global) → key.items ≡ (told_of v).0 → text_at new key ≡ Some (told_of v).1)
     → next ≡ length lines - length behind + 1
     → IsTaking old new file lines behind next
-taking_goes_on old now new file lines left behind v place next taking cut one took holds next_is =
+taking_goes_on old now new file lines left behind v place next taking cut one took holds puts next_is =
     let first : map told_of left ≡ told_of v ∷ map told_of behind = ap (map told_of) cut in
     let all : lines ≡ (taking.done ++ v ∷ []) ++ behind =
     taking.all ∙ ap (λ (vs : List Value). taking.done ++ vs) cut ∙ sym (append_assoc taking.done (v ∷ []) behind) in
@@ -76,6 +101,7 @@ taking_goes_on old now new file lines left behind v place next taking cut one to
           ∙ ap (λ o. option_or o (held_from file (single (told_of v).0 (told_of v).1 q.items))) (taking.held q)
           ∙ or-assoc (held_at old q) (held_from file (told_in (map told_of taking.done) q.items)) (held_from file (single (told_of v).0 (told_of v).1 q.items))
           ∙ ap (option_or (held_at old q)) (sym (held-more file taking.done v q.items));
+      there = there-more now new taking.done v taking.there took puts;
     }
 
 -- nothing is left
@@ -84,6 +110,11 @@ pub taking_ends : (old now : Named) (file : ℕ) (lines left : List Value) (plac
 taking_ends old now file lines left place taking none q =
     let all : taking.done ≡ lines = sym (taking.all ∙ ap (λ (vs : List Value). taking.done ++ vs) none ∙ append-nil taking.done) in
     taking.held q ∙ ap (λ (vs : List Value). option_or (held_at old q) (held_from file (told_in (map told_of vs) q.items))) all
+
+pub taking_ends_there : (old now : Named) (file : ℕ) (lines left : List Value) (place : ℕ) → IsTaking old now file lines left place → left ≡ [] → AreThere now (map told_of lines)
+taking_ends_there old now file lines left place taking none =
+    let all : taking.done ≡ lines = sym (taking.all ∙ ap (λ (vs : List Value). taking.done ++ vs) none ∙ append-nil taking.done) in
+    subst (λ (vs : List Value). AreThere now (map told_of vs)) all taking.there
 
 -- the first of what is left is refused
 pub taking_stops : (old now : Named) (file : ℕ) (lines left behind : List Value) (v : Value) (place : ℕ) (why : PartRefusal)

@@ -105,3 +105,14 @@ held_added m n k p none updates q =
           ap held_of (updates.0 q) ∙ ap (λ b. held_of (cond b (Some p) (get name_cmp m q))) other
           ∙ sym (or-none (held_at m q)) ∙ sym (ap (λ o. option_or (held_at m q) (held_from p.file o)) (single-other k.items p.text.items q.items back))
     ]
+
+-- the text that is put is there
+pub kept_there : (m : BTreeMap (Vec ℕ Global) Part) (k : Vec ℕ Global) (text : List ℕ) → text_at m k ≡ Some text
+    → (key : Vec ℕ Global) → key.items ≡ k.items → text_at m key ≡ Some text
+kept_there m k text found key same = text_at-same m key k same ∙ found
+
+pub added_there : (m n : BTreeMap (Vec ℕ Global) Part) (k : Vec ℕ Global) (p : Part) → Updates name_cmp m n k (Some p)
+    → (key : Vec ℕ Global) → key.items ≡ k.items → text_at n key ≡ Some p.text.items
+added_there m n k p updates key same =
+    let here : is_at (bytes_cmp k.items) key.items ≡ true = ap (λ (b : List ℕ). is_at (bytes_cmp k.items) b) same ∙ at_itself k.items in
+    ap text_of (updates.0 key) ∙ ap (λ b. text_of (cond b (Some p) (get name_cmp m key))) here

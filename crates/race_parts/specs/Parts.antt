@@ -1,5 +1,5 @@
 -- Parts by their names, and how they are joined. All notions here are this project's own.
-use Rattle.std.specs.Prelude.{◌≡◌, ◌≢◌, ℕ, cond, List, Vec, Option, Some, None, option_map, ⊤}
+use Rattle.std.specs.Prelude.{◌≡◌, ◌≢◌, ℕ, cond, All, List, Vec, Option, Some, None, option_map, ⊤}
 use Rattle.std.specs.declared.alloc.Global.{Global}
 use Rattle.std.specs.declared.cmp.Ordering.{Ordering}
 use Rattle.std.specs.BTreeMap.{BTreeMap, get, is_at}
@@ -41,6 +41,10 @@ single name text q = cond (is_at (bytes_cmp q) name) (Some text) None
 -- the text at a name, among names with their texts: the first, if there are several
 abbrev pub told_in : List (List ℕ × List ℕ) → List ℕ → Option (List ℕ)
 told_in given q = lookup (is_at (bytes_cmp q)) given
+
+-- among parts, each of these names has the text that it is given
+abbrev pub AreThere : BTreeMap (Vec ℕ Global) Part → List (List ℕ × List ℕ) → Type 0
+AreThere parts given = All (λ p. (key : Vec ℕ Global) → key.items ≡ p.0 → text_at parts key ≡ Some p.1) given
 
 -- no part is put at a clash, or for want of memory
 abbrev pub IsPutFault : PartRefusal → Type 0

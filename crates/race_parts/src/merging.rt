@@ -10,7 +10,7 @@ ghost use Rattle.race_parts.specs.Kept.{AreKept};
 ghost use Rattle.race_parts.specs.Lines.{AreLines, IsReadOn};
 ghost use Rattle.race_parts.specs.Members.{said_text};
 ghost use Rattle.race_parts.specs.Rows.{wrong_line};
-ghost use Rattle.race_parts.specs.Parts.{HasOther, IfClash, IsPutFault, held_at, held_from, joined, told_in, single, text_at};
+ghost use Rattle.race_parts.specs.Parts.{AreThere, HasOther, IfClash, IsPutFault, held_at, held_from, joined, told_in, single, text_at};
 
 use crate::kept::KeptRow;
 use crate::lines::{Begun, PartRefusal, ReadRows, begin, lines_in, rows_in};
@@ -35,6 +35,7 @@ pub fn take_file(
         × ((q : Vec ℕ Global) → text_at parts.new q ≡ joined (text_at parts.old q) (told_in given q.items))) }
     ensures held { OnOk result ((given : List (List ℕ × List ℕ)) × Gives name.now text.now given
         × ((q : Vec ℕ Global) → held_at parts.new q ≡ option_or (held_at parts.old q) (held_from file (told_in given q.items)))) }
+    ensures there { OnOk result ((given : List (List ℕ × List ℕ)) × Gives name.now text.now given × AreThere parts.new given) }
     ensures err { IfErr result (IsRefused text.now) }
     ensures clash { IfErr result (λ why. IfClash why (ClashesIn parts.old name.now text.now file)) }
 {
@@ -77,6 +78,7 @@ fn take_part(
         × ((q : Vec ℕ Global) → text_at parts.new q ≡ joined (text_at parts.old q) (single name.now text.now q.items))) }
     ensures held { OnOk result ((q : Vec ℕ Global) → held_at parts.new q
         ≡ option_or (held_at parts.old q) (held_from file (single name.now text.now q.items))) }
+    ensures there { OnOk result ((key : Vec ℕ Global) → key.items ≡ name.now → text_at parts.new key ≡ Some text.now) }
     ensures err { IfErr result (IsUnputOr (IsUnsound text.now (view begun.entry.head))) }
     ensures clash { IfErr result (λ why. IfClash why
         (λ other. IsSound text.now (view begun.entry.head) × HasOther (held_at parts.old) name.now text.now other)) }
@@ -98,6 +100,7 @@ fn put_copy(
     ensures ok { OnOk result ((q : Vec ℕ Global) → text_at parts.new q ≡ joined (text_at parts.old q) (single name.now text.now q.items)) }
     ensures held { OnOk result ((q : Vec ℕ Global) → held_at parts.new q
         ≡ option_or (held_at parts.old q) (held_from file (single name.now text.now q.items))) }
+    ensures there { OnOk result ((key : Vec ℕ Global) → key.items ≡ name.now → text_at parts.new key ≡ Some text.now) }
     ensures why { IfErr result IsPutFault }
     ensures clash { IfErr result (λ why. IfClash why (HasOther (held_at parts.old) name.now text.now)) }
 {
@@ -203,6 +206,8 @@ fn take_line(
     ensures held { OnOk result ((q : Vec ℕ Global) → held_at parts.new q
         ≡ option_or (held_at parts.old q)
         (held_from file (single (said_text (codes "name") (view line.now)) (said_text (codes "text") (view line.now)) q.items))) }
+    ensures there { OnOk result ((key : Vec ℕ Global) → key.items ≡ said_text (codes "name") (view line.now)
+        → text_at parts.new key ≡ Some (said_text (codes "text") (view line.now))) }
     ensures err { IfErr result (IsLineRefused (said_text (codes "text") (view line.now)) place) }
     ensures clash { IfErr result (λ why. IfClash why (λ other. IsPartText (said_text (codes "text") (view line.now))
         × HasOther (held_at parts.old) (said_text (codes "name") (view line.now)) (said_text (codes "text") (view line.now)) other)) }
@@ -234,6 +239,7 @@ fn take_told(
         × ((q : Vec ℕ Global) → text_at parts.new q ≡ joined (text_at parts.old q) (told_in (map told_of lines.now) q.items))) }
     ensures held { OnOk result ((q : Vec ℕ Global) → held_at parts.new q
         ≡ option_or (held_at parts.old q) (held_from file (told_in (map told_of lines.now) q.items))) }
+    ensures there { OnOk result (AreThere parts.new (map told_of lines.now)) }
     ensures err { IfErr result (IsUntaken lines.now) }
     ensures clash { IfErr result (λ why. IfClash why (IsClash parts.old file (map told_of lines.now))) }
 {
@@ -259,6 +265,7 @@ fn take_merged(
         × ((q : Vec ℕ Global) → text_at parts.new q ≡ joined (text_at parts.old q) (told_in (told_parts lines.now) q.items))) }
     ensures held { OnOk result ((q : Vec ℕ Global) → held_at parts.new q
         ≡ option_or (held_at parts.old q) (held_from file (told_in (told_parts lines.now) q.items))) }
+    ensures there { OnOk result (AreThere parts.new (told_parts lines.now)) }
     ensures err { IfErr result (AreWrongIn lines.now) }
     ensures clash { IfErr result (λ why. IfClash why
         (λ other. (wrong_merged lines.now ≡ None) × IsClash parts.old file (told_parts lines.now) other)) }
@@ -294,6 +301,7 @@ fn take_report(
         × ((q : Vec ℕ Global) → text_at parts.new q ≡ joined (text_at parts.old q) (told_in given q.items))) }
     ensures held { OnOk result ((given : List (List ℕ × List ℕ)) × GivesReport text.now given
         × ((q : Vec ℕ Global) → held_at parts.new q ≡ option_or (held_at parts.old q) (held_from file (told_in given q.items)))) }
+    ensures there { OnOk result ((given : List (List ℕ × List ℕ)) × GivesReport text.now given × AreThere parts.new given) }
     ensures err { IfErr result (IsReportRefused text.now) }
     ensures clash { IfErr result (λ why. IfClash why
         (λ other. (given : List (List ℕ × List ℕ)) × ListsReport text.now given × IsClash parts.old file given other)) }

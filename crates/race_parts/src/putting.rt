@@ -1,5 +1,5 @@
 //! How a part is put among others.
-ghost use Rattle.std.specs.Prelude.{◌≡◌, ℕ, Vec, IfErr, OnOk};
+ghost use Rattle.std.specs.Prelude.{◌≡◌, ℕ, Some, Vec, IfErr, OnOk};
 ghost use Rattle.race_parts.specs.Parts.{HasOther, IfClash, IsPutFault, held_at, held_from, joined, single, text_at};
 ghost use Rattle.std.specs.Option.{option_or};
 ghost use Rattle.std.specs.declared.alloc.Global.{Global};
@@ -12,6 +12,7 @@ pub(crate) fn put(parts: &mut Parts, name: Vec<u8>, part: Part) -> Result<(), Pa
     ensures ok { OnOk result ((q : Vec ℕ Global) → text_at parts.new q ≡ joined (text_at parts.old q) (single name.items part.text.items q.items)) }
     ensures held { OnOk result ((q : Vec ℕ Global) → held_at parts.new q
         ≡ option_or (held_at parts.old q) (held_from part.file (single name.items part.text.items q.items))) }
+    ensures there { OnOk result ((key : Vec ℕ Global) → key.items ≡ name.items → text_at parts.new key ≡ Some part.text.items) }
     ensures why { IfErr result IsPutFault }
     ensures clash { IfErr result (λ why. IfClash why (HasOther (held_at parts.old) name.items part.text.items)) }
 {

@@ -2,7 +2,7 @@ use Rattle.std.proofs.Common.{All, List, ap, ◌∙◌, map, rules, subst}
 use Rattle.std.specs.Option.{option_or}
 use Rattle.serde_json.specs.declared.value.Value.{Value}
 use Rattle.race_parts.specs.Merging.{IsClash, IsPartText, told_of}
-use Rattle.race_parts.specs.Parts.{held_at, held_from, joined, text_at, told_in}
+use Rattle.race_parts.specs.Parts.{AreThere, held_at, held_from, joined, text_at, told_in}
 use Rattle.race_parts.proofs.MergingLemmas.{if_clash-map, if_err-map, on_ok-map}
 use Rattle.race_parts.proofs.merging.take_merged.Goals as goal
 
@@ -23,6 +23,12 @@ returns-clause-held c =
     h q
     ∙ ap (λ (vs : List Value). option_or (held_at c.args.parts.now q) (held_from c.args.file (told_in (map told_of vs) q.items))) c.part_lines.ensures)
     c.take_told.ensures.held
+
+pub returns-clause-there : goal.returns-clause-there
+returns-clause-there c =
+    on_ok-map c.take_told.result
+    (subst (λ (vs : List Value). AreThere c.take_told.new.parts (map told_of vs)) c.part_lines.ensures)
+    c.take_told.ensures.there
 
 pub returns-clause-clash : goal.returns-clause-clash
 returns-clause-clash c =

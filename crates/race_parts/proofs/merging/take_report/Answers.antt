@@ -25,6 +25,17 @@ returns-clause-held c =
     ))
     c.take_merged.ensures.ok c.take_merged.ensures.held
 
+pub returns-clause-there : goal.returns-clause-there
+returns-clause-there c =
+    let lines = c.deref-2.result.now in
+    on_ok-both c.take_merged.result
+    (λ p h. (
+      told_parts lines,
+      (lines, search rules, search rules, merged_begins lines c.in_ok-lines.ensures.head.0 c.args.begun.head (search rules) c.requires.merged, p.0, refl, p.1),
+      h,
+    ))
+    c.take_merged.ensures.ok c.take_merged.ensures.there
+
 pub returns-clause-clash : goal.returns-clause-clash
 returns-clause-clash c =
     let lines = c.deref-2.result.now in

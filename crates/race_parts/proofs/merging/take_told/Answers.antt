@@ -14,5 +14,5 @@ returns-in_err-take_line-clause-clash c =
 pub lines-preserved : goal.lines-preserved
 lines-preserved c =
     taking_goes_on _ _ c.take_line.new.parts _ _ _ _ _ _ _ c.lines.invariant c.first_line.ensures c.in_ok-take_line.ensures.ok.0 c.in_ok-take_line.ensures.ok.1
-    c.in_ok-take_line.ensures.held
+    c.in_ok-take_line.ensures.held c.in_ok-take_line.ensures.there
     (ap (λ n. n + 1) (search rules))
