@@ -117,3 +117,28 @@ int pthread_spin_unlock(pthread_spinlock_t *m) {
     unpark(m);
     return answer;
 }
+
+/* The lock of a stream: who has it may take it again. The C library takes it for each of its calls too, unseen. */
+static int try_stream(FILE *f) {
+    REAL(ftrylockfile, int, FILE *);
+    return real(f) ? EBUSY : 0;
+}
+
+int ftrylockfile(FILE *f) {
+    if (!IDLE) maybe_give();
+    return took(try_stream(f), f, PC);
+}
+
+void flockfile(FILE *f) {
+    REAL(flockfile, void, FILE *);
+    if (IDLE) return real(f);
+    maybe_give();
+    took(TRIES(EBUSY, try_stream(f), f, NULL, 0), f, PC);
+}
+
+void funlockfile(FILE *f) {
+    REAL(funlockfile, void, FILE *);
+    if (!IDLE) put(RELEASE, (u64)f, 0, PC);
+    real(f);
+    if (!IDLE) unpark(f);
+}
