@@ -27,6 +27,7 @@ COMPILED = {
     "cxx20.cpp": ["-std=c++20", "-latomic"],
     "meetings.cpp": ["-std=c++20"],
     "stop_tokens.cpp": ["-std=c++20"],
+    "shared_atomic.cpp": ["-std=c++20"],
     "waits_atomic.cpp": ["-std=c++20"],
     "wide_atomic.cpp": ["-std=c++17", "-latomic"],
     "shared_tasks.cpp": ["-fopenmp"],

@@ -19,6 +19,7 @@
 #include "signals.c"
 #include "descriptors.c"
 #include "channels.c"
+#include "streams.c"
 #include "sockets.c"
 #include "world.c"
 #undef syscall

@@ -16,6 +16,14 @@ static int is_nonblocking(int f) { return !!(syscall(SYS_fcntl, f, F_GETFL, 0) &
 /* How a call on a channel is to be made: in the turn, without it, or not since a handler came. */
 enum { WITHOUT_TURN, IN_TURN, INTERRUPTED };
 
+static void park_for(int f, u32 channel, short what) {
+    int awaited_before = awaited;
+    short way_before = awaited_way;
+    awaited = f, awaited_way = what;
+    park(key_of(channel), NULL, 0);
+    awaited = awaited_before, awaited_way = way_before;
+}
+
 /* Waits in the recorder until the call on a channel will not wait. */
 static int comes_at_once(int f, u32 channel, short what, int flags) {
     if (IDLE || !channel) return WITHOUT_TURN;
@@ -27,7 +35,7 @@ static int comes_at_once(int f, u32 channel, short what, int flags) {
         if (has_forked) return WITHOUT_TURN;
         if (was_interrupted) return INTERRUPTED;
         pthread_testcancel();
-        park(key_of(channel), NULL, 0);
+        park_for(f, channel, what);
     }
     return IN_TURN;
 }

@@ -210,9 +210,3 @@ void closefrom(int from) { close_range(from > 0 ? (unsigned)from : 0, ~0u, 0); }
     }
 OPENS_STREAM(fopen)
 OPENS_STREAM(fopen64)
-
-int fclose(FILE *stream) {
-    REAL(fclose, int, FILE *);
-    if (fileno(stream) >= 0) closes(fileno(stream), PC);
-    return real(stream);
-}

@@ -121,6 +121,14 @@ static void *found(const char *name, const char *version);
 static void *next(const char *name, const char *version);
 /* accesses.c */
 static void maybe_give(void);
+/* channels.c, streams.c */
+static int at_once(int f, short what);
+static void sends(int f, u64 pc);
+static ssize_t sent(int f, ssize_t n);
+static void sends_stream(FILE *s, u64 pc);
+static void sent_stream(FILE *s);
+static void awaits_stream(FILE *s);
+static void received_stream(FILE *s, u64 pc);
 /* threads.c */
 static u8 hold_cancel(void);
 static void let_cancel(u8 held);

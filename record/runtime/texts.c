@@ -206,10 +206,12 @@ static void prints_into(char *to, size_t room, const char *f, va_list given, u64
     if (n >= 0 && room) access_(WRITE, to, (size_t)n < room ? (size_t)n + 1 : room, pc);
 }
 
-#define PRINTS(name, given, before, passed_on) \
+#define PRINTS(name, given, before, behind, passed_on) \
     int __wrap_v##name(given const char *f, va_list words) { \
         before; \
-        return __real_v##name passed_on; \
+        int printed = __real_v##name passed_on; \
+        behind; \
+        return printed; \
     } \
     int __wrap_##name(given const char *f, ...) { \
         va_list words; \
@@ -217,24 +219,31 @@ static void prints_into(char *to, size_t room, const char *f, va_list given, u64
         before; \
         int printed = __real_v##name passed_on; \
         va_end(words); \
+        behind; \
         return printed; \
     }
 #define AND ,
-PRINTS(printf, , read_texts(f, words, PC), (f, words))
-PRINTS(fprintf, FILE *to AND, read_texts(f, words, PC), (to, f, words))
-PRINTS(dprintf, int to AND, read_texts(f, words, PC), (to, f, words))
-PRINTS(sprintf, char *to AND, prints_into(to, ~0ul, f, words, PC), (to, f, words))
-PRINTS(snprintf, char *to AND size_t n AND, prints_into(to, n, f, words, PC), (to, n, f, words))
+PRINTS(printf, , (read_texts(f, words, PC), sends_stream(stdout, PC)), sent_stream(stdout), (f, words))
+PRINTS(fprintf, FILE *to AND, (read_texts(f, words, PC), sends_stream(to, PC)), sent_stream(to), (to, f, words))
+PRINTS(dprintf, int to AND, (read_texts(f, words, PC), sends(to, PC)), sent(to, 0), (to, f, words))
+PRINTS(sprintf, char *to AND, prints_into(to, ~0ul, f, words, PC), , (to, f, words))
+PRINTS(snprintf, char *to AND size_t n AND, prints_into(to, n, f, words, PC), , (to, n, f, words))
 #undef AND
 
 extern int __real_puts(const char *), __real_fputs(const char *, FILE *);
 int __wrap_puts(const char *s) {
     READS(s, __real_strlen(s) + 1);
-    return __real_puts(s);
+    sends_stream(stdout, PC);
+    int answer = __real_puts(s);
+    sent_stream(stdout);
+    return answer;
 }
 int __wrap_fputs(const char *s, FILE *to) {
     READS(s, __real_strlen(s) + 1);
-    return __real_fputs(s, to);
+    sends_stream(to, PC);
+    int answer = __real_fputs(s, to);
+    sent_stream(to);
+    return answer;
 }
 
 /* ---- streams: what was read is known afterwards ---- */
@@ -243,16 +252,23 @@ extern size_t __real_fread(void *, size_t, size_t, FILE *), __real_fwrite(const 
 extern char *__real_fgets(char *, int, FILE *);
 size_t __wrap_fwrite(const void *from, size_t size, size_t count, FILE *to) {
     READS(from, size * count);
-    return __real_fwrite(from, size, count, to);
+    sends_stream(to, PC);
+    size_t n = __real_fwrite(from, size, count, to);
+    sent_stream(to);
+    return n;
 }
 size_t __wrap_fread(void *to, size_t size, size_t count, FILE *from) {
+    awaits_stream(from);
     size_t n = __real_fread(to, size, count, from);
+    received_stream(from, PC);
     if (n) WRITES(to, n * size);
     else pass_silently(PC);
     return n;
 }
 char *__wrap_fgets(char *to, int n, FILE *from) {
+    awaits_stream(from);
     char *line = __real_fgets(to, n, from);
+    received_stream(from, PC);
     if (line) WRITES(to, __real_strlen(to) + 1);
     else pass_silently(PC);
     return line;

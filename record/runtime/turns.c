@@ -122,6 +122,23 @@ static void get_in_line(void) {
     unlock_turns();
 }
 
+/* Takes parked thread number k out of the line of the parked. The turns' lock is held. */
+static void leave_parked(u32 k) {
+    parked_at[parked[k]] = NULL;
+    parked[k] = parked[--parked_count];
+}
+
+/* This thread gets in line if it is parked; whether it was. The turns' lock is held. */
+static int leave_parked_for_line(void) {
+    for (u32 k = 0; k < parked_count; k++)
+        if (parked[k] == me) {
+            leave_parked(k);
+            get_in_line_locked();
+            return 1;
+        }
+    return 0;
+}
+
 /* This thread waits in the kernel, without the recorder's lock. */
 static __thread volatile u8 is_waiting;
 /* A handler came that ends the call it interrupts. */
@@ -132,10 +149,30 @@ static void begin_waiting(void) {
     let_signals_come();
 }
 
+/* The descriptor that this thread is parked for, or -1: what comes through it may be sent by code without hooks. So the
+ * thread looks now and then itself, and is in line when something came. */
+static __thread int awaited = -1;
+static __thread short awaited_way;
+#define LOOK_AT_AWAITED \
+    { 0, 500000000 }
+
+static void look_at_awaited(void) {
+    if (!at_once(awaited, awaited_way)) return;
+    lock_turns();
+    leave_parked_for_line();
+    unlock_turns();
+}
+
 static void wait_in_line(void) {
     begin_waiting();
-    while (!__atomic_load_n(&woken[me], __ATOMIC_SEQ_CST))
-        syscall(SYS_futex, &woken[me], FUTEX_WAIT_PRIVATE, 0, NULL, NULL, 0);
+    while (!__atomic_load_n(&woken[me], __ATOMIC_SEQ_CST)) {
+        struct timespec pause = LOOK_AT_AWAITED, *until = awaited < 0 ? NULL : &pause;
+        long answer = syscall(SYS_futex, &woken[me], FUTEX_WAIT_PRIVATE, 0, until, NULL, 0);
+        if (answer == 0 || errno != ETIMEDOUT) continue;
+        is_waiting = 0;
+        look_at_awaited();
+        begin_waiting();
+    }
     is_waiting = 0;
 }
 
@@ -195,12 +232,6 @@ static void let_others(void) {
     errno = error;
 }
 
-/* Takes parked thread number k out of the line of the parked. The turns' lock is held. */
-static void leave_parked(u32 k) {
-    parked_at[parked[k]] = NULL;
-    parked[k] = parked[--parked_count];
-}
-
 /* Waits until the thread is unparked, or until that time; whether the time is over. */
 static int wait_parked(const struct timespec *until, clockid_t clock) {
     int how = FUTEX_WAIT_BITSET | FUTEX_PRIVATE_FLAG | (clock == CLOCK_REALTIME ? FUTEX_CLOCK_REALTIME : 0), late = 0;
@@ -210,12 +241,7 @@ static int wait_parked(const struct timespec *until, clockid_t clock) {
         is_waiting = 0;
         if (answer == 0 || (errno != ETIMEDOUT && errno != EINVAL)) continue;
         lock_turns();
-        for (u32 k = 0; k < parked_count && !late; k++)
-            if (parked[k] == me) {
-                leave_parked(k);
-                get_in_line_locked();
-                late = 1;
-            }
+        late = leave_parked_for_line();
         unlock_turns();
         break;
     }
