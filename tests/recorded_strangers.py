@@ -25,6 +25,7 @@ STATIC = ["-std=c++17", "-static-libstdc++", "-static-libgcc"]
 COMPILED = {
     "statics.cpp": STATIC,
     "cxx20.cpp": ["-std=c++20", "-latomic"],
+    "many_waits.cpp": ["-std=c++20"],
     "meetings.cpp": ["-std=c++20"],
     "stop_tokens.cpp": ["-std=c++20"],
     "shared_atomic.cpp": ["-std=c++20"],
@@ -39,7 +40,7 @@ COMPILED = {
 OPENMP = ("shared_tasks.cpp", "task_kinds.cpp", "doacross.c", "task_events.c")
 CALLED = {"exits.c": ("exit", "quick", "under", "abort", "crash", "kill")}
 # Those whose locks are let go by the threads that took them.
-EVEN = ("more_waits.c",)
+EVEN = ("more_waits.c", "clocks.c", "preferred.c", "shared_mutex.cpp", "timed_locks.cpp", "writers.c", "writes_twice.c")
 INPUT = {"input.c": b"a line\n" * 30}
 # How many seconds a recorded run may take, on a machine that does much else; most take a part of one.
 LONGEST = 300
