@@ -152,32 +152,68 @@ static ssize_t write_at(int f, const void *from, size_t n, u64 pc) {
 
 ssize_t __wrap_write(int f, const void *from, size_t n) { return write_at(f, from, n, PC); }
 
-#define RECEIVES(name, given, passed_on, f, flags) \
-    ssize_t name given { \
-        static ssize_t(*real) given; \
-        if (!real) real = (ssize_t(*) given)next(#name, NULL); \
-        return received(f, ON_CHANNEL(f, in_of(f), POLLIN, flags, real passed_on), PC); \
+/* The memory that a call went over, of so many bytes from the first piece on: each piece is a tick, also if nothing came. */
+static void goes_over(int kind, const struct iovec *v, size_t pieces, ssize_t bytes, u64 pc) {
+    int error = errno;
+    size_t left = bytes > 0 ? (size_t)bytes : 0;
+    for (size_t k = 0; k < pieces && !IDLE; k++) {
+        size_t n = v[k].iov_len < left ? v[k].iov_len : left;
+        if (n) access_(kind, v[k].iov_base, n, pc);
+        else pass_silently(pc);
+        left -= n;
     }
-#define SENDS(name, given, passed_on, f, flags) \
+    errno = error;
+}
+static size_t pieces_of(int n) { return n > 0 ? (size_t)n : 0; }
+#define ONE(at, n) (&(struct iovec){(void *)(at), (n)}), 1
+
+#define RECEIVES(name, given, passed_on, f, flags, ...) \
     ssize_t name given { \
         static ssize_t(*real) given; \
         if (!real) real = (ssize_t(*) given)next(#name, NULL); \
+        ssize_t bytes = received(f, ON_CHANNEL(f, in_of(f), POLLIN, flags, real passed_on), PC); \
+        goes_over(WRITE, __VA_ARGS__, bytes, PC); \
+        return bytes; \
+    }
+#define SENDS(name, given, passed_on, f, flags, ...) \
+    ssize_t name given { \
+        static ssize_t(*real) given; \
+        if (!real) real = (ssize_t(*) given)next(#name, NULL); \
+        goes_over(READ, __VA_ARGS__, SSIZE_MAX, PC); \
         sends(f, PC); \
         return sent(f, ON_CHANNEL(f, out_of(f), POLLOUT, flags, real passed_on)); \
     }
-RECEIVES(readv, (int f, const struct iovec *v, int n), (f, v, n), f, 0)
-RECEIVES(recvfrom, (int f, void *to, size_t n, int g, struct sockaddr *a, socklen_t *m), (f, to, n, g, a, m), f, g)
-RECEIVES(recvmsg, (int f, struct msghdr *m, int g), (f, m, g), f, g)
-SENDS(writev, (int f, const struct iovec *v, int n), (f, v, n), f, 0)
-SENDS(sendto, (int f, const void *b, size_t n, int g, const struct sockaddr *a, socklen_t m), (f, b, n, g, a, m), f, g)
-SENDS(sendmsg, (int f, const struct msghdr *m, int g), (f, m, g), f, g)
+RECEIVES(readv, (int f, const struct iovec *v, int n), (f, v, n), f, 0, v, pieces_of(n))
+RECEIVES(recvfrom, (int f, void *to, size_t n, int g, struct sockaddr *a, socklen_t *m), (f, to, n, g, a, m), f, g,
+         ONE(to, n))
+RECEIVES(recvmsg, (int f, struct msghdr *m, int g), (f, m, g), f, g, m->msg_iov, m->msg_iovlen)
+SENDS(writev, (int f, const struct iovec *v, int n), (f, v, n), f, 0, v, pieces_of(n))
+SENDS(sendto, (int f, const void *b, size_t n, int g, const struct sockaddr *a, socklen_t m), (f, b, n, g, a, m), f, g,
+      ONE(b, n))
+SENDS(sendmsg, (int f, const struct msghdr *m, int g), (f, m, g), f, g, m->msg_iov, m->msg_iovlen)
 
 ssize_t send(int f, const void *from, size_t n, int g) {
     REAL(send, ssize_t, int, const void *, size_t, int);
+    goes_over(READ, ONE(from, n), SSIZE_MAX, PC);
     sends(f, PC);
     if (!(g & MSG_DONTWAIT) && is_waiting_socket(f)) return send_pieces(f, from, n, g);
     return sent(f, ON_CHANNEL(f, out_of(f), POLLOUT, g, real(f, from, n, g)));
 }
+
+#define AT_A_PLACE(name, type, before, behind) \
+    ssize_t name(int f, type at, size_t n, off_t place) { \
+        REAL(name, ssize_t, int, type, size_t, off_t); \
+        before; \
+        ssize_t bytes = real(f, at, n, place); \
+        behind; \
+        return bytes; \
+    }
+#define PREADS(name) AT_A_PLACE(name, void *, , goes_over(WRITE, ONE(at, n), bytes, PC))
+#define PWRITES(name) AT_A_PLACE(name, const void *, goes_over(READ, ONE(at, n), SSIZE_MAX, PC), )
+PREADS(pread)
+PREADS(pread64)
+PWRITES(pwrite)
+PWRITES(pwrite64)
 
 /* The other end is told that nothing more comes. */
 int shutdown(int f, int how) {
@@ -192,7 +228,9 @@ ssize_t recv(int f, void *to, size_t n, int g) {
     if (IDLE) return real(f, to, n, g);
     struct tick_entry *e = following && !(g & MSG_PEEK) ? read_expected(f, PC) : NULL;
     ssize_t bytes = e ? read_again(f, to, n, e) : ON_CHANNEL(f, in_of(f), POLLIN, g, real(f, to, n, g));
-    return received(f, bytes, PC);
+    received(f, bytes, PC);
+    goes_over(WRITE, ONE(to, n), bytes, PC);
+    return bytes;
 }
 
 int eventfd_read(int f, eventfd_t *to) { return read_at(f, to, sizeof *to, PC) == sizeof *to ? 0 : -1; }

@@ -1,5 +1,5 @@
 /* Each way to lock for writing keeps writers and readers apart, and orders nothing else: what is written before one
- * section and behind another is a race, whichever came first. */
+ * section and behind another is a race, whichever came first. Readers are not kept apart. */
 #define _GNU_SOURCE
 #include <pthread.h>
 #include <sched.h>
@@ -8,7 +8,7 @@
 #include <time.h>
 #define WAYS 5
 static pthread_rwlock_t lock[WAYS];
-static int guarded[WAYS], beside_plain, beside_try, beside_timed, beside_clock, beside_read;
+static int guarded[WAYS], beside_plain, beside_try, beside_timed, beside_clock, beside_read, of_readers;
 
 static void in(int way) {
     struct timespec t, u;
@@ -30,6 +30,7 @@ static void in(int way) {
 static void section(int way) {
     in(way);
     if (way < WAYS - 1) guarded[way]++;
+    else of_readers++; /* RACE readers */
     pthread_rwlock_unlock(&lock[way]);
 }
 
