@@ -22,6 +22,27 @@ void LIST(9_M_unhookEv)(struct list_node *mine) {
     mine->next->before = mine->before;
 }
 
+/* Moves the nodes from `first` up to `last` before this one, as splice, merge and sort do. */
+void LIST(11_M_transferEPS0_S1_)(struct list_node *mine, struct list_node *first, struct list_node *last) {
+    if (mine == last) return;
+    access_(READ, &last->before, 8, PC), access_(READ, &first->before, 8, PC), access_(READ, &mine->before, 8, PC);
+    struct list_node *end = last->before, *behind = first->before, *ahead = mine->before;
+    access_(WRITE, &end->next, 8, PC), access_(WRITE, &behind->next, 8, PC), access_(WRITE, &ahead->next, 8, PC);
+    access_(WRITE, &mine->before, 8, PC), access_(WRITE, &last->before, 8, PC), access_(WRITE, &first->before, 8, PC);
+    end->next = mine, behind->next = last, ahead->next = first;
+    mine->before = end, last->before = behind, first->before = ahead;
+}
+
+void LIST(10_M_reverseEv)(struct list_node *mine) {
+    struct list_node *n = mine;
+    do {
+        access_(READ, n, sizeof *n, PC), access_(WRITE, n, sizeof *n, PC);
+        struct list_node *next_one = n->next;
+        n->next = n->before, n->before = next_one;
+        n = next_one;
+    } while (n != mine);
+}
+
 /* The nodes of the balanced tree below std::map and std::set. Its head is the parent of the root, and has the first and
  * the last node at its sides. */
 struct tree_node {
