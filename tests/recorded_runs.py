@@ -260,7 +260,7 @@ def judge_language(_):
         wanted=1,
         env=dict(os.environ, RECORD_CC="no-compiler"),
     )
-    if told != "record: no-compiler: No such file or directory\n":
+    if told != "record: no-compiler: No such file or directory; RECORD_CC and RECORD_CXX name the compilers\n":
         raise Wrong(f"a compiler that is not here: {told}")
 
 
