@@ -25,6 +25,7 @@ STATIC = ["-std=c++17", "-static-libstdc++", "-static-libgcc"]
 COMPILED = {
     "statics.cpp": STATIC,
     "cxx20.cpp": ["-std=c++20", "-latomic"],
+    "failed_swaps.cpp": ["-std=c++17", "-latomic"],
     "many_waits.cpp": ["-std=c++20"],
     "meetings.cpp": ["-std=c++20"],
     "stop_tokens.cpp": ["-std=c++20"],
