@@ -19,8 +19,8 @@
 #include <time.h>
 #include <unistd.h>
 static mqd_t queue;
-static int semaphores, ends[2], twin, polled[2], watch, more[2];
-static int by_queue, by_semaphores, by_twin, by_watch, by_poll, by_select, by_detached, slept, unguarded;
+static int semaphores, ends[2], twin, polled[2], watch, more[2], full[2], watch_full;
+static int by_given, by_queue, by_semaphores, by_twin, by_watch, by_poll, by_select, by_detached, slept, unguarded;
 static sem_t ended;
 
 static struct timespec far(void) {
@@ -39,6 +39,9 @@ static int tells_and_ends(void *p) {
 static void *tells(void *p) {
     struct timespec t = far(), moment = {0, 1000000};
     struct sembuf post = {0, 1, 0};
+    struct epoll_event e = {.events = EPOLLIN};
+    by_given = 1;
+    if (epoll_ctl(watch_full, EPOLL_CTL_ADD, full[0], &e)) abort();
     nanosleep(&moment, NULL), clock_nanosleep(CLOCK_MONOTONIC, 0, &moment, NULL), thrd_sleep(&moment, NULL), slept++;
     by_queue = 1;
     if (mq_timedsend(queue, "a", 1, 0, &t)) abort();
@@ -79,12 +82,16 @@ static void *hears(void *p) {
     char text[64];
     struct timespec t = far();
     struct sembuf wait_for_it = {0, -1, 0};
+    struct epoll_event e;
+    while (epoll_pwait(watch_full, &e, 1, -1, NULL) != 1) {}
+    int sum = by_given;
     if (mq_timedreceive(queue, text, sizeof text, NULL, &t) != 1) abort();
-    int sum = by_queue;
+    sum += by_queue;
     if (semtimedop(semaphores, &wait_for_it, 1, &(struct timespec){500, 0})) abort();
     sum += by_semaphores;
     if (read(ends[0], text, 1) != 1) abort();
-    sum += by_twin + hears_polls();
+    sum += by_twin;
+    sum += hears_polls();
     printf("%d\n", sum);
     unguarded++; /* RACE */
     return p;
@@ -99,9 +106,9 @@ int main(void) {
     snprintf(name, sizeof name, "/racebench-calls-%d", (int)getpid());
     queue = mq_open(name, O_CREAT | O_RDWR, 0600, &few), mq_unlink(name);
     semaphores = semget(IPC_PRIVATE, 1, 0600), semctl(semaphores, 0, SETVAL, 0);
-    if (pipe(ends) || pipe(polled) || pipe(more)) abort();
+    if (pipe(ends) || pipe(polled) || pipe(more) || pipe(full) || write(full[1], "f", 1) != 1) abort();
     twin = dup3(ends[1], 100, O_CLOEXEC);
-    watch = epoll_create(1);
+    watch = epoll_create(1), watch_full = epoll_create(2);
     struct epoll_event e = {.events = EPOLLIN, .data = {.fd = polled[0]}};
     if (twin != 100 || epoll_ctl(watch, EPOLL_CTL_ADD, polled[0], &e)) abort();
     sem_init(&ended, 0, 0);
