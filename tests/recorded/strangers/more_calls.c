@@ -1,5 +1,5 @@
-/* Calls that wait or pass something on and that programs use more seldom: messages with times, descriptors that are given
- * again, polls with a mask, operations with a time, sleeps. */
+/* Calls that wait or pass something on and that programs use more seldom: messages with times, descriptors that are
+ * given again, polls with a mask, operations with a time, sleeps. */
 #define _GNU_SOURCE
 #include <errno.h>
 #include <fcntl.h>
@@ -19,7 +19,7 @@
 #include <time.h>
 #include <unistd.h>
 static mqd_t queue;
-static int semaphores, ends[2], twin, polled[2], watch, more[2], full[2], watch_full;
+static int semaphores, ends[2], origin[2], twin, polled[2], watch, more[2], full[2], watch_full;
 static int by_given, by_queue, by_semaphores, by_twin, by_watch, by_poll, by_select, by_detached, slept, unguarded;
 static sem_t ended;
 
@@ -89,7 +89,7 @@ static void *hears(void *p) {
     sum += by_queue;
     if (semtimedop(semaphores, &wait_for_it, 1, &(struct timespec){500, 0})) abort();
     sum += by_semaphores;
-    if (read(ends[0], text, 1) != 1) abort();
+    if (read(origin[0], text, 1) != 1) abort();
     sum += by_twin;
     sum += hears_polls();
     printf("%d\n", sum);
@@ -106,8 +106,8 @@ int main(void) {
     snprintf(name, sizeof name, "/racebench-calls-%d", (int)getpid());
     queue = mq_open(name, O_CREAT | O_RDWR, 0600, &few), mq_unlink(name);
     semaphores = semget(IPC_PRIVATE, 1, 0600), semctl(semaphores, 0, SETVAL, 0);
-    if (pipe(ends) || pipe(polled) || pipe(more) || pipe(full) || write(full[1], "f", 1) != 1) abort();
-    twin = dup3(ends[1], 100, O_CLOEXEC);
+    if (pipe(ends) || pipe(origin) || pipe(polled) || pipe(more) || pipe(full) || write(full[1], "f", 1) != 1) abort();
+    twin = dup3(origin[1], 100, O_CLOEXEC);
     watch = epoll_create(1), watch_full = epoll_create(2);
     struct epoll_event e = {.events = EPOLLIN, .data = {.fd = polled[0]}};
     if (twin != 100 || epoll_ctl(watch, EPOLL_CTL_ADD, polled[0], &e)) abort();
