@@ -85,8 +85,10 @@ int main(void) {
     mtx_unlock(&taken), usleep(5000), pthread_mutex_unlock(&posix_taken), usleep(5000), pthread_rwlock_unlock(&shared);
     usleep(5000), by_sent = 1, sem_post(&s);
     comes_later(), mtx_lock(&m), by_c11 = is_told = 1, cnd_signal(&c), mtx_unlock(&m);
-    comes_later(), pthread_mutex_lock(&n), by_real = 1, is_told = 2, pthread_cond_signal(&real), pthread_mutex_unlock(&n);
-    comes_later(), pthread_mutex_lock(&n), by_steady = 1, is_told = 3, pthread_cond_signal(&steady), pthread_mutex_unlock(&n);
+    comes_later(), pthread_mutex_lock(&n);
+    by_real = 1, is_told = 2, pthread_cond_signal(&real), pthread_mutex_unlock(&n);
+    comes_later(), pthread_mutex_lock(&n);
+    by_steady = 1, is_told = 3, pthread_cond_signal(&steady), pthread_mutex_unlock(&n);
     pthread_join(t, NULL);
     printf("%d %d\n", late, early);
     return 0;

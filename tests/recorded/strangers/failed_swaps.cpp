@@ -1,5 +1,5 @@
-// Compare-and-swaps that fail are reads, with the order that they have when they fail: a relaxed one passes nothing on, one
-// that acquires does, and two of them have no order, whatever the size of the variable.
+// Compare-and-swaps that fail are reads, with the order that they have when they fail: a relaxed one passes nothing on,
+// one that acquires does, and two of them have no order, whatever the size of the variable.
 #include <atomic>
 #include <chrono>
 #include <cstdio>

@@ -1,5 +1,5 @@
-/* Waits by the system's own call: for a number that is another already, for one that changes, with a mask, and with a time;
- * how many are woken. */
+/* Waits by the system's own call: for a number that is another already, for one that changes, with a mask, and with a
+ * time. */
 #define _GNU_SOURCE
 #include <errno.h>
 #include <linux/futex.h>

@@ -1,5 +1,5 @@
-// Lists whose nodes change places under a lock for reading: each move of a node is a race with another, and moves under a
-// lock for writing are none.
+// Lists whose nodes change places under a lock for reading: each move of a node is a race with another, and moves under
+// a lock for writing are none.
 #include <cstdio>
 #include <list>
 #include <mutex>

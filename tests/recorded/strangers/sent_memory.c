@@ -1,5 +1,5 @@
-/* What calls of sockets and files read and write of the program's memory: each piece that is sent or comes races with who
- * writes or reads it meanwhile, and what no message fills is no race. */
+/* What calls of sockets and files read and write of the program's memory: each piece that is sent or comes races with
+ * who writes or reads it meanwhile, and what no message fills is no race. */
 #define _GNU_SOURCE
 #include <fcntl.h>
 #include <pthread.h>

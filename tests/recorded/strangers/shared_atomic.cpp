@@ -1,4 +1,4 @@
-// A pointer with an owner in an atomic: stored, loaded, exchanged, compared, waited for; what it points to is passed on.
+// A pointer with an owner in an atomic: stored, loaded, exchanged, compared, waited for; what it has is passed on.
 #include <atomic>
 #include <cstdio>
 #include <cstdlib>

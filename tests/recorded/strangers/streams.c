@@ -1,5 +1,5 @@
-/* The lock of a stream guards plain data: it is taken again by who has it, tried, and waited for. What lies outside of it is
- * a race, also beside a call that takes the lock for itself. */
+/* The lock of a stream guards plain data: it is taken again by who has it, tried, and waited for. What lies outside of it
+ * is a race, also beside a call that takes the lock for itself. */
 #include <pthread.h>
 #include <sched.h>
 #include <stdio.h>
