@@ -20,6 +20,16 @@ export function asked(label, value, note = "") {
   });
 }
 
+// Takes a key that was typed before the question was there.
+export function answer(key) {
+  const [dialog, field] = [$("ask"), $("ask-input")];
+  const [from, to] = [field.selectionStart, field.selectionEnd];
+  if (key === "Enter") dialog.querySelector("form").requestSubmit();
+  else if (key === "Escape") dialog.close();
+  else if (key === "Backspace") field.setRangeText("", from === to ? Math.max(0, from - 1) : from, to, "end");
+  else if (key.length === 1) field.setRangeText(key, from, to, "end");
+}
+
 const KEYS = [
   ["Next events", [
     ["↑ ↓  j k", "choose a thread"], ["↵  1–9", "add its next event"], ["⌫", "take the last event back"],

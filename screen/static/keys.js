@@ -3,7 +3,7 @@ import { $ } from "./make.js";
 import { state } from "./words.js";
 import { act, say, undoLatest } from "./act.js";
 import { later, isBusy } from "./queue.js";
-import { showKeys } from "./dialogs.js";
+import { answer, showKeys } from "./dialogs.js";
 import { nextPane, paneOf, reveal } from "./frame.js";
 import { hidePeek, viewSource } from "./peek.js";
 import { best } from "./pair.js";
@@ -47,7 +47,7 @@ const ofSchedule = (step) => () => {
 // Each waits for the one before it; the race on which the cursor rests is opened first.
 function inOrder(step) {
   races.settle();
-  later(step);
+  return later(step);
 }
 const inTurn = (keys) => Object.fromEntries(Object.entries(keys).map(([key, does]) => [key, () => inOrder(does)]));
 const down = (move) => ({ ArrowDown: () => move(1), j: () => move(1), ArrowUp: () => move(-1), k: () => move(-1) });
@@ -61,14 +61,51 @@ const IN = {
   "race-list": {
     ...down(races.step), Home: () => races.jump(0), End: () => races.jump(Infinity), Enter: () => inOrder(openRace),
   },
-  "row-list": inTurn({
-    ...down(neighbour), Home: () => edge(0), End: () => edge(-1), Enter: ofSchedule(() => $("next-list").focus()),
-  }),
+  "row-list": {
+    ...inTurn({ ...down(neighbour), Home: () => edge(0), End: () => edge(-1) }), Enter: goToNext,
+  },
   "next-list": inTurn({
     ...down(frontier.move), Home: () => frontier.move(-Infinity), End: () => frontier.move(Infinity),
     Enter: ofSchedule(() => frontier.add()), ArrowRight: ofSchedule(frontier.unfold), ArrowLeft: frontier.fold,
   }),
 };
+
+// The keys that follow are for what may come next, though the schedule may be opened later.
+function goToNext() {
+  $("next-list").focus();
+  inOrder(ofSchedule(() => $("next-list").focus()));
+}
+
+let opening = 0; // questions for a name that wait for their turn
+const typed = []; // keys meanwhile
+let isGiving = false;
+
+function branch() {
+  let isOpening = true;
+  opening++;
+  const go = () => {
+    if (isOpening) opening--;
+    isOpening = false;
+    give();
+  };
+  inOrder(() => {
+    ofSchedule(() => void views.branch())();
+    go();
+  }).then(go); // a step that is left out opens nothing
+}
+
+// Gives the keys that were typed meanwhile to the question, and those after it to the page.
+async function give() {
+  if (isGiving) return;
+  isGiving = true;
+  while (typed.length && !opening) {
+    const event = typed.shift();
+    if ($("ask").open) answer(event.key);
+    else press(event);
+    await new Promise((done) => setTimeout(done)); // what the key does begins
+  }
+  isGiving = false;
+}
 
 function markSeen() {
   feed.caughtUp();
@@ -83,10 +120,10 @@ function filterRaces() {
 // Everywhere.
 const ANYWHERE = {
   "?": showKeys, "/": filterRaces, F6: () => nextPane(1), "Shift+F6": () => nextPane(-1), n: views.fresh,
-  s: markSeen,
+  s: markSeen, b: branch,
   ...inTurn({
     u: undoLatest, "Ctrl+z": undoLatest, p: ofSchedule(propose),
-    b: ofSchedule(() => void views.branch()), Backspace: ofSchedule(() => act("back", { name: schedule() })),
+    Backspace: ofSchedule(() => act("back", { name: schedule() })),
     r: ofSchedule(() => frontier.run()), t: ofSchedule(() => frontier.toAim()),
     f: ofSchedule(() => frontier.follow()), x: ofAim(views.why), e: ofAim(views.startEmpty), v: viewSource,
     w: () => (state.view?.witness ? views.take() : ofAim(views.witness)()),
@@ -126,6 +163,15 @@ function follow(event) {
 }
 
 addEventListener("keydown", (event) => {
+  if (!opening && !isGiving) {
+    press(event);
+    return;
+  }
+  event.preventDefault();
+  typed.push(event);
+});
+
+function press(event) {
   const isField = event.target.closest("input, textarea, dialog");
   if (event.key === "Escape") {
     hidePeek();
@@ -141,4 +187,4 @@ addEventListener("keydown", (event) => {
   if (event.repeat && isBusy()) return; // a key that is held goes on no longer than it is held
   hidePeek();
   does();
-});
+}

@@ -140,6 +140,64 @@ async def test_keys_typed_ahead(program):
         is_clean(page, screen)
 
 
+async def test_keys_typed_ahead_of_a_question(program):
+    """Those behind the key for a branch are for its name, and those behind the name for the branch."""
+    traces.write("trace", traces.COUNT)
+    async with Screen(program, "trace", "log") as screen, Browser() as browser:
+        page = await browser.page(screen.link)
+        await new(page, 3)
+        for key in ("1", "1", "b", "Enter", "2", "b", "Y", "Backspace", "Z", "Enter", "3"):
+            await page.key(key)
+        await comes(lambda: len(logged()) == 7)
+        branches = ["1 branch A 2 A.b", "1 add A.b 2", "1 branch A.b 3 Z", "1 add Z 8"]
+        same(logged(), ["1 new A", "1 add A 0", "1 add A 1", *branches])
+        for key in ("Backspace", "b", "Escape", "2", "b", "x"):
+            await page.key(key)
+        await page.until("document.getElementById('ask').open && document.getElementById('ask-input').value === 'x'")
+        same(logged()[7:], ["1 back Z", "1 add Z 3"])
+        await page.key("Escape")
+        await page.until("!document.getElementById('ask').open")
+        is_clean(page, screen)
+
+
+# Keys in one moment, before the page can do what the first one means.
+AT_ONCE = (
+    "for (const key of {}) "
+    "document.activeElement.dispatchEvent(new KeyboardEvent('keydown', {{ key, bubbles: true }}));"
+)
+
+
+async def test_a_question_that_is_left_out(program):
+    """Who goes elsewhere before it is there goes on with the keys."""
+    traces.write("trace", traces.COUNT)
+    async with Screen(program, "trace", "log") as screen, Browser() as browser:
+        page = await browser.page(screen.link)
+        await page.until("document.querySelectorAll('.race').length === 1")
+        await new(page, 3)
+        await page.run(AT_ONCE.format(["b"]) + "document.querySelector('.race').click()")
+        await page.until(f"{OPEN} === 'Witness'")
+        same(await page.run("document.getElementById('ask').open"), False)
+        await page.key("e")
+        await page.until(f"{OPEN} === 'r7-12'")
+        await press(page, "1")
+        same(logged()[1:], ["1 new r7-12", "1 add r7-12 0"])
+        is_clean(page, screen)
+
+
+async def test_keys_behind_the_choice_of_a_schedule(program):
+    """Enter in the list of schedules leads to what may come next, and the next Enter adds it."""
+    traces.write("trace", traces.COUNT)
+    async with Screen(program, "trace", "log") as screen, Browser() as browser:
+        page = await browser.page(screen.link)
+        await new(page, 3)
+        await new(page, 3, "B")
+        await focus(page, "row-list")
+        await page.run(AT_ONCE.format(["Home", "Enter", "Enter", "Enter"]))
+        await comes(lambda: len(logged()) == 4)
+        same(logged()[2:], ["1 add A 0", "1 add A 1"])
+        is_clean(page, screen)
+
+
 async def test_keys_are_for_the_schedule_that_they_see(program):
     traces.write("trace", traces.COUNT)
     async with Screen(program, "trace", "log") as screen, Browser() as browser:
