@@ -42,8 +42,9 @@ def told_batch(entry: Entry, trace: Trace) -> Told:
     words = {part[0] for part in parts}
     told: Told = {"n": len(parts), "name": schedule_of(parts[0])}
     if words == {"add"} and len({part[1] for part in parts}) == 1:
-        told["run"] = [int(parts[0][2]), int(parts[-1][2])]
-        told["t"] = trace.thread[int(parts[0][2])]
+        events = [int(part[2]) for part in parts]
+        told["run"] = [events[0], events[-1]]
+        told["threads"] = list(dict.fromkeys(trace.thread[event] for event in events))
     elif [part[0] for part in parts] == ["new", "adopt"]:
         told["took"] = int(parts[1][2])
     elif words == {"swap"}:

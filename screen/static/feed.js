@@ -95,7 +95,7 @@ function added(group) {
     return [nameLink(entry.name), ` − ${group.events === 1 ? "its last event" : many(group.events, "event")}`];
   }
   if (group.events === 1) return [nameLink(entry.name), " + ", entry.ev ? short(entry.ev) : entry.w];
-  const threads = [...new Set(group.entries.map((one) => one.t ?? one.ev?.t))];
+  const threads = [...new Set(group.entries.flatMap((one) => one.threads ?? one.ev.t))];
   return [nameLink(entry.name), ` + ${many(group.events, "event")} `,
     threads.slice(0, 4).map((thread) => [tag(thread), " "])];
 }

@@ -210,3 +210,86 @@ async def test_titles_tell_the_rest(program):
         dim = "document.querySelector('.race .verdict').textContent"
         same(await page.run(dim), "candidate")
         is_clean(page, screen)
+
+
+DID = (
+    "[...document.querySelectorAll('#feed .entry')].map((e) => e.querySelector('.at').textContent + ': ' + "
+    "e.querySelector('.did').textContent.trim()).reverse()"
+)
+CALLS = """new A
+add A 0
+add A 1
+swap A 0
+batch add A 2 ; add A 3 ; add A 4
+batch swap A 0 ; swap A 0
+batch back A ; new B
+back A
+undo
+branch A 1 C
+propose 2 3 0 1
+batch new D ; adopt D 0
+adopt C 0
+drop C
+"""
+
+
+async def test_what_each_entry_says(program):
+    """Each kind of entry has a sentence of its own, and each name in it is a link."""
+    traces.write("trace", "T0|w(a)|a:1\nT1|w(b)|b:1\nT0|w(c)|a:2\nT1|w(c)|b:2\nT1|w(d)|b:3\n")
+    await session(program, 2, CALLS)
+    async with Screen(program, "trace", "log") as screen, Browser() as browser:
+        page = await browser.page(screen.link)
+        await page.until("document.getElementById('feed-count').textContent === '14'")
+        same(
+            await page.run(DID),
+            [
+                "0: made A",
+                "1–2: A + 2 events T0 T1",
+                "3: A swapped 0 and 1",
+                "4: A + 3 events T0 T1",
+                "5: A moved an event by 2",
+                "6: A batch of 2 commands",
+                "7: A − its last event",
+                "8: took back 7",
+                "9: branched C from A at 1",
+                "10: proposed p0 for 2–3 2 events",
+                "11: made D from proposal p0",
+                "12: C took proposal p0",
+                "13: dropped C",
+            ],
+        )
+        is_clean(page, screen)
+
+
+async def test_a_thread_that_has_no_events(program):
+    """Its join waits for its fork, and `f` runs its parent to that. What waits for nothing says so."""
+    traces.write("trace", "T0|w(a)|a:1\nT0|fork(T1)|a:2\nT2|join(T1)|b:1\n")
+    async with Screen(program, "trace", "log") as screen, Browser() as browser:
+        page = await browser.page(screen.link)
+        await new(page, 2)
+        reason = await page.run("document.querySelector('#next-list .reason').textContent")
+        same(reason, "waits for T1: it is not forked")
+        await press(page, "f")
+        assert (await page.run(SAID)).startswith("T0 waits for nothing"), await page.run(SAID)
+        await page.key("j")
+        await press(page, "f")
+        await page.until(f"{LENGTH} === '2 events' && {NEXT} === 1")
+        await press(page, "3")
+        same(logged(), ["1 new A", "1 batch add A 0 ; add A 1", "1 add A 2"])
+        is_clean(page, screen)
+
+
+async def test_what_no_run_helps(program):
+    """A read of the initial value, before which a write came: that is to be taken back."""
+    traces.write("trace", "T0|r(x)|a:1\nT1|w(x)|b:1\n")
+    async with Screen(program, "trace", "log") as screen, Browser() as browser:
+        page = await browser.page(screen.link)
+        await new(page, 2)
+        await press(page, "2")
+        await page.until(f"{LENGTH} === '1 event' && {NEXT} === 1")
+        reason = await page.run("document.querySelector('#next-list .reason').textContent")
+        same(reason, "would read the write by 1 T1 w x, where the trace has none before it")
+        same(await page.run("document.querySelectorAll('#next-list .do button:not(.more)').length"), 0)
+        await press(page, "f")
+        same(await page.run(SAID), "no run of one thread helps here")
+        is_clean(page, screen)
