@@ -31,11 +31,12 @@ let end = null; // behind the last entry that is shown, where that is not the la
 let keeping = null;
 let looking = null;
 
-// What was news stays so if the connection comes back.
+// What was news stays so if the connection comes back, and so does what was scrolled to.
 export function begin(seen) {
   state.marked = Math.min((hasBegun ? state.marked : seen) ?? state.n, state.n);
   hasBegun = true;
   keep();
+  know(Math.max(0, until() - shown), until()).then(render);
 }
 
 // How far this analyst has looked is kept by the server: a browser keeps nothing from one port to the next.

@@ -98,6 +98,7 @@ export function close() {
   state.view = null;
   sheet.reset();
   frontier.load();
+  schedules.render();
   bar();
 }
 
@@ -126,6 +127,7 @@ export async function clearAim() {
   none = sought = null;
   await aimAt(null);
   if (state.view?.schedule) rememberView(state.view);
+  else if (!state.view) remember({});
   frontier.load();
   sheet.load();
 }

@@ -94,6 +94,53 @@ async def test_the_race_that_is_looked_at_is_chosen(program):
         is_clean(page, screen)
 
 
+async def explained(page):
+    """Opens a pair that is apart."""
+    await page.until(f"{RACES} === 2")
+    await page.click(".chip", 2)
+    await page.until(f"{RACES} === 3")
+    await page.click(".race", 2)
+    await page.until(EXPLAINED)
+
+
+OPEN_ONES = "[...document.querySelectorAll('.sched.on .sched-name')].map((e) => e.textContent).join()"
+ACTIVE = "document.getElementById('row-list').getAttribute('aria-activedescendant')"
+
+
+async def test_no_schedule_is_chosen_if_none_is_open(program):
+    """An explanation takes its place, and the browser's buttons lead there and back."""
+    traces.write("trace", SEVERAL)
+    await session(program, 2, "new A\nnew B\n")
+    async with Screen(program, "trace", "log") as screen, Browser() as browser:
+        page = await browser.page(screen.link)
+        await page.until(f"{OPEN_ONES} === 'B'")
+        await explained(page)
+        same(await page.run(OPEN_ONES), "")
+        same(await page.run(ACTIVE), None)
+        await page.run("history.back()")
+        await page.until(f"{OPEN} === 'B' && {OPEN_ONES} === 'B' && {ACTIVE} === 'schedule-B'")
+        await page.run("history.forward()")
+        await page.until(f"{EXPLAINED} && {OPEN_ONES} === '' && {ACTIVE} === null")
+        is_clean(page, screen)
+
+
+async def test_an_explanation_that_was_left(program):
+    """With its aim it is gone, also after a reload; the browser's back button leads to it."""
+    traces.write("trace", SEVERAL)
+    async with Screen(program, "trace", "log") as screen, Browser() as browser:
+        page = await browser.page(screen.link)
+        await explained(page)
+        await page.click("#bar .of-aim button")  # drop the aim
+        gone = f"{OPEN} === 'No schedule' && {AIM} === '' && document.getElementById('note').hidden"
+        await page.until(gone)
+        await page.call("Page.reload")
+        await page.until(f"{RACES} === 2 && {TITLE} && {OPEN} === 'No schedule'")
+        await page.until(gone)
+        await page.run("history.back()")
+        await page.until(EXPLAINED)
+        is_clean(page, screen)
+
+
 async def test_an_aim_that_was_dropped(program):
     """A reload and a connection that comes back leave it so. A schedule that is opened anew has that of its name."""
     traces.write("trace", SEVERAL)
@@ -176,6 +223,33 @@ async def test_a_browser_that_keeps_nothing(program):
         await press(page, "1")
         await page.click("#theme")
         same(logged(), ["1 new A", "1 add A 0"])
+        is_clean(page, screen)
+
+
+FEED = "[...document.querySelectorAll('#feed .entry .at')].map((e) => e.textContent).join()"
+OLDER = "[...document.querySelectorAll('#feed button')].find((b) => b.textContent === 'older')"
+
+
+async def test_older_entries_stay_if_the_connection_comes_back(program):
+    """Also those that are so old that the page is not told them at its start."""
+    traces.write("trace", SEVERAL)
+    await session(program, 2, "new A\n" + "new B\ndrop B\n" * 500)
+    async with Screen(program, "trace", "log") as screen, Browser() as browser:
+        page = await browser.page("about:blank")
+        await page.call("Page.addScriptToEvaluateOnNewDocument", source=HOLD)
+        await page.open(screen.link)
+        await page.until(f"{FEED}.startsWith('1000,')")
+        for _ in range(4):
+            before = await page.run(FEED)
+            await page.run(f"{OLDER}.click()")
+            await page.until(f"{FEED} !== {before!r}")
+        shown = await page.run(FEED)
+        assert not shown.startswith("1000,"), shown[:40]
+        before = await page.run("window.socket.close(); window.views")
+        await page.until(f"window.views > {before} && {FEED} === {shown!r}")
+        await session(program, 2, "new C\n")
+        await page.until("document.getElementById('feed-count').textContent === '1,002'")
+        same(await page.run(FEED), shown)
         is_clean(page, screen)
 
 
