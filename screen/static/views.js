@@ -106,8 +106,10 @@ export function close() {
 async function check(name) {
   const told = await ask("check", { name });
   if (told.same !== false || state.view?.schedule !== name) return;
-  say(bad("The program shows this schedule otherwise than it is drawn here. " +
-    "Do not go by the drawing; reload the page, and report this."));
+  const why = bad("The program shows this schedule otherwise than it is drawn here. " +
+    "Do not go by the drawing; reload the page, and report this.");
+  why.setAttribute("role", "alert");
+  say(why);
 }
 
 // Until its events are known, the line of the aim shows those that it had.
@@ -172,28 +174,35 @@ export async function why() {
 
 // The line over the schedule, and that of the aim.
 
+// A screen reader says what is open, whoever opened it.
+function heading(text) {
+  const made = el("h2", "title", text);
+  made.setAttribute("aria-live", "polite");
+  return made;
+}
+
 function titled() {
   const view = state.view;
   if (view?.schedule) {
     const row = state.rows.get(view.schedule);
     const size = row ? el("span", "dim", many(row.length, "event")) : el("span", "bad", "dropped");
-    return [el("h2", "title", view.schedule), size, row ? [" ", who(row.owner)] : null];
+    return [heading(view.schedule), size, row ? [" ", who(row.owner)] : null];
   }
   if (view?.witness) {
     const size = `${many(view.pair.length, "event")} · proved, and not in the log`;
-    return [el("h2", "title", "Witness"), el("span", "dim", size)];
+    return [heading("Witness"), el("span", "dim", size)];
   }
-  if (state.aim && sought) return [el("h2", "title", "Looking for the witness …")];
+  if (state.aim && sought) return [heading("Looking for the witness …")];
   if (state.aim && none) return withoutWitness();
-  return [el("h2", "title", "No schedule"), el("span", "dim", "open a race at the left, or make an empty schedule")];
+  return [heading("No schedule"), el("span", "dim", "open a race at the left, or make an empty schedule")];
 }
 
 // What the program said of a pair: a proof that no schedule shows it, or that none is known, or a fault.
 function withoutWitness() {
   const [, kind] = /not shown: (\w+)/.exec(none) ?? [];
-  if (kind === "open") return [el("h2", "title", "No schedule of this pair is known"), el("span", "dim", "undecided")];
-  if (kind) return [el("h2", "title", "No schedule shows this pair"), el("span", "dim", `proved: ${kind}`)];
-  return [el("h2", "title", "No witness"), el("span", "bad", none)];
+  if (kind === "open") return [heading("No schedule of this pair is known"), el("span", "dim", "undecided")];
+  if (kind) return [heading("No schedule shows this pair"), el("span", "dim", `proved: ${kind}`)];
+  return [heading("No witness"), el("span", "bad", none)];
 }
 
 const making = new Set(); // buttons whose steps are under way, each with the look at which it was clicked

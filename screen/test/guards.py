@@ -79,6 +79,7 @@ async def test_a_schedule_that_is_shown_otherwise(program):
         await page.until(f"{ROWS} === 2 && !{NOTE}.hidden")
         said = await page.run(f"{NOTE}.textContent")
         assert said.startswith("The program shows this schedule otherwise than it is drawn here."), said
+        same(await page.run(f"{NOTE}.querySelector('[role=alert]')?.textContent"), said)  # a screen reader says it
         await page.click(".sched", 1)
         await page.until(f"{ROWS} === 1 && {NOTE}.hidden")
         is_clean(page, screen)

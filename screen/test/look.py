@@ -7,6 +7,7 @@ from browser import Browser
 from judged import same
 from live import session
 from stage import NEXT, ROWS, Screen, focus, is_clean, logged, new, press
+from table import SEVERAL
 
 
 async def test_light_dark_and_each_width(program):
@@ -227,6 +228,34 @@ async def test_what_a_screen_reader_finds(program):
         await page.until("document.querySelector('#bar h2').textContent === 'Witness'")
         await page.until("document.getElementById('next').hidden")
         same([one for one in await spoken(page) if one[0] == "separator"], [])  # there is nothing to split
+        is_clean(page, screen)
+
+
+HEADING = "document.querySelector('#bar h2')"
+LIVE = "[...document.querySelectorAll('[aria-live=polite]')].map((e) => e.id || e.localName).join()"
+
+
+async def test_what_is_opened_is_announced(program):
+    """The heading is a live region that stays, whatever is opened; so is the number of races that match."""
+    traces.write("trace", SEVERAL)
+    await session(program, 2, "new A\nnew B\n")
+    async with Screen(program, "trace", "log") as screen, Browser() as browser:
+        page = await browser.page(screen.link)
+        await page.until(f"{HEADING}.textContent === 'B' && document.querySelectorAll('.race').length === 2")
+        same(await page.run(LIVE), "race-count,h2,said")
+        await page.run(f"window.heading = {HEADING}; window.counted = document.getElementById('race-count')")
+        await page.key("[")
+        await page.until("window.heading.isConnected && window.heading.textContent === 'A'")
+        await page.click(".chip", 2)
+        await page.until("document.querySelectorAll('.race').length === 3")
+        await page.click(".race", 2)
+        await page.until("window.heading.isConnected && heading.textContent === 'No schedule shows this pair'")
+        await page.click(".race")
+        await page.until("window.heading.isConnected && window.heading.textContent === 'Witness'")
+        same(await page.run(LIVE), "race-count,h2,said")
+        await page.click("#race-filter")
+        await page.type("nothing of this name")
+        await page.until("window.counted.isConnected && window.counted.textContent === '0 match'")
         is_clean(page, screen)
 
 

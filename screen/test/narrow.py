@@ -284,6 +284,28 @@ async def test_a_window_as_narrow_as_a_page_that_is_enlarged(program):
         is_clean(page, screen)
 
 
+async def test_lines_that_belong_together(program):
+    """Where there is little room the accesses come right below their title. A button does not touch a field."""
+    traces.write("trace", traces.COUNT)
+    below = (
+        "document.querySelector('.accesses').getBoundingClientRect().top - "
+        "document.querySelector('.pair-title').getBoundingClientRect().bottom"
+    )
+    async with Screen(program, "trace", "log") as screen, Browser() as browser:
+        page = await browser.page(screen.link)
+        await page.until("document.querySelectorAll('.race').length === 1")
+        await page.click(".race")
+        await page.until("!document.getElementById('pair').hidden")
+        for width in (1100, 420):
+            await page.size(width, 800)
+            await page.until(f"innerWidth === {width} && {below} >= 0 && {below} <= 4")
+        await page.click("#link")
+        await page.until("document.getElementById('help').open")
+        box = "document.querySelector('#help {}').getBoundingClientRect()"
+        assert await page.run(f"{box.format('button')}.top - {box.format('input')}.bottom") >= 8
+        is_clean(page, screen)
+
+
 async def test_a_witness_of_no_events(program):
     """It does not ask for any, and an explanation with a long place is read without scrolling it sideways."""
     traces.write("trace", f"T1|w(x)|{'p' * 3000}:1\nT2|w(x)|b:1\n")
