@@ -128,9 +128,10 @@ export async function clearAim() {
   looks++;
   none = sought = null;
   await aimAt(null);
-  if (state.view?.schedule) rememberView(state.view);
-  else if (!state.view) remember({});
-  frontier.load();
+  if (state.view?.schedule) {
+    rememberView(state.view);
+    frontier.load();
+  } else if (!state.view) remember({});
   sheet.load();
 }
 
@@ -219,7 +220,8 @@ function inTurn(text, key, step, classes) {
 
 function viewButtons() {
   if (state.view?.witness) {
-    return [inTurn("Work on it", "w", take, "main"), inTurn("Start empty", "e", startEmpty), inTurn("Why", "x", why)];
+    const aimed = state.aim ? [inTurn("Start empty", "e", startEmpty), inTurn("Why", "x", why)] : null;
+    return [inTurn("Work on it", "w", take, "main"), aimed];
   }
   const isThere = state.rows.has(state.view?.schedule); // another analyst may have dropped it
   return isThere ? [button("Branch", "b", branch), inTurn("Drop", "", drop)] : null;

@@ -226,6 +226,31 @@ async def test_a_browser_that_keeps_nothing(program):
         is_clean(page, screen)
 
 
+BUTTONS = "[...document.querySelectorAll('#bar .line:first-child button')].map((b) => b.textContent).join()"
+
+
+async def test_a_witness_without_its_aim(program):
+    """It still shows its pair. It has no buttons that need the aim, and their keys say what they need."""
+    traces.write("trace", SEVERAL)
+    pair = "document.querySelector('#pair:not([hidden]) .pair-title')?.textContent"
+    async with Screen(program, "trace", "log") as screen, Browser() as browser:
+        page = await browser.page(screen.link)
+        await page.until(f"{RACES} === 2")
+        await page.click(".race")
+        await page.until(f"{OPEN} === 'Witness' && {pair} === 'Both may come next'")
+        same(await page.run(BUTTONS), "Work on it w,Start empty e,Why x")
+        await page.click("#bar .of-aim button")  # drop the aim
+        await page.until(f"{AIM} === '' && {BUTTONS} === 'Work on it w'")
+        for key in "ex":
+            await page.run(f"{SAID} && document.getElementById('said').replaceChildren()")
+            await press(page, key)
+            same(await page.run(SAID), "open a race first: it is the aim")
+        same(await page.run(pair), "Both may come next")
+        await page.key("w")
+        await page.until(f"{OPEN} === 'r0-5' && {LENGTH} === '0 events'")
+        is_clean(page, screen)
+
+
 FEED = "[...document.querySelectorAll('#feed .entry .at')].map((e) => e.textContent).join()"
 OLDER = "[...document.querySelectorAll('#feed button')].find((b) => b.textContent === 'older')"
 
