@@ -52,7 +52,10 @@ async function fetchNext() {
   const before = here()?.ahead; // it stays until the new one is there, with what is typed below it
   told = got.mistake ? null : got;
   if (told) told.ahead = before;
-  if (told && !chosenOne()) chosen = (told.next.find((one) => !one.why) ?? told.next[0])?.t ?? null;
+  if (told && !chosenOne()) { // it is at its end, and its list is folded
+    chosen = (told.next.find((one) => !one.why) ?? told.next[0])?.t ?? null;
+    open = null;
+  }
   if (open !== null) await more();
   render();
 }

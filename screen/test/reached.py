@@ -70,6 +70,26 @@ async def test_the_field_that_runs_to_an_event(program):
         is_clean(page, screen)
 
 
+async def test_the_list_of_a_thread_that_ended(program):
+    """It is folded, as another thread is chosen then: also if the thread's last event is taken back."""
+    traces.write("trace", traces.COUNT)
+    coming = "document.querySelectorAll('#next-list .coming').length"
+    async with Screen(program, "trace", "log") as screen, Browser() as browser:
+        page = await browser.page(screen.link)
+        await new(page, 3)
+        await press(page, "1", "1", "2")
+        await page.key("ArrowRight")
+        await page.until(f"{coming} === 5")
+        await press(page, "r")
+        await page.until(f"{NEXT} === 2 && {coming} === 0")
+        await press(page, "Backspace")
+        await page.until(f"{NEXT} === 3 && document.getElementById('next-list').dataset.length === '7'")
+        same(await page.run(coming), 0)
+        chosen = "document.querySelector('#next-list .next.on').dataset.t"
+        assert await page.run(chosen) != "1"
+        is_clean(page, screen)
+
+
 async def test_a_name_that_is_not_given(program):
     """Cancel makes nothing, nor does a press beside the field; what was typed is forgotten."""
     traces.write("trace", traces.COUNT)
@@ -176,6 +196,34 @@ async def test_a_press_on_the_map(program):
             await page.until(f"{row} && Math.abs({scrolled} - {900 * 22 * part} + {height / 2}) < 40")
             box = f"Math.abs(parseFloat(document.querySelector('#map b').style.top) - 100 * {scrolled} / 19806) < 1"
             await page.until(box)
+        is_clean(page, screen)
+
+
+async def test_a_hand_that_moves_on_the_map(program):
+    """What is in sight follows as long as the button is down. The accesses of the aim have their marks."""
+    lines = [f"T{at % 2}|w(a{at % 2})|a:{at}\n" for at in range(400)]
+    lines[100], lines[301] = "T0|w(x)|b:1\n", "T1|w(x)|b:2\n"
+    traces.write("trace", "".join(lines))
+    await session(program, 1, "new r100-301\n" + "".join(f"add r100-301 {event}\n" for event in range(400)))
+    scrolled = "document.getElementById('stage').scrollTop"
+    marks = "[...document.querySelectorAll('#map u')].map((mark) => parseFloat(mark.style.top)).join()"
+    async with Screen(program, "trace", "log") as screen, Browser() as browser:
+        page = await browser.page(screen.link)
+        await page.until(f"{LENGTH} === '400 events' && {marks} === '25,75.25'")
+        x, y, height = await page.run(
+            "(() => { const b = document.getElementById('map').getBoundingClientRect(); "
+            "return [b.left + b.width / 2, b.top, b.height]; })()"
+        )
+        await page.run("window.aim = null")
+        await page.mouse("mouseMoved", x, y + height * 0.2)
+        await page.mouse("mousePressed", x, y + height * 0.2, button="left", clickCount=1)
+        for part in (0.4, 0.6):
+            await page.mouse("mouseMoved", x, y + height * part, button="left", buttons=1)
+            await page.until(f"Math.abs({scrolled} - {400 * 22 * part} + {height / 2}) < 40")
+        await page.release(x, y + height * 0.6)
+        await page.mouse("mouseMoved", x, y + height * 0.3)
+        await page.run("new Promise((done) => requestAnimationFrame(() => setTimeout(done)))")
+        await page.until(f"Math.abs({scrolled} - {400 * 22 * 0.6} + {height / 2}) < 40")
         is_clean(page, screen)
 
 
