@@ -1,5 +1,7 @@
 """As a hand does: what is pressed is what is meant, whatever others do until the button goes up."""
 
+import time
+
 import traces
 from browser import Browser
 from judged import same
@@ -229,6 +231,63 @@ async def test_double_clicks(program):
         await page.click("#ask-yes", times=2)
         await page.until(f"{OPEN} === 'A'")
         same(logged()[3:], ["1 new A"])
+        is_clean(page, screen)
+
+
+async def tap(page, selector, at, when):
+    """A finger at an element, at a time as the browser counts it."""
+    x, y = await page.steady(selector, at)
+    await page.run("window.aim = null")
+    await touch(page, x, y, when)
+    return x, y
+
+
+async def touch(page, x, y, when):
+    point = [{"x": x, "y": y}]
+    await page.call("Input.dispatchTouchEvent", type="touchStart", touchPoints=point, timestamp=when)
+    await page.call("Input.dispatchTouchEvent", type="touchEnd", touchPoints=[], timestamp=when + 0.02)
+
+
+async def test_double_taps(program):
+    """The second tap of a finger hits what came under it meanwhile, and does not do that. A later one does."""
+    traces.write("trace", traces.COUNT)
+    async with Screen(program, "trace", "log") as screen, Browser() as browser:
+        page = await browser.page(screen.link)
+        await page.call("Emulation.setTouchEmulationEnabled", enabled=True)
+        await page.until("document.querySelectorAll('.race').length === 1")
+        now = time.time()
+        await tap(page, ".race", 0, now)
+        await page.until(f"{OPEN} === 'Witness'")
+        x, y = await tap(page, "#bar button", 1, now + 5)  # start empty; then a schedule's buttons are there
+        await page.until(f"{OPEN} === 'r7-12' && {NEXT_LENGTH} === '0'")
+        under = f"document.elementFromPoint({x}, {y}).closest('button')?.dataset.does"
+        same(await page.run(under), "b")  # branch
+        await touch(page, x, y, now + 5.2)
+        await press(page, "1")
+        same(logged(), ["1 new r7-12", "1 add r7-12 0"])
+        same(await page.run("document.getElementById('ask').open"), False)
+        await touch(page, x, y, now + 20)
+        await page.until("document.getElementById('ask').open")
+        is_clean(page, screen)
+
+
+async def test_a_drag_that_is_cancelled(program):
+    """The row goes back, and the release of the button moves nothing."""
+    traces.write("trace", traces.COUNT)
+    async with Screen(program, "trace", "log") as screen, Browser() as browser:
+        page = await browser.page(screen.link)
+        await new(page, 3)
+        await press(page, "1", "1", "2")
+        await page.until(f"{ROWS} === 3")
+        x, y = await page.press("#space .row[data-p='2'] .lanes")
+        await page.mouse("mouseMoved", x, y - 22, button="left", buttons=1)
+        await page.until("document.querySelector('.row.dragged')?.dataset.p === '2'")
+        await page.run("document.getElementById('stage').dispatchEvent(new PointerEvent('pointercancel', "
+                       "{ bubbles: true }))")
+        same(await page.run("document.querySelector('.row.dragged') === null"), True)
+        await page.release(x, y - 22)
+        await press(page, "Backspace")
+        same(logged()[4:], ["1 back A"])
         is_clean(page, screen)
 
 

@@ -1,10 +1,10 @@
 """What the page says in words: refusals, news of each kind, what rests on what, titles, distances, reads and locks."""
 
 import traces
-from browser import Browser
+from browser import ALT, Browser
 from judged import same
 from live import session
-from stage import LENGTH, NEXT, ROWS, SAID, Screen, focus, is_clean, logged, new, press
+from stage import LENGTH, NEXT, ROWS, SAID, SAYINGS, Screen, focus, is_clean, logged, new, press
 
 OPEN = "document.querySelector('#bar h2').textContent"
 LINES = "[...document.querySelectorAll('.away-line')].map((l) => l.textContent.trim().replace(/ +/g, ' '))"
@@ -292,4 +292,88 @@ async def test_what_no_run_helps(program):
         same(await page.run("document.querySelectorAll('#next-list .do button:not(.more)').length"), 0)
         await press(page, "f")
         same(await page.run(SAID), "no run of one thread helps here")
+        is_clean(page, screen)
+
+
+MOVES = """T0|fork(T1)|a:1
+T1|acq(m)|b:1
+T1|rel(m)|b:2
+T2|acq(m)|c:1
+T2|rel(m)|c:2
+T1|w(y)|b:3
+"""
+STOP = "document.querySelector('.stop')?.textContent"
+
+
+async def test_moves_in_words(program):
+    """How far an event was moved, and why it goes no farther."""
+    traces.write("trace", MOVES)
+    await session(program, 1, "new A\n" + "".join(f"add A {event}\n" for event in range(6)))
+    async with Screen(program, "trace", "log") as screen, Browser() as browser:
+        page = await browser.page(screen.link)
+        await page.until(f"{ROWS} === 6 && {NEXT} === 0")
+        await focus(page, "stage")
+        await page.key("Home")
+        for downs, key, words in (
+            (0, "ArrowDown", "one forks or joins the thread of the other"),
+            (2, "ArrowDown", "both are of lock m"),
+            (0, "ArrowUp", "both are of one thread"),
+        ):
+            for _ in range(downs):
+                await page.key("ArrowDown")
+            before = await page.run(SAYINGS)
+            await page.key(key, ALT)
+            await page.until(f"{SAYINGS} !== '{before}' && {STOP} === 'stays: {words}'")
+            assert (await page.run(SAID)).startswith(f"not moved · {words}"), await page.run(SAID)
+        same(len(logged()), 7)
+        await page.key("End")
+        before = await page.run(SAYINGS)
+        await page.key("ArrowUp", ALT)
+        await page.until(f"{SAYINGS} !== '{before}' && {STOP} === undefined")
+        assert (await page.run(SAID)).startswith("moved by 1"), await page.run(SAID)
+        same(logged()[7:], ["1 swap A 4"])
+        is_clean(page, screen)
+
+
+LABELS = "[...document.querySelectorAll('{} [role=option]')].map((o) => o.getAttribute('aria-label'))"
+
+
+async def test_what_a_screen_reader_says_of_lines(program):
+    """Of each kind of event, of a block, of what others did, and of the two of the aim."""
+    made = "T0|fork(T1)|a:1\n" + "".join(f"T0|w(v{at})|a:2\n" for at in range(8))
+    traces.write("trace", made + "T1|acq(m)|b:1\nT1|rel(m)|b:2\nT1|r(x)|b:3\nT2|w(x)|c:1\nT0|join(T1)|a:3\n")
+    adds = "".join(f"add A {event}\n" for event in (*range(12), 13))
+    await session(program, 1, "new A\n" + adds)
+    async with Screen(program, "trace", "log") as screen, Browser() as browser:
+        page = await browser.page(screen.link)
+        await page.until(f"{LENGTH} === '13 events' && {NEXT} === 1")
+        await page.until("document.querySelectorAll('.race').length === 1")
+        await page.click(".race")
+        await page.until(f"{OPEN} === 'Witness'")
+        await page.click(".sched")
+        await page.until(f"{OPEN} === 'A' && {NEXT} === 1")
+        await session(program, 2, "add A 12\nnew B\n")
+        await page.until(f"{LENGTH} === '14 events' && {NEXT} === 0")
+        await page.until("document.querySelectorAll('.sched').length === 2")
+        same(
+            await page.run(LABELS.format("#stage")),
+            [
+                "position 0, block of 8 events of T0",
+                "position 8, event 8, T0 writes v7, a:2",
+                "position 9, event 9, T1 takes lock m, b:1",
+                "position 10, event 10, T1 releases lock m, b:2",
+                "position 11, event 11, T1 reads x, b:3, reads the initial value, of the aim",
+                "position 12, event 13, T0 joins T1, a:3",
+                "position 13, event 12, T2 writes x, c:1, of the aim, put here by 2",
+            ],
+        )
+        same(
+            await page.run(LABELS.format("#row-list")),
+            [
+                "A: 14 events, made by you in entry 0, last changed by 2 in entry 14, since you last looked",
+                "B: 0 events, made by 2 in entry 15, last changed by 2 in entry 15, since you last looked",
+            ],
+        )
+        title = "document.querySelector('.row.block').title"
+        same(await page.run(title), "T0: 8 events, positions 0 to 7. Enter or a click opens it.")
         is_clean(page, screen)
