@@ -162,8 +162,11 @@ function follow(event) {
   return true;
 }
 
+// Those of the browser itself wait for nothing.
+const isOfBrowser = (event) => event.ctrlKey || event.metaKey || /^F\d/.test(event.key);
+
 addEventListener("keydown", (event) => {
-  if (!opening && !isGiving) {
+  if ((!opening && !isGiving) || isOfBrowser(event)) {
     press(event);
     return;
   }
