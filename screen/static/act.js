@@ -1,6 +1,7 @@
 // Steps: one request each, one after another, and a line that says what came of it.
 import { $, count, el, fill, many } from "./make.js";
 import { ask } from "./net.js";
+import { keep, kept } from "./store.js";
 import { who, said, reason, isRefused } from "./words.js";
 import * as feed from "./feed.js";
 import * as frontier from "./frontier.js";
@@ -13,7 +14,7 @@ const LONG = 400;
 const UNDONE = 4096;
 
 let sayings = 0;
-let runs = []; // of each step of this page that made several entries: these, the newest first
+let runs = null; // of each step of this tab that made several entries: these, the newest first
 let acting = 0;
 
 // Whether a step of this page is under way: what the log has more may be of another tab of the same analyst.
@@ -51,15 +52,23 @@ export async function act(what, given) {
   return told;
 }
 
-const keepRuns = (isLeft) => {
-  runs = runs.map((made) => made.filter(isLeft)).filter((made) => made.length > 1);
-};
+const key = () => kept("sessionStorage", "key");
+
+// What the tab kept of its steps before a reload. Another key is that of another screen, and maybe of another log.
+function before() {
+  const [of, made] = JSON.parse(kept("sessionStorage", "runs")) ?? [];
+  return of === key() ? made : [];
+}
+
+function keepRuns(isLeft, more = []) {
+  runs = [...(runs ?? before()), more].map((made) => made.filter(isLeft)).filter((made) => made.length > 1);
+  keep("sessionStorage", "runs", JSON.stringify([key(), runs]));
+}
 
 // Keeps the entries of a step, and not those that an undo took back.
 function note(what, told, given) {
-  if (what !== "undo") runs.push([...(told.entries ?? [])].reverse());
   const gone = new Set(what === "undo" ? given.entries?.slice(0, told.undone ?? 0) : []);
-  keepRuns((entry) => !gone.has(entry));
+  keepRuns((entry) => !gone.has(entry), what === "undo" ? [] : [...(told.entries ?? [])].reverse());
 }
 
 // A long run is many entries of the log, and one step of the analyst. What he did after it is taken back before it.

@@ -1,11 +1,13 @@
 """The browser's own means: back, forward, a reload, a second tab, a new link in the same tab, no storage."""
 
+import os
+
 import traces
 from browser import Browser
 from judged import same
 from live import session
 from sight import HOLD, ROW, TOP
-from stage import LENGTH, NEXT, ROWS, SAID, TITLE, Screen, focus, is_clean, logged, new, press
+from stage import LENGTH, NEXT, ROWS, SAID, TITLE, Screen, comes, focus, is_clean, logged, new, press
 from table import SEVERAL
 
 OPEN = "document.querySelector('#bar h2').textContent"
@@ -210,6 +212,34 @@ async def test_a_new_link_in_the_same_tab(program):
         await new(page, 3)
         same(await page.run("location.hash"), "")
         is_clean(page, screen)
+
+
+async def test_a_long_run_is_one_step_after_a_reload(program):
+    """Its entries are taken back together. Those of a log that was there before are not."""
+    traces.write("trace", "".join(f"T{at // 200}|w(a{at // 200})|a:{at}\n" for at in range(400)))
+    async with Browser() as browser:
+        async with Screen(program, "trace", "log") as screen:
+            page = await browser.page(screen.link)
+            await new(page, 2)
+            await press(page, "r")
+            await page.until(f"{LENGTH} === '200 events'")
+            await page.call("Page.reload")
+            await page.until(f"{TITLE} && {LENGTH} === '200 events' && {NEXT} === 1")
+            await press(page, "u")
+            await page.until(f"{LENGTH} === '0 events' && {NEXT} === 2")
+            undone = [f"1 undo {entry}" for entry in (4, 3, 2, 1)]
+            same([line[:8] for line in logged()], ["1 new A", *["1 batch "] * 4, *undone])
+            await press(page, "r")
+            await page.until(f"{LENGTH} === '200 events'")
+            is_clean(page, screen)
+        os.rename("log", "first")
+        await session(program, 1, "new A\n" + "".join(f"add A {event}\n" for event in range(12)))
+        async with Screen(program, "trace", "log", "--port", str(screen.port)) as again:
+            await page.open(again.link)
+            await page.until(f"{TITLE} && {LENGTH} === '12 events' && {NEXT} === 2")
+            await press(page, "u")
+            await comes(lambda: logged()[13:])
+            same(logged()[13:], ["1 undo 12"])
 
 
 async def test_a_browser_that_keeps_nothing(program):
