@@ -20,6 +20,7 @@ for (const part of [sheet, frontier, feed, schedules]) part.events.say = say;
 feed.events.open = schedules.events.open = (view) => now(() => views.open(view));
 schedules.events.go = views.open;
 feed.events.adopt = schedules.events.adopt = views.adopt;
+feed.events.seen = sheet.redraw;
 sheet.events.lost = () => state.view?.witness && now(() => views.openPair([...state.view.witness]));
 races.events.open = (block) => now(() => views.openPair(block.accesses.map((access) => access.event)));
 $("keys").addEventListener("click", showKeys);

@@ -22,7 +22,7 @@ const LOOK = 700;
 const GATHER = 150;
 // The most lines of news.
 const NEWS = 6;
-export const events = { open: null, act: null, adopt: null, say: null };
+export const events = { open: null, act: null, adopt: null, say: null, seen: null };
 
 let hasBegun = false;
 let flashed = null;
@@ -51,6 +51,7 @@ export function caughtUp() {
   state.marked = state.n;
   keep();
   render();
+  events.seen();
 }
 
 const isLive = (entry) => entry.u === undefined && entry.k !== "undo" && entry.k !== "propose";

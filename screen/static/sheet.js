@@ -157,6 +157,9 @@ function render() {
   if (win) edges.show(win, hovered ?? cursor);
 }
 
+// What was news is marked as seen.
+export const redraw = () => win && render();
+
 function inside() {
   const made = [...rails(), ...bars(win.locks), ...drawn.rows(win, cursor)];
   if (win.total === 0) made.push(el("p", "empty", state.view?.witness ? NONE_NEEDED : NONE_YET));

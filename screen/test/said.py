@@ -272,6 +272,7 @@ async def test_a_thread_that_has_no_events(program):
         await press(page, "f")
         assert (await page.run(SAID)).startswith("T0 waits for nothing"), await page.run(SAID)
         await page.key("j")
+        await page.until("document.querySelector('.next.on .do button').textContent === 'run T0 to 1 (2) f'")
         await press(page, "f")
         await page.until(f"{LENGTH} === '2 events' && {NEXT} === 1")
         await press(page, "3")
@@ -376,4 +377,22 @@ async def test_what_a_screen_reader_says_of_lines(program):
         )
         title = "document.querySelector('.row.block').title"
         same(await page.run(title), "T0: 8 events, positions 0 to 7. Enter or a click opens it.")
+        is_clean(page, screen)
+
+
+async def test_who_put_the_events_of_a_block_there(program):
+    """A block has the latest entry of its events. It is blue if that is news of another."""
+    traces.write("trace", "".join(f"T1|w(a)|a:{at}\n" for at in range(16)))
+    await session(program, 1, "new A\n" + "".join(f"add A {event}\n" for event in range(4)))
+    position = "document.querySelector('.row.block .pos')"
+    async with Screen(program, "trace", "log") as screen, Browser() as browser:
+        page = await browser.page(screen.link)
+        await page.until(f"{LENGTH} === '4 events' && {NEXT} === 1")
+        await press(page, "s")
+        await session(program, 2, "".join(f"add A {event}\n" for event in range(4, 16)))
+        await page.until(f"{LENGTH} === '16 events' && {position}?.title === 'put here by 2 in entry 10'")
+        same(await page.run("document.querySelector('.row.block').dataset.block"), "10")
+        same(await page.run(f"{position}.classList.contains('new')"), True)
+        await press(page, "s")
+        await page.until(f"!{position}.classList.contains('new')")
         is_clean(page, screen)
