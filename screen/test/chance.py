@@ -42,7 +42,8 @@ SHOWN = r"""(() => {
     rows: rows.map((row) => [Number(row.dataset.p), Number(row.dataset.block ?? 1),
       (row.querySelector(".box .num") ?? row.querySelector(".event")).textContent]),
     next: id("next").hidden ? [] : all("#next-list .next").map((line) => [
-      number(line.querySelector(".what .num").textContent), line.classList.contains("yes")])
+      number(line.querySelector(".what .num").textContent), line.classList.contains("yes"),
+      line.querySelector(".reason")?.title.match(/refused 46 (\d+)/)[1] ?? "", line.classList.contains("lit")])
       .sort((one, other) => one[0] - other[0]),
     pair: id("pair").hidden ? [] : all("#pair .access > .num").map((one) => number(one.textContent)),
     feed: all("#feed .entry").map((line) => [line.querySelector(".at").textContent, line.classList.contains("dead"),
@@ -84,10 +85,10 @@ class Program:
         return [(name, int(length)) for name, length, *_ in (one.split(":") for one in self.ask("? rows")[2:])]
 
     def next(self, name):
-        """Each thread's next event, and whether it may come next."""
+        """Each thread's next event, whether it may come next, and the number of the cause if not."""
         told = self.ask(f"? next {name}")
         found = [one.split(":") for one in told[3:]] if told[0] == "next" else []
-        return sorted([int(event), not why] for event, *why in found)
+        return sorted([int(event), not why, (why or [""])[0]] for event, *why in found)
 
     def entry(self, number):
         """Whether an entry is taken back, and whether client 1 has an undo of it."""
@@ -122,7 +123,7 @@ def expected(program, shown):
         **shown,
         "schedules": [[*one, one[-1]] for one in drawn],
         "rows": shown["rows"] if is_witness else made,
-        "next": program.next(shown["open"]) if is_there else [],
+        "next": [[*one, one[0] in sum(pairs, [])] for one in program.next(shown["open"])] if is_there else [],
         "pair": shown["pair"] if is_witness or shown["pair"] in pairs else [*pairs, []][0],
         "feed": feed,
         "entries": int(program.ask("? rows")[1]),
@@ -162,7 +163,7 @@ class Hand:
         """A call of another client, or of this one by the program."""
         names = [name for name, _ in self.program.rows()] or ["A"]
         name = self.draw.choice(names)
-        free = [event for event, may in self.program.next(name) if may]
+        free = [event for event, may, _ in self.program.next(name) if may]
         calls = [f"add {name} {event}" for event in free] + [f"back {name}", "undo", f"swap {name} 0"]
         calls += [f"branch {name} 1 B{len(names)}", f"new N{len(names)}", f"drop {name}"][: 3 if len(names) > 2 else 2]
         call, client = self.draw.choice(calls), self.draw.choice((1, 2, 2, 3))
