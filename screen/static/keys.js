@@ -15,7 +15,7 @@ import * as views from "./views.js";
 import { edge, neighbour } from "./schedules.js";
 
 const schedule = () => state.view?.schedule;
-const last = () => (sheet.current()?.length ?? 1) - 1;
+const last = () => Math.max(0, (sheet.current()?.length ?? 0) - 1);
 
 function swap(by) {
   const row = sheet.cursorRow();

@@ -41,6 +41,23 @@ async def test_a_trace_of_no_events(program):
         is_clean(page, screen)
 
 
+async def test_the_ends_of_an_empty_schedule(program):
+    """Home and End find no event, and what is shown stays."""
+    traces.write("trace", traces.COUNT)
+    empty = "document.querySelector('#space .empty')?.textContent === 'No events yet. Choose one below.'"
+    async with Screen(program, "trace", "log") as screen, Browser() as browser:
+        page = await browser.page(screen.link)
+        await new(page, 3)
+        await page.until(empty)
+        await focus(page, "stage")
+        for key in ("Home", "ArrowUp", "End"):
+            await page.key(key)
+        await press(page, "Enter")
+        same(await page.run(SAID), "choose an event first: ↑ and ↓ move the cursor")
+        same(await page.run(empty), True)
+        is_clean(page, screen)
+
+
 async def test_one_thread_of_one_event(program):
     traces.write("trace", "T1|w(x)|a:1\n")
     async with Screen(program, "trace", "log") as screen, Browser() as browser:
