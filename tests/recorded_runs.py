@@ -329,8 +329,10 @@ def judge_group(c):
         raise Wrong(f"a group that is ended: {told}{out}")
 
 
-# Has record/running.py run a program, and sends it a signal before it comes to anything else.
-AT_ONCE = """import os, subprocess, sys
+# Has record/running.py run a program, and sends it a signal before it comes to anything else. A caller such as `nohup`
+# may have SIGHUP ignored, and then the program would ignore it too.
+AT_ONCE = """import os, signal, subprocess, sys
+signal.signal(signal.SIGHUP, signal.SIG_DFL)
 sys.path.insert(0, sys.argv[1])
 import running
 class Started(subprocess.Popen):
