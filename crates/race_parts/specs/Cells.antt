@@ -1,4 +1,4 @@
--- The rows of all parts, and the order in which they are told. All notions here are this project's own.
+-- The rows of all parts, and the order in which a report prints them. All notions here are this project's own.
 use Rattle.std.specs.Prelude.{◌≡◌, ℕ, suc, Bool, ◌&&◌, cond, List, [], ◌∷◌, map, flat_map, drop, Vec, bytes_eq}
 use Rattle.std.specs.declared.alloc.Global.{Global}
 use Rattle.std.specs.declared.cmp.Ordering.{Ordering}
@@ -14,11 +14,11 @@ use Rattle.race_parts.specs.declared.parts.Part.{Part}
 abbrev pub row_said : Row → Said
 row_said r = fact_said r.part.now r.line.now r.fact
 
--- the rows of a part are the lines of its text but the first
+-- the rows of a part: each line of its text but the first
 abbrev pub rows_of_part : List ℕ → Part → List Said
 rows_of_part name p = map (said_in name) (drop 1 (lines_of p.text.items))
 
--- those of all parts, by the names of the parts
+-- the rows of all parts, in the order of the parts' names
 abbrev pub rows_in : List (Vec ℕ Global × Part) → List Said
 rows_in es = flat_map (λ e. rows_of_part e.0.items e.1) es
 
@@ -28,8 +28,9 @@ lesser_of one other = cond (is_gt (bytes_cmp one other)) other one
 abbrev pub greater_of : List ℕ → List ℕ → List ℕ
 greater_of one other = cond (is_gt (bytes_cmp one other)) one other
 
--- What a row is ordered by: its two locations, the lesser first; a race before what is undecided, and that before what is apart; the fewest
--- events of a schedule; the name of the part; the later event; the earlier event; its number.
+-- The sort key of a row. Locations come first, the lesser before the greater. Then races come before undecided rows,
+-- and these before apart rows. Then follow the events of the schedule, the part's name, the later event, the earlier
+-- event and the row's number.
 pub record Key : Type 0 where
   pub first : List ℕ
   pub second : List ℕ
@@ -74,18 +75,18 @@ key_cmp a b =
     (ordering_then (nat_cmp a.later b.later)
     (ordering_then (nat_cmp a.earlier b.earlier) (nat_cmp a.number b.number)))))))
 
--- the keys of rows, whose numbers begin at this one
+-- the keys of rows that are numbered from n on
 abbrev pub keys_from : ℕ → List Said → List Key
 keys_from n [] = []
 keys_from n (s ∷ ss) = key_of n s ∷ keys_from (suc n) ss
 
--- The cells are those of the rows, in the order of their keys.
+-- The cells are the rows' cells, sorted by their keys.
 pub record AreSorted (rows : List Said) (cells : List Cell) : Type 0 where
   pub before : List Cell
   pub keys : map cell_key before ≡ keys_from 0 rows
   pub permutation : IsPermutation before cells
   pub sorted : IsSorted (λ a b. key_cmp (cell_key a) (cell_key b)) cells
 
--- of one pair of places
+-- whether two cells have the same pair of locations
 abbrev pub is_same : Cell → Cell → Bool
 is_same a b = bytes_eq a.first.now b.first.now && bytes_eq a.second.now b.second.now

@@ -1,4 +1,4 @@
--- What is read of a line. All notions here are this project's own.
+-- What the program reads from a line. All notions here are this project's own.
 use Rattle.std.specs.Prelude.{◌≡◌, ℕ, nat_eq, cond, true, List, None, unwrap_or, codes}
 use Rattle.std.specs.Str.{is_utf8}
 use Rattle.serde_json.specs.Data.{Data, null}
@@ -11,11 +11,11 @@ use Rattle.race_parts.specs.declared.facts.Fact.{Fact}
 use Rattle.race_parts.specs.declared.facts.Fact.TheVariants.{Known as of_row, Other as of_value}
 use Rattle.race_parts.specs.declared.scan.Known.{Known}
 
--- the value that a line is; null if it is none
+-- the JSON value of a line; null if it is not JSON
 abbrev pub data_in : List ℕ → Data
 data_in line = unwrap_or (cond (is_utf8 line) (read line) None) null
 
--- this is known of the row
+-- the facts k are true of the row d
 pub record IsKnown (k : Known) (d : Data) : Type 0 where
   pub row : is_row d ≡ true
   pub race : is_kind (codes "race") d ≡ nat_eq k.rank 0
@@ -28,7 +28,7 @@ pub record IsKnown (k : Known) (d : Data) : Type 0 where
   pub later : event_in 1 d ≡ k.later
   pub earlier : event_in 0 d ≡ k.earlier
 
--- this was read of a line with this value
+-- a fact that was read from a line is true of the line's value
 abbrev pub Says : Fact → Data → Type 0
 Says (of_row k) d = IsKnown k d
 Says (of_value v) d = view v ≡ d

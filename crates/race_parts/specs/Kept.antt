@@ -1,4 +1,4 @@
--- What is kept of the rows of a part, beside the text that it is. All notions here are this project's own.
+-- What a part keeps of its rows, besides its text. All notions here are this project's own.
 use Rattle.std.specs.Prelude.{◌≡◌, ℕ, List, ◌++◌, ◌∷◌, map, drop, take, Vec, Option, IfSome}
 use Rattle.std.specs.declared.alloc.Global.{Global}
 use Rattle.race_parts.specs.Lines.{HasNoFeed, lines_of}
@@ -6,11 +6,11 @@ use Rattle.race_parts.specs.Said.{Said, said_in}
 use Rattle.race_parts.specs.declared.kept.KeptRow.{KeptRow}
 use Rattle.race_parts.specs.declared.kept.Piece.{Piece}
 
--- a piece of a text
+-- the bytes of a piece of the text
 abbrev pub piece_in : List ℕ → Piece → List ℕ
 piece_in text p = take p.len (drop p.from text)
 
--- the row of which this is kept
+-- the row that a kept row describes
 abbrev pub kept_said : List ℕ → List ℕ → KeptRow → Said
 kept_said name text k = record {
   part = name;
@@ -23,18 +23,18 @@ kept_said name text k = record {
   earlier = k.earlier;
 }
 
--- This is kept of the row in the first line of what is left, after which this stands.
+-- The kept row describes the first line of rest, and behind is the text after that line.
 pub record IsRowOn (text rest behind : List ℕ) (k : KeptRow) : Type 0 where
   pub line : List ℕ
   pub cut : rest ≡ line ++ 10 ∷ behind
   pub one : HasNoFeed line
   pub said : (name : List ℕ) → kept_said name text k ≡ said_in name line
 
--- The rows that are kept, and those in what is left, are those of the text.
+-- The kept rows, and then the rows in rest, are the rows of the text.
 abbrev pub IsKeeping : List ℕ → List ℕ → List KeptRow → Type 0
 IsKeeping text rest ks =
     (name : List ℕ) → map (kept_said name text) ks ++ map (said_in name) (lines_of rest) ≡ map (said_in name) (drop 1 (lines_of text))
 
--- If rows are kept, they are those of the text.
+-- If the part keeps rows, they are the rows of the text.
 abbrev pub AreKept : List ℕ → Option (Vec KeptRow Global) → Type 0
 AreKept text rows = IfSome rows (λ ks. (name : List ℕ) → map (kept_said name text) ks.items ≡ map (said_in name) (drop 1 (lines_of text)))

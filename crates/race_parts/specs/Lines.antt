@@ -1,4 +1,5 @@
--- A text as lines, each a value of JSON, and at which line another text stops. All notions here are this project's own.
+-- The lines of a text as JSON values, and the line at which a text stops to be that. All notions here are this
+-- project's own.
 use Rattle.std.specs.Prelude.{◌≡◌, ◌≢◌, ◌≤◌, ◌<◌, ◌⊎◌, ℕ, List, [], ◌∷◌, ◌++◌, length, cond, nat_eq, Some, None, IsUtf8, slice_index, ⊤}
 use Rattle.serde_json.specs.Data.{Data}
 use Rattle.serde_json.specs.Read.{read}
@@ -10,23 +11,25 @@ use Rattle.race_parts.specs.declared.lines.PartRefusal.TheVariants.{Line, Versio
 abbrev pub HasNoFeed : List ℕ → Type 0
 HasNoFeed bytes = (k : ℕ) → k < length bytes → slice_index bytes k ≢ 10
 
--- the bytes are the text of the value
+-- the bytes are JSON for this value
 abbrev pub Tells : List ℕ → Data → Type 0
 Tells bytes d = IsUtf8 bytes × (read bytes ≡ Some d)
 
--- The text is lines that are these values, one after another. Each line ends with a line feed.
+-- The lines of the text are these values, in order. Each line ends with a line feed.
 pub data AreLines : List ℕ → List Data → Type 0 where
   none : AreLines [] []
   another : (done bytes : List ℕ) (ds : List Data) (d : Data) → AreLines done ds → HasNoFeed bytes → Tells bytes d → AreLines (done ++ bytes ++ 10 ∷ []) (ds ++ d ∷ [])
 
--- what follows is no further line: it ends without a line feed, or it is no JSON, or there are too many
+-- rest does not begin with a further line: it has no line feed, or its first line is not JSON, or the limit of lines
+-- is reached
 abbrev pub IsNoLine : ℕ → List ℕ → Type 0
 IsNoLine before rest =
     HasNoFeed rest
     ⊎ ((MAX_LINES ≤ before)
     ⊎ ((bytes behind : List ℕ) × (rest ≡ bytes ++ 10 ∷ behind) × HasNoFeed bytes × (IsUtf8 bytes → read bytes ≡ None)))
 
--- The text stops at the line of this place, the first being 0: those before it are values, something follows, and it is no further line.
+-- The text stops at the line with this 0-based index. The lines before it are JSON values, more text follows, and
+-- that text does not begin with a further line.
 pub record StopsAt (text : List ℕ) (line : ℕ) : Type 0 where
   pub done : List ℕ
   pub rest : List ℕ
@@ -37,28 +40,28 @@ pub record StopsAt (text : List ℕ) (line : ℕ) : Type 0 where
   pub line_is : line ≡ length before
   pub wrong : IsNoLine (length before) rest
 
--- why the lines of a text are not read
+-- the reason why the lines of a text cannot be read
 abbrev pub IsUnread : List ℕ → PartRefusal → Type 0
 IsUnread text (Line line) = StopsAt text line
 IsUnread text Version = ⊥
 IsUnread text (Clash file) = ⊥
 IsUnread text OutOfMemory = ⊤
 
--- The first line of a text is this value, and this stands after it.
+-- The first line of the text is this value, and behind is the text after it.
 pub record IsReadOn (text behind : List ℕ) (d : Data) : Type 0 where
   pub bytes : List ℕ
   pub cut : text ≡ bytes ++ 10 ∷ behind
   pub one : HasNoFeed bytes
   pub tells : Tells bytes d
 
--- why no line was read of a text, after so many values
+-- the reason why the next line cannot be read, after this many lines
 abbrev pub IsStopped : ℕ → List ℕ → PartRefusal → Type 0
 IsStopped before text (Line line) = (line ≡ before) × IsNoLine before text
 IsStopped before text Version = ⊥
 IsStopped before text (Clash file) = ⊥
 IsStopped before text OutOfMemory = ⊤
 
--- a byte before lines: it begins the first of them; before none, it is of no line
+-- adds a byte in front of the first line; drops it if there is no line
 abbrev pub begin_line : ℕ → List (List ℕ) → List (List ℕ)
 begin_line b [] = []
 begin_line b (l ∷ ls) = (b ∷ l) ∷ ls

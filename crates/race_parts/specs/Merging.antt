@@ -1,4 +1,4 @@
--- What a file gives: a part, or the parts of a merged report. All notions here are this project's own.
+-- The parts that a file gives: itself, or the parts of a merged report. All notions here are this project's own.
 use Rattle.std.specs.Prelude.{◌≡◌, ◌⊎◌, ℕ, ◌+◌, ◌-◌, nat_eq, nat_lt, Bool, ◌&&◌, not, true, false, cond, All, List, [], ◌∷◌, ◌++◌, length, map, take, position, Option, Some, None, Vec, codes, ⊤}
 use Rattle.std.specs.BTreeMap.{BTreeMap}
 use Rattle.std.specs.Option.{option_or}
@@ -14,7 +14,7 @@ use Rattle.race_parts.specs.declared.lines.PartRefusal.{PartRefusal}
 use Rattle.race_parts.specs.declared.lines.PartRefusal.TheVariants.{Line, Version, Clash, OutOfMemory}
 use Rattle.race_parts.specs.declared.parts.Part.{Part}
 
--- whether the first line says that the file is of another version
+-- whether the first line says that the file has another version
 abbrev pub is_foreign : List Data → Bool
 is_foreign [] = false
 is_foreign (d ∷ ds) = is_other_version d
@@ -27,23 +27,24 @@ abbrev pub is_merged : List Data → Bool
 is_merged [] = false
 is_merged (d ∷ ds) = is_merged_head d
 
--- the line of a part in a merged report
+-- whether the line is a part's line in a merged report
 abbrev pub is_part_line : Data → Bool
 is_part_line d = is_kind (codes "part") d && has_text (codes "name") d && has_text (codes "text") d
 
--- the place behind the first line
+-- an index plus 1, to count the first line
 abbrev pub one_behind : Option ℕ → Option ℕ
 one_behind None = None
 one_behind (Some at) = Some (at + 1)
 
--- how many parts the first line counts, and how many pairs of places
+-- the number of parts, and the number of pairs of locations, that the first line gives
 abbrev pub part_count : Data → ℕ
 part_count d = said_number (codes "parts") d
 
 abbrev pub pair_count : Data → ℕ
 pair_count d = said_number (codes "pairs") d
 
--- Behind the first line there are as many lines as it counts, and those of parts come first. What stands in the lines of pairs means nothing.
+-- After the first line come as many lines as it counts, and the parts come first. The content of the pairs' lines
+-- does not matter.
 abbrev pub wrong_behind_head : Data → List Value → Option ℕ
 wrong_behind_head d vs =
     cond (nat_lt (length vs) (part_count d)) (Some (length vs + 1))
@@ -51,12 +52,12 @@ wrong_behind_head d vs =
     (one_behind (position (λ v. not (is_part_line (view v))) (take (part_count d) vs)))
     (Some (length vs + 1)))
 
--- the place of the first line that does not fit into a merged report
+-- the index of the first line that does not fit into a merged report; None if all fit
 abbrev pub wrong_merged : List Value → Option ℕ
 wrong_merged [] = Some 0
 wrong_merged (v ∷ vs) = wrong_behind_head (view v) vs
 
--- the lines of its parts, and each as a name with a text
+-- the part lines of a merged report, and each as a name with a text
 abbrev pub part_lines : List Value → List Value
 part_lines [] = []
 part_lines (v ∷ vs) = take (part_count (view v)) vs
@@ -67,33 +68,33 @@ told_of v = (said_text (codes "name") (view v), said_text (codes "text") (view v
 abbrev pub told_parts : List Value → List (List ℕ × List ℕ)
 told_parts vs = map told_of (part_lines vs)
 
--- the text is that of a part
+-- the text is a part
 abbrev pub IsPartText : List ℕ → Type 0
 IsPartText text = (ds : List Data) × AreLines text ds × (is_foreign ds ≡ false) × (wrong_line ds ≡ None)
 
--- the text is that of a merged report with these parts
+-- the text is a merged report with these parts
 abbrev pub GivesReport : List ℕ → List (List ℕ × List ℕ) → Type 0
 GivesReport text given =
     (vs : List Value) × AreLines text (map view vs) × (is_foreign (map view vs) ≡ false) × (is_merged (map view vs) ≡ true)
     × (wrong_merged vs ≡ None) × (given ≡ told_parts vs) × All (λ p. IsPartText p.1) given
 
--- the text is that of a part, with this as its first line
+-- the text is a part, and d is its first line
 abbrev pub IsSound : List ℕ → Data → Type 0
 IsSound text d = (ds : List Data) × AreLines text (d ∷ ds) × (is_other_version d ≡ false) × (wrong_line (d ∷ ds) ≡ None)
 
--- a file of this name gives these parts
+-- a file with this name gives these parts
 abbrev pub Gives : List ℕ → List ℕ → List (List ℕ × List ℕ) → Type 0
 Gives name text given =
     ((d : Data) × IsSound text d × (is_merged_head d ≡ false) × (given ≡ (name, text) ∷ []))
     ⊎ GivesReport text given
 
--- the line of this place does not fit
+-- the line with this index does not fit
 abbrev pub IsAt : Option ℕ → PartRefusal → Type 0
 IsAt (Some at) (Line line) = line ≡ at
 IsAt (Some at) why = ⊥
 IsAt None why = ⊥
 
--- why the text is no part
+-- the reason why the text is not a part
 abbrev pub IsPartRefused : List ℕ → PartRefusal → Type 0
 IsPartRefused text (Line line) =
     StopsAt text line ⊎ ((ds : List Data) × AreLines text ds × (is_foreign ds ≡ false) × IsAt (wrong_line ds) (Line line))
@@ -101,7 +102,7 @@ IsPartRefused text Version = (ds : List Data) × AreLines text ds × (is_foreign
 IsPartRefused text (Clash file) = ⊥
 IsPartRefused text OutOfMemory = ⊤
 
--- the same of a text with this first line
+-- the same for a text with the first line d
 abbrev pub IsUnsound : List ℕ → Data → PartRefusal → Type 0
 IsUnsound text d (Line line) =
     StopsAt text line ⊎ ((ds : List Data) × AreLines text (d ∷ ds) × (is_other_version d ≡ false) × IsAt (wrong_line (d ∷ ds)) (Line line))
@@ -109,14 +110,15 @@ IsUnsound text d Version = (ds : List Data) × AreLines text (d ∷ ds) × (is_o
 IsUnsound text d (Clash file) = ⊥
 IsUnsound text d OutOfMemory = ⊤
 
--- why the part in a line is refused
+-- the reason why the part in a line is refused
 abbrev pub IsLineRefused : List ℕ → ℕ → PartRefusal → Type 0
 IsLineRefused text number (Line line) = (line ≡ number) × ((why : PartRefusal) × IsPartRefused text why)
 IsLineRefused text number Version = ⊥
 IsLineRefused text number (Clash file) = ⊤
 IsLineRefused text number OutOfMemory = ⊤
 
--- the part in one of these lines, which begin with the second of a file, is none
+-- One of these lines has a text that is not a part. The lines begin with the second line of the file, and the index
+-- is the one in the file.
 pub record IsNoPartIn (lines : List Value) (line : ℕ) : Type 0 where
   pub done : List Value
   pub value : Value
@@ -132,21 +134,21 @@ IsUntaken lines Version = ⊥
 IsUntaken lines (Clash file) = ⊤
 IsUntaken lines OutOfMemory = ⊤
 
--- why a merged report with these lines is refused
+-- the reason why a merged report with these lines is refused
 abbrev pub AreWrongIn : List Value → PartRefusal → Type 0
 AreWrongIn vs (Line line) = IsAt (wrong_merged vs) (Line line) ⊎ IsNoPartIn (part_lines vs) line
 AreWrongIn vs Version = ⊥
 AreWrongIn vs (Clash file) = ⊤
 AreWrongIn vs OutOfMemory = ⊤
 
--- for this, or another part has its name, or there is no memory
+-- P holds for the reason, unless it is a clash or out of memory
 abbrev pub IsUnputOr : (PartRefusal → Type 0) → PartRefusal → Type 0
 IsUnputOr P (Line line) = P (Line line)
 IsUnputOr P Version = P Version
 IsUnputOr P (Clash file) = ⊤
 IsUnputOr P OutOfMemory = ⊤
 
--- why a merged report is refused
+-- the reason why a merged report is refused
 abbrev pub IsReportRefused : List ℕ → PartRefusal → Type 0
 IsReportRefused text (Line line) =
     StopsAt text line
@@ -155,7 +157,8 @@ IsReportRefused text Version = (ds : List Data) × AreLines text ds × (is_forei
 IsReportRefused text (Clash file) = ⊤
 IsReportRefused text OutOfMemory = ⊤
 
--- why a file is refused: a line of it does not fit, it is of another version, or a part of it has the name of another part
+-- the reason why a file is refused: a line does not fit, the version is another one, or a part has the name of
+-- another part
 abbrev pub IsRefused : List ℕ → PartRefusal → Type 0
 IsRefused text (Line line) =
     StopsAt text line
@@ -165,20 +168,20 @@ IsRefused text Version = (ds : List Data) × AreLines text ds × (is_foreign ds 
 IsRefused text (Clash file) = ⊤
 IsRefused text OutOfMemory = ⊤
 
--- the text is that of a merged report, whose lines of parts give these names with texts
+-- the text is a merged report, and its part lines give these names with texts
 abbrev pub ListsReport : List ℕ → List (List ℕ × List ℕ) → Type 0
 ListsReport text given =
     (vs : List Value) × AreLines text (map view vs) × (is_foreign (map view vs) ≡ false) × (is_merged (map view vs) ≡ true)
     × (wrong_merged vs ≡ None) × (given ≡ told_parts vs)
 
--- a file of this name gives these names with texts, not all of which need to be parts
+-- a file with this name gives these names with texts; the texts need not be parts
 abbrev pub Lists : List ℕ → List ℕ → List (List ℕ × List ℕ) → Type 0
 Lists name text given =
     ((d : Data) × IsSound text d × (is_merged_head d ≡ false) × (given ≡ (name, text) ∷ []))
     ⊎ ListsReport text given
 
--- The file of this number gives these names with texts. One of them is a part whose name has another text: that of a part that was there, or
--- else that of one that stands before it. The other text comes from the file of the last number.
+-- The file with this number gives these names with texts. One of them is a part whose name has another text. That
+-- text was there before, or comes earlier in the list, and came from the file `file`.
 pub record IsClash (old : BTreeMap (Vec ℕ Global) Part) (number : ℕ) (given : List (List ℕ × List ℕ)) (file : ℕ) : Type 0 where
   pub done : List (List ℕ × List ℕ)
   pub one : List ℕ × List ℕ
@@ -187,6 +190,6 @@ pub record IsClash (old : BTreeMap (Vec ℕ Global) Part) (number : ℕ) (given 
   pub part : IsPartText one.1
   pub other : HasOther (λ key. option_or (held_at old key) (held_from number (told_in done key.items))) one.0 one.1 file
 
--- a part in a file of this name and number has the name of another part
+-- a part in a file with this name and number has the name of another part
 abbrev pub ClashesIn : BTreeMap (Vec ℕ Global) Part → List ℕ → List ℕ → ℕ → ℕ → Type 0
 ClashesIn old name text number file = (given : List (List ℕ × List ℕ)) × Lists name text given × IsClash old number given file

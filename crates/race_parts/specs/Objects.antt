@@ -1,4 +1,5 @@
--- What is told of the parts as JSON. The members of an object stand in the order of their names. All notions here are this project's own.
+-- The merged report as JSON. The members of an object are in the order of their names. All notions here are this
+-- project's own.
 use Rattle.std.specs.Prelude.{ℕ, ◌+◌, ◌-◌, nat_eq, cond, List, [], ◌∷◌, ◌++◌, flat_map, length, Vec, Option, Some, None, codes}
 use Rattle.std.specs.declared.alloc.Global.{Global}
 use Rattle.std.specs.Str.Lossy.{utf8_lossy}
@@ -12,15 +13,15 @@ use Rattle.race_parts.specs.declared.parts.Part.{Part}
 abbrev pub whole : ℕ → Data
 whole n = number (unsigned n)
 
--- bytes as a text: what is no UTF-8 becomes U+FFFD
+-- the bytes as a JSON text; bytes that are not UTF-8 become U+FFFD
 abbrev pub text : List ℕ → Data
 text bytes = string (utf8_lossy bytes)
 
--- an object's text, and the end of its line
+-- the text of an object, and a line feed
 abbrev pub json_line : Data → List ℕ
 json_line d = compact_text d ++ codes "\n"
 
--- the first line: how many parts, and how many pairs of places
+-- the first line: the number of parts, and the number of pairs of locations
 abbrev pub merged_object : ℕ → ℕ → Data
 merged_object parts pairs =
     object
@@ -30,7 +31,7 @@ merged_object parts pairs =
     (member (codes "version") (whole 1)
     no_members))))
 
--- a part, with all that it says
+-- a part, with its name and its text
 abbrev pub part_object : List ℕ → List ℕ → Data
 part_object name bytes =
     object
@@ -42,7 +43,8 @@ part_object name bytes =
 abbrev pub verdict_word : ℕ → List ℕ
 verdict_word rank = cond (nat_eq rank 0) (codes "race") (cond (nat_eq rank 1) (codes "undecided") (codes "apart"))
 
--- a pair of places: what its first cell says, and in how many parts it is a race, undecided, apart and not met
+-- A pair of locations: the values of its first cell, and the numbers of parts in which it is a race, undecided, apart
+-- and not met.
 abbrev pub pair_object : Cell → ℕ → ℕ → ℕ → ℕ → Data
 pair_object c races undecided apart unmet =
     object
@@ -68,18 +70,18 @@ pair_object_at parts c cs =
 abbrev pub part_lines : List (Vec ℕ Global × Part) → List ℕ
 part_lines es = flat_map (λ e. json_line (part_object e.0.items e.1.text.items)) es
 
--- a line for each pair of places
+-- a line for each pair of locations
 abbrev pub pair_lines : ℕ → Option Cell → List Cell → List ℕ
 pair_lines parts before [] = []
 pair_lines parts before (c ∷ cs) =
     cond (is_new before c) (json_line (pair_object_at parts c (c ∷ cs))) [] ++ pair_lines parts (Some c) cs
 
--- how many there are
+-- the number of pairs of locations
 abbrev pub news_count : Option Cell → List Cell → ℕ
 news_count before [] = 0
 news_count before (c ∷ cs) = one_if (is_new before c) + news_count (Some c) cs
 
--- all lines
+-- all lines of the report
 abbrev pub merged_lines : List (Vec ℕ Global × Part) → List Cell → List ℕ
 merged_lines es cells =
     json_line (merged_object (length es) (news_count None cells)) ++ part_lines es ++ pair_lines (length es) None cells

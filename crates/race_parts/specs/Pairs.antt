@@ -1,11 +1,13 @@
--- Pairs of places, each with the row that is shown and with what the parts say of it. All notions here are this project's own.
+-- The pairs of locations in a report, each with the row to print and the parts' verdicts. All notions here are this
+-- project's own.
 use Rattle.std.specs.Prelude.{ℕ, Bool, true, false, cond, List, [], ◌∷◌, ◌++◌, slice_get, Option, Some, None}
 use Rattle.race_parts.specs.Texts.{is_head, run_count}
 use Rattle.race_parts.specs.declared.cells.Cell.{Cell}
 use Rattle.race_parts.specs.declared.cells.Row.{Row}
 use Rattle.race_parts.specs.declared.pairs.Pair.{Pair}
 
--- the line of the row that is shown, the name of its part, what it says, and in how many parts the two places are a race, undecided and apart
+-- The line of the row to print, the name of its part and its rank. Then the numbers of parts in which the pair is a
+-- race, undecided and apart.
 pub record Shown : Type 0 where
   pub line : List ℕ
   pub part : List ℕ
@@ -28,7 +30,7 @@ abbrev pub line_by : Option Row → List ℕ
 line_by None = []
 line_by (Some r) = r.line.now
 
--- the pair of the cell, which is the first of these
+-- the pair for cell c, which is the first of cs
 abbrev pub pair_told : List Row → Cell → List Cell → Shown
 pair_told rows c cs = record {
   line = line_by (slice_get rows c.number);
@@ -39,7 +41,7 @@ pair_told rows c cs = record {
   apart = run_count c 2 cs;
 }
 
--- the pairs of this rank
+-- the pairs with this rank
 abbrev pub pairs_told : List Row → ℕ → Option Cell → List Cell → List Shown
 pairs_told rows rank before [] = []
 pairs_told rows rank before (c ∷ cs) = cond (is_head before rank c) (pair_told rows c (c ∷ cs) ∷ []) [] ++ pairs_told rows rank (Some c) cs
@@ -48,6 +50,6 @@ abbrev pub pairs_by : Bool → List Row → List Cell → List Shown
 pairs_by true rows cells = pairs_told rows 2 None cells
 pairs_by false rows cells = []
 
--- all pairs in the order in which they are told: races, what is undecided, and what is apart if that is asked for
+-- all pairs in the order of the report: races, undecided pairs, and apart pairs if they are wanted
 abbrev pub pairs_shown : List Row → List Cell → Bool → List Shown
 pairs_shown rows cells apart = pairs_told rows 0 None cells ++ pairs_told rows 1 None cells ++ pairs_by apart rows cells

@@ -1,4 +1,4 @@
--- Parts by their names, and how they are joined. All notions here are this project's own.
+-- Parts, stored by name, and how they are joined. All notions here are this project's own.
 use Rattle.std.specs.Prelude.{◌≡◌, ◌≢◌, ℕ, cond, All, List, Vec, Option, Some, None, option_map, ⊤}
 use Rattle.std.specs.declared.alloc.Global.{Global}
 use Rattle.std.specs.declared.cmp.Ordering.{Ordering}
@@ -10,7 +10,7 @@ use Rattle.race_parts.specs.declared.lines.PartRefusal.{PartRefusal}
 use Rattle.race_parts.specs.declared.lines.PartRefusal.TheVariants.{Line, Version, Clash, OutOfMemory}
 use Rattle.race_parts.specs.declared.parts.Part.{Part}
 
--- names in the order of their bytes
+-- the order of names: byte by byte
 abbrev pub bytes_cmp : List ℕ → List ℕ → Ordering
 bytes_cmp = slice_cmp nat_cmp
 
@@ -21,15 +21,15 @@ name_cmp a b = bytes_cmp a.items b.items
 abbrev pub text_at : BTreeMap (Vec ℕ Global) Part → Vec ℕ Global → Option (List ℕ)
 text_at parts q = option_map (λ p. p.text.items) (get name_cmp parts q)
 
--- the same, and the number of the file that it comes from
+-- the same, and the number of the file that the part came from
 abbrev pub held_at : BTreeMap (Vec ℕ Global) Part → Vec ℕ Global → Option (List ℕ × ℕ)
 held_at parts q = option_map (λ p. (p.text.items, p.file)) (get name_cmp parts q)
 
--- a text as one that comes from the file of this number
+-- a text, with the number of the file that it came from
 abbrev pub held_from : ℕ → Option (List ℕ) → Option (List ℕ × ℕ)
 held_from file o = option_map (λ s. (s, file)) o
 
--- a text that is there stays
+-- a text that is already there stays
 abbrev pub joined : Option (List ℕ) → Option (List ℕ) → Option (List ℕ)
 joined None o = o
 joined (Some s) o = Some s
@@ -38,26 +38,26 @@ joined (Some s) o = Some s
 abbrev pub single : List ℕ → List ℕ → List ℕ → Option (List ℕ)
 single name text q = cond (is_at (bytes_cmp q) name) (Some text) None
 
--- the text at a name, among names with their texts: the first, if there are several
+-- the first text of a name, in a list of names with texts
 abbrev pub told_in : List (List ℕ × List ℕ) → List ℕ → Option (List ℕ)
 told_in given q = lookup (is_at (bytes_cmp q)) given
 
--- among parts, each of these names has the text that it is given
+-- each of these names has its text among the parts
 abbrev pub AreThere : BTreeMap (Vec ℕ Global) Part → List (List ℕ × List ℕ) → Type 0
 AreThere parts given = All (λ p. (key : Vec ℕ Global) → key.items ≡ p.0 → text_at parts key ≡ Some p.1) given
 
--- no part is put at a clash, or for want of memory
+-- adding a part fails only because of a clash, or if memory runs out
 abbrev pub IsPutFault : PartRefusal → Type 0
 IsPutFault (Line line) = ⊥
 IsPutFault Version = ⊥
 IsPutFault (Clash file) = ⊤
 IsPutFault OutOfMemory = ⊤
 
--- among parts that are held so, another text has this name: one from the file of this number
+-- this name has another text among the parts, and that text came from this file
 abbrev pub HasOther : (Vec ℕ Global → Option (List ℕ × ℕ)) → List ℕ → List ℕ → ℕ → Type 0
 HasOther held name text file = (key : Vec ℕ Global) × (key.items ≡ name) × (s : List ℕ) × (held key ≡ Some (s, file)) × (s ≢ text)
 
--- if it is a clash, this is so of its file
+-- if the refusal is a clash, P holds for its file
 abbrev pub IfClash : PartRefusal → (ℕ → Type 0) → Type 0
 IfClash (Line line) P = ⊤
 IfClash Version P = ⊤

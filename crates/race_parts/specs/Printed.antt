@@ -1,4 +1,4 @@
--- A row as `triage` prints it. All notions here are this project's own.
+-- A row in the form that `triage` prints. All notions here are this project's own.
 use Rattle.std.specs.Prelude.{◌≡◌, ℕ, ◌<◌, ◌^◌, true, List, ◌∷◌, ◌++◌, map, codes}
 use Rattle.json.specs.Print.{quoted}
 use Rattle.serde_json.specs.Data.{Data, number, unsigned, string, array, object, Items, no_items, item, Members, no_members, member}
@@ -29,7 +29,7 @@ access_data event holds location operation thread variable =
     (member (codes "location") (string location)
     (names_members operation thread variable))))
 
--- the members after the accesses
+-- the members after the accesses, for each kind of row
 abbrev pub race_members : ℕ → List ℕ → ℕ → ℕ → ℕ → Members
 race_members events how pairs threads variables =
     member (codes "events") (whole events)
@@ -58,16 +58,16 @@ apart_members pairs =
 abbrev pub row_data : Data → Data → Members → Data
 row_data one other behind = object (member (codes "accesses") (array (item one (item other no_items))) behind)
 
--- the text of a row up to the second access
+-- the text of a row up to the end of its accesses
 abbrev pub accesses_text : Data → Data → List ℕ
 accesses_text one other = 123 ∷ (quoted (codes "accesses") ++ 58 ∷ compact_text (array (item one (item other no_items))))
 
--- the access of this event, at this location
+-- an access with this event and location
 pub data IsAccess : ℕ → List ℕ → Data → Type 0 where
   access : (event : ℕ) (holds : List (List ℕ)) (location operation thread variable : List ℕ) → event < 2 ^ 64
       → IsAccess event location (access_data event holds location operation thread variable)
 
--- the members after the accesses, of a row of this rank and size
+-- the members after the accesses, for a row with this rank and size
 pub data IsOutcome : ℕ → ℕ → Members → Type 0 where
   race : (events : ℕ) (how : List ℕ) (pairs threads variables : ℕ) → is_how how ≡ true → events < 2 ^ 64 → pairs < 2 ^ 64 → threads < 2 ^ 64 → variables < 2 ^ 64
       → IsOutcome 0 events (race_members events how pairs threads variables)

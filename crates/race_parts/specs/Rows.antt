@@ -1,18 +1,18 @@
--- Which lines stand in a part: the counts, and a row for each race, each undecided pair of places, and each that is apart. All notions here
--- are this project's own.
+-- The lines of a part: the counts, and a row for each race, each undecided pair of locations and each apart pair. All
+-- notions here are this project's own.
 use Rattle.std.specs.Prelude.{ℕ, ◌+◌, nat_eq, Bool, ◌&&◌, ◌||◌, not, false, cond, List, [], ◌∷◌, length, map, count_by, position, Option, Some, None, is_some, option_and_then, codes, bytes_eq}
 use Rattle.serde_json.specs.Data.{Data}
 use Rattle.serde_json.specs.Find.{as_array, get}
 use Rattle.race_parts.specs.Members.{access_in, find_number, has_number, has_text, is_kind, said_number, said_text}
 use Rattle.race_parts.specs.declared.rows.Mark.{Mark}
 
--- the object of the counts
+-- whether the line is the object of the counts
 abbrev pub is_counts : Data → Bool
 is_counts d =
     is_kind (codes "counts") d
     && has_number (codes "events") d && has_number (codes "races") d && has_number (codes "undecided") d && has_number (codes "apart") d
 
--- whether it says that it is of another version of the format than 1
+-- whether the value has a member `version` that is not 1
 abbrev pub is_version : Option ℕ → Bool
 is_version None = false
 is_version (Some n) = nat_eq n 1
@@ -23,7 +23,7 @@ is_other_version d = is_some (get (codes "version") d) && not (is_version (find_
 abbrev pub has_list : Data → Bool
 has_list d = is_some (option_and_then as_array (get (codes "holds") d))
 
--- an access
+-- whether the value is an access with all its members
 abbrev pub is_access : Option Data → Bool
 is_access None = false
 is_access (Some d) =
@@ -55,7 +55,7 @@ is_apart d = is_kind (codes "apart") d && has_accesses d
 abbrev pub is_row : Data → Bool
 is_row d = is_race d || is_undecided d || is_apart d
 
--- what a line is as a line of a part
+-- the kind of a line in a part
 abbrev pub mark_of : Data → Mark
 mark_of d = record {
   is_row = is_row d;
@@ -64,14 +64,14 @@ mark_of d = record {
   is_apart = is_kind (codes "apart") d;
 }
 
--- The counts count so many races, so many undecided pairs, and so many that are apart, which may be missing.
+-- The counts agree with these numbers of rows. If there are no apart rows, any count of them is right.
 abbrev pub is_whole : Data → ℕ → ℕ → ℕ → Bool
 is_whole d races undecided apart =
     nat_eq (said_number (codes "races") d) races
     && nat_eq (said_number (codes "undecided") d) undecided
     && (nat_eq apart 0 || nat_eq (said_number (codes "apart") d) apart)
 
--- the rows are all that the counts count
+-- the number of rows of each kind agrees with the counts
 abbrev pub are_whole : Data → List Mark → Bool
 are_whole d ms = is_whole d (count_by (λ m. m.is_race) ms) (count_by (λ m. m.is_undecided) ms) (count_by (λ m. m.is_apart) ms)
 
@@ -79,7 +79,7 @@ abbrev pub wrong_behind : Data → List Mark → Option ℕ → Option ℕ
 wrong_behind d ms (Some at) = Some (at + 1)
 wrong_behind d ms None = cond (are_whole d ms) None (Some (length ms + 1))
 
--- the place of the first line that does not fit there; none if the lines are a part
+-- the index of the first line that does not fit into a part; None if the lines are a part
 abbrev pub wrong_line : List Data → Option ℕ
 wrong_line [] = Some 0
 wrong_line (d ∷ ds) = cond (is_counts d) (wrong_behind d (map mark_of ds) (position (λ m. not m.is_row) (map mark_of ds))) (Some 0)

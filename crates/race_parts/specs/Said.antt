@@ -1,4 +1,4 @@
--- A row of a part: what it says, by what was read of its line. All notions here are this project's own.
+-- The values of a row that decide where it is sorted. All notions here are this project's own.
 use Rattle.std.specs.Prelude.{ℕ, List}
 use Rattle.serde_json.specs.Data.{Data}
 use Rattle.serde_json.specs.View.{view}
@@ -8,7 +8,7 @@ use Rattle.race_parts.specs.declared.facts.Fact.{Fact}
 use Rattle.race_parts.specs.declared.facts.Fact.TheVariants.{Known as of_row, Other as of_value}
 use Rattle.race_parts.specs.declared.scan.Known.{Known}
 
--- a row: the name of its part, its line, and what its place depends on
+-- a row: the name of its part, its line, and the values of its sort key
 pub record Said : Type 0 where
   pub part : List ℕ
   pub line : List ℕ
@@ -19,7 +19,7 @@ pub record Said : Type 0 where
   pub later : ℕ
   pub earlier : ℕ
 
--- a row in a line with this value
+-- a row whose line has this value
 abbrev pub said_by : List ℕ → List ℕ → Data → Said
 said_by name line d = record {
   part = name;
@@ -32,7 +32,7 @@ said_by name line d = record {
   earlier = event_in 0 d;
 }
 
--- a row of which this is known
+-- a row for which these facts are known
 abbrev pub known_said : List ℕ → List ℕ → Known → Said
 known_said name line k = record {
   part = name;
@@ -49,6 +49,6 @@ abbrev pub fact_said : List ℕ → List ℕ → Fact → Said
 fact_said name line (of_row k) = known_said name line k
 fact_said name line (of_value v) = said_by name line (view v)
 
--- the row in a line
+-- the row in this line
 abbrev pub said_in : List ℕ → List ℕ → Said
 said_in name line = said_by name line (data_in line)

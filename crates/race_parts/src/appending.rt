@@ -1,4 +1,4 @@
-//! Pieces of text that are appended.
+//! Appends words, numbers and counts to a text.
 ghost use Rattle.std.specs.Prelude.{◌≡◌, ◌++◌, OnOk};
 ghost use Rattle.serde_json.specs.View.{view};
 ghost use Rattle.race_parts.specs.Members.{said_number};
@@ -17,7 +17,7 @@ pub(crate) fn append_words(out: &mut Vec<u8>, words: &[u8]) -> Result<(), OutOfM
     Ok(())
 }
 
-/// Appends a number behind a blank.
+/// Appends a blank and a number.
 pub(crate) fn append_number(out: &mut Vec<u8>, number: u64) -> Result<(), OutOfMemory>
     ensures { OnOk result (out.new.items ≡ out.old.items ++ number_text number) }
 {
@@ -27,7 +27,7 @@ pub(crate) fn append_number(out: &mut Vec<u8>, number: u64) -> Result<(), OutOfM
     Ok(())
 }
 
-/// Appends a word, a blank, a number, and the end of the line.
+/// Appends a word, a blank, the number, and a line feed.
 pub(crate) fn append_count(out: &mut Vec<u8>, word: &[u8], number: u64) -> Result<(), OutOfMemory>
     ensures { OnOk result (out.new.items ≡ out.old.items ++ count_line word.now number) }
 {
@@ -37,7 +37,7 @@ pub(crate) fn append_count(out: &mut Vec<u8>, word: &[u8], number: u64) -> Resul
     Ok(())
 }
 
-/// Appends bytes from a part; a line feed among them is told as `?`.
+/// Appends bytes of a part. Prints a line feed among them as `?`.
 pub(crate) fn append_shown(out: &mut Vec<u8>, bytes: &[u8]) -> Result<(), OutOfMemory>
     ensures { OnOk result (out.new.items ≡ out.old.items ++ shown bytes.now) }
 {
@@ -47,7 +47,7 @@ pub(crate) fn append_shown(out: &mut Vec<u8>, bytes: &[u8]) -> Result<(), OutOfM
     Ok(())
 }
 
-/// Appends a word, a blank, and a number among the members.
+/// Appends a word, a blank, and the number of the member with this name. The number is 0 if there is no such member.
 pub(crate) fn append_field(
     out: &mut Vec<u8>,
     word: &[u8],
@@ -61,7 +61,7 @@ pub(crate) fn append_field(
     Ok(())
 }
 
-/// Appends a word and a number.
+/// Appends a word, a blank, and a number.
 pub(crate) fn append_named(out: &mut Vec<u8>, word: &[u8], number: usize) -> Result<(), OutOfMemory>
     ensures { OnOk result (out.new.items ≡ out.old.items ++ named_text word.now number) }
 {

@@ -1,4 +1,4 @@
-//! A row as a block of text, as `triage` prints it.
+//! Prints a row as a block of text, as `triage` prints it.
 ghost use Rattle.std.specs.Prelude.{◌≡◌, ◌++◌, OnOk};
 ghost use Rattle.serde_json.specs.Find.{as_str};
 ghost use Rattle.serde_json.specs.View.{view};
@@ -10,7 +10,7 @@ use crate::members::{access_in, is_kind, text_of};
 use rapid_text::OutOfMemory;
 use serde_json::Value;
 
-/// The locks that are held at an access.
+/// The list of locks that the thread holds at an access; empty if the access has no such list.
 fn holds_of(access: &Value) -> &[Value]
     ensures { holds_text (view access.now) ≡ hold_lines result.now }
 {
@@ -23,7 +23,7 @@ fn holds_of(access: &Value) -> &[Value]
     }
 }
 
-/// Appends a line for each lock that is held.
+/// Appends a line for each lock that the thread holds at the access.
 fn append_holds(out: &mut Vec<u8>, access: &Value) -> Result<(), OutOfMemory>
     ensures { OnOk result (out.new.items ≡ out.old.items ++ holds_text (view access.now)) }
 {
@@ -41,7 +41,7 @@ fn append_hold_lines(out: &mut Vec<u8>, locks: &[Value]) -> Result<(), OutOfMemo
     Ok(())
 }
 
-/// Appends the line of a lock.
+/// Appends the line of a lock that the thread holds.
 fn append_hold_line(out: &mut Vec<u8>, lock: &Value) -> Result<(), OutOfMemory>
     ensures { OnOk result (out.new.items ≡ out.old.items ++ hold_line (view lock.now)) }
 {
@@ -51,7 +51,7 @@ fn append_hold_line(out: &mut Vec<u8>, lock: &Value) -> Result<(), OutOfMemory>
     Ok(())
 }
 
-/// The name of a lock; empty if it is no text.
+/// The name of a lock; empty if the value is not a text.
 fn lock_name(lock: &Value) -> &[u8]
     ensures { result.now ≡ text_in (as_str (view lock.now)) }
 {
@@ -61,7 +61,7 @@ fn lock_name(lock: &Value) -> &[u8]
     }
 }
 
-/// Appends the beginning of the line of an access: its thread, and what is done.
+/// Appends the beginning of the line of an access: its thread and its operation.
 fn append_begin(out: &mut Vec<u8>, access: &Value) -> Result<(), OutOfMemory>
     ensures { OnOk result (out.new.items ≡ out.old.items ++ begin_text (view access.now)) }
 {
@@ -72,7 +72,7 @@ fn append_begin(out: &mut Vec<u8>, access: &Value) -> Result<(), OutOfMemory>
     Ok(())
 }
 
-/// Appends the end of the line of an access: its variable, and its location.
+/// Appends the end of the line of an access: its variable and its location.
 fn append_end(out: &mut Vec<u8>, access: &Value) -> Result<(), OutOfMemory>
     ensures { OnOk result (out.new.items ≡ out.old.items ++ end_text (view access.now)) }
 {
@@ -93,7 +93,8 @@ fn append_event(out: &mut Vec<u8>, access: &Value) -> Result<(), OutOfMemory>
     Ok(())
 }
 
-/// Appends an access, and the locks that its thread holds.
+/// Appends the access with this index, 0 or 1, and the locks that its thread holds. Appends nothing if the row has no
+/// such access.
 fn append_access(out: &mut Vec<u8>, row: &Value, place: usize) -> Result<(), OutOfMemory>
     ensures { OnOk result (out.new.items ≡ out.old.items ++ access_text place (view row.now)) }
 {
@@ -107,7 +108,7 @@ fn append_access(out: &mut Vec<u8>, row: &Value, place: usize) -> Result<(), Out
     }
 }
 
-/// Appends a word, and the numbers of the two events.
+/// Appends a word and the event numbers of the two accesses.
 fn append_pair(out: &mut Vec<u8>, word: &[u8], row: &Value) -> Result<(), OutOfMemory>
     ensures { OnOk result (out.new.items ≡ out.old.items ++ words_text word.now (view row.now)) }
 {
@@ -117,7 +118,7 @@ fn append_pair(out: &mut Vec<u8>, word: &[u8], row: &Value) -> Result<(), OutOfM
     Ok(())
 }
 
-/// Appends how a race is shown.
+/// Appends the word that says how a schedule shows the race.
 fn append_how(out: &mut Vec<u8>, row: &Value) -> Result<(), OutOfMemory>
     ensures { OnOk result (out.new.items ≡ out.old.items ++ how_text (view row.now)) }
 {
@@ -126,7 +127,7 @@ fn append_how(out: &mut Vec<u8>, row: &Value) -> Result<(), OutOfMemory>
     Ok(())
 }
 
-/// Appends how large a race is.
+/// Appends the sizes of a race: its pairs, variables, events and threads.
 fn append_sizes(out: &mut Vec<u8>, row: &Value) -> Result<(), OutOfMemory>
     ensures { OnOk result (out.new.items ≡ out.old.items ++ sizes_text (view row.now)) }
 {
@@ -137,7 +138,7 @@ fn append_sizes(out: &mut Vec<u8>, row: &Value) -> Result<(), OutOfMemory>
     Ok(())
 }
 
-/// Appends the first line of a race, without its end.
+/// Appends the first line of a race, without the line feed.
 fn append_race(out: &mut Vec<u8>, row: &Value) -> Result<(), OutOfMemory>
     ensures { OnOk result (out.new.items ≡ out.old.items ++ race_text (view row.now)) }
 {
@@ -147,7 +148,7 @@ fn append_race(out: &mut Vec<u8>, row: &Value) -> Result<(), OutOfMemory>
     Ok(())
 }
 
-/// Appends the first line of what is undecided, without its end.
+/// Appends the first line of an undecided row, without the line feed.
 fn append_undecided(out: &mut Vec<u8>, row: &Value) -> Result<(), OutOfMemory>
     ensures { OnOk result (out.new.items ≡ out.old.items ++ undecided_text (view row.now)) }
 {
@@ -158,7 +159,7 @@ fn append_undecided(out: &mut Vec<u8>, row: &Value) -> Result<(), OutOfMemory>
     Ok(())
 }
 
-/// Appends the first line of what is apart, without its end.
+/// Appends the first line of an apart row, without the line feed.
 fn append_apart(out: &mut Vec<u8>, row: &Value) -> Result<(), OutOfMemory>
     ensures { OnOk result (out.new.items ≡ out.old.items ++ apart_text (view row.now)) }
 {
@@ -167,7 +168,7 @@ fn append_apart(out: &mut Vec<u8>, row: &Value) -> Result<(), OutOfMemory>
     Ok(())
 }
 
-/// Appends the first line of a row, without its end.
+/// Appends the first line of a row, without the line feed.
 fn append_head(out: &mut Vec<u8>, row: &Value) -> Result<(), OutOfMemory>
     ensures { OnOk result (out.new.items ≡ out.old.items ++ head_text (view row.now)) }
 {
@@ -180,7 +181,7 @@ fn append_head(out: &mut Vec<u8>, row: &Value) -> Result<(), OutOfMemory>
     }
 }
 
-/// Appends a row as a block.
+/// Appends a row as a block of text.
 pub(crate) fn append_row(out: &mut Vec<u8>, row: &Value) -> Result<(), OutOfMemory>
     ensures { OnOk result (out.new.items ≡ out.old.items ++ row_text (view row.now)) }
 {

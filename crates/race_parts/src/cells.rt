@@ -1,4 +1,4 @@
-//! The rows of all parts, and the order in which they are told.
+//! Collects the rows of all parts, and sorts them into the order of the report.
 ghost use Rattle.std.specs.Prelude.{◌≡◌, ◌<◌, ◌+◌, ◌++◌, ◌∷◌, IfOk, OnOk, List, ℕ, drop, length, map};
 ghost use Rattle.serde_json.specs.View.{view};
 ghost use Rattle.race_parts.specs.Accesses.{event_in, location_in, rank_of, size_of};
@@ -25,34 +25,35 @@ use std::cmp::Ordering;
 pub struct Row<'a> {
     /// The name of the part.
     pub part: &'a [u8],
-    /// The line that the row is.
+    /// The line of the part's text that is this row, without its line feed.
     pub line: &'a [u8],
-    /// What was read of the line.
+    /// What `fact_in` read from the line.
     pub fact: Fact<'a>,
 }
 
-/// What a row is ordered by: its pair of places, and then how much it says of it.
+/// The sort key of a row: first its pair of locations, then its rank, the size of its schedule, and its part and
+/// events.
 #[derive(Clone, Copy, PartialEq, Eq, PartialOrd, Ord)]
 pub struct Cell<'a> {
-    /// The lesser of the two locations.
+    /// The lesser of the two locations, compared byte by byte.
     pub first: &'a [u8],
-    /// The other.
+    /// The greater location.
     pub second: &'a [u8],
-    /// 0 for a race, 1 for what is undecided, 2 for what is apart.
+    /// 0 for a race, 1 for an undecided row, 2 for an apart row.
     pub rank: u8,
-    /// How many events the schedule of a race has.
+    /// How many events the schedule of a race has; 0 for other rows.
     pub size: u64,
     /// The name of the part.
     pub part: &'a [u8],
-    /// The event of the later access.
+    /// The event number of the later access.
     pub later: u64,
-    /// That of the earlier one.
+    /// The event number of the earlier access.
     pub earlier: u64,
-    /// The number of the row among those of all parts.
+    /// The 0-based number of the row among the rows of all parts.
     pub number: usize,
 }
 
-/// The rows of all parts, by the names of the parts.
+/// Returns the rows of all parts, in the order of the parts' names. Each line of a part but the first is a row.
 pub fn rows_of(alloc: Global, parts: &Parts) -> Result<Vec<Row<'_>>, OutOfMemory>
     ensures { IfOk result (λ rows. map row_said rows.items ≡ rows_in parts.now.entries) }
 {
@@ -73,7 +74,7 @@ fn push_part<'a>(rows: &mut Vec<Row<'a>>, name: &'a [u8], part: &'a Part) -> Res
     }
 }
 
-/// Adds the rows of which this is kept.
+/// Adds the rows that a part keeps.
 fn push_kept<'a>(
     rows: &mut Vec<Row<'a>>,
     name: &'a [u8],
@@ -89,7 +90,7 @@ fn push_kept<'a>(
     Ok(())
 }
 
-/// The row of which this is kept.
+/// The row that a `KeptRow` of this text describes.
 fn row_kept<'a>(name: &'a [u8], text: &'a [u8], row: KeptRow) -> Row<'a>
     ensures { row_said result ≡ kept_said name.now text.now row }
 {
@@ -102,7 +103,7 @@ fn row_kept<'a>(name: &'a [u8], text: &'a [u8], row: KeptRow) -> Row<'a>
     }
 }
 
-/// What stands after the first line.
+/// The text after the first line feed; empty if there is none.
 fn after_first(text: &[u8]) -> &[u8]
     ensures { lines_of result.now ≡ drop 1 (lines_of text.now) }
 {
@@ -112,7 +113,7 @@ fn after_first(text: &[u8]) -> &[u8]
     }
 }
 
-/// Adds a row for each line.
+/// Adds a row for each line that ends with a line feed.
 fn push_rows<'a>(rows: &mut Vec<Row<'a>>, name: &'a [u8], text: &'a [u8]) -> Result<(), OutOfMemory>
     ensures { OnOk result (map row_said rows.new.items ≡ map row_said rows.old.items ++ map (said_in name.now) (lines_of text.now)) }
 {
@@ -125,7 +126,7 @@ fn push_rows<'a>(rows: &mut Vec<Row<'a>>, name: &'a [u8], text: &'a [u8]) -> Res
     Ok(())
 }
 
-/// The row in a line.
+/// Reads a line as a row.
 fn row_in<'a>(alloc: Global, part: &'a [u8], line: &'a [u8]) -> Result<Row<'a>, OutOfMemory>
     ensures { IfOk result (λ row. row_said row ≡ said_in part.now line.now) }
 {
@@ -135,7 +136,7 @@ fn row_in<'a>(alloc: Global, part: &'a [u8], line: &'a [u8]) -> Result<Row<'a>, 
     }
 }
 
-/// The location of one of the accesses.
+/// The location of the access with this index, 0 or 1; empty if there is none.
 fn location_in(value: &Value, place: usize) -> &[u8]
     ensures { result.now ≡ location_in place (view value.now) }
 {
@@ -145,7 +146,7 @@ fn location_in(value: &Value, place: usize) -> &[u8]
     }
 }
 
-/// The event of one of the accesses.
+/// The event number of the access with this index, 0 or 1; 0 if there is none.
 pub fn event_in(value: &Value, place: usize) -> u64
     ensures { result ≡ event_in place (view value.now) }
 {
@@ -155,7 +156,7 @@ pub fn event_in(value: &Value, place: usize) -> u64
     }
 }
 
-/// 0 for a race, 1 for what is undecided, 2 for what is apart.
+/// 0 for a race, 1 for an undecided row, 2 for any other row.
 fn rank_of(value: &Value) -> u8
     ensures { result ≡ rank_of (view value.now) }
 {
@@ -168,7 +169,7 @@ fn rank_of(value: &Value) -> u8
     }
 }
 
-/// How many events the schedule of a race has; 0 where there is none.
+/// How many events the schedule of a race has; 0 if the row is not a race.
 fn size_of(value: &Value) -> u64
     ensures { result ≡ size_of (view value.now) }
 {
@@ -179,7 +180,7 @@ fn size_of(value: &Value) -> u64
     }
 }
 
-/// The two, the lesser first.
+/// The two locations, the lesser first.
 fn ordered<'a>(one: &'a [u8], other: &'a [u8]) -> (&'a [u8], &'a [u8])
     ensures first { result.0.now ≡ lesser_of one.now other.now }
     ensures second { result.1.now ≡ greater_of one.now other.now }
@@ -190,7 +191,7 @@ fn ordered<'a>(one: &'a [u8], other: &'a [u8]) -> (&'a [u8], &'a [u8])
     }
 }
 
-/// What is known of the row of this value.
+/// The facts about a row that its sort key needs, read from its JSON value.
 fn known_of(value: &Value) -> Known<'_>
     ensures { (name line : List ℕ) → known_said name line result ≡ said_by name line (view value.now) }
 {
@@ -204,7 +205,7 @@ fn known_of(value: &Value) -> Known<'_>
     }
 }
 
-/// What is known of a row.
+/// The facts about a row that its sort key needs.
 fn known_in_row<'b>(row: &'b Row<'_>) -> Known<'b>
     ensures { known_said row.now.part.now row.now.line.now result ≡ row_said row.now }
 {
@@ -214,7 +215,7 @@ fn known_in_row<'b>(row: &'b Row<'_>) -> Known<'b>
     }
 }
 
-/// What the row of this number is ordered by, with shared locations.
+/// The cell of the row with this number. Rows with equal locations share one copy of them.
 fn cell_of<'b>(
     shares: &mut Shares<'b>,
     row: &'b Row<'_>,
@@ -237,7 +238,7 @@ fn cell_of<'b>(
     })
 }
 
-/// The cell at a place.
+/// The cell with this index.
 pub(crate) fn cell_at<'a>(cells: &[Cell<'a>], at: usize) -> Cell<'a>
     requires { at < length cells.now }
     ensures { drop at cells.now ≡ result ∷ drop (at + 1) cells.now }
@@ -245,7 +246,7 @@ pub(crate) fn cell_at<'a>(cells: &[Cell<'a>], at: usize) -> Cell<'a>
     cells[at]
 }
 
-/// What the rows are ordered by, in the order of the rows.
+/// The cells of the rows, in the order of the rows.
 fn unsorted<'b>(
     alloc: Global,
     shares: &mut Shares<'b>,
@@ -263,7 +264,7 @@ fn unsorted<'b>(
     Ok(cells)
 }
 
-/// What the rows are ordered by, in that order.
+/// Returns the cells of the rows, sorted by location pair, rank, schedule size, part and events.
 pub fn cells_of<'b>(alloc: Global, rows: &'b [Row<'_>]) -> Result<Vec<Cell<'b>>, OutOfMemory>
     ensures { IfOk result (λ cells. AreSorted (map row_said rows.now) cells.items) }
 {
@@ -275,7 +276,7 @@ pub fn cells_of<'b>(alloc: Global, rows: &'b [Row<'_>]) -> Result<Vec<Cell<'b>>,
     Ok(cells)
 }
 
-/// Whether the two are of one pair of places.
+/// Whether two cells have the same pair of locations.
 pub(crate) fn is_same(one: &Cell<'_>, other: &Cell<'_>) -> bool
     ensures { result ≡ is_same one.now other.now }
 {

@@ -1,10 +1,10 @@
-//! In how many parts two places are what, and how many pairs of places are what.
+//! Counts, for a pair of locations, the parts with each verdict; and counts the pairs with each verdict.
 ghost use Rattle.std.specs.Prelude.{◌≡◌, ◌-◌, ◌≤◌, None, drop, length};
 ghost use Rattle.race_parts.specs.Texts.{heads_count, is_head, one_if, run_count};
 
 use crate::cells::{Cell, cell_at, is_same};
 
-/// Counts of what is a race, undecided and apart.
+/// How many are races, undecided and apart.
 #[derive(Clone, Copy)]
 pub(crate) struct Counts {
     pub(crate) races: usize,
@@ -12,7 +12,8 @@ pub(crate) struct Counts {
     pub(crate) apart: usize,
 }
 
-/// How many of the cells from this place on say what of the same places, up to the first of other places.
+/// Counts the verdicts for the locations of `cell`. Starts at index `from` and stops at the first cell with other
+/// locations.
 pub(crate) fn run_counts(cell: Cell<'_>, cells: &[Cell<'_>], from: usize) -> Counts
     requires { from ≤ length cells.now }
     ensures races { result.races ≡ run_count cell.entry 0 (drop from cells.now) }
@@ -42,14 +43,14 @@ pub(crate) fn run_counts(cell: Cell<'_>, cells: &[Cell<'_>], from: usize) -> Cou
     }
 }
 
-/// 1 if it is so.
+/// 1 if true, else 0.
 fn one_if(is: bool) -> usize
     ensures { result ≡ one_if is }
 {
     if is { 1 } else { 0 }
 }
 
-/// In how many parts two places are not met, that are a race, undecided and apart in so many.
+/// How many parts have no row for a pair of locations, given the counts of parts that have one.
 pub(crate) fn unmet_of(parts: usize, races: usize, undecided: usize, apart: usize) -> usize
     ensures { result ≡ parts - races - undecided - apart }
 {
@@ -59,7 +60,7 @@ pub(crate) fn unmet_of(parts: usize, races: usize, undecided: usize, apart: usiz
         .saturating_sub(apart)
 }
 
-/// Whether the cell is the first of its places, and says this of them.
+/// Whether the cell is the first one for its pair of locations, and has this rank.
 pub(crate) fn is_head(before: Option<Cell<'_>>, rank: u8, cell: Cell<'_>) -> bool
     ensures { result ≡ is_head before.entry rank cell.entry }
 {
@@ -72,7 +73,7 @@ pub(crate) fn is_head(before: Option<Cell<'_>>, rank: u8, cell: Cell<'_>) -> boo
     }
 }
 
-/// How many pairs of places are races, undecided and apart.
+/// How many pairs of locations are races, undecided and apart.
 pub(crate) fn head_counts(cells: &[Cell<'_>]) -> Counts
     ensures races { result.races ≡ heads_count 0 None cells.now }
     ensures undecided { result.undecided ≡ heads_count 1 None cells.now }
@@ -96,7 +97,7 @@ pub(crate) fn head_counts(cells: &[Cell<'_>]) -> Counts
     }
 }
 
-/// How many blocks there are of this rank.
+/// How many pairs of locations have this rank.
 fn heads_count(cells: &[Cell<'_>], rank: u8) -> usize
     ensures count { result ≡ heads_count rank None cells.now }
 {
@@ -114,7 +115,7 @@ fn heads_count(cells: &[Cell<'_>], rank: u8) -> usize
     count
 }
 
-/// How many pairs of places are races.
+/// Returns how many pairs of locations are races.
 pub fn races_in(cells: &[Cell<'_>]) -> usize
     ensures { result ≡ heads_count 0 None cells.now }
 {

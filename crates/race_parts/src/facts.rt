@@ -1,4 +1,4 @@
-//! What is read of a line: what it is as a line of a part, and what the place of a row depends on.
+//! Reads a line of a part: its kind, and the facts that its sort key needs.
 ghost use Rattle.std.specs.Prelude.{◌≡◌, List, ℕ, IfOk, IfSome, IsUtf8, None};
 ghost use Rattle.serde_json.specs.Data.{Data};
 ghost use Rattle.serde_json.specs.Read.{read};
@@ -17,16 +17,16 @@ use rapid_text::OutOfMemory;
 use serde_json::Value;
 use std::alloc::Global;
 
-/// What is read of a line.
+/// What was read from a line.
 #[derive(Drop)]
 pub enum Fact<'a> {
-    /// Of a row that is printed as `triage` prints it.
+    /// The line is a row in the form that `triage` prints.
     Known(Known<'a>),
-    /// The value that another line is.
+    /// The JSON value of any other line.
     Other(Value),
 }
 
-/// The value that a text is as JSON, if it is one.
+/// Parses a text as JSON. Returns None if it is not JSON.
 pub(crate) fn value_of(alloc: Global, text: &[u8]) -> Result<Option<Value>, OutOfMemory>
     ensures some { IfOk result (λ found. IfSome found (λ value. Tells text.now (view value))) }
     ensures none { IfOk result (λ found. found ≡ None → IsUtf8 text.now → read text.now ≡ None) }
@@ -43,7 +43,7 @@ pub(crate) fn value_of(alloc: Global, text: &[u8]) -> Result<Option<Value>, OutO
     }
 }
 
-/// What is read of a line, if it is JSON.
+/// Reads a line. Returns None if it is not JSON.
 fn fact_of(alloc: Global, line: &[u8]) -> Result<Option<Fact<'_>>, OutOfMemory>
     ensures some { IfOk result (λ found. IfSome found (λ fact. (d : Data) × Tells line.now d × Says fact d)) }
     ensures none { IfOk result (λ found. found ≡ None → IsUtf8 line.now → read line.now ≡ None) }
@@ -58,7 +58,7 @@ fn fact_of(alloc: Global, line: &[u8]) -> Result<Option<Fact<'_>>, OutOfMemory>
     }
 }
 
-/// What is read of a line; null if it is no JSON.
+/// Reads a line. Returns null if it is not JSON.
 #[tactic(auto, using(crate::proofs::FactLemmas::fact_told, crate::proofs::FactLemmas::fact_none))]
 pub(crate) fn fact_in(alloc: Global, line: &[u8]) -> Result<Fact<'_>, OutOfMemory>
     ensures { IfOk result (λ fact. (name : List ℕ) → fact_said name line.now fact ≡ said_in name line.now) }
@@ -70,7 +70,7 @@ pub(crate) fn fact_in(alloc: Global, line: &[u8]) -> Result<Fact<'_>, OutOfMemor
     }
 }
 
-/// The value of a line; null if it is no JSON.
+/// Returns the JSON value of a line; null if it is not JSON.
 #[tactic(auto, using(crate::proofs::FactLemmas::data_told, crate::proofs::FactLemmas::data_none))]
 pub fn data_of(alloc: Global, line: &[u8]) -> Result<Value, OutOfMemory>
     ensures { IfOk result (λ value. view value ≡ data_in line.now) }
@@ -82,14 +82,15 @@ pub fn data_of(alloc: Global, line: &[u8]) -> Result<Value, OutOfMemory>
     }
 }
 
-/// What is seen of a line of a part: what it is, and, of a row that is printed as `triage` prints it, what is kept.
+/// What is read from a line of a part: its kind, and what to keep of it. Only a row in the form that `triage` prints
+/// can be kept.
 #[derive(Clone, Copy)]
 pub(crate) struct Seen {
     pub(crate) mark: Mark,
     pub(crate) row: Option<KeptRow>,
 }
 
-/// What is seen of a line of the text, before which so many bytes stand; none if it is no JSON.
+/// Reads a line that begins at byte `from` of the text. Returns None if it is not JSON.
 #[tactic(auto, using(crate::proofs::FactLemmas::kept_told))]
 pub(crate) fn seen_of(
     alloc: Global,
@@ -117,7 +118,7 @@ pub(crate) fn seen_of(
     }
 }
 
-/// What a row of this rank is.
+/// The mark of a row with this rank.
 fn known_mark(known: Known<'_>) -> Mark
     ensures { (d : Data) → IsKnown known.entry d → result ≡ mark_of d }
 {
@@ -129,7 +130,7 @@ fn known_mark(known: Known<'_>) -> Mark
     }
 }
 
-/// What the value is.
+/// The mark of a JSON value.
 fn value_mark(value: &Value) -> Mark
     ensures { result ≡ mark_of (view value.now) }
 {

@@ -1,37 +1,37 @@
-//! What is kept of the rows of a part, so that its text is read once.
+//! What a part keeps of its rows, so that its text is read only once.
 ghost use Rattle.std.specs.Prelude.{◌≡◌, List, ℕ, IfSome, drop, take};
 ghost use Rattle.race_parts.specs.Kept.{kept_said, piece_in};
 ghost use Rattle.race_parts.specs.Said.{known_said};
 
 use crate::scan::{Known, Told};
 
-/// A piece of a text: where it begins, and how many bytes it has.
+/// A piece of a text: its first byte and its length in bytes.
 #[derive(Clone, Copy)]
 pub(crate) struct Piece {
     pub(crate) from: u32,
     pub(crate) len: u32,
 }
 
-/// A row as pieces of the text of its part, with what its order depends on.
+/// A row as pieces of its part's text, with the values that its sort key needs.
 #[derive(Clone, Copy)]
 pub(crate) struct KeptRow {
-    /// The line.
+    /// The line, without its line feed.
     pub(crate) line: Piece,
     /// The location of the earlier access.
     pub(crate) one: Piece,
-    /// That of the later one.
+    /// The location of the later access.
     pub(crate) other: Piece,
-    /// 0 for a race, 1 for what is undecided, 2 for what is apart.
+    /// 0 for a race, 1 for an undecided row, 2 for an apart row.
     pub(crate) rank: u8,
-    /// How many events the schedule of a race has; 0 if there is none.
+    /// How many events the schedule of a race has; 0 for other rows.
     pub(crate) size: u64,
-    /// The event of the later access.
+    /// The event number of the later access.
     pub(crate) later: u64,
-    /// That of the earlier one.
+    /// The event number of the earlier access.
     pub(crate) earlier: u64,
 }
 
-/// The bytes of a text from this place on; none if there is no such place.
+/// The bytes of a text from this index on; empty if the text is not that long.
 #[inline(always)]
 fn bytes_from(text: &[u8], from: usize) -> &[u8]
     ensures { result.now ≡ drop from text.now }
@@ -43,7 +43,7 @@ fn bytes_from(text: &[u8], from: usize) -> &[u8]
     }
 }
 
-/// So many bytes at the beginning of a text; all if there are not as many.
+/// The first `len` bytes of a text; all of it if the text is shorter.
 #[inline(always)]
 fn first_bytes(text: &[u8], len: usize) -> &[u8]
     ensures { result.now ≡ take len text.now }
@@ -51,7 +51,7 @@ fn first_bytes(text: &[u8], len: usize) -> &[u8]
     if len < text.len() { &text[..len] } else { text }
 }
 
-/// The piece of the text.
+/// The bytes of a piece of the text.
 #[inline(always)]
 pub(crate) fn piece_at(text: &[u8], piece: Piece) -> &[u8]
     ensures { result.now ≡ piece_in text.now piece }
@@ -59,7 +59,8 @@ pub(crate) fn piece_at(text: &[u8], piece: Piece) -> &[u8]
     first_bytes(bytes_from(text, piece.from as usize), piece.len as usize)
 }
 
-/// The piece of the text that begins there and is these bytes. None if other bytes stand there, or if it lies too far.
+/// The piece of the text at `from`, if it is these bytes. Returns None if the bytes differ, or if an offset does not
+/// fit in 32 bits.
 #[inline(always)]
 fn piece_of(text: &[u8], from: usize, bytes: &[u8]) -> Option<Piece>
     ensures { IfSome result (λ piece. piece_in text.now piece ≡ bytes.now) }
@@ -74,7 +75,7 @@ fn piece_of(text: &[u8], from: usize, bytes: &[u8]) -> Option<Piece>
     }
 }
 
-/// What is kept of a line of the text, before which so many bytes stand and of which this is told.
+/// What to keep of a line that begins at byte `from` of the text. Returns None if one of its pieces has no `Piece`.
 pub(crate) fn kept_of(text: &[u8], from: usize, line: &[u8], told: Told<'_>) -> Option<KeptRow>
     ensures { IfSome result (λ row. (name : List ℕ) → kept_said name text.now row ≡ known_said name line.now told.entry.known) }
 {
@@ -101,7 +102,7 @@ pub(crate) fn kept_of(text: &[u8], from: usize, line: &[u8], told: Told<'_>) -> 
     })
 }
 
-/// What is known of the row of which this is kept.
+/// The facts about a row that a part keeps.
 #[inline(always)]
 pub(crate) fn known_kept(text: &[u8], row: KeptRow) -> Known<'_>
     ensures { (name : List ℕ) → known_said name (piece_in text.now row.line) result ≡ kept_said name text.now row }

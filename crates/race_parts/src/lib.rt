@@ -1,4 +1,4 @@
-//! Reports of `triage --json` on many traces or windows, as the parts of one: how they are read, and merged.
+//! Reads reports that `triage --json` printed for many traces or windows, and merges them into one report.
 #![tactic(auto)]
 
 mod appending;

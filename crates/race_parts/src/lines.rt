@@ -1,4 +1,4 @@
-//! The lines of a text, each a value of JSON.
+//! Reads the lines of a text, each a JSON value.
 ghost use Rattle.std.specs.Prelude.{◌≡◌, ◌≢◌, ◌++◌, ◌∷◌, [], List, map, None, Some, IfErr, IfOk, IfSome, OnErr, OnOk, true};
 ghost use Rattle.serde_json.specs.Data.{Data};
 ghost use Rattle.serde_json.specs.View.{view};
@@ -16,19 +16,19 @@ use rapid_text::OutOfMemory;
 use serde_json::Value;
 use std::alloc::Global;
 
-/// The most lines of a text.
+/// The most lines that a text may have.
 pub const MAX_LINES: usize = 4_194_304;
 
 /// Why a text is refused.
 #[derive(Clone, Copy, PartialEq, Eq, Debug)]
 pub enum PartRefusal {
-    /// The line at this place, the first being 0, does not fit there.
+    /// The line with this 0-based index does not fit there.
     Line(usize),
-    /// It is of another version of the format.
+    /// The file has another version of the format.
     Version,
-    /// A part of it has the name of another part, which the file of this number holds.
+    /// A part of the file has the name of another part, which came from the file with this number.
     Clash(u32),
-    /// There was no memory.
+    /// Out of memory.
     OutOfMemory,
 }
 
@@ -46,13 +46,13 @@ impl From<OutOfMemory> for PartRefusal {
 /// A text whose first line was read.
 #[derive(Drop)]
 pub(crate) struct Begun<'a> {
-    /// The value of the first line.
+    /// The JSON value of the first line.
     pub(crate) head: Value,
-    /// What stands after that line.
+    /// The text after the first line.
     pub(crate) rest: &'a [u8],
 }
 
-/// Reads the first line of a text that is not empty.
+/// Reads the first line of a text. The text is not empty.
 pub(crate) fn begin(alloc: Global, text: &[u8]) -> Result<Begun<'_>, PartRefusal>
     requires { text.now ≢ [] }
     ensures ok { IfOk result (λ begun. IsReadOn text.now begun.rest.now (view begun.head)) }
@@ -64,7 +64,7 @@ pub(crate) fn begin(alloc: Global, text: &[u8]) -> Result<Begun<'_>, PartRefusal
     }
 }
 
-/// The values of the lines, in their order.
+/// Returns the JSON values of all lines, in order.
 #[tactic(auto, using(crate::proofs::LineLemmas::values_stop, crate::proofs::LineLemmas::values_end))]
 pub(crate) fn lines_in(
     alloc: Global,
@@ -90,13 +90,13 @@ pub(crate) fn lines_in(
 /// What was read of the lines after the first.
 #[derive(Drop)]
 pub(crate) struct ReadRows {
-    /// What they are.
+    /// Their marks.
     pub(crate) marks: Vec<Mark>,
-    /// What is kept of them, if each is a row that is printed as `triage` prints it.
+    /// What to keep of them; None unless each line is a row in the form that `triage` prints.
     pub(crate) rows: Option<Vec<KeptRow>>,
 }
 
-/// What the lines after the first are.
+/// Reads the lines after the first.
 #[tactic(auto, using(crate::proofs::LineLemmas::marked_stop, crate::proofs::LineLemmas::marked_end, crate::proofs::KeptLemmas::kept_all))]
 pub(crate) fn rows_in(
     alloc: Global,
@@ -123,7 +123,7 @@ pub(crate) fn rows_in(
     Ok(ReadRows { marks, rows })
 }
 
-/// Keeps the value.
+/// Adds the value.
 fn keep(found: &mut Vec<Value>, value: Value) -> Result<(), OutOfMemory>
     ensures ok { OnOk result (found.new.items ≡ found.old.items ++ value ∷ []) }
     ensures err { OnErr result (found.new.items ≡ found.old.items) }
@@ -132,7 +132,7 @@ fn keep(found: &mut Vec<Value>, value: Value) -> Result<(), OutOfMemory>
     Ok(())
 }
 
-/// Keeps the mark.
+/// Adds the mark.
 fn keep_mark(marks: &mut Vec<Mark>, mark: Mark) -> Result<(), OutOfMemory>
     ensures ok { OnOk result (marks.new.items ≡ marks.old.items ++ mark ∷ []) }
 {
@@ -140,7 +140,7 @@ fn keep_mark(marks: &mut Vec<Mark>, mark: Mark) -> Result<(), OutOfMemory>
     Ok(())
 }
 
-/// Keeps what is kept of a row, if there is that.
+/// Adds what to keep of a row, if there is anything.
 fn keep_row(rows: &mut Vec<KeptRow>, row: Option<KeptRow>) -> Result<(), OutOfMemory>
     ensures { OnOk result (IfSome row (λ r. rows.new.items ≡ rows.old.items ++ r ∷ [])) }
 {
@@ -150,7 +150,7 @@ fn keep_row(rows: &mut Vec<KeptRow>, row: Option<KeptRow>) -> Result<(), OutOfMe
     Ok(())
 }
 
-/// Whether there is that of a row, and of all before it.
+/// Whether this row can be kept, and all rows before it too.
 fn is_kept(all: bool, row: Option<KeptRow>) -> bool
     ensures all { result ≡ true → all ≡ true }
     ensures row { result ≡ true → (r : KeptRow) × (row ≡ Some r) }
@@ -161,14 +161,15 @@ fn is_kept(all: bool, row: Option<KeptRow>) -> bool
     }
 }
 
-/// The rows, if there is that of all.
+/// The rows, if all of them can be kept.
 fn kept_if(all: bool, rows: Vec<KeptRow>) -> Option<Vec<KeptRow>>
     ensures { IfSome result (λ kept. (all ≡ true) × (kept ≡ rows)) }
 {
     if all { Some(rows) } else { None }
 }
 
-/// The first line of a text, before which so many lines were read, and what stands after it.
+/// The first line of a text and the text after it. `place` is the number of lines before it; it may be at most
+/// 4,194,303.
 fn line_on(text: &[u8], place: usize) -> Result<(&[u8], &[u8]), PartRefusal>
     ensures ok { IfOk result (λ cut. (text.now ≡ cut.0.now ++ 10 ∷ cut.1.now) × HasNoFeed cut.0.now) }
     ensures err { IfErr result (IsStopped place text.now) }
@@ -182,7 +183,7 @@ fn line_on(text: &[u8], place: usize) -> Result<(&[u8], &[u8]), PartRefusal>
     }
 }
 
-/// The value of the first line of a text, before which so many lines were read, and what stands after it.
+/// The JSON value of the first line of a text, and the text after it. `place` is the number of lines before it.
 fn value_on(alloc: Global, text: &[u8], place: usize) -> Result<(Value, &[u8]), PartRefusal>
     ensures ok { IfOk result (λ read. IsReadOn text.now read.1.now (view read.0)) }
     ensures err { IfErr result (IsStopped place text.now) }
@@ -194,7 +195,8 @@ fn value_on(alloc: Global, text: &[u8], place: usize) -> Result<(Value, &[u8]), 
     }
 }
 
-/// What is seen of the first line of the rest of a text, before which so many lines were read, and what stands after it.
+/// Reads the first line of `rest`, the part of the text not yet read. Also returns the text after that line. `place`
+/// is the number of lines before it.
 fn seen_on<'a>(
     alloc: Global,
     text: &[u8],
@@ -213,7 +215,7 @@ fn seen_on<'a>(
     }
 }
 
-/// What stands before the first line feed, and what after it.
+/// The text before the first line feed and the text after it; None if there is no line feed.
 pub(crate) fn cut_line(text: &[u8]) -> Option<(&[u8], &[u8])>
     ensures some { IfSome result (λ parts. (text.now ≡ parts.0.now ++ 10 ∷ parts.1.now) × HasNoFeed parts.0.now) }
     ensures none { result ≡ None → HasNoFeed text.now }

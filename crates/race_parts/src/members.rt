@@ -1,11 +1,11 @@
-//! Members of an object.
+//! Reads members of a JSON object.
 ghost use Rattle.std.specs.Prelude.{◌≡◌, option_map};
 ghost use Rattle.serde_json.specs.View.{view};
 ghost use Rattle.race_parts.specs.Members.{access_in, has_number, has_text, is_kind, said_number, said_text, find_number, find_text};
 
 use serde_json::Value;
 
-/// The number that the member is, if it is one.
+/// The member as a number. Returns None if there is no such member, or if it is not a whole number of 64 bits.
 pub(crate) fn find_number(value: &Value, name: &str) -> Option<u64>
     ensures { result ≡ find_number name.now (view value.now) }
 {
@@ -15,7 +15,7 @@ pub(crate) fn find_number(value: &Value, name: &str) -> Option<u64>
     }
 }
 
-/// The text that the member is, if it is one.
+/// The member as a text. Returns None if there is no such member, or if it is not a text.
 pub(crate) fn find_text<'a>(value: &'a Value, name: &str) -> Option<&'a str>
     ensures { option_map (λ text. text.now) result ≡ find_text name.now (view value.now) }
 {
@@ -25,28 +25,28 @@ pub(crate) fn find_text<'a>(value: &'a Value, name: &str) -> Option<&'a str>
     }
 }
 
-/// Whether the member is a number.
+/// Whether the object has this member, and it is a number.
 pub(crate) fn has_number(value: &Value, name: &str) -> bool
     ensures { result ≡ has_number name.now (view value.now) }
 {
     find_number(value, name).is_some()
 }
 
-/// Whether the member is a text.
+/// Whether the object has this member, and it is a text.
 pub(crate) fn has_text(value: &Value, name: &str) -> bool
     ensures { result ≡ has_text name.now (view value.now) }
 {
     find_text(value, name).is_some()
 }
 
-/// The number that the member is; 0 if it is none.
+/// Returns the member as a number; 0 if there is no such number.
 pub fn number_of(value: &Value, name: &str) -> u64
     ensures { result ≡ said_number name.now (view value.now) }
 {
     find_number(value, name).unwrap_or(0)
 }
 
-/// The text that the member is; empty if it is none.
+/// Returns the member as a text; empty if there is no such text.
 pub fn text_of<'a>(value: &'a Value, name: &str) -> &'a [u8]
     ensures { result.now ≡ said_text name.now (view value.now) }
 {
@@ -56,14 +56,14 @@ pub fn text_of<'a>(value: &'a Value, name: &str) -> &'a [u8]
     }
 }
 
-/// Whether the member `kind` is this word.
+/// Whether the member `kind` is equal to this word.
 pub(crate) fn is_kind(value: &Value, word: &str) -> bool
     ensures { result ≡ is_kind word.now (view value.now) }
 {
     text_of(value, "kind") == word.as_bytes()
 }
 
-/// One of the accesses.
+/// Returns the access with this index, 0 or 1, in the member `accesses`; None if there is none.
 pub fn access_in(value: &Value, place: usize) -> Option<&Value>
     ensures { option_map (λ found. view found.now) result ≡ access_in place (view value.now) }
 {

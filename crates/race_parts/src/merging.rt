@@ -1,4 +1,4 @@
-//! How a file is taken in: as a part, or as a merged report with the parts in it.
+//! Adds a file to the parts: a part, or a merged report with the parts in it.
 ghost use Rattle.std.specs.Prelude.{◌≡◌, ◌<◌, ◌∷◌, All, codes, List, ℕ, None, Some, Vec, IfErr, IfOk, OnOk, false, length, map, not, option_map, position, take, true, slice_get};
 ghost use Rattle.std.specs.Option.{option_or};
 ghost use Rattle.std.specs.declared.alloc.Global.{Global};
@@ -22,8 +22,9 @@ use rapid_text::OutOfMemory;
 use serde_json::Value;
 use std::alloc::Global;
 
-/// Takes in a file: a part, which has this name, or a merged report, whose parts have names of their own. If it is refused, some of its
-/// parts may have been taken in. A clash names the file of the part that was there, or that stands before in this file.
+/// Adds a file: a part, which gets this name, or a merged report, whose parts have names of their own. If the call
+/// fails, some parts of the file may already have been added. A `Clash` gives the number of the file that the other
+/// part came from. The other part was there before, or comes earlier in this file.
 pub fn take_file(
     alloc: Global,
     parts: &mut Parts,
@@ -57,14 +58,14 @@ fn is_merged(head: &Value) -> bool
     is_kind(head, "merged") && has_number(head, "parts") && has_number(head, "pairs")
 }
 
-/// The same bytes.
+/// A copy of the bytes.
 fn copied(alloc: Global, bytes: &[u8]) -> Result<Vec<u8>, OutOfMemory>
     ensures { IfOk result (λ copy. copy.items ≡ bytes.now) }
 {
     Ok(Vec::from_slice(alloc, bytes)?)
 }
 
-/// Takes in a text that is to be a part.
+/// Adds a text that must be a part.
 fn take_part(
     alloc: Global,
     parts: &mut Parts,
@@ -87,7 +88,7 @@ fn take_part(
     put_copy(alloc, parts, name, text, rows, file)
 }
 
-/// Puts a part, copied, with what is kept of its rows.
+/// Adds a copy of a part, with what it keeps of its rows.
 fn put_copy(
     alloc: Global,
     parts: &mut Parts,
@@ -109,7 +110,7 @@ fn put_copy(
     put(parts, name, Part { text, file, rows })
 }
 
-/// Checks that a text is a part. Answers what is kept of its rows.
+/// Checks that a text is a part. Returns what to keep of its rows.
 fn check_part(
     alloc: Global,
     text: &[u8],
@@ -130,21 +131,21 @@ fn check_part(
     }
 }
 
-/// Whether the value is the line of a part in a merged report.
+/// Whether the value is a part's line in a merged report.
 fn is_part_line(value: &Value) -> bool
     ensures { result ≡ is_part_line (view value.now) }
 {
     is_kind(value, "part") && has_text(value, "name") && has_text(value, "text")
 }
 
-/// The place of the first line that is not that of a part.
+/// The index of the first line that is not a part's line.
 fn wrong_part(lines: &[Value]) -> Option<usize>
     ensures { result ≡ position (λ v. not (is_part_line (view v))) lines.now }
 {
     lines.iter().position(|line| !is_part_line(line))
 }
 
-/// The same, where another line stands before these.
+/// The same index plus 1, to count the report's first line, which is not among these.
 fn wrong_part_behind(lines: &[Value]) -> Option<usize>
     ensures { result ≡ one_behind (position (λ v. not (is_part_line (view v))) lines.now) }
 {
@@ -154,7 +155,7 @@ fn wrong_part_behind(lines: &[Value]) -> Option<usize>
     }
 }
 
-/// The place of the first line that does not fit into a merged report, whose first line is there.
+/// The index of the first line that does not fit into a merged report; None if all fit.
 fn wrong_merged(lines: &[Value]) -> Option<usize>
     ensures { result ≡ wrong_merged lines.now }
 {
@@ -164,7 +165,7 @@ fn wrong_merged(lines: &[Value]) -> Option<usize>
     }
 }
 
-/// The same behind the first line.
+/// The same, given the first line and the lines after it.
 fn wrong_behind_head(head: &Value, rest: &[Value]) -> Option<usize>
     ensures { result ≡ wrong_behind_head (view head.now) rest.now }
 {
@@ -179,7 +180,7 @@ fn wrong_behind_head(head: &Value, rest: &[Value]) -> Option<usize>
     }
 }
 
-/// Checks that a text in a merged report is a part. Answers what is kept of its rows.
+/// Checks that a text inside a merged report is a part. Returns what to keep of its rows.
 fn check_text(alloc: Global, text: &[u8]) -> Result<Option<Vec<KeptRow>>, PartRefusal>
     ensures ok { OnOk result (IsPartText text.now) }
     ensures rows { IfOk result (AreKept text.now) }
@@ -192,7 +193,7 @@ fn check_text(alloc: Global, text: &[u8]) -> Result<Option<Vec<KeptRow>>, PartRe
     check_part(alloc, text, &begun)
 }
 
-/// Takes in the part in a line of a merged report, the line at this place.
+/// Adds the part in a line of a merged report. `place` is the 0-based index of the line.
 fn take_line(
     alloc: Global,
     parts: &mut Parts,
@@ -220,7 +221,7 @@ fn take_line(
     }
 }
 
-/// The first line, and the others.
+/// The first line and the lines after it.
 fn first_line(lines: &[Value]) -> (&Value, &[Value])
     requires { 0 < length lines.now }
     ensures { lines.now ≡ result.0.now ∷ result.1.now }
@@ -228,7 +229,7 @@ fn first_line(lines: &[Value]) -> (&Value, &[Value])
     (&lines[0], &lines[1..])
 }
 
-/// Takes in the parts in these lines, the first of which is the second of the file.
+/// Adds the parts in these lines. They begin with the second line of the file.
 fn take_told(
     alloc: Global,
     parts: &mut Parts,
@@ -254,7 +255,7 @@ fn take_told(
     Ok(())
 }
 
-/// Takes in the parts of a merged report.
+/// Adds the parts of a merged report, given its lines.
 fn take_merged(
     alloc: Global,
     parts: &mut Parts,
@@ -276,7 +277,7 @@ fn take_merged(
     take_told(alloc, parts, part_lines(lines), file)
 }
 
-/// The lines of the parts.
+/// The part lines of a merged report.
 fn part_lines(lines: &[Value]) -> &[Value]
     requires { wrong_merged lines.now ≡ None }
     ensures { result.now ≡ part_lines lines.now }
@@ -287,7 +288,7 @@ fn part_lines(lines: &[Value]) -> &[Value]
     }
 }
 
-/// Takes in a merged report.
+/// Adds a merged report. `begun` has its first line.
 fn take_report(
     alloc: Global,
     parts: &mut Parts,
@@ -313,7 +314,7 @@ fn take_report(
     take_merged(alloc, parts, &lines, file)
 }
 
-/// Whether the first line says that it is of another version.
+/// Whether the first line says that the file has another version.
 fn is_foreign(lines: &[Value]) -> bool
     ensures { result ≡ is_foreign (map view lines.now) }
 {

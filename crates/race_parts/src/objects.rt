@@ -1,4 +1,4 @@
-//! What is told of the parts, as JSON: an object a line, with each part as a text, so that it may be merged again.
+//! Prints a merged report as JSON, one object per line. It contains the text of each part, so it can be merged again.
 ghost use Rattle.std.specs.Prelude.{◌≡◌, ◌-◌, ◌≤◌, ◌++◌, [], IfOk, None, OnOk, drop, false, length};
 ghost use Rattle.serde_json.specs.Data.{object, put as with_member, string};
 ghost use Rattle.serde_json.specs.View.{members_view, view};
@@ -13,7 +13,7 @@ use rapid_text::OutOfMemory;
 use serde_json::{Map, Value, put};
 use std::alloc::{AllocError, Global};
 
-/// Puts a number.
+/// Adds a member that is a number.
 fn put_number(
     members: &mut Map<String, Value>,
     alloc: Global,
@@ -25,7 +25,7 @@ fn put_number(
     put(members, alloc, name, Value::from(number))
 }
 
-/// Puts a word.
+/// Adds a member that is a word.
 fn put_word(
     members: &mut Map<String, Value>,
     alloc: Global,
@@ -40,7 +40,7 @@ fn put_word(
     }
 }
 
-/// Puts bytes as a text: what is no UTF-8 becomes U+FFFD.
+/// Adds a member with these bytes as a text. Bytes that are not UTF-8 become U+FFFD.
 fn put_text(
     members: &mut Map<String, Value>,
     alloc: Global,
@@ -55,14 +55,14 @@ fn put_text(
     }
 }
 
-/// Bytes as a text: what is no UTF-8 becomes U+FFFD.
+/// The bytes as a JSON text. Bytes that are not UTF-8 become U+FFFD.
 fn text_of(alloc: Global, bytes: &[u8]) -> Result<Value, AllocError>
     ensures { IfOk result (λ value. view value ≡ text bytes.now) }
 {
     Ok(Value::String(String::from_utf8_lossy(alloc, bytes)?))
 }
 
-/// Puts the members of the first line.
+/// Adds the members of the report's first line.
 fn put_merged(
     members: &mut Map<String, Value>,
     alloc: Global,
@@ -79,7 +79,7 @@ fn put_merged(
     Ok(())
 }
 
-/// The object of the first line.
+/// The JSON object of the report's first line.
 fn merged_of(alloc: Global, parts: usize, pairs: usize) -> Result<Value, AllocError>
     ensures { IfOk result (λ made. view made ≡ merged_object parts pairs) }
 {
@@ -90,7 +90,7 @@ fn merged_of(alloc: Global, parts: usize, pairs: usize) -> Result<Value, AllocEr
     }
 }
 
-/// Puts the members of a part.
+/// Adds the members of a part's object: its name and its text.
 fn put_part(
     members: &mut Map<String, Value>,
     alloc: Global,
@@ -106,7 +106,7 @@ fn put_part(
     Ok(())
 }
 
-/// The object of a part.
+/// The JSON object of a part.
 fn part_of(alloc: Global, name: &[u8], bytes: &[u8]) -> Result<Value, AllocError>
     ensures { IfOk result (λ made. view made ≡ part_object name.now bytes.now) }
 {
@@ -117,7 +117,7 @@ fn part_of(alloc: Global, name: &[u8], bytes: &[u8]) -> Result<Value, AllocError
     }
 }
 
-/// In how many parts two places are a race, undecided and apart, and in how many they are not met.
+/// In how many parts a pair of locations is a race, undecided or apart, and how many parts do not meet it.
 #[derive(Clone, Copy)]
 struct Tally {
     races: usize,
@@ -126,7 +126,7 @@ struct Tally {
     unmet: usize,
 }
 
-/// The word for what a cell says.
+/// The word for this rank.
 fn word_of(rank: u8) -> &'static str
     ensures { result.now ≡ verdict_word rank }
 {
@@ -137,7 +137,7 @@ fn word_of(rank: u8) -> &'static str
     }
 }
 
-/// Puts the members of a pair of places.
+/// Adds the members of the object of a pair of locations.
 fn put_pair(
     members: &mut Map<String, Value>,
     alloc: Global,
@@ -162,7 +162,7 @@ fn put_pair(
     Ok(())
 }
 
-/// The object of a pair of places.
+/// The JSON object of a pair of locations.
 fn pair_of(alloc: Global, cell: Cell<'_>, tally: Tally) -> Result<Value, AllocError>
     ensures { IfOk result (λ made. view made ≡ pair_object cell.entry tally.races tally.undecided tally.apart tally.unmet) }
 {
@@ -173,7 +173,7 @@ fn pair_of(alloc: Global, cell: Cell<'_>, tally: Tally) -> Result<Value, AllocEr
     }
 }
 
-/// Appends the text of an object that has no fraction in it, and the end of the line.
+/// Appends a JSON object and a line feed. The object has no fractions.
 fn append_line(out: &mut Vec<u8>, object: &Value) -> Result<(), OutOfMemory>
     requires { has_float (view object.now) ≡ false }
     ensures { OnOk result (out.new.items ≡ out.old.items ++ json_line (view object.now)) }
@@ -184,7 +184,7 @@ fn append_line(out: &mut Vec<u8>, object: &Value) -> Result<(), OutOfMemory>
     Ok(())
 }
 
-/// Appends the first line.
+/// Appends the report's first line.
 fn append_merged(out: &mut Vec<u8>, parts: usize, pairs: usize) -> Result<(), OutOfMemory>
     ensures { OnOk result (out.new.items ≡ out.old.items ++ json_line (merged_object parts pairs)) }
 {
@@ -210,7 +210,7 @@ fn append_parts(out: &mut Vec<u8>, parts: &Parts) -> Result<(), OutOfMemory>
     Ok(())
 }
 
-/// Whether no cell of the same places stands directly before the cell.
+/// Whether the cell before it is of another pair of locations, or there is none.
 fn is_new(before: Option<Cell<'_>>, cell: Cell<'_>) -> bool
     ensures { result ≡ is_new before.entry cell.entry }
 {
@@ -220,7 +220,7 @@ fn is_new(before: Option<Cell<'_>>, cell: Cell<'_>) -> bool
     }
 }
 
-/// How many pairs of places there are.
+/// How many pairs of locations there are.
 fn news_count(cells: &[Cell<'_>]) -> usize
     ensures { result ≡ news_count None cells.now }
 {
@@ -238,7 +238,8 @@ fn news_count(cells: &[Cell<'_>]) -> usize
     count
 }
 
-/// In how many parts the places of the cell at this place are what.
+/// Counts the parts with each verdict for the cell at index `at`. The cell is the first one for its pair of
+/// locations.
 fn tally_of(parts: usize, cell: Cell<'_>, cells: &[Cell<'_>], at: usize) -> Tally
     requires { at ≤ length cells.now }
     ensures races { result.races ≡ run_count cell.entry 0 (drop at cells.now) }
@@ -255,7 +256,7 @@ fn tally_of(parts: usize, cell: Cell<'_>, cells: &[Cell<'_>], at: usize) -> Tall
     }
 }
 
-/// The object of the pair of places of the cell at this place, which is the first of its places.
+/// The JSON object for the cell at index `at`. The cell is the first one for its pair of locations.
 fn pair_at(
     alloc: Global,
     parts: usize,
@@ -269,7 +270,7 @@ fn pair_at(
     pair_of(alloc, cell, tally_of(parts, cell, cells, at))
 }
 
-/// Appends the line of the pair of places of the cell at this place, which is the first of its places.
+/// Appends the line for the cell at index `at`. The cell is the first one for its pair of locations.
 fn append_pair(
     out: &mut Vec<u8>,
     parts: usize,
@@ -284,7 +285,7 @@ fn append_pair(
     append_line(out, &object)
 }
 
-/// Appends a line for each pair of places.
+/// Appends a line for each pair of locations.
 fn append_pairs(out: &mut Vec<u8>, parts: usize, cells: &[Cell<'_>]) -> Result<(), OutOfMemory>
     ensures { OnOk result (out.new.items ≡ out.old.items ++ pair_lines parts None cells.now) }
 {
@@ -301,7 +302,8 @@ fn append_pairs(out: &mut Vec<u8>, parts: usize, cells: &[Cell<'_>]) -> Result<(
     Ok(())
 }
 
-/// What is told of these parts as JSON: a merged report, which may be merged again.
+/// Returns the merged report as JSON lines: the counts, the parts, and the pairs of locations. It can be merged
+/// again.
 pub fn merged_json(alloc: Global, parts: &Parts, cells: &[Cell<'_>]) -> Result<Vec<u8>, OutOfMemory>
     ensures { IfOk result (λ text. text.items ≡ merged_lines parts.now.entries cells.now) }
 {

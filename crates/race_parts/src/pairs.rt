@@ -1,4 +1,4 @@
-//! Pairs of places, each with the row that is shown and with what the parts say of it.
+//! The pairs of locations in a report, each with the row to print and the parts' verdicts.
 ghost use Rattle.std.specs.Prelude.{◌≡◌, ◌≤◌, ◌++◌, ◌∷◌, [], IfOk, None, OnOk, drop, false, length, map, slice_get, true};
 ghost use Rattle.race_parts.specs.Pairs.{line_by, pair_shown, pair_told, pairs_by, pairs_shown, pairs_told};
 ghost use Rattle.race_parts.specs.Texts.{run_count};
@@ -8,24 +8,25 @@ use crate::counting::{is_head, run_counts};
 use rapid_text::OutOfMemory;
 use std::alloc::Global;
 
-/// A pair of places.
+/// A pair of locations.
 #[derive(Clone, Copy)]
 pub struct Pair<'a> {
-    /// The line that the row is which is shown.
+    /// The line of the row to print for this pair.
     pub line: &'a [u8],
-    /// The name of the part that has it.
+    /// The name of the part that has this line.
     pub part: &'a [u8],
-    /// 0 for a race, 1 for what is undecided, 2 for what is apart.
+    /// 0 for a race, 1 for an undecided pair, 2 for an apart pair.
     pub rank: u8,
-    /// In how many parts the two places are a race.
+    /// In how many parts the pair is a race.
     pub races: usize,
-    /// In how many they are undecided.
+    /// In how many parts the pair is undecided.
     pub undecided: usize,
-    /// In how many they are apart.
+    /// In how many parts the pair is apart.
     pub apart: usize,
 }
 
-/// The pairs of places in the order in which they are told: races, what is undecided, and what is apart if that is asked for.
+/// Returns the pairs of locations in the order of the report: races, then undecided pairs, then apart pairs if
+/// `apart` is true.
 pub fn pairs_of<'a>(
     alloc: Global,
     rows: &'a [Row<'_>],
@@ -43,7 +44,7 @@ pub fn pairs_of<'a>(
     Ok(pairs)
 }
 
-/// Adds the pairs of this rank.
+/// Adds the pairs with this rank.
 fn push_pairs<'a>(
     pairs: &mut Vec<Pair<'a>>,
     rows: &'a [Row<'_>],
@@ -65,7 +66,7 @@ fn push_pairs<'a>(
     Ok(())
 }
 
-/// Adds the pair of the cell at this place, which is the first of its places.
+/// Adds the pair for the cell at index `at`. The cell is the first one for its pair of locations.
 fn push_pair<'a>(
     pairs: &mut Vec<Pair<'a>>,
     rows: &'a [Row<'_>],
@@ -80,7 +81,7 @@ fn push_pair<'a>(
     Ok(())
 }
 
-/// The pair of the cell at this place, which is the first of its places.
+/// The pair for the cell at index `at`. The cell is the first one for its pair of locations.
 fn pair_of<'a>(rows: &'a [Row<'_>], cell: Cell<'a>, cells: &[Cell<'a>], at: usize) -> Pair<'a>
     requires { at ≤ length cells.now }
     ensures { pair_shown result ≡ pair_told rows.now cell.entry (drop at cells.now) }
@@ -96,7 +97,7 @@ fn pair_of<'a>(rows: &'a [Row<'_>], cell: Cell<'a>, cells: &[Cell<'a>], at: usiz
     }
 }
 
-/// The line that the row of this number is; nothing if there is none.
+/// The line of the row with this number; empty if there is none.
 fn line_at<'a>(rows: &'a [Row<'_>], number: usize) -> &'a [u8]
     ensures { result.now ≡ line_by (slice_get rows.now number) }
 {

@@ -1,4 +1,4 @@
-//! Cells are brought nearly into their order by numbers of their locations, which take less time to compare than locations.
+//! Presorts cells by numbers of their locations, because comparing numbers takes less time than comparing locations.
 ghost use Rattle.std.specs.List.Sorted.{IsPermutation};
 ghost use Rattle.std.specs.Prelude.{◌≡◌, IfOk, map, slice_index_or};
 ghost use Rattle.race_parts.specs.declared.cells.Cell.{Cell};
@@ -7,8 +7,9 @@ use crate::cells::Cell;
 use rapid_text::OutOfMemory;
 use std::alloc::Global;
 
-/// What a cell is brought nearly into its order by: the places of its locations among all, and then what its own order has next. Rows are
-/// numbered by the names of their parts. So the order is that of the cells, if no part has two rows of one pair of places.
+/// The key for presorting a cell: the positions of its two locations among all locations, its rank, its size and its
+/// number. Rows have their numbers in the order of their parts' names. So this order is the final one, if no part has
+/// two rows for one pair of locations.
 #[derive(Clone, Copy, PartialEq, Eq, PartialOrd, Ord)]
 struct Quick {
     first: usize,
@@ -18,7 +19,7 @@ struct Quick {
     number: usize,
 }
 
-/// The places of the locations of the cell of this number.
+/// The positions of the two locations of the cell with this number.
 fn places_at(places: &[(usize, usize)], number: usize) -> (usize, usize) {
     match places.get(number) {
         Some(pair) => *pair,
@@ -26,7 +27,7 @@ fn places_at(places: &[(usize, usize)], number: usize) -> (usize, usize) {
     }
 }
 
-/// For each cell what it is brought nearly into its order by.
+/// The presort key of each cell.
 fn keys_of(
     alloc: Global,
     cells: &[Cell<'_>],
@@ -58,7 +59,7 @@ fn sort_keys(keys: &mut Vec<Quick>)
     keys.sort_unstable();
 }
 
-/// The cell of this number; another one if there is none.
+/// The cell with this number; `other` if there is none.
 fn cell_or<'a>(cells: &[Cell<'a>], number: usize, other: Cell<'a>) -> Cell<'a>
     ensures { result ≡ slice_index_or cells.now number other.entry }
 {
@@ -84,7 +85,8 @@ fn in_order<'a>(
     Ok(made)
 }
 
-/// The cells nearly in their order, so that they are soon sorted. Each has the places of its locations.
+/// Returns the cells presorted, so that the final sort is quick. `places` has the positions of each cell's two
+/// locations.
 pub(crate) fn presorted<'a>(
     alloc: Global,
     cells: Vec<Cell<'a>>,
@@ -106,7 +108,7 @@ fn first_of<'a>(cells: &[Cell<'a>]) -> Option<Cell<'a>> {
     }
 }
 
-/// The same of some cells, one of which is the other one.
+/// The same for a list that is not empty. `other` is one of its cells.
 fn presorted_by<'a>(
     alloc: Global,
     cells: &[Cell<'a>],

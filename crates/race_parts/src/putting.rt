@@ -1,4 +1,4 @@
-//! How a part is put among others.
+//! Adds a part to the others.
 ghost use Rattle.std.specs.Prelude.{◌≡◌, ℕ, Some, Vec, IfErr, OnOk};
 ghost use Rattle.race_parts.specs.Parts.{HasOther, IfClash, IsPutFault, held_at, held_from, joined, single, text_at};
 ghost use Rattle.std.specs.Option.{option_or};
@@ -7,7 +7,8 @@ ghost use Rattle.std.specs.declared.alloc.Global.{Global};
 use crate::lines::PartRefusal;
 use crate::parts::{Part, Parts};
 
-/// Puts a part under its name. If it is there, nothing changes. If another part has the name, that is a clash.
+/// Adds a part under its name. Changes nothing if the name already has this text. Fails with `Clash` if the name has
+/// another text.
 pub(crate) fn put(parts: &mut Parts, name: Vec<u8>, part: Part) -> Result<(), PartRefusal>
     ensures ok { OnOk result ((q : Vec ℕ Global) → text_at parts.new q ≡ joined (text_at parts.old q) (single name.items part.text.items q.items)) }
     ensures held { OnOk result ((q : Vec ℕ Global) → held_at parts.new q

@@ -1,4 +1,4 @@
-//! Where a text in quotes ends, found for some bytes at once.
+//! Finds the end of a quoted JSON text, 32 bytes at a time.
 ghost use Rattle.std.specs.Prelude.{◌≡◌, ◌≤◌, ◌<◌, ◌==◌, ◌∷◌, [], ℕ, false, length, map, nat_le, slice_index, take};
 ghost use Rattle.std.specs.Int.{bit_at};
 ghost use Rattle.std.specs.Simd.Lanes.{mask_l};
@@ -6,17 +6,17 @@ ghost use Rattle.json.specs.Print.{escape, escape_byte};
 
 use std::simd::prelude::*;
 
-/// How many bytes are looked at together.
+/// How many bytes are compared at once.
 const RUN: usize = 32;
 
-/// Whether a text in quotes ends there, or goes on with an escape.
+/// Whether the byte ends a quoted text, or must be escaped in one.
 fn is_stop(byte: u8) -> bool
     ensures { result ≡ false → escape_byte byte ≡ byte ∷ [] }
 {
     byte < 32 || byte == b'"' || byte == b'\\'
 }
 
-/// The bits of the lanes that hold the byte.
+/// A bit mask of the lanes that hold this byte.
 #[inline(always)]
 fn bits_of(byte: u8, front: u8x32) -> u64
     ensures { result ≡ mask_l (map (λ c. c == byte) front) }
@@ -24,7 +24,7 @@ fn bits_of(byte: u8, front: u8x32) -> u64
     front.simd_eq(u8x32::splat(byte)).to_bitmask()
 }
 
-/// The bits of the lanes that hold a control character.
+/// A bit mask of the lanes that hold a control character.
 #[inline(always)]
 fn controls_of(front: u8x32) -> u64
     ensures { result ≡ mask_l (map (λ c. nat_le c 31) front) }
@@ -32,7 +32,7 @@ fn controls_of(front: u8x32) -> u64
     front.simd_le(u8x32::splat(31)).to_bitmask()
 }
 
-/// How many of the lowest bits are clear.
+/// How many of the lowest bits are 0.
 #[inline(always)]
 fn clear_count(bits: u64) -> usize
     ensures { (k : ℕ) → k < result → bit_at bits k ≡ 0 }
@@ -40,7 +40,7 @@ fn clear_count(bits: u64) -> usize
     bits.trailing_zeros() as usize
 }
 
-/// How many of the first 32 bytes stand for themselves.
+/// How many of the first 32 bytes come before the first quote, backslash or control character.
 #[inline(always)]
 fn plain_in(text: &[u8]) -> usize
     requires { 32 ≤ length text.now }
@@ -63,7 +63,8 @@ fn least(one: usize, other: usize) -> usize
     if one < other { one } else { other }
 }
 
-/// How many bytes stand for themselves, up to a run of 32 in which one does not, or to a shorter run at the end.
+/// How many bytes come before the first quote, backslash or control character. It checks full runs of 32 bytes only,
+/// so it may stop up to 31 bytes before the end.
 #[inline(always)]
 fn plain_runs(text: &[u8]) -> usize
     ensures inside { result ≤ length text.now }
@@ -80,7 +81,7 @@ fn plain_runs(text: &[u8]) -> usize
     at
 }
 
-/// Where the first byte stands that ends a text in quotes, or begins an escape.
+/// The index of the first quote, backslash or control character; the text's length if there is none.
 #[inline(always)]
 pub(crate) fn plain_end(text: &[u8]) -> usize
     ensures inside { result ≤ length text.now }

@@ -1,4 +1,4 @@
-//! Which lines stand in a part.
+//! Checks which lines a part may have.
 ghost use Rattle.std.specs.Prelude.{◌≡◌, ◌∷◌, List, count_by, map, not, position};
 ghost use Rattle.serde_json.specs.View.{view};
 ghost use Rattle.serde_json.specs.Data.{Data};
@@ -7,19 +7,19 @@ ghost use Rattle.race_parts.specs.Rows.{are_whole, has_access, has_accesses, has
 use crate::members::{access_in, find_number, has_number, has_text, is_kind, number_of, text_of};
 use serde_json::Value;
 
-/// The version of the format that is read.
+/// The version of the format that this crate reads.
 const VERSION: u64 = 1;
 
-/// What a line is as a line of a part.
+/// The kind of a line in a part.
 #[derive(Clone, Copy)]
 pub struct Mark {
-    /// A row.
+    /// The line is a complete row of any kind.
     pub is_row: bool,
-    /// Of kind `race`.
+    /// Its kind is `race`.
     pub is_race: bool,
-    /// Of kind `undecided`.
+    /// Its kind is `undecided`.
     pub is_undecided: bool,
-    /// Of kind `apart`.
+    /// Its kind is `apart`.
     pub is_apart: bool,
 }
 
@@ -34,14 +34,14 @@ fn is_counts(value: &Value) -> bool
         && has_number(value, "apart")
 }
 
-/// Whether the value says that it is of another version of the format.
+/// Whether the value has a member `version` that is not 1.
 pub(crate) fn is_other_version(value: &Value) -> bool
     ensures { result ≡ is_other_version (view value.now) }
 {
     value.get("version").is_some() && find_number(value, "version") != Some(VERSION)
 }
 
-/// Whether the value has the access at this place, with all that is said of it.
+/// Whether the value has the access with this index, and the access has all its members.
 fn has_access(value: &Value, place: usize) -> bool
     ensures { result ≡ has_access place (view value.now) }
 {
@@ -58,7 +58,7 @@ fn has_access(value: &Value, place: usize) -> bool
     }
 }
 
-/// Whether the access has a list of the locks that are held.
+/// Whether the access has a list of the locks that its thread holds.
 fn has_list(access: &Value) -> bool
     ensures { result ≡ has_list (view access.now) }
 {
@@ -68,21 +68,21 @@ fn has_list(access: &Value) -> bool
     }
 }
 
-/// Whether the value has both accesses, and counts the pairs.
+/// Whether the value has both accesses and a number of pairs.
 fn has_accesses(value: &Value) -> bool
     ensures { result ≡ has_accesses (view value.now) }
 {
     has_access(value, 0) && has_access(value, 1) && has_number(value, "pairs")
 }
 
-/// Whether this is one of the three ways in which a race is shown.
+/// Whether the word is one of `candidate`, `beyond` and `turned`.
 pub(crate) fn is_how(word: &[u8]) -> bool
     ensures { result ≡ is_how word.now }
 {
     word == b"candidate".as_slice() || word == b"beyond".as_slice() || word == b"turned".as_slice()
 }
 
-/// Whether the value is a race.
+/// Whether the value is a complete row of kind `race`.
 fn is_race(value: &Value) -> bool
     ensures { result ≡ is_race (view value.now) }
 {
@@ -94,7 +94,7 @@ fn is_race(value: &Value) -> bool
         && has_number(value, "threads")
 }
 
-/// Whether the value is an undecided pair of places.
+/// Whether the value is a complete row of kind `undecided`.
 fn is_undecided(value: &Value) -> bool
     ensures { result ≡ is_undecided (view value.now) }
 {
@@ -104,21 +104,22 @@ fn is_undecided(value: &Value) -> bool
         && has_number(value, "tried")
 }
 
-/// Whether the value is a pair of places that is apart.
+/// Whether the value is a complete row of kind `apart`.
 fn is_apart(value: &Value) -> bool
     ensures { result ≡ is_apart (view value.now) }
 {
     is_kind(value, "apart") && has_accesses(value)
 }
 
-/// Whether the value is a row: a race, an undecided pair of places, or one that is apart.
+/// Whether the value is a complete row: a race, an undecided row or an apart row.
 pub(crate) fn is_row(value: &Value) -> bool
     ensures { result ≡ is_row (view value.now) }
 {
     is_race(value) || is_undecided(value) || is_apart(value)
 }
 
-/// Whether the counts count so many races, so many undecided pairs, and so many that are apart, which may be missing.
+/// Whether the counts agree with these numbers of rows. If there are no apart rows, any count of them is right: a
+/// report may leave them out.
 fn is_whole(head: &Value, races: u64, undecided: u64, apart: u64) -> bool
     ensures { result ≡ is_whole (view head.now) races undecided apart }
 {
@@ -127,28 +128,28 @@ fn is_whole(head: &Value, races: u64, undecided: u64, apart: u64) -> bool
         && (apart == 0 || number_of(head, "apart") == apart)
 }
 
-/// How many lines are of kind `race`.
+/// How many rows are of kind `race`.
 fn count_races(marks: &[Mark]) -> u64
     ensures { result ≡ count_by (λ m. m.is_race) marks.now }
 {
     marks.iter().filter(|mark| mark.is_race).count() as u64
 }
 
-/// How many are of kind `undecided`.
+/// How many rows are of kind `undecided`.
 fn count_undecided(marks: &[Mark]) -> u64
     ensures { result ≡ count_by (λ m. m.is_undecided) marks.now }
 {
     marks.iter().filter(|mark| mark.is_undecided).count() as u64
 }
 
-/// How many are of kind `apart`.
+/// How many rows are of kind `apart`.
 fn count_apart(marks: &[Mark]) -> u64
     ensures { result ≡ count_by (λ m. m.is_apart) marks.now }
 {
     marks.iter().filter(|mark| mark.is_apart).count() as u64
 }
 
-/// Whether the rows are all that the counts count; those that are apart may be missing.
+/// Whether the number of rows of each kind agrees with the counts. All apart rows may be missing.
 fn are_whole(head: &Value, marks: &[Mark]) -> bool
     ensures { result ≡ are_whole (view head.now) marks.now }
 {
@@ -158,14 +159,14 @@ fn are_whole(head: &Value, marks: &[Mark]) -> bool
     is_whole(head, races, undecided, apart)
 }
 
-/// The place of the first line that is no row.
+/// The index of the first line that is not a row.
 fn wrong_row(marks: &[Mark]) -> Option<usize>
     ensures { result ≡ position (λ m. not m.is_row) marks.now }
 {
     marks.iter().position(|mark| !mark.is_row)
 }
 
-/// The place of the first line that does not fit there, behind the counts.
+/// The index of the first line that does not fit after the counts. The line of the counts has index 0.
 fn wrong_behind(head: &Value, marks: &[Mark]) -> Option<usize>
     ensures { result ≡ wrong_behind (view head.now) marks.now (position (λ m. not m.is_row) marks.now) }
 {
@@ -181,8 +182,8 @@ fn wrong_behind(head: &Value, marks: &[Mark]) -> Option<usize>
     }
 }
 
-/// The place of the first line that does not fit there; none if the lines are a part. The first line has this value, and the others are
-/// marked so.
+/// The index of the first line that does not fit into a part; None if the lines are a part. `head` is the first line,
+/// and `marks` are the marks of the others.
 pub(crate) fn wrong_line(head: &Value, marks: &[Mark]) -> Option<usize>
     ensures { (ds : List Data) → marks.now ≡ map mark_of ds → result ≡ wrong_line (view head.now ∷ ds) }
 {

@@ -1,4 +1,5 @@
-//! A row as `triage` prints it, read without a value of JSON for it. What is printed in another form is left to `serde_json`.
+//! Reads a row in the form that `triage` prints, without making a JSON value of it. `serde_json` reads all other
+//! forms.
 ghost use Rattle.std.specs.Prelude.{◌≡◌, ◌<◌, ◌+◌, ◌^◌, ◌++◌, ◌∷◌, [], decimal, List, ℕ, IfSome, Some, length, slice_index, true};
 ghost use Rattle.json.specs.Print.{quoted};
 ghost use Rattle.serde_json.specs.Data.{Data, Members};
@@ -11,27 +12,28 @@ ghost use Rattle.race_parts.specs.Printed.{IsAccess, IsOutcome, accesses_text, n
 use crate::quotes::plain_end;
 use crate::rows::is_how;
 
-/// The most locks of an access that are read so.
+/// The most locks of one access that this module reads.
 const MAX_HOLDS: u8 = 16;
 
-/// What the place of a row among those of all parts depends on.
+/// The facts about a row that its sort key needs.
 #[derive(Clone, Copy)]
 pub struct Known<'a> {
     /// The location of the earlier access.
     pub one: &'a [u8],
-    /// That of the later one.
+    /// The location of the later access.
     pub other: &'a [u8],
-    /// 0 for a race, 1 for what is undecided, 2 for what is apart.
+    /// 0 for a race, 1 for an undecided row, 2 for an apart row.
     pub rank: u8,
-    /// How many events the schedule of a race has; 0 where there is none.
+    /// How many events the schedule of a race has; 0 for other rows.
     pub size: u64,
-    /// The event of the later access.
+    /// The event number of the later access.
     pub later: u64,
-    /// That of the earlier one.
+    /// The event number of the earlier access.
     pub earlier: u64,
 }
 
-/// What is known of a row, and how far from the end of its line the two locations begin.
+/// The facts about a row. `one_left` and `other_left` are the distances in bytes from the two locations to the end of
+/// the line.
 #[derive(Clone, Copy)]
 pub(crate) struct Told<'a> {
     pub(crate) known: Known<'a>,
@@ -39,7 +41,7 @@ pub(crate) struct Told<'a> {
     pub(crate) other_left: usize,
 }
 
-/// The event and the location of an access, and how many bytes stand from the location on.
+/// The event and the location of an access. `left` is the number of bytes from the location to the end of the text.
 #[derive(Clone, Copy)]
 struct Access<'a> {
     event: u64,
@@ -47,7 +49,8 @@ struct Access<'a> {
     left: usize,
 }
 
-/// What stands behind these words, if the text begins with them. It becomes a compare or two at each call, since the words are constant.
+/// The text after these words, if it begins with them. The words are constant, so each call compiles to a compare or
+/// two.
 #[inline(always)]
 fn strip<'a>(text: &'a [u8], words: &[u8]) -> Option<&'a [u8]>
     ensures { IfSome result (λ behind. text.now ≡ words.now ++ behind.now) }
@@ -55,10 +58,10 @@ fn strip<'a>(text: &'a [u8], words: &[u8]) -> Option<&'a [u8]>
     text.strip_prefix(words)
 }
 
-/// Numbers below are read on: with another digit they fit.
+/// A number below this can take one more digit and still fit in 64 bits.
 const TENTH: u64 = 1_000_000_000_000_000_000;
 
-/// The digit at this place, if one stands there.
+/// The digit at this index, if there is one.
 #[inline(always)]
 fn digit_at(text: &[u8], at: usize) -> Option<u64>
     ensures inside { IfSome result (λ digit. at < length text.now) }
@@ -74,7 +77,8 @@ fn digit_at(text: &[u8], at: usize) -> Option<u64>
     Some((byte - 48) as u64)
 }
 
-/// The same after digits that are this number, if it is not 0, and is small enough to be read on.
+/// The digit at this index, if `number`, which was read before it, can take one more. It cannot if it is 0, or is
+/// 10^18 or more.
 #[inline(always)]
 fn next_digit(text: &[u8], at: usize, number: u64) -> Option<u64>
     ensures number { IfSome result (λ digit. (0 < number) × (number < 1000000000000000000)) }
@@ -87,7 +91,7 @@ fn next_digit(text: &[u8], at: usize, number: u64) -> Option<u64>
     digit_at(text, at)
 }
 
-/// The number at the beginning, and what stands behind it. A number of 20 digits is left to others.
+/// The decimal number at the beginning of the text, and the text after it. Reads at most 19 digits.
 #[inline(always)]
 fn number_at(text: &[u8]) -> Option<(u64, &[u8])>
     ensures digits { IfSome result (λ read. text.now ≡ decimal read.0 ++ read.1.now) }
@@ -103,7 +107,7 @@ fn number_at(text: &[u8]) -> Option<(u64, &[u8])>
     Some((number, behind))
 }
 
-/// The text in quotes at the beginning, in which nothing is escaped, and what stands behind it.
+/// The quoted text at the beginning, and the text after it. Returns None if it has an escape.
 #[inline(always)]
 fn text_at(text: &[u8]) -> Option<(&[u8], &[u8])>
     ensures { IfSome result (λ read. text.now ≡ quoted read.0.now ++ read.1.now) }
@@ -115,7 +119,7 @@ fn text_at(text: &[u8]) -> Option<(&[u8], &[u8])>
     Some((plain, behind))
 }
 
-/// What stands behind a comma, or, at the first of a list, the text itself.
+/// The text after a comma. If `is_later` is false, there is no comma, and the whole text is returned.
 #[inline(always)]
 fn comma_at(text: &[u8], is_later: bool) -> Option<&[u8]>
     ensures { IfSome result (λ behind. text.now ≡ comma_if is_later ++ behind.now) }
@@ -127,14 +131,14 @@ fn comma_at(text: &[u8], is_later: bool) -> Option<&[u8]>
     }
 }
 
-/// Whether the text is the end of an object.
+/// Whether the text is exactly the end of an object.
 fn is_end(text: &[u8]) -> bool
     ensures { result ≡ true → text.now ≡ 125 ∷ [] }
 {
     text == b"}".as_slice()
 }
 
-/// What stands behind the rest of a list of texts.
+/// The text after the rest of a list of at most `most` texts. Returns None if the list has more.
 fn holds_at(text: &[u8], is_later: bool, most: u8) -> Option<&[u8]>
     ensures { IfSome result (λ behind. (names : List (List ℕ)) × (text.now ≡ items_text is_later (strings names) ++ behind.now)) }
 {
@@ -148,7 +152,7 @@ fn holds_at(text: &[u8], is_later: bool, most: u8) -> Option<&[u8]>
     holds_at(behind, true, most - 1)
 }
 
-/// The number of the member that these words begin, and what stands behind it.
+/// The number after these words, and the text after it.
 #[inline(always)]
 fn field_at<'a>(text: &'a [u8], words: &[u8]) -> Option<(u64, &'a [u8])>
     ensures digits { IfSome result (λ read. text.now ≡ words.now ++ (decimal read.0 ++ read.1.now)) }
@@ -157,7 +161,7 @@ fn field_at<'a>(text: &'a [u8], words: &[u8]) -> Option<(u64, &'a [u8])>
     number_at(strip(text, words)?)
 }
 
-/// The text of the member that these words begin, and what stands behind it.
+/// The quoted text after these words, and the text after it.
 #[inline(always)]
 fn named_at<'a>(text: &'a [u8], words: &[u8]) -> Option<(&'a [u8], &'a [u8])>
     ensures { IfSome result (λ read. text.now ≡ words.now ++ (quoted read.0.now ++ read.1.now)) }
@@ -165,7 +169,7 @@ fn named_at<'a>(text: &'a [u8], words: &[u8]) -> Option<(&'a [u8], &'a [u8])>
     text_at(strip(text, words)?)
 }
 
-/// What stands behind the last three members of an access.
+/// The text after the last three members of an access.
 fn names_at(text: &[u8]) -> Option<&[u8]>
     ensures { IfSome result (λ behind. (o t v : List ℕ) × (text.now ≡ members_text true (names_members o t v) ++ behind.now)) }
 {
@@ -175,7 +179,7 @@ fn names_at(text: &[u8]) -> Option<&[u8]>
     strip(text, b"}")
 }
 
-/// The access at the beginning, and what stands behind it.
+/// The access at the beginning, and the text after it.
 fn access_at(text: &[u8]) -> Option<(Access<'_>, &[u8])>
     ensures { IfSome result (λ read. (d : Data) × IsAccess read.0.event read.0.location.now d × (text.now ≡ compact_text d ++ read.1.now)) }
 {
@@ -191,7 +195,7 @@ fn access_at(text: &[u8]) -> Option<(Access<'_>, &[u8])>
     Some((access, names_at(text)?))
 }
 
-/// The accesses at the beginning of a row, and what stands behind them.
+/// The two accesses at the beginning of a row, and the text after them.
 fn accesses_at(line: &[u8]) -> Option<(Access<'_>, Access<'_>, &[u8])>
     ensures { IfSome result (λ read. (one other : Data) × IsAccess read.0.event read.0.location.now one × IsAccess read.1.event read.1.location.now other
         × (line.now ≡ accesses_text one other ++ read.2.now)) }
@@ -201,7 +205,7 @@ fn accesses_at(line: &[u8]) -> Option<(Access<'_>, Access<'_>, &[u8])>
     Some((one, other, strip(text, b"]")?))
 }
 
-/// How many events a race has, if the rest of the row is that of a race.
+/// How many events the schedule of a race has. Returns None if the rest of the row is not a race's.
 fn race_at(text: &[u8]) -> Option<u64>
     ensures { IfSome result (λ events. (ms : Members) × IsOutcome 0 events ms × (text.now ≡ members_text true ms)) }
 {
@@ -217,7 +221,7 @@ fn race_at(text: &[u8]) -> Option<u64>
     if is_end(text) { Some(events) } else { None }
 }
 
-/// 0, if the rest of the row is that of an undecided one.
+/// 0. Returns None if the rest of the row is not an undecided row's.
 fn undecided_at(text: &[u8]) -> Option<u64>
     ensures { IfSome result (λ size. (ms : Members) × IsOutcome 1 size ms × (text.now ≡ members_text true ms)) }
 {
@@ -228,7 +232,7 @@ fn undecided_at(text: &[u8]) -> Option<u64>
     if is_end(text) { Some(0) } else { None }
 }
 
-/// 0, if the rest of the row is that of one that is apart.
+/// 0. Returns None if the rest of the row is not an apart row's.
 fn apart_at(text: &[u8]) -> Option<u64>
     ensures { IfSome result (λ size. (ms : Members) × IsOutcome 2 size ms × (text.now ≡ members_text true ms)) }
 {
@@ -237,7 +241,7 @@ fn apart_at(text: &[u8]) -> Option<u64>
     if is_end(text) { Some(0) } else { None }
 }
 
-/// The rank and the size that the rest of the row gives.
+/// The rank and the schedule size, read from the rest of the row.
 fn outcome_at(text: &[u8]) -> Option<(u8, u64)>
     ensures { IfSome result (λ read. (ms : Members) × IsOutcome read.0 read.1 ms × (text.now ≡ members_text true ms)) }
 {
@@ -250,7 +254,7 @@ fn outcome_at(text: &[u8]) -> Option<(u8, u64)>
     Some((2, apart_at(text)?))
 }
 
-/// What is known of a row that is printed as `triage` prints it.
+/// The facts about a row in the form that `triage` prints. Returns None for any other line.
 pub(crate) fn told_in(line: &[u8]) -> Option<Told<'_>>
     ensures { IfSome result (λ told. (d : Data) × Tells line.now d × IsKnown told.known d) }
 {
@@ -260,7 +264,7 @@ pub(crate) fn told_in(line: &[u8]) -> Option<Told<'_>>
     }
 }
 
-/// The same of a text.
+/// The same for a line that is known to be UTF-8.
 fn known_in(line: &[u8]) -> Option<Told<'_>>
     ensures { IfSome result (λ told. (d : Data) × (read line.now ≡ Some d) × IsKnown told.known d) }
 {

@@ -1,4 +1,4 @@
-//! Equal locations of rows become one text in memory, and get one number: so they are soon compared.
+//! Keeps one copy of equal locations and gives each a number, so that comparing them is quick.
 ghost use Rattle.std.specs.Prelude.{◌≡◌, IfOk, IfSome};
 
 use indexmap::IndexSet;
@@ -6,33 +6,34 @@ use rapid_text::OutOfMemory;
 use std::alloc::Global;
 use std::hash::{BuildHasherDefault, DefaultHasher, FoldHasher, Hasher};
 
-/// Locations, each once. The hasher has a key, so that names are not easily chosen to collide.
+/// The different locations. The hasher has a key, so that a trace cannot easily choose names that collide.
 type Locations<'a> = IndexSet<&'a [u8], BuildHasherDefault<DefaultHasher>>;
 
-/// How many guesses are kept: a power of two.
+/// How many guesses there are: a power of two.
 const GUESSES: usize = 16_384;
 
-/// How far a mix is shifted to tell the place of its guess.
+/// How many bits a mix is shifted right to give the index of its guess.
 const SHIFT: u32 = 50;
 
-/// The mix of a location's bytes, and the number that it had.
+/// The mix of a location's bytes, and the number of that location.
 #[derive(Clone, Copy)]
 struct Guess {
     mix: u64,
     number: usize,
 }
 
-/// The locations of rows, and for each row the numbers of its two.
+/// The locations of rows, and for each row the numbers of its two locations.
 #[derive(Drop)]
 pub(crate) struct Shares<'a> {
     locations: Locations<'a>,
-    // The number of the last location for each place. A guess spares a look-up, and is compared before it is believed. So its own hash
-    // needs no key: who chooses locations that share a place makes the guesses useless, and no look-up dearer.
+    // For each index, the number of the last location with that index. A guess saves a look-up, and is checked before
+    // it is used. So the mix needs no key: a trace with colliding locations makes guesses useless, but no look-up
+    // slower.
     guesses: Vec<Guess>,
     pairs: Vec<(usize, usize)>,
 }
 
-/// Of no row yet, with room for so many.
+/// Shares for no rows yet, with room for this many.
 pub(crate) fn no_shares<'a>(alloc: Global, rows: usize) -> Result<Shares<'a>, OutOfMemory> {
     let guesses = vec![in alloc; Guess { mix: 0, number: 0 }; GUESSES]?;
     Ok(Shares {
@@ -42,14 +43,14 @@ pub(crate) fn no_shares<'a>(alloc: Global, rows: usize) -> Result<Shares<'a>, Ou
     })
 }
 
-/// A mix of the bytes of a location.
+/// A hash of a location's bytes.
 fn mix_of(location: &[u8]) -> u64 {
     let mut hasher = FoldHasher::default();
     hasher.write(location);
     hasher.finish()
 }
 
-/// The number that the last location of this mix had.
+/// The number of the last location with this mix.
 fn guess_at(guesses: &[Guess], mix: u64) -> Option<usize> {
     let guess = guesses.get((mix >> SHIFT) as usize)?;
     if guess.mix == mix {
@@ -59,14 +60,14 @@ fn guess_at(guesses: &[Guess], mix: u64) -> Option<usize> {
     }
 }
 
-/// Notes the number of a location with this mix.
+/// Stores the number of a location with this mix.
 fn note(guesses: &mut [Guess], mix: u64, number: usize) {
     if let Some(guess) = guesses.get_mut((mix >> SHIFT) as usize) {
         *guess = Guess { mix, number };
     }
 }
 
-/// The location of this number, if it is this one.
+/// The location with this number, if it is equal to `location`.
 #[inline(always)]
 fn same_at<'a>(locations: &Locations<'a>, number: usize, location: &[u8]) -> Option<&'a [u8]>
     ensures { IfSome result (λ found. found.now ≡ location.now) }
@@ -77,7 +78,7 @@ fn same_at<'a>(locations: &Locations<'a>, number: usize, location: &[u8]) -> Opt
     }
 }
 
-/// The first of the locations that are equal to this one, and its number.
+/// The first location that is equal to this one, and its number.
 #[inline(always)]
 fn shared<'a>(shares: &mut Shares<'a>, location: &'a [u8]) -> Result<(&'a [u8], usize), OutOfMemory>
     ensures { IfOk result (λ found. found.0.now ≡ location.now) }
@@ -91,7 +92,7 @@ fn shared<'a>(shares: &mut Shares<'a>, location: &'a [u8]) -> Result<(&'a [u8], 
     looked_up(shares, location, mix)
 }
 
-/// The same by a look-up, which is noted as the guess at its mix.
+/// The same by a look-up. Stores the number as the guess for this mix.
 #[inline(never)]
 fn looked_up<'a>(
     shares: &mut Shares<'a>,
@@ -108,7 +109,7 @@ fn looked_up<'a>(
     }
 }
 
-/// The two locations of the next row, shared.
+/// The shared copies of the next row's two locations.
 pub(crate) fn share_both<'a>(
     shares: &mut Shares<'a>,
     one: &'a [u8],
@@ -123,7 +124,7 @@ pub(crate) fn share_both<'a>(
     Ok((one, other))
 }
 
-/// For each location its place among all of them, in the order of their texts.
+/// For each location its position among all locations, sorted by their bytes.
 fn places_of(alloc: Global, locations: &Locations<'_>) -> Result<Vec<usize>, OutOfMemory> {
     let mut names = Vec::with_capacity(alloc, locations.len())?;
     for (number, name) in locations.iter().enumerate() {
@@ -139,7 +140,7 @@ fn places_of(alloc: Global, locations: &Locations<'_>) -> Result<Vec<usize>, Out
     Ok(places)
 }
 
-/// The place of the location of this number.
+/// The position of the location with this number.
 fn place_at(places: &[usize], number: usize) -> usize {
     match places.get(number) {
         Some(place) => *place,
@@ -147,7 +148,7 @@ fn place_at(places: &[usize], number: usize) -> usize {
     }
 }
 
-/// For each row the places of its two locations, the lesser first.
+/// For each row the positions of its two locations, the lesser first.
 pub(crate) fn places_in(
     alloc: Global,
     shares: Shares<'_>,

@@ -1,4 +1,4 @@
-//! What is told of the parts, as text.
+//! Prints a merged report as text.
 ghost use Rattle.std.specs.Prelude.{◌≡◌, ◌≤◌, ◌++◌, IfOk, None, OnOk, drop, length, slice_get};
 ghost use Rattle.race_parts.specs.Texts.{block_text, blocks_text, counts_text, heads_count, merged_words, part_text, row_text_at, tallies_text, tally_text};
 
@@ -10,7 +10,7 @@ use crate::facts::data_of;
 use rapid_text::OutOfMemory;
 use std::alloc::Global;
 
-/// Appends in how many parts the two places are a race, undecided and apart, and in how many they are not met.
+/// Appends in how many parts a pair of locations is a race, undecided and apart, and how many parts do not meet it.
 fn append_tally(
     out: &mut Vec<u8>,
     parts: usize,
@@ -28,7 +28,7 @@ fn append_tally(
     Ok(())
 }
 
-/// Appends the line of a part's name.
+/// Appends the line with a part's name.
 fn append_part(out: &mut Vec<u8>, name: &[u8]) -> Result<(), OutOfMemory>
     ensures { OnOk result (out.new.items ≡ out.old.items ++ part_text name.now) }
 {
@@ -38,7 +38,7 @@ fn append_part(out: &mut Vec<u8>, name: &[u8]) -> Result<(), OutOfMemory>
     Ok(())
 }
 
-/// Appends the row of this number as a block.
+/// Appends the row with this number as a block. Appends nothing if there is no such row.
 fn append_row_at(out: &mut Vec<u8>, rows: &[Row<'_>], number: usize) -> Result<(), OutOfMemory>
     ensures { OnOk result (out.new.items ≡ out.old.items ++ row_text_at (slice_get rows.now number)) }
 {
@@ -48,7 +48,7 @@ fn append_row_at(out: &mut Vec<u8>, rows: &[Row<'_>], number: usize) -> Result<(
     }
 }
 
-/// Appends in how many parts the places of the cell at this place are what.
+/// Appends the counts of parts with each verdict. The cell at index `at` is the first one for its pair of locations.
 fn append_tallies(
     out: &mut Vec<u8>,
     parts: usize,
@@ -63,7 +63,7 @@ fn append_tallies(
     append_tally(out, parts, counts.races, counts.undecided, counts.apart)
 }
 
-/// Appends the block of the cell at this place, which is the first of its places.
+/// Appends the block of the cell at index `at`. The cell is the first one for its pair of locations.
 fn append_block(
     out: &mut Vec<u8>,
     parts: usize,
@@ -81,7 +81,7 @@ fn append_block(
     Ok(())
 }
 
-/// Appends the blocks of this rank.
+/// Appends the blocks of the pairs with this rank.
 fn append_blocks(
     out: &mut Vec<u8>,
     parts: usize,
@@ -115,7 +115,8 @@ fn append_counts(out: &mut Vec<u8>, parts: usize, counts: Counts) -> Result<(), 
     Ok(())
 }
 
-/// What is told of so many parts with these rows, as text, and how many races are told of.
+/// Returns the merged report as text, and the number of races in it. `apart` says whether to print the apart pairs
+/// too.
 pub fn merged_text(
     alloc: Global,
     parts: usize,
